@@ -16,7 +16,7 @@ use Rattle.mls_scheme.specs.Value.{fits_kind}
 use Rattle.mls_certcheck.specs.MeaningLaws.{ArgsFit}
 use Rattle.mls_machine.specs.declared.stored.Stored.{Stored}
 use Rattle.mls_sessions.specs.World.{IsSound}
-use Rattle.mls_lattice.specs.Policy.{Tables}
+use Rattle.mls_lattice.specs.Policy.{Policy}
 
 nothing : {A : Type 0} (es : List Element) (p : Place) (T : Table) → get T p ≡ None → get T p ≡ Some es → A
 nothing es p T none some = let both : None ≡ Some es = sym none ∙ some in absurd cc
@@ -53,5 +53,5 @@ all_more P [] x h k = (k, tt)
 all_more P (y ∷ ys) x h k = (h.0, all_more P ys x h.1 k)
 
 -- stored transactions play no part in what content is sound
-pub sound_alike : (policy : Tables) (schemes : Schemes) (xs ys : List Stored) (c : Content) → IsSound (record { policy = policy; schemes = schemes; stored = xs }) c → IsSound (record { policy = policy; schemes = schemes; stored = ys }) c
+pub sound_alike : (policy : Policy) (schemes : Schemes) (xs ys : List Stored) (c : Content) → IsSound (record { policy = policy; schemes = schemes; stored = xs }) c → IsSound (record { policy = policy; schemes = schemes; stored = ys }) c
 sound_alike policy schemes xs ys c h = record { content = h.content; entries = h.entries }

@@ -1,7 +1,7 @@
 //! Certificates, and files of them: what is read of a text, and what is printed for that.
 use crate::show::{push_fault, push_word};
 use case_tables::{Told, unfolded};
-use mls_certificate::{Cert, Cert2, CertCause, CertFault, Certificate, certs_read};
+use mls_certcheck::{Cert, Cert2, CertCause, CertFault, Certificate, certs_read};
 use mls_lattice::Str;
 use std::alloc::{AllocError, Global};
 

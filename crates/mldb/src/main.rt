@@ -1,4 +1,4 @@
-//! mldb: a relational database whose elements have security levels.
+//! mldb: a relational database in which each session sees what its label may see.
 #![tactic(auto)]
 
 use mls_command::run;

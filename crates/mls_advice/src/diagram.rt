@@ -29,7 +29,7 @@ impl<'a> Drawing<'a> {
     }
 
     /// Whether the one label dominates the other, and is another one.
-    fn is_over(&self, high: LabelNo, low: LabelNo) -> bool {
+    fn is_strictly_above(&self, high: LabelNo, low: LabelNo) -> bool {
         let count = self.policy.label_count();
         if high.index() >= count || low.index() >= count || high.byte() == low.byte() {
             return false;
@@ -41,14 +41,14 @@ impl<'a> Drawing<'a> {
     fn has_between(&self, high: LabelNo, low: LabelNo) -> bool {
         (0..self.policy.label_count()).any(|place| {
             let middle = LabelNo::new(place as u8);
-            self.is_over(high, middle) && self.is_over(middle, low)
+            self.is_strictly_above(high, middle) && self.is_strictly_above(middle, low)
         })
     }
 
     /// How many other labels a label dominates.
     fn weight(&self, label: LabelNo) -> usize {
         (0..self.policy.label_count())
-            .filter(|place| self.is_over(label, LabelNo::new(*place as u8)))
+            .filter(|place| self.is_strictly_above(label, LabelNo::new(*place as u8)))
             .count()
     }
 
@@ -59,7 +59,7 @@ impl<'a> Drawing<'a> {
         write!(text, "  {name} covers")?;
         for place in 0..self.policy.label_count() {
             let low = LabelNo::new(place as u8);
-            if self.is_over(label, low) && !self.has_between(label, low) {
+            if self.is_strictly_above(label, low) && !self.has_between(label, low) {
                 let name = self.name_of(low);
                 write!(text, " {name}")?;
                 end = "\n";

@@ -165,7 +165,7 @@ fn name_in(value: &Value) -> Option<&str> {
 }
 
 /// The names that an array of a document declares.
-fn declared_at(alloc: Global, document: &Table, key: &str) -> Result<Vec<Str>, AllocError> {
+fn names_declared(alloc: Global, document: &Table, key: &str) -> Result<Vec<Str>, AllocError> {
     let mut names = Vec::new(alloc);
     for item in items_of(document.get(key)) {
         if let Some(name) = name_in(item) {
@@ -183,11 +183,11 @@ fn names_of(
     thing: Thing,
 ) -> Result<Vec<Str>, AllocError> {
     match (thing, policy) {
-        (Thing::Level, _) => declared_at(alloc, document, "levels"),
-        (Thing::Category, _) => declared_at(alloc, document, "categories"),
+        (Thing::Level, _) => names_declared(alloc, document, "levels"),
+        (Thing::Category, _) => names_declared(alloc, document, "categories"),
         (Thing::Label, Some(policy)) => label_names(alloc, policy),
-        (Thing::Label, None) => declared_at(alloc, document, "label"),
-        (Thing::User, _) => declared_at(alloc, document, "user"),
+        (Thing::Label, None) => names_declared(alloc, document, "label"),
+        (Thing::User, _) => names_declared(alloc, document, "user"),
         (Thing::Mode, _) => words_of(alloc, &MODES),
         (Thing::Kind, _) => words_of(alloc, &KINDS),
         (Thing::Other, _) => Ok(Vec::new(alloc)),

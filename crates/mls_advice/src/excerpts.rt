@@ -122,7 +122,7 @@ fn wrong_inside(inside: &[u8]) -> Option<(usize, &'static str)> {
 }
 
 /// The same of the text between quotes with which a line goes on, if it does.
-fn wrong_in(line: &[u8]) -> Option<(usize, &'static str)> {
+fn wrong_in_line(line: &[u8]) -> Option<(usize, &'static str)> {
     match line {
         [b'"', inside @ ..] => wrong_inside(inside),
         _ => None,
@@ -201,7 +201,7 @@ fn shown_line(
         return Ok(text);
     };
     let skipped = column.saturating_sub(1);
-    if by_rules && let Some((place, why)) = wrong_in(behind(first_line(bytes), skipped)) {
+    if by_rules && let Some((place, why)) = wrong_in_line(behind(first_line(bytes), skipped)) {
         let mut text = pointed(alloc, before, skipped.saturating_add(place), bytes)?;
         text.push_str(why)?;
         return Ok(text);

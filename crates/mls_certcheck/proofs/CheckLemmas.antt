@@ -2,25 +2,23 @@
 use Rattle.std.proofs.Common.{◌≡◌, ℕ, zero, suc, ◌+◌, ◌<◌, Bool, true, false, cond, ◌&&◌, List, [], ◌∷◌, drop, Some, Result, Ok, Err, refl, sym, ap, ◌∙◌, arith}
 use Rattle.std.specs.Prelude.{◌↔◌, IfOk, option_map, slice_get}
 use Rattle.std.specs.List.{flat_map, list_all}
-use Rattle.mls_lattice.specs.Lattice.{Pair, ◌⊑◌}
 use Rattle.mls_lattice.specs.Labels.{AreDistinct}
-use Rattle.mls_lattice.specs.Policy.{Name, Tables, labels_of}
+use Rattle.mls_lattice.specs.Policy.{Name, Policy, labels_of}
 use Rattle.mls_translang.specs.declared.tx.Parameter.{Parameter}
-use Rattle.mls_translang.specs.Tree.{Block}
 use Rattle.mls_translang.specs.Tx.{Tx}
 use Rattle.mls_certcheck.specs.Secure.{Secure}
-use Rattle.mls_certificate.specs.declared.cert.Certificate.{Certificate}
-use Rattle.mls_certcheck.specs.Lines.{by, variables, within_ends, all_places}
-use Rattle.mls_certcheck.specs.Rules.{Claim, Rules, after, claim}
-use Rattle.mls_certcheck.specs.Checks.{is_over, holds, verdict, unless, all_below, First}
-use Rattle.mls_certcheck.specs.Walk.{Says, all_lines, walked}
+use Rattle.mls_certcheck.specs.declared.cert.Certificate.{Certificate}
+use Rattle.mls_certcheck.specs.Lines.{by, within_ends}
+use Rattle.mls_certcheck.specs.Rules.{Claim, Rules, claim}
+use Rattle.mls_certcheck.specs.Checks.{holds, verdict, unless, all_below, First}
+use Rattle.mls_certcheck.specs.Walk.{Says}
 use Rattle.mls_certcheck.specs.declared.flow.Slot.TheVariants.{Statement}
 use Rattle.mls_certcheck.specs.declared.flow.Source.TheVariants.{Held, Declared}
 use Rattle.mls_certcheck.specs.declared.flow.Flow.TheVariants.{Within, Under}
 use Rattle.mls_certcheck.specs.declared.refusal.Refusal.{Refusal}
 use Rattle.mls_certcheck.specs.declared.refusal.Rule.{Rule}
 use Rattle.mls_certcheck.proofs.RulesLemmas.{rules_from_first, first_from_rules}
-use Rattle.mls_certcheck.proofs.WalkLemmas.{walk_is_err, walk_is_ok}
+use Rattle.mls_certcheck.specs.Visited.{verdict_err, verdict_ok}
 use Rattle.mls_certcheck.proofs.LawLemmas.{secure_rules}
 
 -- Ok exactly where the rules hold
@@ -29,15 +27,11 @@ says_rules c (Ok u) h = (λ k. rules_from_first c h, λ rules. refl)
 says_rules c (Err e) h = (λ k. absurd cc, λ rules. absurd (let holds = first_from_rules c rules in cc))
 
 -- what is accepted is secure
-pub says_secure : (policy : Tables) → AreDistinct (labels_of policy) → (tx : Tx) (cert : Certificate) (r : Result (Unit {0}) Refusal) → Says r (First (claim policy tx cert)) → IfOk r (λ _. Secure policy tx)
+pub says_secure : (policy : Policy) → AreDistinct (labels_of policy) → (tx : Tx) (cert : Certificate) (r : Result (Unit {0}) Refusal) → Says r (First (claim policy tx cert)) → IfOk r (λ _. Secure policy tx)
 says_secure policy distinct tx cert (Ok u) h = secure_rules policy distinct tx cert (rules_from_first (claim policy tx cert) h)
 says_secure policy distinct tx cert (Err e) h = tt
 
-pub body_err : (c : Claim) (rows : List ℕ) (b : Block) (e : Refusal) → rows ≡ [] → b ≡ c.tx.body → walked c 1 0 0 rows b ≡ Err e → verdict c (all_lines c (all_places c.tx)) ≡ Err e
-body_err c rows b e none whole h = walk_is_err c 1 0 0 [] c.tx.body e ((λ i. walked c 1 0 0 (sym none i) (sym whole i)) ∙ h)
-
-pub body_ok : (c : Claim) (rows : List ℕ) (b : Block) (m : ℕ) → rows ≡ [] → b ≡ c.tx.body → walked c 1 0 0 rows b ≡ Ok m → verdict c (all_lines c (all_places c.tx)) ≡ Ok tt
-body_ok c rows b m none whole h = walk_is_ok c 1 0 0 [] c.tx.body m ((λ i. walked c 1 0 0 (sym none i) (sym whole i)) ∙ h)
+pub ruleset verdict_more = (verdict_err, verdict_ok)
 
 -- ---- a loop over parameters
 
@@ -65,13 +59,6 @@ below_fails zero p i within fails = absurd (omega (arith, within))
 below_fails (suc n) p i within fails =
     let earlier : i < n → all_below n p ≡ false = λ lt. below_fails n p i lt fails in
     let last : i ≡ n → p n ≡ false = λ e. ap p (sym e) ∙ fails in
-    grind (arith, earlier, last, within)
-
-pub under_fails : (c : Claim) (p : Pair) (n count i : ℕ) → i < count → (after c n i ⊑ p) ≡ false → is_over c p (variables n count) ≡ false
-under_fails c p n zero i within fails = absurd (omega (arith, within))
-under_fails c p n (suc count) i within fails =
-    let earlier : i < count → is_over c p (variables n count) ≡ false = λ lt. under_fails c p n count i lt fails in
-    let last : i ≡ count → (after c n count ⊑ p) ≡ false = λ e. ap (λ j. after c n j ⊑ p) (sym e) ∙ fails in
     grind (arith, earlier, last, within)
 
 -- ---- the lines of parameters

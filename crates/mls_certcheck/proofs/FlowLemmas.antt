@@ -6,7 +6,7 @@ use Rattle.std.proofs.lemmas.Bool.{true≢false, cases_Bool, eqb-true, eq-eqb}
 use Rattle.std.proofs.lemmas.List.Elements.{filter-append}
 use Rattle.mls_lattice.specs.Lattice.{Pair, Dominates, ◌⊑◌, join}
 use Rattle.mls_lattice.specs.Labels.{Labels, label_of, below, AreDistinct}
-use Rattle.mls_lattice.specs.Policy.{Tables, labels_of}
+use Rattle.mls_lattice.specs.Policy.{Policy, labels_of}
 use Rattle.mls_lattice.proofs.LatticeLemmas.{Dominates-trans, join-right}
 use Rattle.mls_scheme.specs.declared.value.Value.{Value}
 use Rattle.mls_scheme.specs.declared.value.Value.TheVariants.{Int}
@@ -28,7 +28,7 @@ use Rattle.mls_certcheck.specs.Expressions.{is_true, same, value_in, holds_in}
 use Rattle.mls_certcheck.specs.Meaning.{Item, Variables, Progress, set_var, set_outcome, do_write, environment, perform, for_each, run_block}
 use Rattle.mls_certcheck.specs.Secure.{AreStored, seen_items, Split}
 use Rattle.mls_certcheck.proofs.KeepingLemmas.{Extends, cond_kept, for_each_kept, perform_stored, block_stored, block_extends}
-use Rattle.mls_certificate.specs.declared.cert.Certificate.{Certificate}
+use Rattle.mls_certcheck.specs.declared.cert.Certificate.{Certificate}
 use Rattle.mls_certcheck.specs.Place.{Plain, directs, last, places}
 use Rattle.mls_certcheck.specs.Lines.{target}
 use Rattle.mls_certcheck.specs.Rules.{Claim, claim, hi, pc, after, param_label}
@@ -88,7 +88,7 @@ outcome_same : (k : Claim) (c n : ℕ) (outcome : Option ℕ) (o r : Outcome) (p
 outcome_same k c n None o r p q h e i l = h i (λ f. absurd cc) l
 outcome_same k c n (Some x) o r p q h e i l = set_same k c n x _ _ p q (λ j other. h j (λ f. other (let same : x ≡ j = cc in sym same))) (λ _. ap (λ o. Some (Int (pos (code_of o)))) e) i l
 
-module _ (policy : Tables) (distinct : AreDistinct (labels_of policy)) (tx : Tx) (cert : Certificate) (none : HasNoMore (claim policy tx cert)) (schemes : Schemes) (args brgs : List (Option Value)) (c : ℕ) where
+module _ (policy : Policy) (distinct : AreDistinct (labels_of policy)) (tx : Tx) (cert : Certificate) (none : HasNoMore (claim policy tx cert)) (schemes : Schemes) (args brgs : List (Option Value)) (c : ℕ) where
   abbrev k : Claim
   k = claim policy tx cert
 

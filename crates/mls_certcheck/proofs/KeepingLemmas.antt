@@ -6,7 +6,7 @@ use Rattle.std.specs.List.{AllByRecursion}
 use Rattle.std.proofs.lemmas.Bool.{eqb-true}
 use Rattle.std.proofs.lemmas.List.{append-nil, length-map}
 use Rattle.mls_lattice.specs.Labels.{Labels, AreDistinct}
-use Rattle.mls_lattice.specs.Policy.{Tables, labels_of}
+use Rattle.mls_lattice.specs.Policy.{Policy, labels_of}
 use Rattle.mls_scheme.specs.declared.value.Value.{Value}
 use Rattle.mls_scheme.specs.declared.tuple.Tuple.{Tuple}
 use Rattle.mls_scheme.specs.Table.{Table, Database}
@@ -46,11 +46,11 @@ for_each_kept P f k (row ∷ rest) s h = for_each_kept P f k rest (f row s) (k r
 -- ---- items
 
 -- the items have declared labels
-pub record AreLabelled (policy : Tables) (s : Progress) : Type 0 where
+pub record AreLabelled (policy : Policy) (s : Progress) : Type 0 where
   pub emitted : AllByRecursion (λ i. IsLabel policy i.0) s.emitted
   pub released : AllByRecursion (λ i. IsLabel policy i.0) s.released
 
-module _ (policy : Tables) (schemes : Schemes) (hi : ℕ) (args : List (Option Value)) where
+module _ (policy : Policy) (schemes : Schemes) (hi : ℕ) (args : List (Option Value)) where
   abbrev perform_one : List Tuple → Stmt → Progress → Progress
   perform_one = perform (labels_of policy) schemes args
 
@@ -105,7 +105,7 @@ module _ (ls : Labels) (schemes : Schemes) (args : List (Option Value)) where
 
 -- ---- the stored form
 
-module _ (policy : Tables) (schemes : Schemes) (hi : ℕ) where
+module _ (policy : Policy) (schemes : Schemes) (hi : ℕ) where
   abbrev ls : Labels
   ls = labels_of policy
 

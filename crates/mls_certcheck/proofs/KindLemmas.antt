@@ -10,7 +10,7 @@ use Rattle.std.proofs.lemmas.List.{get_or-map, get_or_past}
 use Rattle.std.proofs.lemmas.Option.{same_Some}
 use Rattle.std.proofs.lemmas.Slice.Zip.{AllZip-long}
 use Rattle.mls_lattice.specs.Labels.{Labels, below, AreDistinct}
-use Rattle.mls_lattice.specs.Policy.{Name, Tables, labels_of}
+use Rattle.mls_lattice.specs.Policy.{Name, Policy, labels_of}
 use Rattle.mls_scheme.specs.declared.value.Kind.{Kind}
 use Rattle.mls_scheme.specs.declared.value.Kind.TheVariants as kinds
 use Rattle.mls_scheme.specs.declared.value.Value.{Value}
@@ -127,7 +127,7 @@ outcome_kind scope None o vars f h = h
 outcome_kind scope (Some x) o vars f h =
     set_kind scope x (Some (Int (pos (code_of o)))) vars h (λ k q. subst (λ m. fits_kind (Some (Int (pos (code_of o)))) m ≡ true) (same_Some kinds.Int k (sym f ∙ q)) (code_kind o))
 
-module _ (policy : Tables) (schemes : Schemes) (hi : ℕ) where
+module _ (policy : Policy) (schemes : Schemes) (hi : ℕ) where
   abbrev ls : Labels
   ls = labels_of policy
 

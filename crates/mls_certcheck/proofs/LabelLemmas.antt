@@ -1,29 +1,28 @@
 -- Labels, by place and by number.
-use Rattle.std.proofs.Common.{◌≡◌, ℕ, zero, suc, ◌-◌, ◌<◌, ◌≤◌, Bool, true, false, ◌&&◌, List, [], ◌∷◌, ◌++◌, length, map, get_or, refl, sym, ap, ◌∙◌, subst, arith}
+use Rattle.std.proofs.Common.{◌≡◌, ℕ, zero, suc, ◌-◌, ◌<◌, ◌≤◌, Bool, true, false, ◌&&◌, List, [], ◌∷◌, ◌++◌, length, map, take, get_or, ◌+◌, refl, sym, ap, ◌∙◌, subst, arith}
 use Rattle.std.specs.Prelude.{◌↔◌, IsTrue}
 use Rattle.std.specs.FinSet as set
 use Rattle.std.specs.Ordering.{nat_cmp}
-use Rattle.std.specs.List.{list_all}
+use Rattle.std.specs.List.{flat_map, list_all}
 use Rattle.std.specs.Cmp.{both_ways}
 use Rattle.std.proofs.lemmas.Bool.{true≢false, and_from, and_parts}
-use Rattle.std.proofs.lemmas.List.{get_or_default, get_or-map, get_or_past, length-map, map-append}
+use Rattle.std.proofs.lemmas.Grind.{take_at_read, flat_map-append}
+use Rattle.std.proofs.lemmas.List.{append-nil, get_or_default, get_or-map, get_or_past, length-map, map-append}
 use Rattle.std.proofs.lemmas.List.Folds.{list_all-append}
 use Rattle.mls_lattice.specs.declared.label.Label.{Label}
-use Rattle.mls_certificate.specs.declared.cert.Cert2.{Cert2}
-use Rattle.mls_certificate.specs.declared.cert.Certificate.TheVariants.{Two}
-use Rattle.mls_translang.specs.Tree.{Expr}
-use Rattle.mls_certcheck.specs.Lines.{names}
-use Rattle.mls_certcheck.specs.Rules.{Claim, pc, row_after, slot_label, source_label}
-use Rattle.mls_certcheck.specs.Checks.{is_over, holds}
+use Rattle.mls_certcheck.specs.declared.cert.Cert2.{Cert2}
+use Rattle.mls_certcheck.specs.declared.cert.Certificate.TheVariants.{Two}
+use Rattle.mls_certcheck.specs.Lines.{variables}
+use Rattle.mls_certcheck.specs.Rules.{Claim, after, row_after, slot_label, source_label}
+use Rattle.mls_certcheck.specs.Checks.{is_over}
 use Rattle.mls_certcheck.specs.Walk.{IsJoin}
 use Rattle.mls_certcheck.specs.declared.flow.Slot.{Slot}
-use Rattle.mls_certcheck.specs.declared.flow.Slot.TheVariants.{Statement}
+use Rattle.mls_certcheck.specs.declared.flow.Slot.TheVariants.{Variable, Statement}
 use Rattle.mls_certcheck.specs.declared.flow.Source.{Source}
-use Rattle.mls_certcheck.specs.declared.flow.Source.TheVariants.{Held, Declared}
-use Rattle.mls_certcheck.specs.declared.flow.Flow.TheVariants.{Into}
+use Rattle.mls_certcheck.specs.declared.flow.Source.TheVariants.{Held}
 use Rattle.mls_lattice.specs.Lattice.{Pair, Dominates, ◌⊑◌, join, bottom, cats_of, cats_below, pair_of}
 use Rattle.mls_lattice.specs.Labels.{label_of}
-use Rattle.mls_lattice.specs.Policy.{Tables, labels_of}
+use Rattle.mls_lattice.specs.Policy.{Policy, labels_of}
 use Rattle.mls_lattice.proofs.LatticeLemmas.{⊑-Dominates, Dominates-⊑, Dominates-trans, join-left, join-right, join-least}
 
 pub bottom_pair : pair_of (record { rank = 0; cats = 0 }) ≡ bottom
@@ -42,7 +41,7 @@ label_past labels place past = get_or_past (map pair_of labels) place bottom (om
 
 pub ruleset label_places = (label_here, label_past)
 
-pub past_labels : (p : Tables) (label : ℕ) → length p.labels ≤ label → label_of (labels_of p) label ≡ bottom
+pub past_labels : (p : Policy) (label : ℕ) → length p.labels ≤ label → label_of (labels_of p) label ≡ bottom
 past_labels p label past = get_or_past (labels_of p) label bottom (omega (arith, length-map p.labels (λ l. l.value)))
 
 -- ---- rows of certificates of version 2
@@ -95,21 +94,32 @@ module _ (c : Claim) where
   pub join_both : (ss ts : List Source) (p q r : Pair) → IsJoin c ss p → IsJoin c ts q → r ≡ join p q → IsJoin c (ss ++ ts) r
   join_both ss ts p q r h k e = record { flows = λ x. ap (λ y. y ⊑ x) e ∙ join_flows p q x ∙ (λ i. h.flows x i && k.flows x i) ∙ sym (over_both x ss ts) }
 
-  -- the join of sources flows to slots
-  pub join_into : (ss : List Source) (p : Pair) → IsJoin c ss p → (ts : List Slot) → list_all (λ t. p ⊑ slot_label c t) ts ≡ holds c (Into ts ss)
+  pub join_first : (s : Source) (ss : List Source) (p q r : Pair) → p ≡ source_label c s → IsJoin c ss q → r ≡ join p q → IsJoin c (s ∷ ss) r
+  join_first s ss p q r e h k = join_both (s ∷ []) ss p q r (join_one s p e) h k
+
+  module _ {A : Type 0} (f : A → List Source) where
+    pub join_lists : (xs ys : List A) (p q r : Pair) → IsJoin c (flat_map f xs) p → IsJoin c (flat_map f ys) q → r ≡ join p q → IsJoin c (flat_map f (xs ++ ys)) r
+    join_lists xs ys p q r h k e = subst (λ (ss : List Source). IsJoin c ss r) (sym (flat_map-append f xs ys)) (join_both (flat_map f xs) (flat_map f ys) p q r h k e)
+
+    -- one more of a list
+    pub join_next : (xs : List A) (i : ℕ) (x : A) (p q r : Pair) → i < length xs → x ≡ get_or xs i x → IsJoin c (flat_map f (take i xs)) p → IsJoin c (f x) q → r ≡ join p q → IsJoin c (flat_map f (take (i + 1) xs)) r
+    join_next xs i x p q r within is h k e =
+        let all : flat_map f (take i xs) ++ f x ≡ flat_map f (take (i + 1) xs) =
+        ap (λ (l : List Source). flat_map f (take i xs) ++ l) (sym (append-nil (f x))) ∙ sym (flat_map-append f (take i xs) (x ∷ [])) ∙ ap (flat_map f) (sym ((take_at_read xs i x within).1 ∙ ap (λ (y : A). take i xs ++ y ∷ []) (sym is))) in
+        subst (λ (ss : List Source). IsJoin c ss r) all (join_both (flat_map f (take i xs)) (f x) p q r h k e)
+
+  -- one more variable
+  pub join_variable : (n x : ℕ) (p q r : Pair) → p ≡ after c n x → IsJoin c (variables n x) q → r ≡ join p q → IsJoin c (variables n (x + 1)) r
+  join_variable n x p q r e h k =
+      let next : suc x ≡ x + 1 = omega arith in
+      subst (λ (y : ℕ). IsJoin c (variables n y) r) next (join_first (Held (Variable n x)) (variables n x) p q r e h k)
+
+  -- a join flows to slots
+  pub join_into : (ss : List Source) (p : Pair) → IsJoin c ss p → (ts : List Slot) → list_all (λ t. p ⊑ slot_label c t) ts ≡ list_all (λ t. is_over c (slot_label c t) ss) ts
   join_into ss p h ts = λ i. list_all (λ t. h.flows (slot_label c t) i) ts
 
-  -- what flows into the statements of a branch, and of a loop
-  pub branch_flows : (n b : ℕ) (rows : List ℕ) (e : Expr) (p l : Pair) (one other : List ℕ) → IsJoin c (names b rows e) l → p ≡ join (pc c n) l
-      → (list_all (λ t. p ⊑ slot_label c t) (map (λ m. Statement m) one) && list_all (λ t. p ⊑ slot_label c t) (map (λ m. Statement m) other)) ≡ holds c (Into (map (λ m. Statement m) (one ++ other)) (Held (Statement n) ∷ names b rows e))
-  branch_flows n b rows e p l one other h is =
-      sym (list_all-append (λ t. p ⊑ slot_label c t) (map (λ m. Statement m) one) (map (λ m. Statement m) other))
-      ∙ ap (list_all (λ t. p ⊑ slot_label c t)) (sym (map-append (λ m. Statement m) one other))
-      ∙ join_into (Held (Statement n) ∷ names b rows e) p (join_both (Held (Statement n) ∷ []) (names b rows e) (pc c n) l p (join_one (Held (Statement n)) (pc c n) refl) h is) (map (λ m. Statement m) (one ++ other))
+  -- slots of two lists
+  pub on_both : (p : Pair) (one other : List ℕ) → list_all (λ t. p ⊑ slot_label c t) (map (λ m. Statement m) (one ++ other)) ≡ (list_all (λ t. p ⊑ slot_label c t) (map (λ m. Statement m) one) && list_all (λ t. p ⊑ slot_label c t) (map (λ m. Statement m) other))
+  on_both p one other = ap (list_all (λ t. p ⊑ slot_label c t)) (map-append (λ m. Statement m) one other) ∙ list_all-append (λ t. p ⊑ slot_label c t) (map (λ m. Statement m) one) (map (λ m. Statement m) other)
 
-  pub loop_flows : (n label : ℕ) (p : Pair) (inner : List ℕ) → p ≡ join (pc c n) (label_of c.labels label)
-      → list_all (λ t. p ⊑ slot_label c t) (map (λ m. Statement m) inner) ≡ holds c (Into (map (λ m. Statement m) inner) (Held (Statement n) ∷ Declared label ∷ []))
-  loop_flows n label p inner is =
-      join_into (Held (Statement n) ∷ Declared label ∷ []) p (join_both (Held (Statement n) ∷ []) (Declared label ∷ []) (pc c n) (label_of c.labels label) p (join_one (Held (Statement n)) (pc c n) refl) (join_one (Declared label) (label_of c.labels label) refl) is) (map (λ m. Statement m) inner)
-
-pub ruleset joins = (join_none, join_one, join_both)
+pub ruleset joins = (join_none, join_one, join_both, join_first, join_lists, join_variable)

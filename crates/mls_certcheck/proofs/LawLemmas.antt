@@ -5,7 +5,7 @@ use Rattle.std.proofs.lemmas.Bool.{cases_Bool, ltb-true, ltb-false}
 use Rattle.std.proofs.lemmas.List.{get_or_past}
 use Rattle.mls_lattice.specs.Lattice.{◌⊑◌}
 use Rattle.mls_lattice.specs.Labels.{label_of}
-use Rattle.mls_lattice.specs.Policy.{Tables, labels_of}
+use Rattle.mls_lattice.specs.Policy.{Policy, labels_of}
 use Rattle.mls_scheme.specs.declared.value.Value.{Value}
 use Rattle.mls_filterview.proofs.LevelLemmas.{low_from_views, views_from_low}
 use Rattle.mls_translang.specs.Tx.{Tx, scope_of}
@@ -20,7 +20,7 @@ use Rattle.mls_certcheck.proofs.QuietLemmas.{Agrees, quiet_block}
 use Rattle.mls_certcheck.proofs.FlowLemmas.{Around, related_block}
 
 -- the same arguments at the parameters whose labels c dominates, and none past the last
-args_same : (policy : Tables) (tx : Tx) (c : ℕ) (args brgs : List (Option Value)) → SameArgs (labels_of policy) c (param_labels tx) args brgs
+args_same : (policy : Policy) (tx : Tx) (c : ℕ) (args brgs : List (Option Value)) → SameArgs (labels_of policy) c (param_labels tx) args brgs
     → (i : ℕ) → label_of (labels_of policy) (slice_index_or (param_labels tx) i 0) ⊑ label_of (labels_of policy) c ≡ true → slice_index_or args i None ≡ slice_index_or brgs i None
 args_same policy tx c args brgs h i l =
     elim (cases_Bool (nat_lt i (length (param_labels tx)))) [

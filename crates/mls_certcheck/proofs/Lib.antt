@@ -16,3 +16,13 @@ pub mod KindLemmas
 pub mod MeaningLemmas
 pub mod SampleLemmas
 pub mod ThroughoutLemmas
+pub mod AgainLemmas
+pub mod CertLemmas
+pub mod FileLemmas
+pub mod FoundLemmas
+pub mod HeadLemmas
+pub mod CertificateLabelLemmas
+pub mod LinesLemmas
+pub mod NameLemmas
+pub mod ReadingSteps
+pub mod WritingLemmas

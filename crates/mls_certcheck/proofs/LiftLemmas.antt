@@ -7,14 +7,14 @@ use Rattle.std.proofs.lemmas.List.{get_or_past}
 use Rattle.mls_lattice.specs.declared.label.Label.{Label}
 use Rattle.mls_lattice.specs.Lattice.{Pair, Dominates, bottom, pair_of}
 use Rattle.mls_lattice.specs.Labels.{label_of}
-use Rattle.mls_lattice.specs.Policy.{Name, Tables}
+use Rattle.mls_lattice.specs.Policy.{Name, Policy}
 use Rattle.mls_lattice.proofs.LatticeLemmas.{Dominates-refl, Dominates-trans}
 use Rattle.mls_translang.specs.Tree.{Writing, Inserting, Updating, Deleting, Stmt, Assign, Write_at, Release, Emit, Block, End, Do, If, For, statements}
 use Rattle.mls_translang.specs.declared.tx.Parameter.{Parameter as Given}
 use Rattle.mls_translang.specs.Tx.{Tx}
-use Rattle.mls_certificate.specs.declared.cert.Cert.{Cert}
-use Rattle.mls_certificate.specs.declared.cert.Cert2.{Cert2}
-use Rattle.mls_certificate.specs.declared.cert.Certificate.TheVariants.{One, Two}
+use Rattle.mls_certcheck.specs.declared.cert.Cert.{Cert}
+use Rattle.mls_certcheck.specs.declared.cert.Cert2.{Cert2}
+use Rattle.mls_certcheck.specs.declared.cert.Certificate.TheVariants.{One, Two}
 use Rattle.mls_certcheck.specs.Place.{Node, Plain, Branching, Looping, Place, places}
 use Rattle.mls_certcheck.specs.Lines.{Line, by, outcome_flows, write, order, rest, within_ends, stmt_lines, own_lines, lines_at, tx_lines, all_places, lines}
 use Rattle.mls_certcheck.specs.Rules.{Claim, claim, hi, after, pc, slot_label, source_label, IsOver, Holds}
@@ -121,7 +121,7 @@ module _ (count : ℕ) where
 
 -- ---- the labels of both
 
-module _ (policy : Tables) (tx : Tx) (one : Cert) (two : Cert2) (lift : IsLift one two) where
+module _ (policy : Policy) (tx : Tx) (one : Cert) (two : Cert2) (lift : IsLift one two) where
   abbrev k : Claim
   k = claim policy tx (One one)
 

@@ -4,7 +4,7 @@ use Rattle.std.specs.Prelude.{slice_get, slice_index_or, option_map}
 use Rattle.std.specs.List.{AllZip}
 use Rattle.std.proofs.lemmas.Option.{same_Some}
 use Rattle.mls_lattice.specs.Labels.{AreDistinct}
-use Rattle.mls_lattice.specs.Policy.{Name, Tables, labels_of}
+use Rattle.mls_lattice.specs.Policy.{Name, Policy, labels_of}
 use Rattle.mls_scheme.specs.declared.value.Kind.{Kind}
 use Rattle.mls_scheme.specs.declared.value.Value.{Value}
 use Rattle.mls_scheme.specs.Value.{fits_kind}
@@ -31,7 +31,7 @@ arg_kind (p ∷ ps) [] h i k e = absurd h
 arg_kind (p ∷ ps) (v ∷ vs) h zero k e = subst (λ j. fits_kind v j ≡ true) (same_Some p.1.kind k e) h.0
 arg_kind (p ∷ ps) (v ∷ vs) h (suc i) k e = arg_kind ps vs h.1 i k e
 
-pub call_keeps : (policy : Tables) → AreDistinct (labels_of policy) → (schemes : Schemes) (tx : Tx) → IsReadUnder policy schemes tx → (args : List (Option Value)) → ArgsFit tx args
+pub call_keeps : (policy : Policy) → AreDistinct (labels_of policy) → (schemes : Schemes) (tx : Tx) → IsReadUnder policy schemes tx → (args : List (Option Value)) → ArgsFit tx args
     → (db : Database) → AreContent (labels_of policy) schemes db → Keeps policy schemes tx.hi (scope_of tx) (run_tx (labels_of policy) schemes tx args db)
 call_keeps policy distinct schemes tx read args fits db content =
     block_keeps policy schemes tx.hi distinct args (scope_of tx) tx.body read.fits read.kinds []
@@ -44,5 +44,5 @@ pub give_items : CallsGiveItems
 give_items policy distinct schemes tx read args fits db content = let k = call_keeps policy distinct schemes tx read args fits db content in (k.emitted, k.released)
 
 -- what a call gives has declared labels, whatever the arguments are
-pub call_labelled : (policy : Tables) (schemes : Schemes) (tx : Tx) → IsReadUnder policy schemes tx → (args : List (Option Value)) (db : Database) → AreLabelled policy (run_tx (labels_of policy) schemes tx args db)
+pub call_labelled : (policy : Policy) (schemes : Schemes) (tx : Tx) → IsReadUnder policy schemes tx → (args : List (Option Value)) (db : Database) → AreLabelled policy (run_tx (labels_of policy) schemes tx args db)
 call_labelled policy schemes tx read args db = block_labelled policy schemes tx.hi args (scope_of tx) tx.body read.fits [] (start db) (record { emitted = tt; released = tt })

@@ -10,8 +10,8 @@ use Rattle.mls_lattice.specs.Lattice.{Pair, Dominates, ◌⊑◌, bottom, pair_o
 use Rattle.mls_lattice.specs.Labels.{Labels, label_of, below}
 use Rattle.mls_lattice.proofs.LatticeLemmas.{⊑-Dominates, Dominates-⊑, Dominates-trans}
 use Rattle.mls_translang.specs.Tree.{Block, End, Do, If, For, statements}
-use Rattle.mls_certificate.specs.declared.cert.Certificate.{Certificate}
-use Rattle.mls_certificate.specs.declared.cert.Certificate.TheVariants.{One, Two}
+use Rattle.mls_certcheck.specs.declared.cert.Certificate.{Certificate}
+use Rattle.mls_certcheck.specs.declared.cert.Certificate.TheVariants.{One, Two}
 use Rattle.mls_certcheck.specs.Place.{Plain, directs, branching, looping, places}
 use Rattle.mls_certcheck.specs.Rules.{Claim, pc, after, var_rows, row_after}
 use Rattle.mls_certcheck.proofs.LabelLemmas.{above_bottom}

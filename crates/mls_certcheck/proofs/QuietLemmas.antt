@@ -8,7 +8,7 @@ use Rattle.std.proofs.lemmas.List.{append-nil}
 use Rattle.std.proofs.lemmas.List.Elements.{filter-append}
 use Rattle.mls_lattice.specs.Lattice.{Pair, Dominates, ◌⊑◌, join}
 use Rattle.mls_lattice.specs.Labels.{Labels, label_of, below, AreDistinct}
-use Rattle.mls_lattice.specs.Policy.{Tables, labels_of}
+use Rattle.mls_lattice.specs.Policy.{Policy, labels_of}
 use Rattle.mls_lattice.proofs.LatticeLemmas.{Dominates-trans, join-left}
 use Rattle.mls_scheme.specs.declared.value.Value.{Value}
 use Rattle.mls_scheme.specs.declared.tuple.Tuple.{Tuple}
@@ -25,7 +25,7 @@ use Rattle.mls_certcheck.specs.Expressions.{holds_in}
 use Rattle.mls_certcheck.specs.Meaning.{Item, Variables, Progress, set_var, set_outcome, do_write, environment, write_in, perform, run_block}
 use Rattle.mls_certcheck.specs.Secure.{AreStored, seen_items}
 use Rattle.mls_certcheck.proofs.KeepingLemmas.{cond_kept, for_each_kept, perform_stored, block_stored}
-use Rattle.mls_certificate.specs.declared.cert.Certificate.{Certificate}
+use Rattle.mls_certcheck.specs.declared.cert.Certificate.{Certificate}
 use Rattle.mls_certcheck.specs.Place.{Plain, directs, last, places}
 use Rattle.mls_certcheck.specs.Lines.{target}
 use Rattle.mls_certcheck.specs.Rules.{Claim, claim, pc, after}
@@ -97,7 +97,7 @@ outcome_not : (outcome : Option ℕ) (o : Outcome) (vars : Variables) (i : ℕ) 
 outcome_not None o vars i other = refl
 outcome_not (Some x) o vars i other = set_not x i _ vars (λ e. other (ap Some (sym e)))
 
-module _ (policy : Tables) (distinct : AreDistinct (labels_of policy)) (tx : Tx) (cert : Certificate) (none : HasNoMore (claim policy tx cert)) (schemes : Schemes) (args : List (Option Value)) (c : ℕ) where
+module _ (policy : Policy) (distinct : AreDistinct (labels_of policy)) (tx : Tx) (cert : Certificate) (none : HasNoMore (claim policy tx cert)) (schemes : Schemes) (args : List (Option Value)) (c : ℕ) where
   abbrev k : Claim
   k = claim policy tx cert
 

@@ -8,8 +8,8 @@ use Rattle.mls_lattice.specs.Labels.{label_of}
 use Rattle.mls_lattice.specs.Reading.{◌>>=◌}
 use Rattle.mls_lattice.proofs.LatticeLemmas.{⊑-Dominates, Dominates-⊑}
 use Rattle.mls_translang.specs.Tree.{statements}
-use Rattle.mls_certificate.specs.declared.cert.Certificate.{Certificate}
-use Rattle.mls_certificate.specs.declared.cert.Certificate.TheVariants.{One, Two}
+use Rattle.mls_certcheck.specs.declared.cert.Certificate.{Certificate}
+use Rattle.mls_certcheck.specs.declared.cert.Certificate.TheVariants.{One, Two}
 use Rattle.mls_certcheck.specs.Lines.{Line, lines}
 use Rattle.mls_certcheck.specs.Rules.{Claim, hi, after, slot_label, source_label, var_rows, Counts, IsOver, Holds, Rules}
 use Rattle.mls_certcheck.specs.Checks.{all_below, counts, is_target, is_over, holds, verdict, unless, count_verdict, First}

@@ -1,7 +1,7 @@
 -- What the stored form implies holds throughout a call.
 use Rattle.std.proofs.Common.{ℕ, List, [], ◌∷◌, Option}
 use Rattle.mls_lattice.specs.Labels.{AreDistinct}
-use Rattle.mls_lattice.specs.Policy.{Tables, labels_of}
+use Rattle.mls_lattice.specs.Policy.{Policy, labels_of}
 use Rattle.mls_scheme.specs.declared.value.Value.{Value}
 use Rattle.mls_scheme.specs.declared.tuple.Tuple.{Tuple}
 use Rattle.mls_scheme.specs.Table.{Database}
@@ -12,7 +12,7 @@ use Rattle.mls_translang.specs.Tx.{Tx, scope_of}
 use Rattle.mls_translang.specs.Scope.{Scope, in_loop}
 use Rattle.mls_translang.specs.Fits.{BlockFits, IsReadUnder}
 use Rattle.mls_certcheck.specs.Expressions.{holds_in}
-use Rattle.mls_certcheck.specs.Meaning.{Progress, start, environment, perform, for_each, run_block}
+use Rattle.mls_certcheck.specs.Meaning.{Progress, start, environment, perform, run_block}
 use Rattle.mls_certcheck.specs.Secure.{AreStored}
 use Rattle.mls_certcheck.specs.Throughout.{EachTurn, ThroughoutBlock, Throughout}
 use Rattle.mls_certcheck.specs.MeaningLaws.{CallsKeepFormThroughout}
@@ -24,7 +24,7 @@ each_turn : (P : Progress → Type 0) (turn : Tuple → Progress → Progress) (
 each_turn P turn Holds holds keeps [] s h = tt
 each_turn P turn Holds holds keeps (row ∷ rest) s h = (holds row s h, each_turn P turn Holds holds keeps rest (turn row s) (keeps row s h))
 
-module _ (policy : Tables) (schemes : Schemes) (hi : ℕ) (distinct : AreDistinct (labels_of policy)) (args : List (Option Value))
+module _ (policy : Policy) (schemes : Schemes) (hi : ℕ) (distinct : AreDistinct (labels_of policy)) (args : List (Option Value))
     (Holds : Database → Type 0) (implied : (db : Database) → AreStored (labels_of policy) schemes db → Holds db) where
   block_throughout : (scope : Scope) (block : Block) → BlockFits policy schemes hi scope block → (around : List Tuple) (s : Progress)
       → AreStored (labels_of policy) schemes s.db → ThroughoutBlock (labels_of policy) schemes args Holds block around s
@@ -52,7 +52,7 @@ module _ (policy : Tables) (schemes : Schemes) (hi : ℕ) (distinct : AreDistinc
       )
 
 -- so of a whole call
-pub form_throughout : (policy : Tables) → AreDistinct (labels_of policy) → (schemes : Schemes) (tx : Tx) → IsReadUnder policy schemes tx
+pub form_throughout : (policy : Policy) → AreDistinct (labels_of policy) → (schemes : Schemes) (tx : Tx) → IsReadUnder policy schemes tx
     → (args : List (Option Value)) (db : Database) → AreStored (labels_of policy) schemes db
     → (Holds : Database → Type 0) → ((d : Database) → AreStored (labels_of policy) schemes d → Holds d)
     → Throughout (labels_of policy) schemes tx args db Holds

@@ -5,7 +5,9 @@ pub mod Lines
 pub mod Rules
 pub mod Checks
 pub mod Rows
+pub mod Lent
 pub mod Walk
+pub mod Visited
 pub mod Certified
 pub mod Laws
 pub mod Expressions
@@ -14,3 +16,6 @@ pub mod Throughout
 pub mod Kinds
 pub mod Secure
 pub mod MeaningLaws
+pub mod Fault
+pub mod Spelling
+pub mod Reading

@@ -140,5 +140,9 @@ tx_lines tx =
 abbrev pub all_places : Tx → List Place
 all_places tx = places 1 0 0 [] tx.body
 
+-- all but those of the transaction itself
+abbrev pub body_lines : Tx → List Line
+body_lines tx = flat_map (lines_at (length tx.vars)) (all_places tx)
+
 abbrev pub lines : Tx → List Line
-lines tx = tx_lines tx ++ flat_map (lines_at (length tx.vars)) (all_places tx)
+lines tx = tx_lines tx ++ body_lines tx

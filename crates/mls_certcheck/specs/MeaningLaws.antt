@@ -2,7 +2,7 @@
 use Rattle.std.specs.Prelude.{◌≡◌, true, List, Option}
 use Rattle.std.specs.List.{AllByRecursion, AllZip}
 use Rattle.mls_lattice.specs.Labels.{below, AreDistinct}
-use Rattle.mls_lattice.specs.Policy.{Tables, labels_of}
+use Rattle.mls_lattice.specs.Policy.{Policy, labels_of}
 use Rattle.mls_scheme.specs.declared.value.Kind.{Kind}
 use Rattle.mls_scheme.specs.declared.value.Value.{Value}
 use Rattle.mls_scheme.specs.Value.{fits_kind}
@@ -20,28 +20,28 @@ abbrev pub ArgsFit : Tx → List (Option Value) → Type 0
 ArgsFit tx args = AllZip (λ p v. fits_kind v p.1.kind ≡ true) tx.params args
 
 -- a declared label, and a value of some kind or null
-pub record IsItem (policy : Tables) (i : Item) : Type 0 where
+pub record IsItem (policy : Policy) (i : Item) : Type 0 where
   pub label : IsLabel policy i.0
   pub kind : (k : Kind) × (fits_kind i.1 k ≡ true)
 
 -- a call keeps the stored form
 abbrev pub CallsKeepForm : Type 0
 CallsKeepForm =
-    (policy : Tables) → AreDistinct (labels_of policy) → (schemes : Schemes) (tx : Tx) → IsReadUnder policy schemes tx
+    (policy : Policy) → AreDistinct (labels_of policy) → (schemes : Schemes) (tx : Tx) → IsReadUnder policy schemes tx
     → (args : List (Option Value)) (db : Database) → AreStored (labels_of policy) schemes db
     → AreStored (labels_of policy) schemes (run_tx (labels_of policy) schemes tx args db).db
 
 -- and so is each database on the way of it
 abbrev pub CallsKeepFormThroughout : Type 0
 CallsKeepFormThroughout =
-    (policy : Tables) → AreDistinct (labels_of policy) → (schemes : Schemes) (tx : Tx) → IsReadUnder policy schemes tx
+    (policy : Policy) → AreDistinct (labels_of policy) → (schemes : Schemes) (tx : Tx) → IsReadUnder policy schemes tx
     → (args : List (Option Value)) (db : Database) → AreStored (labels_of policy) schemes db
     → Throughout (labels_of policy) schemes tx args db (AreStored (labels_of policy) schemes)
 
 -- a call with arguments that fit keeps the whole stored form, kinds and intervals too
 abbrev pub CallsKeepContent : Type 0
 CallsKeepContent =
-    (policy : Tables) → AreDistinct (labels_of policy) → (schemes : Schemes) (tx : Tx) → IsReadUnder policy schemes tx
+    (policy : Policy) → AreDistinct (labels_of policy) → (schemes : Schemes) (tx : Tx) → IsReadUnder policy schemes tx
     → (args : List (Option Value)) → ArgsFit tx args → (db : Database) → AreContent (labels_of policy) schemes db
     → AreContent (labels_of policy) schemes (run_tx (labels_of policy) schemes tx args db).db
 
@@ -49,7 +49,7 @@ CallsKeepContent =
 -- label of what it reads
 abbrev pub CallsGiveItems : Type 0
 CallsGiveItems =
-    (policy : Tables) → AreDistinct (labels_of policy) → (schemes : Schemes) (tx : Tx) → IsReadUnder policy schemes tx
+    (policy : Policy) → AreDistinct (labels_of policy) → (schemes : Schemes) (tx : Tx) → IsReadUnder policy schemes tx
     → (args : List (Option Value)) → ArgsFit tx args → (db : Database) → AreContent (labels_of policy) schemes db
     → AllByRecursion (IsItem policy) (run_tx (labels_of policy) schemes tx args db).emitted
     × AllByRecursion (λ i. IsItem policy i × (below (labels_of policy) i.0 tx.hi ≡ true)) (run_tx (labels_of policy) schemes tx args db).released

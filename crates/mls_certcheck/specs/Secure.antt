@@ -2,7 +2,7 @@
 use Rattle.std.specs.Prelude.{◌≡◌, ℕ, ◌<◌, true, false, List, [], ◌∷◌, map, length, Option, None, ◌⊎◌, ◌↔◌, slice_index_or}
 use Rattle.std.specs.List.{filter}
 use Rattle.mls_lattice.specs.Labels.{Labels, below}
-use Rattle.mls_lattice.specs.Policy.{Tables, labels_of}
+use Rattle.mls_lattice.specs.Policy.{Policy, labels_of}
 use Rattle.mls_scheme.specs.declared.value.Value.{Value}
 use Rattle.mls_scheme.specs.declared.tuple.Tuple.{Tuple}
 use Rattle.mls_scheme.specs.Table.{Database, IsIn}
@@ -63,7 +63,7 @@ ReleasesTell ls c tx s t = (below ls tx.hi c ≡ false) × Split (seen_items ls 
 
 -- to any level two runs look alike that began alike, but for values that are released to it; and a level that does not
 -- dominate that of the call sees nothing of it
-pub record Secure (policy : Tables) (tx : Tx) : Type 0 where
+pub record Secure (policy : Policy) (tx : Tx) : Type 0 where
   pub two_runs : (c : ℕ) (schemes : Schemes) (d e : Database) (args brgs : List (Option Value)) → IsReadUnder policy schemes tx
       → AreStored (labels_of policy) schemes d → AreStored (labels_of policy) schemes e
       → SameViews (labels_of policy) c d e → SameArgs (labels_of policy) c (param_labels tx) args brgs

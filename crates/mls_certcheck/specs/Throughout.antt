@@ -1,6 +1,6 @@
 -- What holds of each database on the way of a call: after each statement, and so after each write, of its run.
 -- A run is no list of events that a number could index.
-use Rattle.std.specs.Prelude.{◌≡◌, Bool, true, false, cond, List, [], ◌∷◌, Option, ⊤}
+use Rattle.std.specs.Prelude.{◌≡◌, true, false, cond, List, [], ◌∷◌, Option, ⊤}
 use Rattle.mls_lattice.specs.Labels.{Labels}
 use Rattle.mls_scheme.specs.declared.value.Value.{Value}
 use Rattle.mls_scheme.specs.declared.tuple.Tuple.{Tuple}

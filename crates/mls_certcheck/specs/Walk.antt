@@ -1,15 +1,16 @@
--- What the checker knows of its claim, and what it answers as it goes from statement to statement.
-use Rattle.std.specs.Prelude.{◌≡◌, ℕ, ◌+◌, List, [], ◌++◌, length, Result, Ok, Err}
+-- The lines of statements as the walk comes to them, and what the checker knows of its claim.
+use Rattle.std.specs.Prelude.{◌≡◌, ℕ, ◌+◌, List, [], ◌∷◌, ◌++◌, Result, Ok, Err}
 use Rattle.std.specs.List.{flat_map}
 use Rattle.mls_lattice.specs.Lattice.{Pair, ◌⊑◌}
 use Rattle.mls_lattice.specs.Policy.{labels_of}
-use Rattle.mls_lattice.specs.Reading.{◌>>=◌}
-use Rattle.mls_translang.specs.Tree.{Expr, Block, Do, statements}
-use Rattle.mls_certcheck.specs.Place.{Place, branching, looping, places}
-use Rattle.mls_certcheck.specs.Lines.{Line, ceiling, context, rest, stmt_lines, own_lines, lines_at}
+use Rattle.mls_translang.specs.Tree.{Block, End, Do, If, For, statements}
+use Rattle.mls_certcheck.specs.Place.{Plain, branching, looping, places}
+use Rattle.mls_certcheck.specs.Lines.{Line, ceiling, context, own_lines, lines_at}
 use Rattle.mls_certcheck.specs.Rules.{Claim}
+use Rattle.mls_certcheck.specs.Rows.{rows_of}
 use Rattle.mls_certcheck.specs.Checks.{is_over, verdict}
 use Rattle.mls_certcheck.specs.declared.flow.Source.{Source}
+use Rattle.mls_certcheck.specs.declared.lent.Here.{Here}
 use Rattle.mls_certcheck.specs.declared.checker.Checker.{Checker}
 use Rattle.mls_certcheck.specs.declared.refusal.Refusal.{Refusal}
 
@@ -25,33 +26,37 @@ Says (Err e) answer = answer ≡ Err e
 pub record IsJoin (c : Claim) (sources : List Source) (p : Pair) : Type 0 where
   pub flows : (q : Pair) → (p ⊑ q) ≡ is_over c q sources
 
--- the lines of a statement that don't ask what it is
-abbrev pub entry_lines : ℕ → ℕ → ℕ → List Line
-entry_lines vars n around = ceiling vars n ++ context n around
+-- the checker, shown these lines, answered this
+abbrev pub Checked : Checker → List Line → Result (Unit {0}) Refusal → Checker → Type 0
+Checked k ls answer m = (claim_of m ≡ claim_of k) × Says answer (verdict (claim_of k) ls)
 
--- and those that do
-abbrev pub branch_lines : ℕ → ℕ → List ℕ → Expr → Block → Block → List Line
-branch_lines n before rows guard one other = own_lines n before rows (branching n before guard one other)
+-- the lines of the statements of a block, the first of which is n, among so many variables
+unfoldable pub walked_lines : ℕ → ℕ → ℕ → ℕ → List ℕ → Block → List Line
+walked_lines vars n around before rows block = flat_map (lines_at vars) (places n around before rows block)
 
-abbrev pub loop_lines : ℕ → ℕ → ℕ → Block → List Line
-loop_lines n before label body = own_lines n before [] (looping n before label body)
+module _ (h : Here) where
+  -- of every statement
+  abbrev pub entry_lines : List Line
+  entry_lines = ceiling h.vars h.number ++ context h.number h.around
 
--- of a statement with none inside: what it does, and what it leaves
-abbrev pub doing_lines : ℕ → ℕ → List ℕ → Block → List Line
-doing_lines n before rows (Do stmt after) = stmt_lines n before rows stmt
-doing_lines n before rows _ = []
+  -- of what the first statement of a block is
+  abbrev pub own_of : Block → List Line
+  own_of End = []
+  own_of (Do stmt rest) = own_lines h.number h.before (rows_of h.rows) (Plain stmt)
+  own_of (If guard one other rest) = own_lines h.number h.before (rows_of h.rows) (branching h.number h.before guard one other)
+  own_of (For row rel label body rest) = own_lines h.number h.before (rows_of h.rows) (looping h.number h.before label body)
 
-abbrev pub leaving_lines : ℕ → ℕ → Block → List Line
-leaving_lines n before (Do stmt after) = rest n before stmt
-leaving_lines n before _ = []
+  abbrev pub here_lines : Block → List Line
+  here_lines block = entry_lines ++ own_of block
 
-abbrev pub plain_lines : ℕ → ℕ → List ℕ → Block → List Line
-plain_lines n before rows block = doing_lines n before rows block ++ leaving_lines n before block
+  -- of the statements inside it
+  abbrev pub inner_of : Block → List Line
+  inner_of (If guard one other rest) =
+      walked_lines h.vars (h.number + 1) h.number h.before (rows_of h.rows) one
+      ++ walked_lines h.vars (h.number + 1 + statements one) h.number h.before (rows_of h.rows) other
+  inner_of (For row rel label body rest) = walked_lines h.vars (h.number + 1) h.number h.number (label ∷ rows_of h.rows) body
+  inner_of _ = []
 
--- the lines of these statements
-abbrev pub all_lines : Claim → List Place → List Line
-all_lines c ps = flat_map (lines_at (length c.tx.vars)) ps
-
--- the first line of a block's statements that fails, or the number of the next statement
-unfoldable pub walked : Claim → ℕ → ℕ → ℕ → List ℕ → Block → Result ℕ Refusal
-walked c n around before rows block = verdict c (all_lines c (places n around before rows block)) >>= λ _. Ok (n + statements block)
+  -- of all statements of a block that begins here
+  abbrev pub block_lines : Block → List Line
+  block_lines block = walked_lines h.vars h.number h.around h.before (rows_of h.rows) block

@@ -5,9 +5,9 @@ ghost use Rattle.mls_certcheck.specs.Rules.{Rules, claim};
 ghost use Rattle.mls_certcheck.specs.Checks.{First};
 ghost use Rattle.mls_certcheck.specs.Certified.{Rules-prop};
 
+use crate::Certificate;
 use crate::checking::check;
 use crate::refusal::Refusal;
-use mls_certificate::Certificate;
 use mls_lattice::Policy;
 use mls_translang::Tx;
 use std::snapshot::Snapshot;

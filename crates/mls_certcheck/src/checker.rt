@@ -1,21 +1,20 @@
 //! The labels that a claim speaks of.
-ghost use Rattle.std.specs.Prelude.{◌≡◌, ◌≤◌, map, slice_index, slice_index_or};
+ghost use Rattle.std.specs.Prelude.{◌≡◌, map, slice_index, slice_index_or};
 ghost use Rattle.mls_lattice.specs.Lattice.{bottom, pair_of, ◌⊑◌};
 ghost use Rattle.mls_lattice.specs.Labels.{label_of};
-ghost use Rattle.mls_certificate.specs.declared.cert.Certificate.TheVariants.{Two};
+ghost use Rattle.mls_certcheck.specs.declared.cert.Certificate.TheVariants.{Two};
 ghost use Rattle.mls_certcheck.specs.Lines.{names};
 ghost use Rattle.mls_certcheck.specs.Rules.{hi, pc, after, param_label, pc_labels, row_after};
-ghost use Rattle.mls_certcheck.specs.Checks.{is_over};
 ghost use Rattle.mls_certcheck.specs.Rows.{rows_of};
 ghost use Rattle.mls_certcheck.specs.Walk.{IsJoin, claim_of};
 
-use crate::here::Here;
-use mls_certificate::{Cert2, Certificate};
+use crate::lent::Here;
+use crate::{Cert2, Certificate};
 use mls_lattice::{Label, LabelNo, Policy};
 use mls_translang::{Expr, Term, Tx};
 
 /// A transaction with its certificate, under a policy.
-#[derive(Drop)]
+#[derive(Clone, Copy)]
 pub(crate) struct Checker<'a> {
     pub policy: &'a Policy,
     pub tx: &'a Tx,
@@ -23,7 +22,7 @@ pub(crate) struct Checker<'a> {
 }
 
 #[tactic(auto, using(crate::proofs::LabelLemmas::bottom_pair))]
-fn lowest() -> Label
+pub(crate) fn lowest() -> Label
     ensures { pair_of result ≡ bottom }
 {
     Label { rank: 0, cats: 0 }
@@ -138,7 +137,6 @@ impl Checker<'_> {
     /// The join of the labels of the names in an expression: it flows just where each of them does.
     #[tactic(auto, using(crate::proofs::LabelLemmas::joins))]
     pub(crate) fn label(&self, here: &Here, expr: &Expr) -> Label
-        requires { here.now.rows.count ≤ 16 }
         ensures { IsJoin (claim_of self.now) (names here.now.before (rows_of here.now.rows) expr.now) (pair_of result) }
     {
         match &expr.term {
@@ -149,14 +147,5 @@ impl Checker<'_> {
             Term::Not(expr) => self.label(here, expr),
             Term::Op(_, left, right) => self.label(here, left).join(self.label(here, right)),
         }
-    }
-
-    /// Whether each name in an expression may flow to a label.
-    pub(crate) fn names_flow(&self, here: &Here, expr: &Expr, to: Label) -> bool
-        requires { here.now.rows.count ≤ 16 }
-        ensures { result ≡ is_over (claim_of self.now) (pair_of to)
-            (names here.now.before (rows_of here.now.rows) expr.now) }
-    {
-        flows(self.label(here, expr), to)
     }
 }

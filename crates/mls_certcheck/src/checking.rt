@@ -3,16 +3,15 @@ ghost use Rattle.std.specs.Prelude.{◌≡◌, ◌↔◌, Ok, IfOk, length, nat_
 ghost use Rattle.std.specs.List.{list_all};
 ghost use Rattle.mls_translang.specs.Tree.{statements};
 ghost use Rattle.mls_certcheck.specs.Secure.{Secure};
-ghost use Rattle.mls_certcheck.specs.Lines.{all_places, tx_lines, within_ends};
+ghost use Rattle.mls_certcheck.specs.Lines.{body_lines, tx_lines, within_ends};
 ghost use Rattle.mls_certcheck.specs.Rules.{Rules, claim, var_rows};
 ghost use Rattle.mls_certcheck.specs.Checks.{First, count_verdict, counts, holds, verdict};
-ghost use Rattle.mls_certcheck.specs.Walk.{all_lines, claim_of, Says};
+ghost use Rattle.mls_certcheck.specs.Walk.{claim_of, Says};
 
+use crate::Certificate;
 use crate::checker::{Checker, flows};
-use crate::here::Here;
 use crate::refusal::{Refusal, Rule};
-use crate::rows::Rows;
-use mls_certificate::Certificate;
+use crate::walking::walk;
 use mls_lattice::{LabelNo, Policy};
 use mls_translang::{Tx, statements};
 
@@ -74,25 +73,20 @@ impl Checker<'_> {
     fn heads(&self) -> Result<(), Refusal>
         ensures { Says result (verdict (claim_of self.now) (tx_lines self.now.tx.now)) }
     {
-        Refusal::unless(self.are_under(0), 0, Rule::AboveCeiling)?;
+        let under = flows(self.variables(0, self.tx.vars().len()), self.hi());
+        Refusal::unless(under, 0, Rule::AboveCeiling)?;
         Refusal::unless(self.parameters_hold(), 0, Rule::Context)
     }
 
     /// The rules of all statements.
     fn body(&self) -> Result<(), Refusal>
-        ensures { Says result (verdict (claim_of self.now)
-            (all_lines (claim_of self.now) (all_places self.now.tx.now))) }
+        ensures { Says result (verdict (claim_of self.now) (body_lines self.now.tx.now)) }
     {
-        let start = Here {
-            number: 1,
-            before: 0,
-            rows: Rows::outside(),
-        };
-        self.block(0, &start, self.tx.body())?;
-        Ok(())
+        let mut visitor = *self;
+        walk(self.tx, &mut visitor)
     }
 
-    #[tactic(auto, using(crate::proofs::WalkLemmas::verdict_more))]
+    #[tactic(auto, using(crate::proofs::CheckLemmas::verdict_more))]
     fn verdict(&self) -> Result<(), Refusal>
         ensures { Says result (First (claim_of self.now)) }
     {

@@ -1,11 +1,10 @@
 //! Whether variables keep what they hold: their labels after one statement flow to those after another.
-ghost use Rattle.std.specs.Prelude.{◌≡◌, ◌<◌, ◌+◌, ◌^◌, ◌||◌, length};
+ghost use Rattle.std.specs.Prelude.{◌≡◌, ◌<◌, ◌+◌, ◌^◌, ◌||◌};
 ghost use Rattle.mls_lattice.specs.Lattice.{◌⊑◌};
 ghost use Rattle.mls_translang.specs.Tree.{statements};
 ghost use Rattle.mls_certcheck.specs.Place.{last};
-ghost use Rattle.mls_certcheck.specs.Lines.{variables};
-ghost use Rattle.mls_certcheck.specs.Rules.{after, hi};
-ghost use Rattle.mls_certcheck.specs.Checks.{holds, is_over, is_target};
+ghost use Rattle.mls_certcheck.specs.Rules.{after};
+ghost use Rattle.mls_certcheck.specs.Checks.{holds, is_target};
 ghost use Rattle.mls_certcheck.specs.Walk.{claim_of};
 ghost use Rattle.mls_certcheck.specs.declared.flow.Flow.TheVariants.{Kept};
 
@@ -13,7 +12,7 @@ use crate::checker::{Checker, flows};
 use mls_translang::Block;
 
 /// The number of the last of a block's own statements, or that after which the block begins.
-pub fn last_number(before: usize, first: usize, block: &Block) -> usize
+pub(crate) fn last_number(before: usize, first: usize, block: &Block) -> usize
     requires { first + statements block.now < 2 ^ 63 }
     ensures { result ≡ last before first block.now }
 {
@@ -50,20 +49,6 @@ impl Checker<'_> {
     {
         for place in 0..self.tx.vars().len() {
             if !self.kept(from, to, but, place) {
-                return false;
-            }
-        }
-        true
-    }
-
-    /// Whether no variable lies above the ceiling after a statement.
-    pub(crate) fn are_under(&self, number: usize) -> bool
-        ensures { result ≡ is_over (claim_of self.now) (hi (claim_of self.now))
-            (variables number (length self.now.tx.now.vars)) }
-    {
-        let hi = self.hi();
-        for place in 0..self.tx.vars().len() {
-            if !flows(self.after(number, place), hi) {
                 return false;
             }
         }

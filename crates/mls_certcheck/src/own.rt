@@ -1,198 +1,331 @@
-//! The rules of what a statement is.
-ghost use Rattle.std.specs.Prelude.{◌≡◌, ◌<◌, ◌≤◌, ◌+◌, ◌^◌, ◌&&◌, map};
-ghost use Rattle.std.specs.List.{flat_map, list_all};
-ghost use Rattle.mls_lattice.specs.Lattice.{pair_of, ◌⊑◌};
-ghost use Rattle.mls_lattice.specs.Labels.{label_of};
-ghost use Rattle.mls_translang.specs.Tree.{Assign, Write_at, Inserting, Updating, Deleting, Release, Emit, statements};
-ghost use Rattle.mls_certcheck.specs.Place.{directs};
-ghost use Rattle.mls_certcheck.specs.Lines.{names, outcome_flows, stmt_lines};
-ghost use Rattle.mls_certcheck.specs.Rules.{hi, pc, slot_label};
-ghost use Rattle.mls_certcheck.specs.Checks.{holds, is_over, verdict};
-ghost use Rattle.mls_certcheck.specs.Rows.{rows_of};
-ghost use Rattle.mls_certcheck.specs.Walk.{claim_of, Says};
-ghost use Rattle.mls_certcheck.specs.declared.flow.Slot.TheVariants.{Statement};
+//! The lines of one statement, but for those of the statements inside it.
+ghost use Rattle.std.specs.Prelude.{◌≡◌, ◌<◌, ◌+◌, ◌^◌, ◌∷◌, [], map, Some, None};
+ghost use Rattle.mls_translang.specs.Tree.{statements, Assign, Write_at, Inserting, Updating, Deleting, Release, Emit, End, Do, If, For};
+ghost use Rattle.mls_translang.specs.Blocks.{block_of};
+ghost use Rattle.mls_certcheck.specs.Lent.{line_of};
+ghost use Rattle.mls_certcheck.specs.Walk.{entry_lines, own_of, here_lines};
+ghost use Rattle.mls_certcheck.specs.declared.flow.Slot.TheVariants.{Variable, Statement};
+ghost use Rattle.mls_certcheck.specs.declared.flow.Source.TheVariants.{Held, Declared};
+ghost use Rattle.mls_certcheck.specs.declared.lent.Targets.TheVariants.{One};
+ghost use Rattle.mls_certcheck.specs.declared.lent.More.TheVariants.{Nothing};
+ghost use Rattle.mls_certcheck.specs.declared.lent.LentFlow.TheVariants.{Into, Kept};
+ghost use Rattle.mls_certcheck.specs.declared.refusal.Rule.TheVariants as rule;
 
-use crate::checker::{Checker, flows};
-use crate::here::Here;
-use crate::refusal::{Refusal, Rule};
-use mls_lattice::{Label, LabelNo};
-use mls_translang::{Block, Expr};
+use crate::flow::{Slot, Source};
+use crate::keeping::last_number;
+use crate::lent::{Here, LentFlow, More, Numbered, Targets};
+use crate::refusal::Rule;
+use crate::visit::Visit;
+use mls_lattice::LabelNo;
+use mls_translang::{Block, Expr, Stmt};
 
-impl Checker<'_> {
-    /// Whether a label flows to each of a block's own statements.
-    pub(crate) fn inner_dominate(&self, bound: Label, first: usize, block: &Block) -> bool
-        requires { first + statements block.now < 2 ^ 63 }
-        ensures { result ≡ list_all (λ t. pair_of bound ⊑ slot_label (claim_of self.now) t)
-            (map (λ m. Statement m) (directs first block.now)) }
+/// What is declared to have a label.
+fn declared(label: LabelNo) -> Option<Source>
+    ensures { result ≡ Some (Declared label) }
+{
+    Some(Source::Declared(label))
+}
+
+/// What variables hold after a statement, they may hold after this one.
+fn kept(by: Rule, from: usize) -> (Rule, LentFlow<'static>)
+    ensures { result ≡ (by, Kept from None) }
+{
+    (by, LentFlow::Kept { from, but: None })
+}
+
+impl Here {
+    /// That the statement runs.
+    fn runs(&self) -> Option<Source>
+        ensures { result ≡ Some (Held (Statement self.now.number)) }
     {
-        let mut number = first;
-        for stmt in block.stmts() {
-            if !flows(bound, self.pc(number)) {
-                return false;
-            }
-            number += stmt.statements();
-        }
-        true
+        Some(Source::Held(Slot::Statement(self.number)))
     }
 
-    /// Whether each name in these operands may flow to a label.
-    #[tactic(auto, using(crate::proofs::LabelLemmas::over_both))]
-    fn operands_flow(&self, here: &Here, operands: &[Expr], to: Label) -> bool
-        requires { here.now.rows.count ≤ 16 }
-        ensures { result ≡ is_over (claim_of self.now) (pair_of to)
-            (flat_map (names here.now.before (rows_of here.now.rows)) operands.now) }
+    /// A variable after the statement.
+    fn target(&self, variable: u8) -> Targets<'static>
+        ensures { result ≡ One (Variable self.now.number variable) }
     {
-        for operand in operands {
-            if !self.names_flow(here, operand, to) {
-                return false;
-            }
-        }
-        true
+        Targets::One(Slot::Variable {
+            after: self.number,
+            place: usize::from(variable),
+        })
     }
 
-    #[tactic(auto, using(crate::proofs::LabelLemmas::over_both))]
-    fn sets_flow(&self, here: &Here, sets: &[(u8, Expr)], to: Label) -> bool
-        requires { here.now.rows.count ≤ 16 }
-        ensures { result ≡ is_over (claim_of self.now) (pair_of to)
-            (flat_map (names here.now.before (rows_of here.now.rows)) (map (λ s. s.1) sets.now)) }
+    /// That variables (but one) keep what they hold.
+    fn rest(&self, but: Option<u8>) -> (Rule, LentFlow<'static>)
+        ensures { result ≡ (rule.Rest, Kept self.now.before but) }
     {
-        for set in sets {
-            if !self.names_flow(here, &set.1, to) {
-                return false;
-            }
-        }
-        true
+        let from = self.before;
+        (Rule::Rest, LentFlow::Kept { from, but })
     }
 
-    /// The rule of an assignment.
-    pub(crate) fn assigns(&self, here: &Here, variable: u8, value: &Expr) -> Result<(), Refusal>
-        requires { here.now.rows.count ≤ 16 }
-        ensures { Says result (verdict (claim_of self.now)
-            (stmt_lines here.now.number here.now.before (rows_of here.now.rows) (Assign variable value.now))) }
+    /// Shows these lines, one after another.
+    fn lend<V: Visit>(&self, visitor: &mut V, lines: &[(Rule, LentFlow<'_>)]) -> Result<(), V::Stop>
+        ensures { V.visits visitor.old (map (λ l. line_of self.now l.0 l.1) lines.now) result visitor.new }
     {
-        let into = self.after(here.number, usize::from(variable));
-        let holds = flows(self.pc(here.number), into) && self.names_flow(here, value, into);
-        Refusal::unless(holds, here.number, Rule::Assignment)
+        for lent in lines {
+            visitor.line(self, lent.0, &lent.1)?;
+        }
+        Ok(())
     }
 
-    /// Whether what a write takes in, beside its operands, and what it gives out flow only where they may.
-    fn write_holds(&self, number: usize, w: LabelNo, operands: bool, outcome: Option<u8>) -> bool
-        ensures { result ≡ (pc (claim_of self.now) number ⊑ label_of (claim_of self.now).labels w && operands
-            && label_of (claim_of self.now).labels w ⊑ hi (claim_of self.now)
-            && list_all (holds (claim_of self.now)) (outcome_flows number w outcome)) }
+    /// Those of every statement: what the ceiling dominates, and what is around it.
+    fn entry<V: Visit>(&self, visitor: &mut V) -> Result<(), V::Stop>
+        ensures { V.visits visitor.old (entry_lines self.now) result visitor.new }
     {
-        let at = self.declared(w);
-        if !flows(self.pc(number), at) || !operands || !flows(at, self.hi()) {
-            return false;
-        }
+        let own = Slot::Statement(self.number);
+        let runs = self.runs();
+        let around = Some(Source::Held(Slot::Statement(self.around)));
+        self.lend(
+            visitor,
+            &[
+                (
+                    Rule::AboveCeiling,
+                    LentFlow::Under(runs, More::Variables(self.vars)),
+                ),
+                (
+                    Rule::Context,
+                    LentFlow::Into(Targets::One(own), around, More::Nothing),
+                ),
+            ],
+        )
+    }
+
+    fn assign<V: Visit>(&self, visitor: &mut V, variable: u8, value: &Expr) -> Result<(), V::Stop>
+        ensures { V.visits visitor.old (own_of self.now (Do (Assign variable value.now) End)) result visitor.new }
+    {
+        let target = self.target(variable);
+        let into = LentFlow::Into(target, self.runs(), More::Names(value));
+        let rest = self.rest(Some(variable));
+        self.lend(visitor, &[(Rule::Assignment, into), rest])
+    }
+
+    /// What is seen at the label of a write flows into its outcome.
+    fn gives(&self, at: LabelNo, place: u8) -> (Rule, LentFlow<'static>)
+        ensures { result ≡ (rule.Write, Into (One (Variable self.now.number place)) (Some (Declared at)) Nothing) }
+    {
+        let into = LentFlow::Into(self.target(place), declared(at), More::Nothing);
+        (Rule::Write, into)
+    }
+
+    fn insert<'x, V: Visit>(
+        &self,
+        visitor: &mut V,
+        key: &'x [Expr],
+        values: &'x [Expr],
+        at: LabelNo,
+        outcome: Option<u8>,
+    ) -> Result<(), V::Stop>
+        ensures { V.visits visitor.old (own_of self.now
+            (Do (Write_at 0 at (Inserting key.now values.now) outcome) End)) result visitor.new }
+    {
+        let within = (
+            Rule::Write,
+            LentFlow::Within(at, self.runs(), More::Values(key, values)),
+        );
+        let under = (Rule::Write, LentFlow::Under(declared(at), More::Nothing));
+        let rest = self.rest(outcome);
         match outcome {
-            None => true,
-            Some(place) => flows(at, self.after(number, usize::from(place))),
+            None => self.lend(visitor, &[within, under, rest]),
+            Some(place) => self.lend(visitor, &[within, under, self.gives(at, place), rest]),
         }
     }
 
-    /// The rules of an insert.
-    pub(crate) fn inserts(
+    fn update<'x, V: Visit>(
         &self,
-        here: &Here,
-        key: &[Expr],
-        values: &[Expr],
-        w: LabelNo,
-        outcome: Option<u8>,
-    ) -> Result<(), Refusal>
-        requires { here.now.rows.count ≤ 16 }
-        ensures { Says result (verdict (claim_of self.now)
-            (stmt_lines here.now.number here.now.before (rows_of here.now.rows)
-            (Write_at 0 w (Inserting key.now values.now) outcome))) }
-    {
-        let at = self.declared(w);
-        let operands = self.operands_flow(here, key, at) && self.operands_flow(here, values, at);
-        let holds = self.write_holds(here.number, w, operands, outcome);
-        Refusal::unless(holds, here.number, Rule::Write)
-    }
-
-    fn update_is_ordered(&self, key_class: LabelNo, from: LabelNo, w: LabelNo) -> bool
-        ensures { result ≡ (label_of (claim_of self.now).labels key_class ⊑ label_of (claim_of self.now).labels from
-            && label_of (claim_of self.now).labels from ⊑ label_of (claim_of self.now).labels w) }
-    {
-        let from = self.declared(from);
-        flows(self.declared(key_class), from) && flows(from, self.declared(w))
-    }
-
-    /// The rules of an update.
-    pub(crate) fn updates(
-        &self,
-        here: &Here,
-        key: &[Expr],
+        visitor: &mut V,
+        key: &'x [Expr],
+        sets: &'x [(u8, Expr)],
         classes: (LabelNo, LabelNo, LabelNo),
-        sets: &[(u8, Expr)],
         outcome: Option<u8>,
-    ) -> Result<(), Refusal>
-        requires { here.now.rows.count ≤ 16 }
-        ensures { Says result (verdict (claim_of self.now)
-            (stmt_lines here.now.number here.now.before (rows_of here.now.rows)
-            (Write_at 0 classes.2 (Updating key.now classes.0 classes.1 sets.now) outcome))) }
+    ) -> Result<(), V::Stop>
+        ensures { V.visits visitor.old (own_of self.now
+            (Do (Write_at 0 classes.2 (Updating key.now classes.0 classes.1 sets.now) outcome) End))
+            result visitor.new }
     {
-        let (key_class, from, w) = classes;
-        let at = self.declared(w);
-        let operands = self.operands_flow(here, key, at) && self.sets_flow(here, sets, at);
-        let holds = self.write_holds(here.number, w, operands, outcome);
-        Refusal::unless(holds, here.number, Rule::Write)?;
-        let ordered = self.update_is_ordered(key_class, from, w);
-        Refusal::unless(ordered, here.number, Rule::Order)
+        let (key_class, from, at) = classes;
+        let within = (
+            Rule::Write,
+            LentFlow::Within(at, self.runs(), More::Sets(key, sets)),
+        );
+        let under = (Rule::Write, LentFlow::Under(declared(at), More::Nothing));
+        let entity = (
+            Rule::Order,
+            LentFlow::Within(from, declared(key_class), More::Nothing),
+        );
+        let tuple = (
+            Rule::Order,
+            LentFlow::Within(at, declared(from), More::Nothing),
+        );
+        let rest = self.rest(outcome);
+        match outcome {
+            None => self.lend(visitor, &[within, under, entity, tuple, rest]),
+            Some(place) => {
+                let gives = self.gives(at, place);
+                self.lend(visitor, &[within, under, gives, entity, tuple, rest])
+            }
+        }
     }
 
-    /// The rules of a delete.
-    pub(crate) fn deletes(
+    fn delete<V: Visit>(
         &self,
-        here: &Here,
+        visitor: &mut V,
         key: &[Expr],
-        key_class: LabelNo,
-        w: LabelNo,
+        classes: (LabelNo, LabelNo),
         outcome: Option<u8>,
-    ) -> Result<(), Refusal>
-        requires { here.now.rows.count ≤ 16 }
-        ensures { Says result (verdict (claim_of self.now)
-            (stmt_lines here.now.number here.now.before (rows_of here.now.rows)
-            (Write_at 0 w (Deleting key.now key_class) outcome))) }
+    ) -> Result<(), V::Stop>
+        ensures { V.visits visitor.old (own_of self.now
+            (Do (Write_at 0 classes.1 (Deleting key.now classes.0) outcome) End)) result visitor.new }
     {
-        let at = self.declared(w);
-        let operands = self.operands_flow(here, key, at);
-        let holds = self.write_holds(here.number, w, operands, outcome);
-        Refusal::unless(holds, here.number, Rule::Write)?;
-        let ordered = flows(self.declared(key_class), at);
-        Refusal::unless(ordered, here.number, Rule::Order)
+        let (key_class, at) = classes;
+        let within = (
+            Rule::Write,
+            LentFlow::Within(at, self.runs(), More::Each(key)),
+        );
+        let under = (Rule::Write, LentFlow::Under(declared(at), More::Nothing));
+        let entity = (
+            Rule::Order,
+            LentFlow::Within(at, declared(key_class), More::Nothing),
+        );
+        let rest = self.rest(outcome);
+        match outcome {
+            None => self.lend(visitor, &[within, under, entity, rest]),
+            Some(place) => {
+                let gives = self.gives(at, place);
+                self.lend(visitor, &[within, under, gives, entity, rest])
+            }
+        }
     }
 
-    /// The rules of an emission.
-    pub(crate) fn emits(&self, here: &Here, value: &Expr, label: LabelNo) -> Result<(), Refusal>
-        requires { here.now.rows.count ≤ 16 }
-        ensures { Says result (verdict (claim_of self.now)
-            (stmt_lines here.now.number here.now.before (rows_of here.now.rows) (Emit value.now label))) }
-    {
-        let target = self.declared(label);
-        let holds = flows(self.pc(here.number), target)
-            && self.names_flow(here, value, target)
-            && flows(target, self.hi());
-        Refusal::unless(holds, here.number, Rule::Emit)
-    }
-
-    /// The rules of a release.
-    pub(crate) fn releases(
+    fn release<V: Visit>(
         &self,
-        here: &Here,
+        visitor: &mut V,
         value: &Expr,
         to: LabelNo,
         into: u8,
-    ) -> Result<(), Refusal>
-        requires { here.now.rows.count ≤ 16 }
-        ensures { Says result (verdict (claim_of self.now)
-            (stmt_lines here.now.number here.now.before (rows_of here.now.rows) (Release value.now to into))) }
+    ) -> Result<(), V::Stop>
+        ensures { V.visits visitor.old (own_of self.now (Do (Release value.now to into) End)) result visitor.new }
     {
-        let lower = self.declared(to);
-        let holds = flows(self.pc(here.number), lower)
-            && self.names_flow(here, value, self.hi())
-            && flows(lower, self.after(here.number, usize::from(into)));
-        Refusal::unless(holds, here.number, Rule::Release)
+        let within = LentFlow::Within(to, self.runs(), More::Nothing);
+        let under = LentFlow::Under(None, More::Names(value));
+        let target = LentFlow::Into(self.target(into), declared(to), More::Nothing);
+        let rest = self.rest(Some(into));
+        self.lend(
+            visitor,
+            &[
+                (Rule::Release, within),
+                (Rule::Release, under),
+                (Rule::Release, target),
+                rest,
+            ],
+        )
+    }
+
+    fn emit<V: Visit>(&self, visitor: &mut V, value: &Expr, label: LabelNo) -> Result<(), V::Stop>
+        ensures { V.visits visitor.old (own_of self.now (Do (Emit value.now label) End)) result visitor.new }
+    {
+        let within = LentFlow::Within(label, self.runs(), More::Names(value));
+        let under = LentFlow::Under(declared(label), More::Nothing);
+        let rest = self.rest(None);
+        self.lend(visitor, &[(Rule::Emit, within), (Rule::Emit, under), rest])
+    }
+
+    /// What flows into the statements of a branch, and what variables keep at its ends.
+    fn branch<'x, V: Visit>(
+        &self,
+        visitor: &mut V,
+        guard: &'x Expr,
+        one: &'x Block,
+        other: &'x Block,
+    ) -> Result<(), V::Stop>
+        requires { self.now.number + statements one.now + statements other.now + 1 < 2 ^ 63 }
+        ensures { V.visits visitor.old (own_of self.now (If guard.now one.now other.now End)) result visitor.new }
+    {
+        let first = self.number + 1;
+        let second = first + one.statements();
+        let one_end = last_number(self.before, first, one);
+        let other_end = last_number(self.before, second, other);
+        let first = Numbered { first, block: one };
+        let second = Numbered {
+            first: second,
+            block: other,
+        };
+        let inner = Targets::Either(first, second);
+        let into = LentFlow::Into(inner, self.runs(), More::Names(guard));
+        self.lend(
+            visitor,
+            &[
+                (Rule::Branch, into),
+                kept(Rule::Branch, one_end),
+                kept(Rule::Branch, other_end),
+            ],
+        )
+    }
+
+    /// What flows into the statements of a loop, and what variables keep before it and at the end of each turn.
+    fn turns<V: Visit>(&self, visitor: &mut V, label: LabelNo, body: &Block) -> Result<(), V::Stop>
+        requires { self.now.number + statements body.now + 1 < 2 ^ 63 }
+        ensures { V.visits visitor.old (own_of self.now (For [] 0 label body.now End)) result visitor.new }
+    {
+        let first = self.number + 1;
+        let under = LentFlow::Under(declared(label), More::Nothing);
+        let inside = Numbered { first, block: body };
+        let into = LentFlow::Into(Targets::Inside(inside), self.runs(), More::Label(label));
+        let end = last_number(self.number, first, body);
+        self.lend(
+            visitor,
+            &[
+                (Rule::RowLoop, under),
+                (Rule::RowLoop, into),
+                kept(Rule::RowLoop, self.before),
+                kept(Rule::RowLoop, end),
+            ],
+        )
+    }
+
+    /// Those of what the statement is.
+    fn own<V: Visit>(&self, visitor: &mut V, stmt: &Stmt) -> Result<(), V::Stop>
+        requires { self.now.number + statements (block_of (stmt.now ∷ [])) < 2 ^ 63 }
+        ensures { V.visits visitor.old (own_of self.now (block_of (stmt.now ∷ []))) result visitor.new }
+    {
+        match stmt {
+            Stmt::Assign { variable, value } => self.assign(visitor, *variable, value),
+            Stmt::If { guard, one, other } => self.branch(visitor, guard, one, other),
+            Stmt::For { label, body, .. } => self.turns(visitor, *label, body),
+            Stmt::Insert {
+                key,
+                values,
+                at,
+                outcome,
+                ..
+            } => self.insert(visitor, key, values, *at, *outcome),
+            Stmt::Update {
+                key,
+                key_class,
+                from,
+                at,
+                sets,
+                outcome,
+                ..
+            } => self.update(visitor, key, sets, (*key_class, *from, *at), *outcome),
+            Stmt::Delete {
+                key,
+                key_class,
+                at,
+                outcome,
+                ..
+            } => self.delete(visitor, key, (*key_class, *at), *outcome),
+            Stmt::Release { value, to, into } => self.release(visitor, value, *to, *into),
+            Stmt::Emit { value, label } => self.emit(visitor, value, *label),
+        }
+    }
+
+    /// All of them.
+    pub(crate) fn lines<V: Visit>(&self, visitor: &mut V, stmt: &Stmt) -> Result<(), V::Stop>
+        requires { self.now.number + statements (block_of (stmt.now ∷ [])) < 2 ^ 63 }
+        ensures { V.visits visitor.old (here_lines self.now (block_of (stmt.now ∷ []))) result visitor.new }
+    {
+        self.entry(visitor)?;
+        self.own(visitor, stmt)
     }
 }

@@ -1,6 +1,5 @@
 //! The loops around a statement.
 ghost use Rattle.std.specs.Prelude.{◌≡◌, ◌<◌, ◌≤◌, ◌+◌, ◌∷◌, [], slice_index};
-ghost use Rattle.mls_certcheck.specs.Rows.{rows_of};
 
 use mls_lattice::LabelNo;
 
@@ -9,12 +8,15 @@ const DEPTH: usize = 16;
 
 /// The labels of the loops around a statement, the outermost first, in the first places of the array.
 #[derive(Clone, Copy)]
-pub(crate) struct Rows {
+pub struct Rows {
     labels: [LabelNo; DEPTH],
     count: usize,
+    ghost few: { count ≤ 16 },
 }
 
 impl Rows {
+    ghost use Rattle.mls_certcheck.specs.Rows.{rows_of};
+
     /// Outside all loops.
     pub(crate) fn outside() -> Rows
         ensures none { rows_of result ≡ [] }
@@ -43,8 +45,7 @@ impl Rows {
 
     /// The label of the loop that stands so many loops outwards, or the first label.
     #[tactic(auto, using(crate::proofs::RowLemmas::at_depth))]
-    pub(crate) fn label(&self, depth: u8) -> LabelNo
-        requires { self.now.count ≤ 16 }
+    pub fn label(&self, depth: u8) -> LabelNo
         ensures { result ≡ slice_index (rows_of self.now) depth }
     {
         let depth = usize::from(depth);

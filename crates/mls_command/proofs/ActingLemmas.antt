@@ -27,11 +27,11 @@ use Rattle.mls_host.specs.Stopping.{IsCaused}
 use Rattle.mls_command.specs.Printing.{IsPrinting}
 use Rattle.mls_command.proofs.PrintingLemmas.{printing_told}
 use Rattle.mls_runs.specs.ScriptRun.{IsScriptRun}
-use Rattle.mls_shells.specs.ShellRun.{IsShellRun, IsShellRefused}
+use Rattle.mls_runs.specs.ShellRun.{IsShellRun, IsShellRefused}
 use Rattle.mls_runs.specs.DeskRun.{IsDeskRun}
 use Rattle.mls_command.specs.Acting.{Prints, IsRunOf, IsRunDeed, IsTaskRefused, IsTaskDeed, IsDeedOf}
 use Rattle.mls_command.specs.Accounting.{Accounts, IsUnread, IsAccountOf}
-use Rattle.mls_command.specs.Answering.{IsFinished, IsNoted, Answers, asked, IsAnsweredAs, IsAnswered, not_asked}
+use Rattle.mls_command.specs.Answering.{IsFinished, IsNoted, Answers, asked, IsAnsweredAs, IsOutcomeOf, not_asked}
 use Rattle.mls_command.specs.Explained.{explained_of}
 
 -- ---- tasks
@@ -201,7 +201,7 @@ module _ (h : Hosted) (wrote told more : List ℕ → Type 0) (f : (text : List 
 
 -- a command, behind what is told before all else
 pub noted : {E : Type 0} (contents : E → Option (List ℕ)) (old mid new : Errors E) (h : Hosted) (words : List Text) (wrote : List ℕ → Type 0) (status : ℕ) → IsNoted h.before words (IsTold contents old mid)
-    → IsAnsweredAs h (explained_of words) words wrote (IsTold contents mid new) status → IsAnswered h words wrote (IsTold contents old new) status
+    → IsAnsweredAs h (explained_of words) words wrote (IsTold contents mid new) status → IsOutcomeOf h words wrote (IsTold contents old new) status
 noted contents old mid new h words wrote status n k = record {
   note = n.note;
   none = n.none;

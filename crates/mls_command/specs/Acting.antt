@@ -26,7 +26,7 @@ use Rattle.mls_command.specs.Certifying.{IsCertified}
 use Rattle.mls_command.specs.Checking.{IsChecked}
 use Rattle.mls_command.specs.Explaining.{IsExplained, IsUnexplained}
 use Rattle.mls_runs.specs.ScriptRun.{IsScriptRun}
-use Rattle.mls_shells.specs.ShellRun.{IsShellRun, IsShellRefused}
+use Rattle.mls_runs.specs.ShellRun.{IsShellRun, IsShellRefused}
 use Rattle.mls_runs.specs.DeskRun.{IsDeskRun}
 use Rattle.mls_runs.specs.TurnRun.{IsTurnRun}
 

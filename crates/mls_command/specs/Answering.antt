@@ -45,6 +45,6 @@ module _ (h : Hosted) where
   IsAnsweredAs (Some other) words wrote told status =
       KeepsStores h × Answers (IsAccountOf h.before) other wrote told status
 
-  abbrev pub IsAnswered : List Text → (wrote told : List ℕ → Type 0) → ℕ → Type 0
-  IsAnswered words wrote told status =
+  abbrev pub IsOutcomeOf : List Text → (wrote told : List ℕ → Type 0) → ℕ → Type 0
+  IsOutcomeOf words wrote told status =
       IsNoted h.before words (λ note. IsAnsweredAs (explained_of words) words wrote (λ text. told (note ++ text)) status)

@@ -2,7 +2,7 @@
 use Rattle.std.specs.Prelude.{◌≡◌, ◌⊎◌, ◌<◌, ℕ, false, List, [], MatchOption, ⊤}
 use Rattle.sqlite_disk.specs.declared.Disk.{Ghosts}
 use Rattle.sqlite.specs.Recovery.{Image}
-use Rattle.mls_lattice.specs.Policy.{Tables}
+use Rattle.mls_lattice.specs.Policy.{Policy}
 use Rattle.mls_scheme.specs.declared.file.SchemesFile.{SchemesFile}
 use Rattle.mls_statements.specs.Store.{IsClean}
 use Rattle.mls_fragments.specs.Based.{BaseState}
@@ -11,7 +11,7 @@ use Rattle.mls_fragments.specs.Holdings.{Holdings}
 use Rattle.mls_fragments.specs.Opening.{IsStoreOrMemory}
 use Rattle.mls_fragments.specs.declared.open_fault.OpenFault.{OpenFault}
 use Rattle.mls_host.specs.Hosting.{Hosting, hosted}
-use Rattle.mls_command.specs.Answering.{IsAnswered}
+use Rattle.mls_command.specs.Answering.{IsOutcomeOf}
 use Rattle.mls_command.specs.declared.closing.LeftFiles.{LeftFiles}
 use Rattle.mls_command.specs.declared.machine.Machine.{Machine}
 use Rattle.mls_command.specs.Closing.{IsBarred, KeepIn}
@@ -24,7 +24,7 @@ pub record Bases (B : Type 0) : Type 1 where
 -- what is known of what is left of a store, and why one is not opened
 pub record Stores (L : Type 0) : Type 1 where
   pub image : Image
-  pub bars : Image → Tables → SchemesFile → OpenFault → Type 0
+  pub bars : Image → Policy → SchemesFile → OpenFault → Type 0
   pub keeps : L → Holdings → Type 0
   pub is_open : L → Type 0
 
@@ -54,7 +54,7 @@ pub record IsAnsweredHere {B L : Type 0} (O : Type 0) (b : Bases B) (s : Stores 
     (Wrote Told : List ℕ → Type 0) (status : ℕ) : Type 0 where
   pub was : Machine B L O
   pub now : Machine B L O
-  pub answered : IsAnswered (hosted (hosting b s) (λ line. []) was now) words Wrote Told status
+  pub answered : IsOutcomeOf (hosted (hosting b s) (λ line. []) was now) words Wrote Told status
 
 -- the same over stores in files of a disk, in which this was found
 abbrev pub IsAnsweredOver : {D : Type 0} → Ghosts D → Type 0 → Image → List (List ℕ)

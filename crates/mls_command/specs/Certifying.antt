@@ -3,19 +3,19 @@ use Rattle.std.specs.Prelude.{◌≡◌, ℕ, Bool, true, false, if◌then◌els
 use Rattle.std.specs.Prelude.{Err}
 use Rattle.std.specs.List.{flat_map, list_any, AllZip}
 use Rattle.std.specs.Fmt.{decimal}
-use Rattle.mls_lattice.specs.Policy.{Name, Tables}
+use Rattle.mls_lattice.specs.Policy.{Name, Policy}
 use Rattle.mls_translang.specs.Tx.{Tx}
-use Rattle.mls_certificate.specs.declared.cert.Cert.{Cert}
-use Rattle.mls_certificate.specs.declared.cert.Cert2.{Cert2}
-use Rattle.mls_certificate.specs.declared.cert.Certificate.{Certificate}
-use Rattle.mls_certificate.specs.declared.cert.Certificate.TheVariants.{One, Two}
-use Rattle.mls_certificate.specs.Spelling.{HasText, block_text}
+use Rattle.mls_certcheck.specs.declared.cert.Cert.{Cert}
+use Rattle.mls_certcheck.specs.declared.cert.Cert2.{Cert2}
+use Rattle.mls_certcheck.specs.declared.cert.Certificate.{Certificate}
+use Rattle.mls_certcheck.specs.declared.cert.Certificate.TheVariants.{One, Two}
+use Rattle.mls_certcheck.specs.Spelling.{HasText, block_text}
 use Rattle.mls_certcheck.specs.Rules.{Rules, claim}
 use Rattle.mls_certcheck.specs.Checks.{First}
 use Rattle.mls_certcheck.specs.Refusal.{text_of}
 use Rattle.mls_certcheck.specs.declared.refusal.Rule.{Rule}
-use Rattle.mls_certificate.specs.declared.cert.Version.{Version}
-use Rattle.mls_certificate.specs.declared.cert.Version.TheVariants as version
+use Rattle.mls_certcheck.specs.declared.cert.Version.{Version}
+use Rattle.mls_certcheck.specs.declared.cert.Version.TheVariants as version
 use Rattle.mls_labeller.specs.Least.{IsOf, IsLeast, Below}
 use Rattle.mls_host.specs.declared.ending.Ending.{Ending}
 use Rattle.mls_host.specs.declared.ending.Ending.TheVariants.{Well, Refused}
@@ -23,7 +23,7 @@ use Rattle.mls_command.specs.declared.certifying.Labels.{Labels}
 use Rattle.mls_command.specs.declared.certifying.Labels.TheVariants.{Least, Missing}
 use Rattle.mls_command.specs.declared.certifying.Answer.{Answer}
 
-module _ (policy : Tables) (tx : Tx) where
+module _ (policy : Policy) (tx : Tx) where
   -- the rules hold under a certificate
   abbrev pub Obeys : Certificate → Type 0
   Obeys cert = Rules (claim policy tx cert)
@@ -56,11 +56,11 @@ module _ (policy : Tables) (tx : Tx) where
   AreLabels (Least (Two cert)) = IsLeastTwo cert
   AreLabels (Missing stmt rule) = HasNoCertificate stmt rule
 
-abbrev pub IsAnswer : Tables → Tx → Answer → Type 0
+abbrev pub IsAnswer : Policy → Tx → Answer → Type 0
 IsAnswer policy tx a = (a.tx.now ≡ tx) × AreLabels policy tx a.labels
 
 -- each transaction in order, with its labels
-abbrev pub AreAnswers : Tables → List Tx → List Answer → Type 0
+abbrev pub AreAnswers : Policy → List Tx → List Answer → Type 0
 AreAnswers policy = AllZip (IsAnswer policy)
 
 -- ---- what is printed of it
@@ -101,7 +101,7 @@ abbrev pub ending_of : List Answer → Ending
 ending_of answers = if list_any has_none answers then Refused else Well
 
 -- blocks on standard output, lines of those without one on standard error, and how it ends
-pub record IsCertified (policy : Tables) (txs : List Tx) (text told : List ℕ) (end : Ending) : Type 0 where
+pub record IsCertified (policy : Policy) (txs : List Tx) (text told : List ℕ) (end : Ending) : Type 0 where
   pub answers : List Answer
   pub labels : AreAnswers policy txs answers
   pub text_is : text ≡ flat_map block_of answers

@@ -3,10 +3,10 @@ use Rattle.std.specs.Prelude.{◌≡◌, ℕ, Bool, true, false, if◌then◌els
 use Rattle.std.specs.Prelude.{Result, Ok, Err}
 use Rattle.std.specs.List.{flat_map, list_any}
 use Rattle.std.specs.Fmt.{decimal}
-use Rattle.mls_lattice.specs.Policy.{Name, Tables}
+use Rattle.mls_lattice.specs.Policy.{Name, Policy}
 use Rattle.mls_translang.specs.Tx.{Tx}
-use Rattle.mls_certificate.specs.declared.cert.Certificate.{Certificate}
-use Rattle.mls_certificate.specs.Reading.{Block}
+use Rattle.mls_certcheck.specs.declared.cert.Certificate.{Certificate}
+use Rattle.mls_certcheck.specs.Reading.{Block}
 use Rattle.mls_certcheck.specs.Rules.{claim}
 use Rattle.mls_certcheck.specs.Checks.{First}
 use Rattle.mls_certcheck.specs.Refusal.{text_of}
@@ -22,12 +22,12 @@ abbrev pub judged : Result (Unit {0}) Refusal → Verdict
 judged (Ok _) = Yes
 judged (Err refusal) = No refusal
 
-abbrev pub verdict_on : Tables → Tx → Option Certificate → Verdict
+abbrev pub verdict_on : Policy → Tx → Option Certificate → Verdict
 verdict_on policy tx None = Missing
 verdict_on policy tx (Some cert) = judged (First (claim policy tx cert))
 
 -- on the first certificate of its name
-abbrev pub verdict_of : Tables → List Block → Tx → Verdict
+abbrev pub verdict_of : Policy → List Block → Tx → Verdict
 verdict_of policy blocks tx = verdict_on policy tx (cert_named blocks tx.name)
 
 abbrev pub is_refused : Verdict → Bool
@@ -42,11 +42,11 @@ verdict_text name (No refusal) =
     name ++ codes " no " ++ decimal refusal.stmt ++ codes " " ++ text_of refusal.rule ++ codes "\n"
 verdict_text name Missing = name ++ codes " no certificate\n"
 
-abbrev pub line_of : Tables → List Block → Tx → List ℕ
+abbrev pub line_of : Policy → List Block → Tx → List ℕ
 line_of policy blocks tx = verdict_text tx.name (verdict_of policy blocks tx)
 
 -- a line for each transaction in order; it is refused just where one is not yes
-pub record IsChecked (policy : Tables) (txs : List Tx) (blocks : List Block) (text told : List ℕ)
+pub record IsChecked (policy : Policy) (txs : List Tx) (blocks : List Block) (text told : List ℕ)
     (end : Ending) : Type 0 where
   pub text_is : text ≡ flat_map (line_of policy blocks) txs
   pub told_is : told ≡ []

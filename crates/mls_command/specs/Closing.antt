@@ -6,7 +6,7 @@ use Rattle.sqlite.specs.Recovery.{Image}
 use Rattle.sqlite.specs.Held.{Held}
 use Rattle.sqlite.specs.WalReads.{AreClean}
 use Rattle.sqlite.specs.declared.FileStore.{FileStore}
-use Rattle.mls_lattice.specs.Policy.{Tables}
+use Rattle.mls_lattice.specs.Policy.{Policy}
 use Rattle.mls_scheme.specs.declared.file.SchemesFile.{SchemesFile}
 use Rattle.mls_fragments.specs.Again.{AreKept, MayKeep}
 use Rattle.mls_fragments.specs.Holdings.{Holdings}
@@ -19,6 +19,6 @@ KeepIn g true now h = AreClean g now.log now.db → AreKept g now h
 KeepIn g false now h = MayKeep g now h
 
 -- files in which this was found are not opened: for the store itself, or memory; or no base was made of what was found
-abbrev pub IsBarred : {D : Type 0} → Ghosts D → Image → Tables → SchemesFile → OpenFault → Type 0
+abbrev pub IsBarred : {D : Type 0} → Ghosts D → Image → Policy → SchemesFile → OpenFault → Type 0
 IsBarred {D} g image policy file e =
     IsStoreOrMemory e ⊎ ((left : Held (FileStore D g)) × IsFoundUnadopted policy file image e left)

@@ -2,7 +2,7 @@
 use Rattle.std.specs.Prelude.{◌≡◌, ℕ, Bool, false, not, List, [], ◌∷◌, Option, None, Some, Contains, string_bytes}
 use Rattle.std.specs.List.{flat_map, list_any, AllZip}
 use Rattle.std.specs.Str.{bytes_eq}
-use Rattle.mls_lattice.specs.Policy.{Name, Tables}
+use Rattle.mls_lattice.specs.Policy.{Name, Policy}
 use Rattle.mls_scheme.specs.Scheme.{Schemes}
 use Rattle.mls_translang.specs.Tx.{Tx}
 use Rattle.mls_explain.specs.declared.explaining.Explained.{Explained}
@@ -23,14 +23,14 @@ abbrev pub HaveNone : Option Name → List Tx → Type 0
 HaveNone None txs = ⊥
 HaveNone (Some name) txs = list_any (λ tx. bytes_eq tx.name name) txs ≡ false
 
-abbrev pub AreExplained : Tables → Schemes → List Tx → List Explained → Type 0
+abbrev pub AreExplained : Policy → Schemes → List Tx → List Explained → Type 0
 AreExplained policy schemes = AllZip (IsExplanation policy schemes)
 
 abbrev pub lacks_labels : Explained → Bool
 lacks_labels e = not (has_labels e.outcome)
 
 -- what came of each transaction is told, one behind the other, and nothing on standard error
-pub record IsExplained (policy : Tables) (schemes : Schemes) (txs : List Tx) (name : Option Name) (text told : List ℕ)
+pub record IsExplained (policy : Policy) (schemes : Schemes) (txs : List Tx) (name : Option Name) (text told : List ℕ)
     (end : Ending) : Type 0 where
   pub chosen : List Tx
   pub explained : List Explained

@@ -1,7 +1,7 @@
 -- Whether the session of a shell would be opened.
 use Rattle.std.specs.Prelude.{◌≡◌, ℕ, List, [], ◌++◌, Option, Some, None, Result, Ok, Err, codes}
 use Rattle.std.specs.Fmt.{decimal}
-use Rattle.mls_lattice.specs.Policy.{Tables}
+use Rattle.mls_lattice.specs.Policy.{Policy}
 use Rattle.mls_machine.specs.Denying.{cleared, user_named}
 use Rattle.mls_machine.specs.Reply.{code_of, word_of}
 use Rattle.mls_machine.specs.Site.{Site}
@@ -15,11 +15,11 @@ denial_of (Ok user) = None
 denial_of (Err denial) = Some denial
 
 -- why the machine would deny a user's session at a level, whatever is stored
-abbrev pub denial_at : Tables → ℕ → List ℕ → Option Denial
+abbrev pub denial_at : Policy → ℕ → List ℕ → Option Denial
 denial_at policy level user = denial_of (cleared (site_of policy [] []) level (user_named policy user))
 
 -- the same of the session that a shell is to open; no other task opens one by its words
-abbrev pub opening_denial : Tables → Option ℕ → Task → Option Denial
+abbrev pub opening_denial : Policy → Option ℕ → Task → Option Denial
 opening_denial policy (Some level) (Shell label user) = denial_at policy level user.now
 opening_denial policy reader task = None
 

@@ -5,7 +5,7 @@ ghost use Rattle.mls_host.specs.Reading.{AreReady, HasUser};
 ghost use Rattle.mls_host.specs.Words.{named, texts_of};
 ghost use Rattle.mls_command.specs.Acting.{IsTaskDeed, IsDeedOf};
 ghost use Rattle.mls_command.specs.Accounting.{IsAccountOf};
-ghost use Rattle.mls_command.specs.Answering.{IsFinished, IsNoted, Answers, IsAnswered};
+ghost use Rattle.mls_command.specs.Answering.{IsFinished, IsNoted, Answers, IsOutcomeOf};
 
 use crate::accounting::finish_account;
 use crate::certifying::certified;
@@ -19,8 +19,7 @@ use crate::telling::explain_refusal;
 use mls_host::{
     Ending, Errors, Host, Inputs, Job, Refusal, Task, Usage, inputs_of, job_of, served, turned,
 };
-use mls_runs::{run_desk, run_script, turn_store};
-use mls_shells::run_shell;
+use mls_runs::{run_desk, run_script, run_shell, turn_store};
 use std::alloc::Global;
 use std::io::Write;
 
@@ -179,7 +178,7 @@ pub fn act<H: Host, W: Write, E: Write>(
     out: &mut W,
     err: &mut Errors<E>,
 ) -> u8
-    ensures { IsAnswered (hosted H.hosting H.Lines.echo host.old host.new) (texts_of words.now)
+    ensures { IsOutcomeOf (hosted H.hosting H.Lines.echo host.old host.new) (texts_of words.now)
         (IsAppended W.contents out.old out.new) (IsTold E.contents err.old err.new) result }
 {
     tell_note(words, host, err);

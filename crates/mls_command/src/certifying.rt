@@ -1,12 +1,11 @@
 //! Transactions get the least certificates that hold for them.
 ghost use Rattle.std.specs.Prelude.{◌≡◌, ◌++◌, string_bytes, IfOk, OnOk};
 ghost use Rattle.std.specs.List.{flat_map, list_any, AllByRecursion};
-ghost use Rattle.mls_certificate.specs.declared.cert.Version.TheVariants.{First};
+ghost use Rattle.mls_certcheck.specs.declared.cert.Version.TheVariants.{First};
 ghost use Rattle.mls_command.specs.Certifying.{HasNoneOf, HaveText, AreLabels, IsAnswer, AreAnswers, block_of, none_front, none_text, refusal_of, has_none, ending_of, IsCertified};
 
 use crate::listing::Listing;
-use mls_certcheck::Rule;
-use mls_certificate::{Certificate, block_print};
+use mls_certcheck::{Certificate, Rule, block_print};
 use mls_host::Ending;
 use mls_labeller::{LabelFault, label_tx, label_tx2};
 use mls_lattice::Policy;

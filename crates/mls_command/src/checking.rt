@@ -2,14 +2,13 @@
 ghost use Rattle.std.specs.Prelude.{◌≡◌, ◌↔◌, ◌++◌, Some, string_bytes, IfOk, OnOk};
 ghost use Rattle.std.specs.List.{flat_map, list_any};
 ghost use Rattle.mls_certcheck.specs.Rules.{Rules, claim};
-ghost use Rattle.mls_certificate.specs.declared.cert.Certificate.{Certificate as SpecCertificate};
+ghost use Rattle.mls_certcheck.specs.declared.cert.Certificate.{Certificate as SpecCertificate};
 ghost use Rattle.mls_host.specs.Storing.{cert_named};
 ghost use Rattle.mls_command.specs.declared.checking.Verdict.TheVariants.{Yes};
 ghost use Rattle.mls_command.specs.Checking.{verdict_of, verdict_text, line_of, is_refused, IsChecked};
 
 use crate::listing::Listing;
-use mls_certcheck::{Refusal, check};
-use mls_certificate::Certificate;
+use mls_certcheck::{Certificate, Refusal, check};
 use mls_host::{cert_named, ending_if};
 use mls_lattice::{Policy, Str};
 use mls_translang::Tx;

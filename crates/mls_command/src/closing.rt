@@ -5,7 +5,7 @@ ghost use Rattle.mls_statements.specs.declared.rows.MetaRow.{MetaRow};
 ghost use Rattle.mls_fragments.specs.Based.{state_of};
 ghost use Rattle.mls_fragments.specs.Holdings.{Holdings, holdings_of};
 ghost use Rattle.mls_fragments.specs.declared.open_fault.OpenFault.{OpenFault};
-ghost use Rattle.mls_lattice.specs.Policy.{Tables};
+ghost use Rattle.mls_lattice.specs.Policy.{Policy};
 ghost use Rattle.mls_scheme.specs.declared.file.SchemesFile.{SchemesFile};
 ghost use Rattle.mls_command.specs.Closing.{IsBarred, KeepIn};
 ghost use Rattle.sqlite.specs.Recovery.{Image};
@@ -18,7 +18,7 @@ use sqlite_disk::Disk;
 /// What is left of a store.
 pub trait Left {
     // Why a store is not opened under a policy and schemes in whose files this was found.
-    ghost bars: { Image → Tables → SchemesFile → OpenFault → Type 0 };
+    ghost bars: { Image → Policy → SchemesFile → OpenFault → Type 0 };
 
     // What it keeps.
     ghost keeps: { Self → Holdings → Type 0 };

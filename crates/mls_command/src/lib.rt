@@ -21,4 +21,4 @@ mod shown;
 mod telling;
 
 pub use crate::acting::act;
-pub use crate::running::{Written, answer_from, run, run_kept};
+pub use crate::running::{Written, answer_in_any_files, run, run_kept};

@@ -48,7 +48,7 @@ fn cause_text(cause: StoreCause) -> Option<&'static str>
 }
 
 /// What is found of a store whose files are not shown.
-fn hidden_by(alloc: Global, cause: StoreCause) -> Result<Diagnosis, AllocError>
+fn diagnosis_of_hidden(alloc: Global, cause: StoreCause) -> Result<Diagnosis, AllocError>
     ensures fault { IfOk result (λ d. d.fault ≡ Some OpenFault.Store) }
     ensures cause { IfOk result (λ d. cause ≢ causes.Memory) }
 {
@@ -73,7 +73,7 @@ fn sight_of<H: Host>(
 {
     match host.store_files(alloc, path) {
         Ok(files) => diagnosis_of(alloc, &files.log, &files.db, &setting.policy, &setting.file),
-        Err(cause) => hidden_by(alloc, cause),
+        Err(cause) => diagnosis_of_hidden(alloc, cause),
     }
 }
 

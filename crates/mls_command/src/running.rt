@@ -38,7 +38,7 @@ fn answer<B: Base + Drop, L: Left + Drop, O: Opens<B, L> + Drop, W: Write, E: Wr
 }
 
 /// The same over stores in files of a disk.
-fn answer_over<
+fn answer_in_files<
     D: Disk + Drop,
     O: Opens<SqlBase<FileStore<D>>, LeftFiles<D>> + Drop,
     W: Write,
@@ -51,7 +51,7 @@ fn answer_over<
 }
 
 /// Does what the words ask for over stores in files, whatever these held, and answers the exit status.
-pub fn answer_from<F: Start, W: Write, E: Write>(
+pub fn answer_in_any_files<F: Start, W: Write, E: Write>(
     rt: &HostRuntime,
     words: &[&str],
     start: F,
@@ -62,19 +62,19 @@ pub fn answer_from<F: Start, W: Write, E: Write>(
         rt,
         start: Some(start),
     };
-    answer_over::<FileFrom<F>, FilesOf<F>, W, E>(rt, words, stores, out, err)
+    answer_in_files::<FileFrom<F>, FilesOf<F>, W, E>(rt, words, stores, out, err)
 }
 
 /// Does what the words of a command line ask for, writes to standard output and standard error, and answers the exit status.
 pub fn run(rt: &HostRuntime, words: &[&str]) -> u8 {
     let (mut out, mut err) = (rt.stdout(), Errors::new(rt.stderr()));
-    answer_from(rt, words, Unknown, &mut out, &mut err)
+    answer_in_any_files(rt, words, Unknown, &mut out, &mut err)
 }
 
 /// The same, with what is written kept.
 pub fn run_kept(rt: &HostRuntime, words: &[&str]) -> Written {
     let (mut out, mut err) = (Vec::new(rt.alloc()), Errors::new(Vec::new(rt.alloc())));
-    let status = answer_from(rt, words, Unknown, &mut out, &mut err);
+    let status = answer_in_any_files(rt, words, Unknown, &mut out, &mut err);
     Written {
         out,
         err: err.into_writer(),

@@ -15,7 +15,7 @@ use mls_advice::{
     advice_of, declared_names, excerpt, file_line, form_at, kinds_at, nearest_line, refused_lines,
     token_at,
 };
-use mls_host::{Errors, Host, Job, Reason, Refusal, policy_of, schemes_of};
+use mls_host::{Errors, Host, Job, Reason, Refusal, policy_or_sample, schemes_or_sample};
 use mls_lattice::{Policy, Refused, Str};
 use mls_scheme::SchemesFile;
 use std::alloc::{AllocError, Global};
@@ -49,10 +49,10 @@ fn advice(reason: &Reason) -> &'static str {
 
 /// The names that the policy and the schemes of a job declare; none where one is refused.
 fn names_of<H: Host>(alloc: Global, host: &H, job: Job) -> Result<Vec<Str>, AllocError> {
-    let Ok(policy) = policy_of(alloc, host, job.documents) else {
+    let Ok(policy) = policy_or_sample(alloc, host, job.documents) else {
         return Ok(Vec::new(alloc));
     };
-    match schemes_of(alloc, host, &policy, job.documents) {
+    match schemes_or_sample(alloc, host, &policy, job.documents) {
         Ok(file) => declared_names(alloc, &policy, &file.schemes),
         Err(_) => Ok(Vec::new(alloc)),
     }
@@ -98,7 +98,7 @@ fn document_lines<H: Host>(
             }
         };
     }
-    let Ok(policy) = policy_of(alloc, host, job.documents) else {
+    let Ok(policy) = policy_or_sample(alloc, host, job.documents) else {
         return file_line(alloc, path);
     };
     match SchemesFile::read_at(alloc, &policy, bytes) {
@@ -110,7 +110,7 @@ fn document_lines<H: Host>(
 }
 
 /// What is told of a file with these bytes.
-fn lines_in<H: Host>(
+fn lines_of_file<H: Host>(
     alloc: Global,
     host: &H,
     job: Job,
@@ -145,7 +145,7 @@ fn file_lines<H: Host>(
     match source_of(job, reason) {
         None => Ok(String::new(alloc)),
         Some(path) => match host.file(alloc, path) {
-            Ok(bytes) => lines_in(alloc, host, job, reason, path, &bytes),
+            Ok(bytes) => lines_of_file(alloc, host, job, reason, path, &bytes),
             Err(_) => file_line(alloc, path),
         },
     }

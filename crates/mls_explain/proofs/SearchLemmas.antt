@@ -6,7 +6,7 @@ use Rattle.std.proofs.lemmas.Bool.{true≢false}
 use Rattle.std.proofs.Math.ListN.{get_or-map}
 use Rattle.std.proofs.lemmas.List.{take_more, length-map}
 use Rattle.std.proofs.lemmas.List.Elements.{Contains-append_left, Contains-append_right, Contains-append_cases, Contains-push, Contains-push_cases}
-use Rattle.mls_lattice.specs.Policy.{Tables}
+use Rattle.mls_lattice.specs.Policy.{Policy}
 use Rattle.mls_translang.specs.Tx.{Tx}
 use Rattle.mls_certcheck.specs.declared.flow.Slot.{Slot}
 use Rattle.mls_certcheck.specs.declared.flow.Source.{Source}
@@ -129,7 +129,7 @@ module _ (tails more : List Tail) (left rest : List (ℕ × Step)) (round : IsRo
 
 -- ---- the search
 
-module _ (p : Tables) (tx : Tx) (steps : List Step) where
+module _ (p : Policy) (tx : Tx) (steps : List Step) where
   module _ (Ends : Outlet → Type 0) (size : ℕ) (tails : List Tail) (left : List (ℕ × Step)) (h : IsUnderway p tx steps Ends size tails left) where
     even : (a : Tail) → Contains tails a → length a.slots ≡ size
     even a among = (h.back a among).2.size
@@ -206,7 +206,7 @@ module _ (steps : List Step) where
   steps_back None l k = absurd (none_in l k)
   steps_back (Some o) l k = let m = from_map _ steps l k in subst (λ (l : ℕ × Step). Contains steps l.1) m.2 m.1
 
-module _ (p : Tables) (tx : Tx) (steps : List Step) (hi : ℕ) (broken : Refusal) where
+module _ (p : Policy) (tx : Tx) (steps : List Step) (hi : ℕ) (broken : Refusal) where
   abbrev IsBegunBy : List Line → List Tail → List (ℕ × Step) → Type 0
   IsBegunBy lines tails left = IsUnderway p tx steps (IsBroken hi lines broken) 0 tails left
 

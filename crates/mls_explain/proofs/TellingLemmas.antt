@@ -11,7 +11,7 @@ use Rattle.std.proofs.Padding.{padded_integral_right, styled_decimal_is}
 use Rattle.mls_lattice.specs.Lattice.{Pair, bottom, pair_of}
 use Rattle.mls_lattice.specs.Labels.{label_of}
 use Rattle.mls_lattice.specs.Canon.{label_name}
-use Rattle.mls_lattice.specs.Policy.{Named, Tables, labels_of}
+use Rattle.mls_lattice.specs.Policy.{Named, Policy, labels_of}
 use Rattle.mls_lattice.specs.declared.label.Label.{Label}
 use Rattle.mls_explain.specs.Telling.{is_named, four, shown, IsListing}
 
@@ -52,7 +52,7 @@ module _ {X : Type 0} (f : ℕ × X → List ℕ) (xs : List X) (i : ℕ) (d : X
 abbrev no_label : Named
 no_label = record { name = []; value = bottom }
 
-module _ (exact : Bool) (p : Tables) (label : Label) (i : ℕ) (v : Pair) (within : i < length p.labels) (is : v ≡ label_of (labels_of p) i) (old : List ℕ) where
+module _ (exact : Bool) (p : Policy) (label : Label) (i : ℕ) (v : Pair) (within : i < length p.labels) (is : v ≡ label_of (labels_of p) i) (old : List ℕ) where
   abbrev entry : Named → List ℕ
   entry l = if is_named exact (pair_of label) l.value then codes " " ++ l.name else []
 

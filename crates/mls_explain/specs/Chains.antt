@@ -4,7 +4,7 @@ use Rattle.std.specs.Prelude.{List, [], ◌∷◌, length, map}
 use Rattle.std.specs.List.{Contains}
 use Rattle.mls_lattice.specs.Lattice.{◌⊑◌}
 use Rattle.mls_lattice.specs.Labels.{label_of}
-use Rattle.mls_lattice.specs.Policy.{Tables, labels_of}
+use Rattle.mls_lattice.specs.Policy.{Policy, labels_of}
 use Rattle.mls_translang.specs.Tx.{Tx}
 use Rattle.mls_certcheck.specs.declared.flow.Slot.{Slot}
 use Rattle.mls_certcheck.specs.declared.flow.Slot.TheVariants.{Variable, Statement}
@@ -30,11 +30,11 @@ end_of s [] = s
 end_of s (t ∷ ts) = end_of (Held t) ts
 
 -- a limit does not dominate a declared label
-unfoldable pub is_above : Tables → ℕ → ℕ → Bool
+unfoldable pub is_above : Policy → ℕ → ℕ → Bool
 is_above p limit label = not (label_of (labels_of p) label ⊑ label_of (labels_of p) limit)
 
 -- declared to have a label that a limit does not dominate: a parameter, what is at a label, the transaction itself
-unfoldable pub is_root : Tables → Tx → ℕ → Source → Bool
+unfoldable pub is_root : Policy → Tx → ℕ → Source → Bool
 is_root p tx limit (Held (Variable n x)) = false
 is_root p tx limit (Held (Statement zero)) = is_above p limit tx.lo
 is_root p tx limit (Held (Statement (suc n))) = false
@@ -57,7 +57,7 @@ outlet hi (Under sources) = Some (record { limit = hi; sources = sources })
 abbrev pub IsBroken : ℕ → List Line → Refusal → Outlet → Type 0
 IsBroken hi lines broken o = (l : Line) × Contains lines l × (l.refusal ≡ broken) × (outlet hi l.flow ≡ Some o)
 
-module _ (p : Tables) (tx : Tx) (steps : List Step) where
+module _ (p : Policy) (tx : Tx) (steps : List Step) where
   -- something of the root comes along steps to where it must not be
   pub record IsWay (o : Outlet) (c : Chain) : Type 0 where
     pub root : is_root p tx o.limit c.root ≡ true
@@ -79,5 +79,5 @@ module _ (p : Tables) (tx : Tx) (steps : List Step) where
   Finds Ends (Some c) = IsShortestChain Ends c
 
 -- where a rule is told of a statement, a shortest chain by which something flows there that must not
-abbrev pub IsChainTo : Tables → Tx → Refusal → Option Chain → Type 0
+abbrev pub IsChainTo : Policy → Tx → Refusal → Option Chain → Type 0
 IsChainTo p tx broken chain = Finds p tx (steps tx) (IsBroken tx.hi (body_lines tx) broken) chain

@@ -1,11 +1,11 @@
 -- What came of the least labels of a transaction.
 use Rattle.std.specs.Prelude.{Bool, true, false}
-use Rattle.mls_lattice.specs.Policy.{Tables}
+use Rattle.mls_lattice.specs.Policy.{Policy}
 use Rattle.mls_translang.specs.Tx.{Tx}
-use Rattle.mls_certificate.specs.declared.cert.Certificate.{Certificate}
-use Rattle.mls_certificate.specs.declared.cert.Certificate.TheVariants.{One, Two}
-use Rattle.mls_certificate.specs.declared.cert.Version.{Version}
-use Rattle.mls_certificate.specs.declared.cert.Version.TheVariants as version
+use Rattle.mls_certcheck.specs.declared.cert.Certificate.{Certificate}
+use Rattle.mls_certcheck.specs.declared.cert.Certificate.TheVariants.{One, Two}
+use Rattle.mls_certcheck.specs.declared.cert.Version.{Version}
+use Rattle.mls_certcheck.specs.declared.cert.Version.TheVariants as version
 use Rattle.mls_certcheck.specs.Rules.{Rules, claim}
 use Rattle.mls_labeller.specs.Least.{IsOf, IsLeast}
 use Rattle.mls_labeller.specs.Fault.{IsFirst}
@@ -15,12 +15,12 @@ use Rattle.mls_explain.specs.declared.outcome.Outcome.{Outcome}
 use Rattle.mls_explain.specs.declared.outcome.Outcome.TheVariants.{Labelled, Refused}
 
 -- no certificate of a version passes
-abbrev pub NonePasses : Version → Tables → Tx → Type 0
+abbrev pub NonePasses : Version → Policy → Tx → Type 0
 NonePasses v p tx = (cert : Certificate) → IsOf v cert → Rules (claim p tx cert) → ⊥
 
 -- what came of the least labels: those of version 1 pass; or only those of version 2; or none, this is the first rule that those of
 -- version 2 break, and this a shortest chain of flows by which something came there that must not
-abbrev pub IsOutcome : Tables → Tx → Outcome → Type 0
+abbrev pub IsOutcome : Policy → Tx → Outcome → Type 0
 IsOutcome p tx (Labelled (One cert)) = Rules (claim p tx (One cert)) × IsLeast version.First p tx (One cert)
 IsOutcome p tx (Labelled (Two cert)) =
     NonePasses version.First p tx × Rules (claim p tx (Two cert)) × IsLeast version.Second p tx (Two cert)

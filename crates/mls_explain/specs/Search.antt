@@ -1,7 +1,7 @@
 -- The search back from the ends of chains, one more slot in each round.
 use Rattle.std.specs.Prelude.{◌≡◌, ◌⊎◌, ℕ, ◌+◌, ◌≤◌, List, [], ◌∷◌, ◌++◌, length, map, Option, Some, None}
 use Rattle.std.specs.List.{Contains}
-use Rattle.mls_lattice.specs.Policy.{Tables}
+use Rattle.mls_lattice.specs.Policy.{Policy}
 use Rattle.mls_translang.specs.Tx.{Tx}
 use Rattle.mls_certcheck.specs.declared.flow.Slot.{Slot}
 use Rattle.mls_certcheck.specs.declared.flow.Source.{Source}
@@ -73,7 +73,7 @@ pub record IsBack (steps : List Step) (n : ℕ) (a : Tail) (o : Outlet) : Type 0
   pub size : length a.slots ≡ n
 
 -- after so many rounds all chains are ahead
-pub record IsUnderway (p : Tables) (tx : Tx) (steps : List Step) (Ends : Outlet → Type 0) (n : ℕ) (tails : List Tail) (left : List (ℕ × Step)) : Type 0 where
+pub record IsUnderway (p : Policy) (tx : Tx) (steps : List Step) (Ends : Outlet → Type 0) (n : ℕ) (tails : List Tail) (left : List (ℕ × Step)) : Type 0 where
   pub back : (a : Tail) → Contains tails a → (o : Outlet) × Ends o × IsBack steps n a o
   pub own : (l : ℕ × Step) → Contains left l → Contains steps l.1
   pub ahead : (c : Chain) (o : Outlet) → Ends o → IsWay p tx steps o c → IsAhead tails left o.limit c.root (length c.slots)

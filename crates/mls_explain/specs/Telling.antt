@@ -6,14 +6,14 @@ use Rattle.std.specs.Fmt.{decimal}
 use Rattle.std.specs.Str.Lossy.{utf8_lossy}
 use Rattle.std.specs.Str.Lines.{lines}
 use Rattle.mls_lattice.specs.Lattice.{Pair, ◌⊑◌, same_pair, pair_of}
-use Rattle.mls_lattice.specs.Policy.{Name, Tables}
+use Rattle.mls_lattice.specs.Policy.{Name, Policy}
 use Rattle.mls_lattice.specs.declared.label.Label.{Label}
 use Rattle.mls_scheme.specs.Scheme.{Schemes}
 use Rattle.mls_scheme.specs.declared.value.Kind.{Kind}
 use Rattle.mls_translang.specs.Tokens.{printed}
 use Rattle.mls_translang.specs.Tx.{Tx}
-use Rattle.mls_certificate.specs.declared.cert.Certificate.{Certificate}
-use Rattle.mls_certificate.specs.declared.cert.Certificate.TheVariants.{One, Two}
+use Rattle.mls_certcheck.specs.declared.cert.Certificate.{Certificate}
+use Rattle.mls_certcheck.specs.declared.cert.Certificate.TheVariants.{One, Two}
 use Rattle.mls_certcheck.specs.declared.refusal.Rule.{Rule}
 use Rattle.mls_certcheck.specs.Refusal.{text_of}
 use Rattle.mls_explain.specs.declared.outcome.Outcome.{Outcome}
@@ -27,7 +27,7 @@ use Rattle.mls_explain.specs.Explaining.{IsOutcome}
 abbrev pub is_named : Bool → Pair → Pair → Bool
 is_named exact label declared = if exact then same_pair label declared else declared ⊑ label
 
-abbrev pub names_of : Bool → Tables → Label → List ℕ
+abbrev pub names_of : Bool → Policy → Label → List ℕ
 names_of exact p label = flat_map (λ l. if is_named exact (pair_of label) l.value then codes " " ++ l.name else []) p.labels
 
 abbrev pub words_for : List ℕ → List ℕ → List ℕ
@@ -36,7 +36,7 @@ words_for [] (c ∷ under) = codes " over" ++ c ∷ under
 words_for (c ∷ same) under = c ∷ same
 
 -- a declared label by its name; another one by those that it dominates
-abbrev pub words_of : Tables → Label → List ℕ
+abbrev pub words_of : Policy → Label → List ℕ
 words_of p label = words_for (names_of true p label) (names_of false p label)
 
 -- ---- the lines of labels
@@ -45,10 +45,10 @@ words_of p label = words_for (names_of true p label) (names_of false p label)
 unfoldable pub four : ℕ → List ℕ
 four n = replicate (4 - length (decimal n)) 32 ++ decimal n
 
-abbrev pub at_line : Tables → ℕ × Label → List ℕ
+abbrev pub at_line : Policy → ℕ × Label → List ℕ
 at_line p x = four (x.0 + 1) ++ (codes "  at" ++ words_of p x.1 ++ codes "\n")
 
-module _ (p : Tables) (vars : List (Name × Kind)) where
+module _ (p : Policy) (vars : List (Name × Kind)) where
   -- of variables, in order
   abbrev pub variable_line : ℕ × Label → List ℕ
   variable_line x = codes "      " ++ unwrap_or (option_map (λ v. v.0) (slice_get vars x.0)) [] ++ codes ":" ++ words_of p x.1 ++ codes "\n"
@@ -75,7 +75,7 @@ abbrev pub refused_line : Name → ℕ → Rule → List ℕ
 refused_line name stmt r = refused_front name ++ decimal stmt ++ codes " " ++ text_of r ++ codes "\n"
 
 -- what came of the least labels
-abbrev pub head : Tables → Tx → Outcome → List ℕ
+abbrev pub head : Policy → Tx → Outcome → List ℕ
 head p tx (Labelled cert) = label_lines p tx.vars cert
 head p tx (Refused stmt r chain) = refused_line tx.name stmt r
 
@@ -90,12 +90,12 @@ abbrev pub IsListing : List (List ℕ) → List ℕ → Type 0
 IsListing ls text =
     (parts : List (List ℕ)) × AllZip (λ line part. (n : Option ℕ) × (part ≡ shown n line)) ls parts × (text ≡ concat parts)
 
-pub record IsTold (p : Tables) (schemes : Schemes) (tx : Tx) (outcome : Outcome) (text : List ℕ) : Type 0 where
+pub record IsTold (p : Policy) (schemes : Schemes) (tx : Tx) (outcome : Outcome) (text : List ℕ) : Type 0 where
   pub listing : List ℕ
   pub lists : IsListing (lines (utf8_lossy (printed p schemes tx))) listing
   pub advice : List ℕ
   pub text_is : text ≡ listing ++ head p tx outcome ++ advice
 
 -- what came of a transaction, and a text that tells it
-abbrev pub IsExplanation : Tables → Schemes → Tx → Explained → Type 0
+abbrev pub IsExplanation : Policy → Schemes → Tx → Explained → Type 0
 IsExplanation p schemes tx e = IsOutcome p tx e.outcome × IsTold p schemes tx e.outcome (string_bytes e.text)

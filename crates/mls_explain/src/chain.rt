@@ -1,12 +1,12 @@
 //! Shortest chains of flows to where a rule is broken.
 ghost use Rattle.std.specs.Prelude.{◌≡◌, IfOk};
-ghost use Rattle.mls_lattice.specs.Policy.{Tables};
+ghost use Rattle.mls_lattice.specs.Policy.{Policy};
 ghost use Rattle.mls_labeller.specs.Flows.{body_lines};
 ghost use Rattle.mls_explain.specs.Steps.{steps};
 ghost use Rattle.mls_explain.specs.Chains.{IsBroken, IsChainTo};
 ghost use Rattle.mls_explain.specs.Search.{chain_of, IsUnderway};
 
-use crate::search::{Search, Tail, root_in};
+use crate::search::{Search, Tail, tail_with_root};
 use crate::step::steps_of;
 use mls_certcheck::{Refusal, Slot, Source};
 use mls_labeller::{Labeller, lines_of};
@@ -33,7 +33,7 @@ impl Chain {
 
 /// The search from where a rule is broken at a statement.
 fn search_of(alloc: Global, tx: &Tx, broken: Refusal) -> Result<Search, AllocError>
-    ensures { IfOk result (λ s. (p : Tables)
+    ensures { IfOk result (λ s. (p : Policy)
         → IsUnderway p tx.now (steps tx.now) (IsBroken tx.now.hi (body_lines tx.now) broken) 0 s.tails.items s.left.items) }
 {
     let lines = lines_of(alloc, tx)?;
@@ -53,7 +53,7 @@ pub(crate) fn chain_to(
     let mut search = search_of(alloc, tx, broken)?;
     let labeller = Labeller { policy, tx };
     while !search.tails.is_empty() {
-        if let Some(tail) = root_in(&labeller, &search.tails) {
+        if let Some(tail) = tail_with_root(&labeller, &search.tails) {
             let chain = Chain::of(tail)?;
             return Ok(Some(chain));
         }

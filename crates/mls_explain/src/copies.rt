@@ -15,7 +15,7 @@ use sqlite::{Alter, Connection, FileStore, Files, Options};
 use std::alloc::{AllocError, Global};
 
 /// Why files in memory are not opened: for want of memory, where one of them could not grow.
-fn fault_in(files: &Files<MemoryFile>, fault: OpenFault) -> OpenFault
+fn fault_in_memory(files: &Files<MemoryFile>, fault: OpenFault) -> OpenFault
     ensures { (result ≡ fault) ⊎ (result ≡ OpenFault.Memory) }
 {
     if files.log.has_failed() || files.db.has_failed() {
@@ -41,7 +41,7 @@ pub(crate) fn connection(
     };
     match connected(alloc, files, Options::new(0)) {
         Ok(conn) => Ok(conn),
-        Err((fault, files)) => Err(fault_in(&files, fault)),
+        Err((fault, files)) => Err(fault_in_memory(&files, fault)),
     }
 }
 
@@ -70,7 +70,7 @@ fn adopted<S: Alter>(
 }
 
 /// Why a store over files in memory is not opened, if it is not.
-fn verdict_over(
+fn verdict_of_opening(
     outcome: Result<(), OpenFault>,
     conn: Connection<FileStore<MemoryFile>>,
 ) -> Result<(), OpenFault>
@@ -79,7 +79,7 @@ fn verdict_over(
 {
     match outcome {
         Ok(()) => Ok(()),
-        Err(fault) => Err(fault_in(&conn.into_store().close(), fault)),
+        Err(fault) => Err(fault_in_memory(&conn.into_store().close(), fault)),
     }
 }
 
@@ -99,7 +99,7 @@ pub(crate) fn verdict(
     match connection(alloc, log, db) {
         Ok(conn) => {
             let (outcome, conn) = adopted(alloc, conn, policy, file);
-            verdict_over(outcome, conn)
+            verdict_of_opening(outcome, conn)
         }
         Err(fault) => Err(fault),
     }

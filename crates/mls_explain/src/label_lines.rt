@@ -7,14 +7,13 @@ use crate::naming::words_of;
 use crate::numbering::four_to;
 use crate::outcome::Outcome;
 use crate::teller::{Teller, Told};
-use mls_certcheck::Rule;
-use mls_certificate::Certificate;
+use mls_certcheck::{Certificate, Rule};
 use mls_labeller::{Told as Release, ranges_of, whole, words};
 use mls_lattice::{Items, Label};
 use mls_translang::Stmt;
 
 /// The labels of the variables after a statement, where there are rows of them.
-fn row_at(rows: &[Items<Label>], place: usize) -> &[Label]
+fn row_after(rows: &[Items<Label>], place: usize) -> &[Label]
     ensures { result.now ≡ unwrap_or (slice_get rows.now place) [] }
 {
     match rows.get(place) {
@@ -59,7 +58,7 @@ impl Teller<'_> {
         Ok(())
     }
 
-    fn at_to(&self, text: &mut String, place: usize, label: Label) -> Told
+    fn statement_labels_to(&self, text: &mut String, place: usize, label: Label) -> Told
         requires { place + 1 < 2 ^ 64 }
         ensures { OnOk result (string_bytes text.new ≡ string_bytes text.old
             ++ at_line self.now.policy.now (place, label)) }
@@ -75,8 +74,8 @@ impl Teller<'_> {
             ++ statement_lines self.now.policy.now self.now.tx.now.vars rows.now labels.now) }
     {
         for (place, label) in labels.iter().enumerate() {
-            self.at_to(text, place, *label)?;
-            self.variables_to(text, row_at(rows, place))?;
+            self.statement_labels_to(text, place, *label)?;
+            self.variables_to(text, row_after(rows, place))?;
         }
         Ok(())
     }

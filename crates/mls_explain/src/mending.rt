@@ -36,7 +36,7 @@ pub(crate) struct Outlet {
 impl Teller<'_> {
     /// Ends the ways to mend with a higher ceiling, which sees a label.
     pub(crate) fn ceiling_way_to(&self, text: &mut String, label: LabelNo) -> Told {
-        if let Some(high) = self.lowest_over(self.tx.hi(), label) {
+        if let Some(high) = self.lowest_that_sees(self.tx.hi(), label) {
             let low = self.label(self.tx.lo());
             let high = self.label(high);
             write!(text, "; or raise the ceiling (`levels {low} to {high}`)")?;
@@ -46,7 +46,7 @@ impl Teller<'_> {
 
     /// Ends them with levels that begin lower, at what a label sees.
     pub(crate) fn floor_way_to(&self, text: &mut String, label: LabelNo) -> Told {
-        if let Some(low) = self.highest_under(self.tx.lo(), label) {
+        if let Some(low) = self.highest_seen(self.tx.lo(), label) {
             let low = self.label(low);
             let high = self.label(self.tx.hi());
             write!(text, "; or begin the levels at {low}")?;
@@ -119,7 +119,7 @@ impl Teller<'_> {
             Deed::Release => "to",
             Deed::Emit | Deed::Write => "at",
         };
-        let over = self.lowest_over(out.label, way.root);
+        let over = self.lowest_that_sees(out.label, way.root);
         let higher = self.label(over.unwrap_or(self.tx.hi()));
         write!(text, "   To mend it: {verb} {to} {higher}")?;
         if way.cause == Some(0) {

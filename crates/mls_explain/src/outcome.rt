@@ -3,8 +3,7 @@ ghost use Rattle.std.specs.Prelude.{◌≡◌, IfOk};
 ghost use Rattle.mls_explain.specs.Explaining.{IsOutcome, has_labels};
 
 use crate::chain::{Chain, chain_to};
-use mls_certcheck::{Refusal, Rule};
-use mls_certificate::Certificate;
+use mls_certcheck::{Certificate, Refusal, Rule};
 use mls_labeller::{LabelFault, label_tx, label_tx2};
 use mls_lattice::Policy;
 use mls_translang::Tx;

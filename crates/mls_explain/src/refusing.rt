@@ -118,7 +118,7 @@ impl Teller<'_> {
         } else {
             ("starts from what stands at", "start from what", "from")
         };
-        let higher = self.label(self.lowest_over(low, high).unwrap_or(high));
+        let higher = self.label(self.lowest_that_sees(low, high).unwrap_or(high));
         let low = self.label(low);
         let high = self.label(high);
         write!(text, "   This {does} {low} and {named} {high}, which {low}")?;

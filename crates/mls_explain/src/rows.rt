@@ -63,7 +63,7 @@ fn tell_tuple(text: &mut String, names: &Names, rel: RelNo, before: usize, rows:
 }
 
 /// The first attribute of a node whose element has the node's class, and no cell.
-fn missing_in(node: &NodeRow, cells: &[CellRow]) -> Option<u32> {
+fn missing_attribute(node: &NodeRow, cells: &[CellRow]) -> Option<u32> {
     for (attr, class) in (0..u32::MAX).zip(node.pattern.iter()) {
         let is_own = u32::from(*class) == node.label;
         let mut beside = cells.iter().filter(|cell| {
@@ -79,7 +79,7 @@ fn missing_in(node: &NodeRow, cells: &[CellRow]) -> Option<u32> {
 /// Tells of the first element that is missing.
 fn tell_missing(text: &mut String, names: &Names, rows: &AllRows) -> Told {
     for node in &rows.nodes {
-        if let Some(attr) = missing_in(node, &rows.cells) {
+        if let Some(attr) = missing_attribute(node, &rows.cells) {
             let key = names.key_of(&node.ent)?;
             names.row_to(text, "node", node.rel, &key, node.kclass, node.label)?;
             names.attribute_to(text, node.rel, attr)?;

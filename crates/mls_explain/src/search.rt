@@ -3,7 +3,7 @@
 //! leaves them out.
 ghost use Rattle.std.specs.Prelude.{◌≡◌, ◌≢◌, ◌↔◌, ◌++◌, [], true, false, None, IsTrue, IfOk, OnOk, IfSome};
 ghost use Rattle.std.specs.List.{AllByRecursion, Contains};
-ghost use Rattle.mls_lattice.specs.Policy.{Tables};
+ghost use Rattle.mls_lattice.specs.Policy.{Policy};
 ghost use Rattle.mls_translang.specs.Tx.{Tx as SpecTx};
 ghost use Rattle.mls_certcheck.specs.declared.flow.Source.TheVariants.{Held};
 ghost use Rattle.mls_explain.specs.Chains.{is_above, is_root, outlet, IsBroken};
@@ -88,7 +88,7 @@ fn is_root(labeller: &Labeller, limit: LabelNo, source: Source) -> bool
 }
 
 /// A tail whose root is one of chains.
-pub(crate) fn root_in<'a>(labeller: &Labeller, tails: &'a [Tail]) -> Option<&'a Tail>
+pub(crate) fn tail_with_root<'a>(labeller: &Labeller, tails: &'a [Tail]) -> Option<&'a Tail>
     ensures found { IfSome result (λ t. Contains tails.now t.now
         × (is_root labeller.now.policy.now labeller.now.tx.now t.now.limit t.now.root ≡ true)) }
     ensures none { result ≡ None → AllByRecursion (λ t. is_root labeller.now.policy.now labeller.now.tx.now
@@ -178,7 +178,7 @@ impl Search {
         hi: LabelNo,
         broken: Refusal,
     ) -> Result<Search, AllocError>
-        ensures { IfOk result (λ s. (p : Tables) (tx : SpecTx)
+        ensures { IfOk result (λ s. (p : Policy) (tx : SpecTx)
             → IsUnderway p tx steps.now (IsBroken hi lines.now broken) 0 s.tails.items s.left.items) }
     {
         let mut search = Search::empty(alloc);

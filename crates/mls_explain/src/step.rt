@@ -15,7 +15,7 @@ pub(crate) struct Step {
 }
 
 /// From each of the sources into one slot.
-fn all_into(steps: &mut Vec<Step>, target: Slot, sources: &[Source]) -> Told
+fn steps_into_one(steps: &mut Vec<Step>, target: Slot, sources: &[Source]) -> Told
     ensures { OnOk result (steps.new.items ≡ steps.old.items ++ steps_to target sources.now) }
 {
     for source in sources {
@@ -26,11 +26,11 @@ fn all_into(steps: &mut Vec<Step>, target: Slot, sources: &[Source]) -> Told
 }
 
 /// From each of the sources into each of the slots.
-fn into_all(steps: &mut Vec<Step>, targets: &[Slot], sources: &[Source]) -> Told
+fn steps_into_each(steps: &mut Vec<Step>, targets: &[Slot], sources: &[Source]) -> Told
     ensures { OnOk result (steps.new.items ≡ steps.old.items ++ into_steps targets.now sources.now) }
 {
     for target in targets {
-        all_into(steps, *target, sources)?;
+        steps_into_one(steps, *target, sources)?;
     }
     Ok(())
 }
@@ -50,11 +50,11 @@ fn kept(steps: &mut Vec<Step>, from: usize, to: usize, but: Option<u8>, vars: us
     Ok(())
 }
 
-fn of_flow(steps: &mut Vec<Step>, flow: &Flow, vars: usize) -> Told
+fn flow_steps(steps: &mut Vec<Step>, flow: &Flow, vars: usize) -> Told
     ensures { OnOk result (steps.new.items ≡ steps.old.items ++ steps_in vars flow.now) }
 {
     match flow {
-        Flow::Into { targets, sources } => into_all(steps, targets, sources),
+        Flow::Into { targets, sources } => steps_into_each(steps, targets, sources),
         Flow::Kept { from, to, but } => kept(steps, *from, *to, *but, vars),
         Flow::Within { .. } | Flow::Under { .. } => Ok(()),
     }
@@ -66,7 +66,7 @@ pub(crate) fn steps_of(alloc: Global, lines: &[Line], vars: usize) -> Result<Vec
 {
     let mut steps = Vec::new(alloc);
     for line in lines {
-        of_flow(&mut steps, &line.flow, vars)?;
+        flow_steps(&mut steps, &line.flow, vars)?;
     }
     Ok(steps)
 }

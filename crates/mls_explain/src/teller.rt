@@ -109,7 +109,7 @@ impl<'a> Teller<'a> {
     }
 
     /// A lowest declared label that sees both: below the ceiling, where that sees them.
-    pub(crate) fn lowest_over(&self, one: LabelNo, other: LabelNo) -> Option<LabelNo> {
+    pub(crate) fn lowest_that_sees(&self, one: LabelNo, other: LabelNo) -> Option<LabelNo> {
         let mut lowest = Some(self.tx.hi()).filter(|high| self.sees_both(*high, one, other));
         for place in 0..self.policy.label_count() {
             let label = LabelNo::new(place as u8);
@@ -125,7 +125,7 @@ impl<'a> Teller<'a> {
     }
 
     /// A highest declared label that both see.
-    pub(crate) fn highest_under(&self, one: LabelNo, other: LabelNo) -> Option<LabelNo> {
+    pub(crate) fn highest_seen(&self, one: LabelNo, other: LabelNo) -> Option<LabelNo> {
         let mut highest = None;
         for place in 0..self.policy.label_count() {
             let label = LabelNo::new(place as u8);

@@ -2,7 +2,7 @@
 use Rattle.std.specs.Prelude.{◌≡◌, ◌≢◌, ◌↔◌, ℕ, ◌<◌, ◌≤◌, Bool, true, false, List, length, Option, None, IfSome, IfErr, OnOk, IsErrOf, Result, Err}
 use Rattle.std.specs.List.{AllByRecursion}
 use Rattle.std.specs.FinMap.{get}
-use Rattle.mls_lattice.specs.Policy.{Tables, labels_of}
+use Rattle.mls_lattice.specs.Policy.{Policy, labels_of}
 use Rattle.mls_scheme.specs.declared.value.Value.{Value}
 use Rattle.mls_scheme.specs.declared.place.Place.{Place}
 use Rattle.mls_scheme.specs.declared.tuple.Element.{Element}
@@ -74,7 +74,7 @@ module _ {Self : Type 0} (is_clean : Self → Type 0) (failures : Self → ℕ) 
 
 module _ {Self : Type 0} (is_clean : Self → Type 0) (state : Self → State) (base : Self) (rel : ℕ) where
   -- a declared label looks at a relation of the stored form
-  pub record CanSee (policy : Tables) (c : ℕ) : Type 0 where
+  pub record CanSee (policy : Policy) (c : ℕ) : Type 0 where
     pub label : c < length policy.labels
     pub stored : is_clean base → (n : ℕ) × IsStored (labels_of policy) n ((state base).now.db rel)
 

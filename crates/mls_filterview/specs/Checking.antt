@@ -59,13 +59,13 @@ abbrev pub is_of_class : Labels → Tuple → ℕ → Tuple → Bool
 is_of_class ls t m s = is_one_entity s t && same_pair (tuple_class ls s) (label_of ls m)
 
 -- a list begins with the element
-abbrev pub has_at : Element → List Element → Bool
-has_at e [] = false
-has_at e (f ∷ fs) = same_element e f
+abbrev pub has_element_at : Element → List Element → Bool
+has_element_at e [] = false
+has_element_at e (f ∷ fs) = same_element e f
 
 abbrev pub has_below : Labels → ℕ → List Element → List Element → Bool
 has_below ls m [] fs = true
-has_below ls m (e ∷ es) fs = (not (below ls e.class m) || has_at e fs) && has_below ls m es (drop 1 fs)
+has_below ls m (e ∷ es) fs = (not (below ls e.class m) || has_element_at e fs) && has_below ls m es (drop 1 fs)
 
 -- the first of the tuples that is of class m and of the entity of t, if there is one, agrees with t
 abbrev pub agrees_with_first : Labels → Tuple → ℕ → List Tuple → Bool

@@ -7,7 +7,7 @@ ghost use Rattle.mls_filterview.specs.Assembly.{cell_place_cmp, AreValues, AreRo
 ghost use Rattle.mls_filterview.specs.Fragment.{place_of_node};
 
 use crate::fragment::{Cell, Fragment, Node};
-use crate::row::Row;
+use crate::row::PlacedTuple;
 use mls_lattice::Items;
 use mls_scheme::{Element, Place, Value};
 use std::alloc::{AllocError, AllocFailed, Global};
@@ -112,14 +112,14 @@ pub fn rows_of(alloc: Global, nodes: Items<Node>, values: &Values) -> Result<Row
 }
 
 /// The entries of a map, in the order of places.
-pub(crate) fn entries_of(alloc: Global, rows: Rows) -> Result<Vec<Row>, AllocError>
+pub(crate) fn entries_of(alloc: Global, rows: Rows) -> Result<Vec<PlacedTuple>, AllocError>
     ensures items { IfOk result (λ entries. entries.items ≡ rows.entries) }
     ensures ordered { IsOrdered place_cmp rows }
 {
     let pairs: Vec<(Place, Items<Element>)> = rows.into_iter().collect(alloc)?;
     let mut entries = Vec::new(alloc);
     for (place, elements) in pairs {
-        entries.push(Row { place, elements })?;
+        entries.push(PlacedTuple { place, elements })?;
     }
     Ok(entries)
 }

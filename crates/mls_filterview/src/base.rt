@@ -177,7 +177,7 @@ pub fn abandon<B: Base>(base: &mut B)
 }
 
 /// What a call over a base made for itself; where a growth was refused the change is ended.
-pub fn made<T, B: Base>(base: &mut B, growth: Result<T, AllocError>) -> Result<T, BaseFault>
+pub fn settle<T, B: Base>(base: &mut B, growth: Result<T, AllocError>) -> Result<T, BaseFault>
     ensures value { IfOk result (λ x. growth ≡ Ok x) }
     ensures call { IsCall B.is_clean B.failures B.state base.old base.new result }
     ensures served { IfErr result IsServed }

@@ -4,7 +4,7 @@ ghost use Rattle.std.specs.List.{list_any, AllByRecursion};
 ghost use Rattle.mls_lattice.specs.Lattice.{pair_of, same_pair};
 ghost use Rattle.mls_lattice.specs.Policy.{labels_of};
 ghost use Rattle.mls_scheme.specs.Tuple.{HasClassesBelow};
-ghost use Rattle.mls_filterview.specs.Checking.{all_classes, has_same_class, is_of_class, has_at, has_below, agrees_with_first, is_determined, is_comparable, is_chain, has_each_class};
+ghost use Rattle.mls_filterview.specs.Checking.{all_classes, has_same_class, is_of_class, has_element_at, has_below, agrees_with_first, is_determined, is_comparable, is_chain, has_each_class};
 
 use crate::entity::is_one_entity;
 use mls_lattice::{Label, LabelNo, Policy};
@@ -52,8 +52,8 @@ fn is_of_class(policy: &Policy, other: &Tuple, tuple: &Tuple, class: LabelNo) ->
 
 /// Whether the list has the element at a place.
 #[tactic(auto, using(crate::proofs::EntitySteps::element_steps))]
-fn has_at(element: &Element, elements: &[Element], place: usize) -> bool
-    ensures { result ≡ has_at element.now (drop place elements.now) }
+fn has_element_at(element: &Element, elements: &[Element], place: usize) -> bool
+    ensures { result ≡ has_element_at element.now (drop place elements.now) }
 {
     match elements.get(place) {
         Some(other) => element.same(other),
@@ -74,7 +74,7 @@ pub(crate) fn has_below(
     ensures { result ≡ has_below (labels_of policy.now) class left.now right.now }
 {
     for (i, element) in left.iter().enumerate() {
-        if policy.dominates(class, element.class) && !has_at(element, right, i) {
+        if policy.dominates(class, element.class) && !has_element_at(element, right, i) {
             return false;
         }
     }

@@ -12,7 +12,7 @@ ghost use Rattle.mls_filterview.specs.Stored.{IsStored};
 ghost use Rattle.mls_filterview.specs.Filtering.{EachOnce, seen, greatest_from, class_number, row_of, row_cmp};
 
 use crate::maximal::maximal_tuples;
-use crate::row::Row;
+use crate::row::PlacedTuple;
 use mls_lattice::{Items, LabelNo, Policy};
 use mls_scheme::{Element, Place, Tuple, copy_key};
 use std::alloc::{AllocError, Global};
@@ -110,7 +110,11 @@ fn hide(
 
 /// The tuples with their places.
 #[tactic(auto, unfolding(crate::specs::Filtering::class_number))]
-fn rows_of(alloc: Global, policy: &Policy, tuples: Vec<Tuple>) -> Result<Vec<Row>, AllocError>
+fn rows_of(
+    alloc: Global,
+    policy: &Policy,
+    tuples: Vec<Tuple>,
+) -> Result<Vec<PlacedTuple>, AllocError>
     requires { AllByRecursion (HasClassesBelow (length policy.now.labels)) tuples.items }
     ensures { IfOk result (λ v. v.items ≡ map (row_of (labels_of policy.now)) tuples.items) }
 {
@@ -122,7 +126,7 @@ fn rows_of(alloc: Global, policy: &Policy, tuples: Vec<Tuple>) -> Result<Vec<Row
             key_class: tuple.key_class,
             class,
         };
-        rows.push(Row {
+        rows.push(PlacedTuple {
             place,
             elements: tuple.elements,
         })?;

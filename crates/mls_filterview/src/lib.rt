@@ -24,7 +24,7 @@ mod viewing;
 mod widening;
 
 pub use assembly::{Rows, Values, rows_of, values_of};
-pub use base::{Base, BaseFault, abandon, made};
+pub use base::{Base, BaseFault, abandon, settle};
 pub use checking::integrity;
 pub use entity::{is_entity, is_same_entity};
 pub use entity_rules::is_same_label;

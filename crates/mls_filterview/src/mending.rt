@@ -10,7 +10,7 @@ ghost use Rattle.mls_filterview.specs.Calls.{IsRead, CanSee};
 ghost use Rattle.mls_filterview.specs.Subsumption.{entity_cmp};
 ghost use Rattle.mls_filterview.specs.Entities.{of_entity, is_before, is_behind, mended};
 
-use crate::base::{Base, BaseFault, made};
+use crate::base::{Base, BaseFault, settle};
 use crate::parts::entity_parts;
 use crate::viewing::tuples_of;
 use mls_lattice::{LabelNo, Policy};
@@ -82,7 +82,7 @@ fn own_rows<B: Base>(
 {
     let key_class = place.key_class;
     let parts = entity_parts(alloc, base, policy, rel, label, key_class, place)?;
-    let own = made(base, tuples_of(alloc, parts))?;
+    let own = settle(base, tuples_of(alloc, parts))?;
     Ok(own)
 }
 
@@ -108,6 +108,6 @@ pub fn mend<B: Base>(
 {
     let mut place = place;
     let own = own_rows(alloc, base, policy, rel, label, &mut place)?;
-    let mended = made(base, put_own(alloc, &place, own, seen))?;
+    let mended = settle(base, put_own(alloc, &place, own, seen))?;
     Ok(mended)
 }

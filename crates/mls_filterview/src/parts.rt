@@ -8,7 +8,7 @@ ghost use Rattle.mls_filterview.specs.Calls.{IsRead, CanSee};
 ghost use Rattle.mls_filterview.specs.Assembly.{AreOf};
 ghost use Rattle.mls_filterview.specs.Entities.{IsOfEntity};
 
-use crate::base::{Base, BaseFault, made};
+use crate::base::{Base, BaseFault, settle};
 use crate::fragment::{Cell, Fragment, Node};
 use mls_lattice::{Items, LabelNo, Policy};
 use mls_scheme::{Place, RelNo};
@@ -69,7 +69,7 @@ pub fn entity_parts<B: Base>(
         }
         place.class = class;
         let part = base.entity(rel, place)?;
-        made(base, gather(&mut nodes, &mut cells, part))?;
+        settle(base, gather(&mut nodes, &mut cells, part))?;
     }
     Ok(Fragment {
         nodes: Items::from(nodes),

@@ -5,7 +5,7 @@ ghost use Rattle.mls_lattice.specs.Labels.{below};
 ghost use Rattle.mls_lattice.specs.Policy.{labels_of};
 ghost use Rattle.mls_filterview.specs.Reach.{numbers, reach, of_reach, upward, of_class};
 
-use crate::row::{Row, tuple_at};
+use crate::row::{PlacedTuple, tuple_at};
 use mls_lattice::{LabelNo, Policy};
 use mls_scheme::Tuple;
 use std::alloc::{AllocError, Global};
@@ -80,7 +80,11 @@ fn upward(alloc: Global, policy: &Policy) -> Result<Vec<LabelNo>, AllocError>
 }
 
 /// Appends the tuples of a class.
-fn push_class(tuples: &mut Vec<Tuple>, rows: &[Row], class: LabelNo) -> Result<(), AllocError>
+fn push_class(
+    tuples: &mut Vec<Tuple>,
+    rows: &[PlacedTuple],
+    class: LabelNo,
+) -> Result<(), AllocError>
     ensures { OnOk result (tuples.new.items ≡ tuples.old.items ++ of_class rows.now class) }
 {
     for row in rows {
@@ -92,10 +96,10 @@ fn push_class(tuples: &mut Vec<Tuple>, rows: &[Row], class: LabelNo) -> Result<(
 }
 
 /// The tuples of rows, class by class: those classes first that dominate the fewest labels.
-pub(crate) fn by_reach(
+pub(crate) fn in_order_of_reach(
     alloc: Global,
     policy: &Policy,
-    rows: &[Row],
+    rows: &[PlacedTuple],
 ) -> Result<Vec<Tuple>, AllocError>
     ensures { IfOk result (λ v. v.items ≡ flat_map (of_class rows.now) (upward (labels_of policy.now))) }
 {

@@ -15,12 +15,12 @@ use std::marker::Model;
 
 /// The place of a tuple, and its elements.
 #[derive(Drop)]
-pub(crate) struct Row {
+pub(crate) struct PlacedTuple {
     pub place: Place,
     pub elements: Items<Element>,
 }
 
-impl Model for Row {
+impl Model for PlacedTuple {
     ghost use Rattle.std.specs.Prelude.{List};
     ghost use Rattle.mls_scheme.specs.declared.place.Place.{Place as At};
     ghost use Rattle.mls_scheme.specs.declared.tuple.Element.{Element as Part};
@@ -30,7 +30,7 @@ impl Model for Row {
     ghost view = { λ a. (a.place, a.elements) };
 }
 
-impl Row {
+impl PlacedTuple {
     /// The tuple.
     pub fn into_tuple(self) -> Tuple
         ensures { result ≡ tuple_at self.0 self.1 }
@@ -43,7 +43,7 @@ impl Row {
     }
 
     /// The order of rows: by place, and at one place by elements.
-    pub fn order(&self, other: &Row) -> Ordering
+    pub fn order(&self, other: &PlacedTuple) -> Ordering
         ensures { result ≡ row_cmp self.now other.now }
     {
         self.place
@@ -70,31 +70,31 @@ fn order_elements(left: &Items<Element>, right: &Items<Element>) -> Ordering
     left.cmp(right)
 }
 
-impl PartialEq for Row {
+impl PartialEq for PlacedTuple {
     ghost eq = { eq_by_cmp row_cmp };
 
     ghost laws = { partial_equiv_from_equiv (eq_by_cmp_equiv row_total) };
 
-    fn eq(&self, other: &Row) -> bool {
+    fn eq(&self, other: &PlacedTuple) -> bool {
         self.order(other).is_eq()
     }
 }
 
-impl Eq for Row {
+impl Eq for PlacedTuple {
     ghost laws = { eq_by_cmp_equiv row_total };
 }
 
-impl PartialOrd for Row {
+impl PartialOrd for PlacedTuple {
     ghost partial_cmp = { λ x y. Some (row_cmp x y) };
 
     ghost laws = { po row_total (λ x y. refl) };
 
-    fn partial_cmp(&self, other: &Row) -> Option<Ordering> {
+    fn partial_cmp(&self, other: &PlacedTuple) -> Option<Ordering> {
         Some(self.order(other))
     }
 }
 
-impl Ord for Row {
+impl Ord for PlacedTuple {
     ghost cmp = { row_cmp };
 
     ghost total = { row_total };
@@ -103,7 +103,7 @@ impl Ord for Row {
 
     ghost matches_eq = { λ x y. refl };
 
-    fn cmp(&self, other: &Row) -> Ordering {
+    fn cmp(&self, other: &PlacedTuple) -> Ordering {
         self.order(other)
     }
 }

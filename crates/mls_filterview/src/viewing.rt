@@ -12,10 +12,10 @@ ghost use Rattle.mls_filterview.specs.Assembly.{AreLow};
 ghost use Rattle.mls_filterview.specs.Reach.{numbers, low_tuples};
 
 use crate::assembly::{entries_of, rows_of, values_of};
-use crate::base::{Base, BaseFault, made};
+use crate::base::{Base, BaseFault, settle};
 use crate::fragment::Fragment;
 use crate::maximal::maximal_tuples;
-use crate::reach::by_reach;
+use crate::reach::in_order_of_reach;
 use mls_lattice::{LabelNo, Policy};
 use mls_scheme::{RelNo, Tuple};
 use std::alloc::{AllocError, Global};
@@ -54,7 +54,7 @@ fn low_fragment<B: Base>(
 {
     // That the labels of a policy are distinct.
     let _count = policy.label_count();
-    let labels = made(base, low_labels(alloc, policy, label))?;
+    let labels = settle(base, low_labels(alloc, policy, label))?;
     base.fragments(rel, &labels)
 }
 
@@ -78,7 +78,7 @@ fn tuples_by_reach(alloc: Global, policy: &Policy, low: Fragment) -> Result<Vec<
     let values = values_of(alloc, low.cells)?;
     let found = rows_of(alloc, low.nodes, &values)?;
     let rows = entries_of(alloc, found)?;
-    by_reach(alloc, policy, &rows)
+    in_order_of_reach(alloc, policy, &rows)
 }
 
 /// The tuples of a relation whose classes a level dominates, also those that others subsume: class by class, those classes
@@ -99,7 +99,7 @@ pub fn low_tuples<B: Base>(
         ≡ low_tuples (labels_of policy.now) label ((B.state base.old).now.db rel)) }
 {
     let low = low_fragment(alloc, base, policy, rel, label)?;
-    let tuples = made(base, tuples_by_reach(alloc, policy, low))?;
+    let tuples = settle(base, tuples_by_reach(alloc, policy, low))?;
     Ok(tuples)
 }
 
@@ -123,6 +123,6 @@ pub fn view<B: Base>(
     ensures ordered { B.is_clean base.new → IfOk result (λ v. AreInOrder ((B.state base.old).now.db rel) v.items) }
 {
     let low = low_fragment(alloc, base, policy, rel, label)?;
-    let tuples = made(base, tuples_of(alloc, low))?;
+    let tuples = settle(base, tuples_of(alloc, low))?;
     Ok(tuples)
 }

@@ -9,7 +9,7 @@ ghost use Rattle.mls_filterview.specs.Widen.{nulls, widened_entry, IsWidened, Ar
 
 use crate::assembly::{Rows, entries_of, put_row};
 use crate::recovering::are_declared;
-use crate::row::Row;
+use crate::row::PlacedTuple;
 use mls_lattice::{Items, LabelNo};
 use mls_scheme::{Element, Place};
 use std::alloc::{AllocError, Global};
@@ -38,7 +38,7 @@ pub fn widened(alloc: Global, rows: Rows, count: usize) -> Result<Rows, AllocErr
 {
     let mut wide = BTreeMap::new(alloc);
     for row in entries_of(alloc, rows)? {
-        let Row { place, elements } = row;
+        let PlacedTuple { place, elements } = row;
         let wide_elements = with_nulls(elements, count, place.key_class)?;
         put_row(&mut wide, place, wide_elements)?;
     }

@@ -6,7 +6,7 @@ use Rattle.std.specs.FinMap.{get, same_map}
 use Rattle.std.proofs.lemmas.List.{length-take-le}
 use Rattle.sqlite.specs.Effect.{Database}
 use Rattle.mls_lattice.specs.Canon as lattice
-use Rattle.mls_lattice.specs.Policy.{Tables as Policy}
+use Rattle.mls_lattice.specs.Policy.{Policy}
 use Rattle.mls_lattice.specs.Version.{version_number, later}
 use Rattle.mls_lattice.specs.declared.version.Version.{Version}
 use Rattle.mls_lattice.specs.declared.version.Version.TheVariants.{One, Two}

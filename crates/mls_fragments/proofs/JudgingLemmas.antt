@@ -6,7 +6,7 @@ use Rattle.std.specs.FinMap.{entries-from_sorted}
 use Rattle.std.proofs.lemmas.Bool.{and_parts, not-true}
 use Rattle.std.proofs.lemmas.List.Sorted.{IsPermutation-refl, IsPermutation-trans, IsPermutation-sym}
 use Rattle.sqlite_trees.proofs.ListLemmas.{all_of, filter_all, filter_none, IsPermutation-filter, IsPermutation-same}
-use Rattle.mls_lattice.specs.Policy.{Tables as Policy, labels_of}
+use Rattle.mls_lattice.specs.Policy.{Policy, labels_of}
 use Rattle.mls_scheme.specs.declared.tuple.Element.{Element}
 use Rattle.mls_scheme.specs.declared.place.Place.{Place}
 use Rattle.mls_scheme.specs.Scheme.{Schemes, scheme_of}

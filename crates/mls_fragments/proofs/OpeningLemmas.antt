@@ -1,10 +1,24 @@
--- What an open of files finds.
-use Rattle.std.proofs.Common.{◌∙◌, ap, sym, subst}
+-- What an open of files finds, and what an opening leaves of a connection.
+use Rattle.std.proofs.Common.{◌≡◌, inl, inr, ◌∙◌, ap, refl, sym, subst, IsTrue}
+use Rattle.std.specs.Prelude.{◌≢◌}
 use Rattle.sqlite.specs.Files.{AreFoundIn}
 use Rattle.sqlite.specs.Recovery.{Image}
-use Rattle.sqlite.specs.State.{State, Opens, IsLive}
+use Rattle.sqlite.specs.State.{State, Opens, IsLive, HasCleanDisk}
 use Rattle.sqlite.specs.Start.{FindsIn}
-use Rattle.mls_fragments.specs.Opening.{IsFoundIn}
+use Rattle.mls_lattice.specs.Policy.{Policy}
+use Rattle.mls_scheme.specs.declared.file.SchemesFile.{SchemesFile}
+use Rattle.mls_filterview.specs.Content.{Content}
+use Rattle.mls_statements.specs.declared.adopting.AdoptFault.{AdoptFault}
+use Rattle.mls_statements.specs.declared.adopting.AdoptFault.TheVariants as adopt
+use Rattle.mls_statements.specs.declared.adopting.AllRows.{AllRows}
+use Rattle.mls_statements.specs.Adopting.{Blames, HasDescription, HasReadRows, IsAdopted}
+use Rattle.mls_statements.specs.Store.{HasEnded}
+use Rattle.mls_fragments.specs.declared.open_fault.OpenFault.{OpenFault}
+use Rattle.mls_fragments.specs.declared.open_fault.OpenFault.TheVariants.{OtherPolicy, BadRows}
+use Rattle.mls_fragments.specs.declared.reading.RowFault.{RowFault}
+use Rattle.mls_fragments.specs.declared.reading.RowFault.TheVariants as row
+use Rattle.mls_fragments.specs.OpenFault.{adopting_fault, finding_fault}
+use Rattle.mls_fragments.specs.Opening.{HoldsSound, IsFoundIn, IsRefused, IsStoreOrMemory, IsUnopened, IsUntaken, not_described}
 
 -- a connection that has just been opened shows what was found
 pub found_now : (start : Image) (s : State) → Opens s → IsLive s → FindsIn start s → IsFoundIn start s.now
@@ -13,3 +27,78 @@ found_now start s opens live finds = record {
   reads = subst (AreFoundIn start) (sym (ap (λ db. db.trees) opens.clean)) finds.reads;
   sound = (live opens.is_open).0;
 }
+
+-- ---- why
+
+pub never_adopted : (f : AdoptFault) → adopting_fault f ≢ OtherPolicy
+never_adopted adopt.Store e = absurd (cc)
+never_adopted adopt.Memory e = absurd (cc)
+never_adopted adopt.BadRows e = absurd (cc)
+
+pub never_found : (f : RowFault) → finding_fault f ≢ OtherPolicy
+never_found row.BadRow e = absurd (cc)
+never_found row.Memory e = absurd (cc)
+
+adopted_bad : (f : AdoptFault) → adopting_fault f ≡ BadRows → f ≡ adopt.BadRows
+adopted_bad adopt.Store e = absurd (cc)
+adopted_bad adopt.Memory e = absurd (cc)
+adopted_bad adopt.BadRows e = refl
+
+-- a store that is not made fails, or memory runs out
+pub not_other : (f : OpenFault) → IsStoreOrMemory f → f ≢ OtherPolicy
+not_other f (inl a) b = absurd (let e = sym a ∙ b in cc)
+not_other f (inr a) b = absurd (let e = sym a ∙ b in cc)
+
+pub not_bad : (f : OpenFault) → IsStoreOrMemory f → f ≢ BadRows
+not_bad f (inl a) b = absurd (let e = sym a ∙ b in cc)
+not_bad f (inr a) b = absurd (let e = sym a ∙ b in cc)
+
+-- ---- what is left
+
+module _ (old new : State) where
+  pub ended_refused : (HasCleanDisk new → HasCleanDisk old) → (HasCleanDisk new → HasEnded old new) → IsRefused old new
+  ended_refused clean ended disk =
+      let end = ended disk in
+      record { clean = clean disk; mode = λ here. end.mode; was_open = end.was_open; committed = λ here. inl (end.committed here) }
+
+  -- a store whose description is not read
+  pub undescribed : (policy : Policy) (file : SchemesFile) (f : AdoptFault) (e : OpenFault) → (HasCleanDisk new → HasCleanDisk old) → (HasCleanDisk new → HasEnded old new)
+      → (HasCleanDisk new → Blames (HasDescription old.now) f) → e ≡ adopting_fault f → IsUnopened policy file old new e
+  undescribed policy file f e clean ended bad is = record {
+    refused = ended_refused clean ended;
+    texts = λ disk other. absurd (never_adopted f (sym is ∙ other));
+    bad = λ disk rows. not_described (bad disk (adopted_bad f (sym is ∙ rows)));
+  }
+
+  -- a store whose rows are not read
+  pub unread : (Sound : Content → Type 0) (f : AdoptFault) (e : OpenFault) → (HasCleanDisk new → HasCleanDisk old) → (HasCleanDisk new → HasEnded old new)
+      → (HasCleanDisk new → Blames (HasReadRows old.now) f) → e ≡ adopting_fault f → IsUntaken Sound old new e
+  unread Sound f e clean ended bad is = record {
+    refused = ended_refused clean ended;
+    texts = λ other. never_adopted f (sym is ∙ other);
+    bad = λ disk rows sound. bad disk (adopted_bad f (sym is ∙ rows)) sound.0;
+  }
+
+  -- rows that hold nothing sound
+  pub unfound : (Sound : Content → Type 0) (rows : AllRows) (f : RowFault) (e : OpenFault) → (HasCleanDisk new → HasCleanDisk old) → (HasCleanDisk new → IsTrue old.is_open)
+      → (HasCleanDisk new → IsAdopted old new rows) → e ≡ finding_fault f → (HasCleanDisk new → HoldsSound Sound old.now → f ≡ row.Memory) → IsUntaken Sound old new e
+  unfound Sound rows f e clean was_open adopted is memory = record {
+    refused = λ disk. let read = adopted disk in record {
+      clean = clean disk;
+      mode = λ here. read.settled.mode;
+      was_open = λ here. was_open disk;
+      committed = λ here. inr (sym read.settled.settled ∙ read.same);
+    };
+    texts = λ other. never_found f (sym is ∙ other);
+    bad = λ disk bad sound. absurd (let e = sym (ap finding_fault (memory disk sound)) ∙ (sym is ∙ bad) in cc);
+  }
+
+  -- what was read between was committed before
+  pub read_refused : (mid : State) → (HasCleanDisk mid → HasCleanDisk old) → (HasCleanDisk mid → IsTrue old.is_open) → (HasCleanDisk mid → mid.now ≡ old.now) → (HasCleanDisk mid → mid.committed ≡ old.now)
+      → IsRefused mid new → IsRefused old new
+  read_refused mid clean was_open now committed refused disk = let back = refused disk in record {
+    clean = clean back.clean;
+    mode = back.mode;
+    was_open = λ here. was_open back.clean;
+    committed = λ here. inr (elim (back.committed here) [ inl a ↦ a ∙ committed back.clean | inr b ↦ b ∙ now back.clean ]);
+  }

@@ -13,7 +13,7 @@ use Rattle.sqlite.specs.WalFiles.{outcomes}
 use Rattle.sqlite.specs.WalReads.{AreClean}
 use Rattle.sqlite.specs.declared.FileStore.{FileStore}
 use Rattle.sqlite.specs.declared.file.Leftover.{Leftover}
-use Rattle.mls_lattice.specs.Policy.{Tables as Policy}
+use Rattle.mls_lattice.specs.Policy.{Policy}
 use Rattle.mls_scheme.specs.declared.file.SchemesFile.{SchemesFile}
 use Rattle.mls_filterview.specs.Content.{Content}
 use Rattle.mls_statements.specs.declared.rows.MetaRow.{MetaRow}

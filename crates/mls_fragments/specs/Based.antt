@@ -1,7 +1,7 @@
 -- A base over the tables of a store.
 use Rattle.std.proofs.Common.{ap}
 use Rattle.std.specs.Prelude.{◌≡◌, pos, Bool, List, false, if◌then◌else◌, length}
-use Rattle.mls_lattice.specs.Policy.{Tables as Policy}
+use Rattle.mls_lattice.specs.Policy.{Policy}
 use Rattle.mls_scheme.specs.declared.file.SchemesFile.{SchemesFile}
 use Rattle.mls_filterview.specs.Content.{Content, State}
 use Rattle.mls_filterview.specs.declared.base.BaseFault.{BaseFault}

@@ -10,18 +10,18 @@ use Rattle.mls_filterview.specs.Fragment.{IsCellOf}
 use Rattle.mls_statements.specs.declared.rows.CellRow.{CellRow}
 use Rattle.mls_statements.specs.declared.store.StoreFault.{StoreFault}
 use Rattle.mls_statements.specs.Statements.{IsOne, has_key_of}
-use Rattle.mls_statements.specs.Store.{TableState, IsClean, IsCall, IsSame}
+use Rattle.mls_statements.specs.Store.{TableState, IsClean, IsStoreCall, IsSame}
 use Rattle.mls_fragments.specs.Holding.{value_row}
 
 -- a call that reads: an answer leaves the rows, and whether a change is begun
 pub record IsRead {A : Type 0} (old new : TableState) (result : Result A StoreFault) : Type 0 where
-  pub call : IsCall old new result
+  pub call : IsStoreCall old new result
   pub mode : OnOk result (new.begun ≡ old.begun)
   pub same : IsClean new → OnOk result (IsSame old new)
 
 -- a step of a change that is begun: an answer leaves it begun
 pub record IsStep {A : Type 0} (old new : TableState) (result : Result A StoreFault) : Type 0 where
-  pub call : IsCall old new result
+  pub call : IsStoreCall old new result
   pub mode : OnOk result (new.begun ≡ true)
 
 -- a tuple whose key and own cells have spellings

@@ -2,7 +2,7 @@
 use Rattle.std.specs.Prelude.{◌≡◌, ℕ, List, [], ◌∷◌, Option, Some, None}
 use Rattle.sqlite.specs.Effect.{Database}
 use Rattle.mls_lattice.specs.Canon as lattice
-use Rattle.mls_lattice.specs.Policy.{Tables as Policy}
+use Rattle.mls_lattice.specs.Policy.{Policy}
 use Rattle.mls_lattice.specs.Version.{version_number, later}
 use Rattle.mls_scheme.specs.Canon as scheme
 use Rattle.mls_scheme.specs.declared.file.SchemesFile.{SchemesFile}

@@ -1,7 +1,7 @@
 -- Stores of older policies and schemes, and content under schemes with more attributes.
 use Rattle.std.specs.Prelude.{◌≡◌, ◌⊎◌, ℕ, suc, ◌-◌, ◌≤◌, pos, List, [], ◌∷◌, length, map, slice_index_or, IsPermutation}
 use Rattle.std.specs.List.{AllByRecursion}
-use Rattle.mls_lattice.specs.Policy.{Tables as Policy}
+use Rattle.mls_lattice.specs.Policy.{Policy}
 use Rattle.mls_lattice.specs.declared.version.Version.TheVariants.{Two}
 use Rattle.mls_lattice.specs.Canon as lattice
 use Rattle.mls_lattice.specs.Extending as older_lattice
@@ -86,3 +86,8 @@ pub record HasWidened (policy : Policy) (schemes : Schemes) (labels : ℕ) (coun
   pub spelled : AllByRecursion (λ t. AllByRecursion IsSpelledEntry t.entries) f.tables.items
   pub count : length f.tables.items ≤ 256
   pub last : f.last ≡ pos (length f.entries)
+
+-- tables of few relations, whose keys and values have spellings
+pub record AreSpelledTables (f : Found) : Type 0 where
+  pub few : length f.tables.items ≤ 256
+  pub spelled : AllByRecursion (λ t. AllByRecursion IsSpelledEntry t.entries) f.tables.items

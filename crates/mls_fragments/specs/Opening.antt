@@ -1,5 +1,5 @@
 -- Stores that are opened, and that are not.
-use Rattle.std.specs.Prelude.{◌≡◌, ◌⊎◌, ℕ, false, List, IsTrue}
+use Rattle.std.specs.Prelude.{◌≡◌, ◌≢◌, ◌⊎◌, ℕ, false, List, [], ◌∷◌, IsTrue}
 use Rattle.sqlite.specs.Effect.{Database, IsDatabase}
 use Rattle.sqlite.specs.State.{State, HasCleanDisk, KeepsCommit}
 use Rattle.sqlite.specs.Files.{HoldsDatabase, AreFoundIn, file_state}
@@ -8,18 +8,23 @@ use Rattle.sqlite.specs.declared.FileStore.{FileStore}
 use Rattle.sqlite_disk.specs.declared.Disk.{Ghosts}
 use Rattle.sqlite.specs.Recovery.{Image}
 use Rattle.sqlite_trees.specs.Tree.{Trees}
-use Rattle.mls_lattice.specs.Policy.{Tables as Policy}
+use Rattle.mls_lattice.specs.Canon as lattice
+use Rattle.mls_lattice.specs.Policy.{Policy}
+use Rattle.mls_scheme.specs.Canon as scheme
+use Rattle.mls_scheme.specs.Scheme.{Schemes}
 use Rattle.mls_scheme.specs.declared.file.SchemesFile.{SchemesFile}
 use Rattle.mls_filterview.specs.Content.{Content}
 use Rattle.mls_statements.specs.declared.rows.MetaRow.{MetaRow}
 use Rattle.mls_statements.specs.Adopting.{IsDescribed, HasDescription, HasReadRows}
 use Rattle.mls_statements.specs.Rows.{tables_of}
 use Rattle.mls_statements.specs.Schema.{no_schema}
+use Rattle.mls_statements.specs.Store.{IsClean}
 use Rattle.mls_fragments.specs.declared.open_fault.OpenFault.{OpenFault}
 use Rattle.mls_fragments.specs.declared.open_fault.OpenFault.TheVariants.{Store, OtherPolicy, BadRows, Memory}
+use Rattle.mls_fragments.specs.Based.{BaseState, state_of}
 use Rattle.mls_fragments.specs.Finding.{IsSoundContent}
 use Rattle.mls_fragments.specs.Holding.{Holds}
-use Rattle.mls_fragments.specs.Migrating.{HasTexts, IsExtended, IsOther, IsSoundBefore}
+use Rattle.mls_fragments.specs.Migrating.{HasTexts, IsExtended, IsOther, IsSoundBefore, IsWidenedContent}
 
 -- ---- why a store is refused
 
@@ -64,6 +69,44 @@ pub record IsUnadopted (policy : Policy) (file : SchemesFile) (old new : State) 
   -- a store that has nothing is made, or stays as it was
   pub made : old.now.schema ≡ no_schema → IsStoreOrMemory e
   pub kept : old.now.schema ≡ no_schema → HasCleanDisk new → KeepsCommit old new
+
+-- rows of which no base was made: they are not of others, and are called bad only where they hold no content that is sound
+pub record IsUntaken (Sound : Content → Type 0) (old new : State) (e : OpenFault) : Type 0 where
+  pub refused : IsRefused old new
+  pub texts : e ≢ OtherPolicy
+  pub bad : HasCleanDisk new → e ≡ BadRows → ¬ HoldsSound Sound old.now
+
+-- a store of four tables of which no base was made
+pub record IsUnopened (policy : Policy) (file : SchemesFile) (old new : State) (e : OpenFault) : Type 0 where
+  pub refused : IsRefused old new
+  pub texts : HasCleanDisk new → e ≡ OtherPolicy → IsOfOthers policy file old.now
+  pub bad : HasCleanDisk new → e ≡ BadRows → IsBad policy file old.now
+
+-- a store that was not made
+pub record IsUnmade (old new : State) (e : OpenFault) : Type 0 where
+  pub fault : IsStoreOrMemory e
+  pub refused : IsRefused old new
+  pub kept : HasCleanDisk new → KeepsCommit old new
+
+-- ---- what is made of it
+
+-- the two texts that describe the stores of a policy and its schemes
+pub record AreTexts (policy : Policy) (file : SchemesFile) (labels schemes : List ℕ) : Type 0 where
+  pub labels_are : labels ≡ lattice.lattice_of policy
+  pub schemes_are : schemes ≡ scheme.canon_of policy file.version file.schemes
+
+-- a base whose tables hold its content, which is sound, with no change begun
+pub record HoldsContent (policy : Policy) (schemes : Schemes) (b : BaseState) : Type 0 where
+  pub holds : IsClean b.tables → Holds b.tables.now (state_of b).now
+  pub sound : IsSoundContent policy schemes (state_of b).now
+  pub mode : (state_of b).begun ≡ false
+
+-- a base over an older store, whose content was widened and which this row describes now
+pub record IsMigrated (policy : Policy) (schemes : Schemes) (labels : ℕ) (counts : List ℕ) (row : MetaRow) (old : State) (b : BaseState) : Type 0 where
+  pub clean : IsClean b.tables → HasCleanDisk old
+  pub widened : IsClean b.tables → (c : Content) × Holds (tables_of old.now.trees) c
+      × IsSoundBefore policy schemes labels counts c × IsWidenedContent schemes counts c (state_of b).now
+  pub meta : IsClean b.tables → b.tables.now.meta ≡ row ∷ []
 
 -- ---- stores in files
 

@@ -7,7 +7,7 @@ ghost use Rattle.mls_lattice.specs.Version.{version_number};
 ghost use Rattle.mls_lattice.specs.declared.version.Version.{Version};
 ghost use Rattle.mls_statements.specs.declared.rows.MetaRow.{MetaRow};
 ghost use Rattle.mls_statements.specs.Rows.{described, tables_of};
-ghost use Rattle.mls_statements.specs.Statements.{IsReady};
+ghost use Rattle.mls_statements.specs.Statements.{IsSchemaReady};
 ghost use Rattle.mls_statements.specs.Store.{IsClean};
 ghost use Rattle.mls_fragments.specs.Based.{HasRow, IsNoted, state_of};
 ghost use Rattle.mls_fragments.specs.Changes.{content_of};
@@ -15,7 +15,7 @@ ghost use Rattle.mls_fragments.specs.Holding.{Holds};
 ghost use Rattle.mls_fragments.specs.Holdings.{HasHoldings, HaveOneMeta, holdings_of};
 
 use crate::entity::{read_entity, read_pattern};
-use crate::noted::{Noted, fall};
+use crate::noted::{Noted, abandon_changes};
 use crate::reading::{read_entries, read_fragment, read_fragments};
 use crate::writing::{add_entry, add_tuple, drop_tuple, set_value};
 use mls_filterview::{Base, BaseFault, Cell, Fragment, Node};
@@ -93,7 +93,7 @@ impl<S: Alter> SqlBase<S> {
         ensures mode { HasCleanDisk (state S.Store result) → IsTrue (state S.Store result).is_open
             → (state S.Store result).in_transaction ≡ false }
         ensures rows { HasCleanDisk (state S.Store result) → IsTrue (state S.Store result).is_open
-            → IsReady (state S.Store result).now
+            → IsSchemaReady (state S.Store result).now
             × Holds (tables_of (state S.Store result).now.trees) (state_of self).now }
         ensures tables { HasCleanDisk (state S.Store result) → IsTrue (state S.Store result).is_open
             → tables_of (state S.Store result).now.trees ≡ self.tables.now }
@@ -134,7 +134,7 @@ impl<S: Alter> Base for SqlBase<S> {
         }
         match self.store.begin() {
             Ok(_) => Ok(()),
-            Err(fault) => Err(fall(&mut self.now, &self.kept, fault)),
+            Err(fault) => Err(abandon_changes(&mut self.now, &self.kept, fault)),
         }
     }
 
@@ -147,7 +147,7 @@ impl<S: Alter> Base for SqlBase<S> {
                 self.kept.copy(&self.now);
                 Ok(())
             }
-            Err(fault) => Err(fall(&mut self.now, &self.kept, fault)),
+            Err(fault) => Err(abandon_changes(&mut self.now, &self.kept, fault)),
         }
     }
 
@@ -160,35 +160,35 @@ impl<S: Alter> Base for SqlBase<S> {
                 self.now.copy(&self.kept);
                 Ok(())
             }
-            Err(fault) => Err(fall(&mut self.now, &self.kept, fault)),
+            Err(fault) => Err(abandon_changes(&mut self.now, &self.kept, fault)),
         }
     }
 
     fn fragment(&mut self, rel: RelNo, label: LabelNo) -> Result<Fragment, BaseFault> {
         match read_fragment(&mut self.store, self.alloc, rel, label) {
             Ok(fragment) => Ok(fragment),
-            Err(fault) => Err(fall(&mut self.now, &self.kept, fault)),
+            Err(fault) => Err(abandon_changes(&mut self.now, &self.kept, fault)),
         }
     }
 
     fn fragments(&mut self, rel: RelNo, labels: &[LabelNo]) -> Result<Fragment, BaseFault> {
         match read_fragments(&mut self.store, self.alloc, rel, labels) {
             Ok(fragment) => Ok(fragment),
-            Err(fault) => Err(fall(&mut self.now, &self.kept, fault)),
+            Err(fault) => Err(abandon_changes(&mut self.now, &self.kept, fault)),
         }
     }
 
     fn entity(&mut self, rel: RelNo, place: &Place) -> Result<Fragment, BaseFault> {
         match read_entity(&mut self.store, self.alloc, rel, place) {
             Ok(fragment) => Ok(fragment),
-            Err(fault) => Err(fall(&mut self.now, &self.kept, fault)),
+            Err(fault) => Err(abandon_changes(&mut self.now, &self.kept, fault)),
         }
     }
 
     fn pattern(&mut self, rel: RelNo, place: &Place) -> Result<Option<Items<LabelNo>>, BaseFault> {
         match read_pattern(&mut self.store, self.alloc, rel, place) {
             Ok(pattern) => Ok(pattern),
-            Err(fault) => Err(fall(&mut self.now, &self.kept, fault)),
+            Err(fault) => Err(abandon_changes(&mut self.now, &self.kept, fault)),
         }
     }
 
@@ -201,7 +201,7 @@ impl<S: Alter> Base for SqlBase<S> {
                 self.now.content.add(rel, &node, cells);
                 Ok(())
             }
-            Err(fault) => Err(fall(&mut self.now, &self.kept, fault)),
+            Err(fault) => Err(abandon_changes(&mut self.now, &self.kept, fault)),
         }
     }
 
@@ -220,7 +220,7 @@ impl<S: Alter> Base for SqlBase<S> {
                 self.now.content.set(rel, place, attr, &value);
                 Ok(())
             }
-            Err(fault) => Err(fall(&mut self.now, &self.kept, fault)),
+            Err(fault) => Err(abandon_changes(&mut self.now, &self.kept, fault)),
         }
     }
 
@@ -233,7 +233,7 @@ impl<S: Alter> Base for SqlBase<S> {
                 self.now.content.drop_at(rel, place);
                 Ok(())
             }
-            Err(fault) => Err(fall(&mut self.now, &self.kept, fault)),
+            Err(fault) => Err(abandon_changes(&mut self.now, &self.kept, fault)),
         }
     }
 
@@ -246,7 +246,7 @@ impl<S: Alter> Base for SqlBase<S> {
                 self.now.append(number, bytes);
                 Ok(())
             }
-            Err(fault) => Err(fall(&mut self.now, &self.kept, fault)),
+            Err(fault) => Err(abandon_changes(&mut self.now, &self.kept, fault)),
         }
     }
 
@@ -259,14 +259,14 @@ impl<S: Alter> Base for SqlBase<S> {
                 self.now.clear();
                 Ok(())
             }
-            Err(fault) => Err(fall(&mut self.now, &self.kept, fault)),
+            Err(fault) => Err(abandon_changes(&mut self.now, &self.kept, fault)),
         }
     }
 
     fn audit_all(&mut self) -> Result<Items<Items<u8>>, BaseFault> {
         match read_entries(&mut self.store, self.alloc) {
             Ok(entries) => Ok(entries),
-            Err(fault) => Err(fall(&mut self.now, &self.kept, fault)),
+            Err(fault) => Err(abandon_changes(&mut self.now, &self.kept, fault)),
         }
     }
 }

@@ -11,7 +11,7 @@ ghost use Rattle.mls_fragments.specs.Calls.{IsRead};
 ghost use Rattle.mls_fragments.specs.Finding.{IsMemory, AreReadable};
 ghost use Rattle.mls_fragments.specs.Holding.{Holds};
 
-use crate::reading::{RowFault, fragment_in, give_up, pattern_in};
+use crate::reading::{RowFault, abandon_at_row, decoded_pattern, fragment_of_relation};
 use crate::writing::ent_of;
 use mls_filterview::Fragment;
 use mls_lattice::{Items, LabelNo};
@@ -32,7 +32,7 @@ fn nodes_at<S: Alter>(
         (λ rows. IsPermutation (filter (is_node rel ent.now place.now.key_class place.now.class) store.old.now.nodes)
         rows.items) }
 {
-    store.nodes_of(
+    store.nodes_of_key(
         u32::from(rel.byte()),
         ent,
         u32::from(place.key_class.byte()),
@@ -52,7 +52,7 @@ fn cells_at<S: Alter>(
         (λ rows. IsPermutation (filter (is_cell_in rel ent.now place.now.key_class place.now.class)
         store.old.now.cells) rows.items) }
 {
-    store.cells_of(
+    store.cells_of_tuple(
         u32::from(rel.byte()),
         ent,
         u32::from(place.key_class.byte()),
@@ -85,16 +85,16 @@ pub(crate) fn read_entity<S: Alter>(
 {
     let ent = match ent_of(alloc, &place.key) {
         Ok(ent) => ent,
-        Err(fault) => return Err(give_up(store, fault)),
+        Err(fault) => return Err(abandon_at_row(store, fault)),
     };
     let nodes = nodes_at(store, rel, place, &ent)?;
     if nodes.is_empty() {
         return Ok(nothing(alloc));
     }
     let cells = cells_at(store, rel, place, &ent)?;
-    match fragment_in(alloc, rel, &nodes, &cells) {
+    match fragment_of_relation(alloc, rel, &nodes, &cells) {
         Ok(fragment) => Ok(fragment),
-        Err(fault) => Err(give_up(store, fault)),
+        Err(fault) => Err(abandon_at_row(store, fault)),
     }
 }
 
@@ -110,7 +110,7 @@ fn patterns_at<S: Alter>(
         (λ patterns. IsPermutation (map (λ n. n.pattern)
         (filter (is_node rel ent.now place.now.key_class place.now.class) store.old.now.nodes)) patterns.items) }
 {
-    store.patterns_of(
+    store.patterns_of_key(
         u32::from(rel.byte()),
         ent,
         u32::from(place.key_class.byte()),
@@ -119,12 +119,12 @@ fn patterns_at<S: Alter>(
 }
 
 /// The classes that the first of these patterns names.
-fn first_in(alloc: Global, patterns: &[Items<u8>]) -> Result<Option<Items<LabelNo>>, RowFault>
+fn first_pattern(alloc: Global, patterns: &[Items<u8>]) -> Result<Option<Items<LabelNo>>, RowFault>
     ensures first { IfOk result (λ pattern. pattern ≡ slice_get patterns.now 0) }
     ensures only { IfErr result IsMemory }
 {
     match patterns.first() {
-        Some(first) => Ok(Some(pattern_in(alloc, first)?)),
+        Some(first) => Ok(Some(decoded_pattern(alloc, first)?)),
         None => Ok(None),
     }
 }
@@ -143,11 +143,11 @@ pub(crate) fn read_pattern<S: Alter>(
 {
     let ent = match ent_of(alloc, &place.key) {
         Ok(ent) => ent,
-        Err(fault) => return Err(give_up(store, fault)),
+        Err(fault) => return Err(abandon_at_row(store, fault)),
     };
     let patterns = patterns_at(store, rel, place, &ent)?;
-    match first_in(alloc, &patterns) {
+    match first_pattern(alloc, &patterns) {
         Ok(pattern) => Ok(pattern),
-        Err(fault) => Err(give_up(store, fault)),
+        Err(fault) => Err(abandon_at_row(store, fault)),
     }
 }

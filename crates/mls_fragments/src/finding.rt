@@ -15,7 +15,7 @@ ghost use Rattle.mls_fragments.specs.Holding.{Holds};
 
 use crate::comparing::have_rows;
 use crate::place::{Step, Where};
-use crate::reading::{RowFault, cells_in, entries_in, nodes_in};
+use crate::reading::{RowFault, cells_of_relation, decoded_entries, nodes_of_relation};
 use mls_audit::entry_of;
 use mls_filterview::{Rows, is_content, rows_of, values_of};
 use mls_lattice::{Items, Policy};
@@ -34,8 +34,8 @@ fn assembled(
     ensures assembled { IfOk result (λ rows. IsAssembled rel nodes.now cells.now rows.entries) }
     ensures only { AllByRecursion IsNodeRow nodes.now → AllByRecursion IsCellRow cells.now → IfErr result IsMemory }
 {
-    let nodes = nodes_in(alloc, rel, nodes, at)?;
-    let values = values_of(alloc, cells_in(alloc, rel, cells, at)?)?;
+    let nodes = nodes_of_relation(alloc, rel, nodes, at)?;
+    let values = values_of(alloc, cells_of_relation(alloc, rel, cells, at)?)?;
     Ok(rows_of(alloc, nodes, &values)?)
 }
 
@@ -146,7 +146,7 @@ pub(crate) fn entries_of(
         return Err(RowFault::BadRow);
     }
     check_entries(alloc, labels, &rows, at)?;
-    entries_in(alloc, rows)
+    decoded_entries(alloc, rows)
 }
 
 /// Whether classes are among the first labels.

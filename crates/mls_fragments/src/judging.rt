@@ -15,7 +15,7 @@ use crate::finding::{entries_of, find};
 use crate::noted::Noted;
 use crate::place::Where;
 use crate::reading::RowFault;
-use crate::recalled::Recalled;
+use crate::recalled::GhostContent;
 use mls_lattice::{Items, Policy};
 use mls_scheme::Schemes;
 use mls_statements::{AllRows, CellRow, NodeRow};
@@ -92,17 +92,16 @@ fn judge_rows(
     mut nodes: Vec<NodeRow>,
     mut cells: Vec<CellRow>,
     entries: &[Items<u8>],
-) -> Result<Recalled, RowFault>
+) -> Result<GhostContent, RowFault>
     requires under { AreUnder (length policy.now.labels) schemes.now }
-    requires nodes { AreNodesInOrder nodes.items }
-    requires cells { AreCellsInOrder cells.items }
+    requires order { AreNodesInOrder nodes.items × AreCellsInOrder cells.items }
     requires entries { AllByRecursion (IsEntryOf labels) entries.now }
     ensures judged { IfOk result (λ c. IsJudged policy.now schemes.now labels (rows_in nodes.items cells.items) entries.now
         (content_of c.changes)) }
     ensures only { (t : Tables) → IsPermutation t.nodes nodes.items → IsPermutation t.cells cells.items
         → (c : Content) → Holds t c → IsSoundWithin policy.now schemes.now labels c → IfErr result IsMemory }
 {
-    let mut content = Recalled::new();
+    let mut content = GhostContent::new();
     content.find(&[], entries);
     'parts: for _ in 0..nodes.len() / PART {
         let part = take_part(alloc, &mut nodes, &mut cells)?;
@@ -128,9 +127,9 @@ pub(crate) fn judge(
     rows: AllRows,
 ) -> Result<Noted, RowFault>
     requires under { AreUnder (length policy.now.labels) schemes.now }
-    ensures held { IfOk result (λ n. (t : Tables) → AreAll t rows → Holds t (content_of n.content.changes)) }
+    ensures held { IfOk result (λ n. ((t : Tables) → AreAll t rows → Holds t (content_of n.content.changes))
+        × HasByteClasses (content_of n.content.changes)) }
     ensures sound { IfOk result (λ n. IsSoundWithin policy.now schemes.now labels (content_of n.content.changes)) }
-    ensures classes { IfOk result (λ n. HasByteClasses (content_of n.content.changes)) }
     ensures last { IfOk result (λ n. n.last ≡ pos (length (content_of n.content.changes).audit)) }
     ensures only { (t : Tables) → AreAll t rows → (c : Content) → Holds t c
         → IsSoundWithin policy.now schemes.now labels c → IfErr result IsMemory }

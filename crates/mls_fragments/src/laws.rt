@@ -1,35 +1,36 @@
-//! The laws of what stores keep, each the contract of a function.
+//! Laws about stores, which a base over a store relies on: what a store holds is one content, and what was kept is found
+//! again. Nothing runs here: each function is empty, and its contract is the law, which callers use by calling it.
 ghost use Rattle.mls_fragments.specs.OneContent.{RowsHoldOneContent};
 ghost use Rattle.mls_fragments.specs.Holdings.{DatabaseHasOneHoldings, GivenBackIsTaken, SoundIsTakenAsItWas};
 ghost use Rattle.mls_fragments.specs.Again.{KeptIsFound, KeptIsTaken};
 
-/// Rows hold one content: all its tables and all its entries.
+/// The rows of a store hold one content at most: two contents that the same rows hold are equal.
 pub fn rows_hold_one_content()
     ensures { RowsHoldOneContent }
 {}
 
-/// So does a database, with one row that describes it: none, or what its rows hold.
+/// A whole database holds one thing at most too: nothing yet, or the content of its rows and the row that describes them.
 pub fn database_has_one_holdings()
     ensures { DatabaseHasOneHoldings }
 {}
 
-/// What `adopt` takes of a store, as that of a connection that a base gave back, is what the store has, or, under texts that extend
-/// those of the store, its content widened.
+/// A connection that a base gave back can be adopted again: what `adopt` takes is the content that the base left. Where the policy
+/// or the schemes extend those of the store, it is that content widened by them.
 pub fn given_back_is_taken()
     ensures { GivenBackIsTaken }
 {}
 
-/// So of what files keep, by a base over them.
+/// The same for files: a base that is opened over files takes what the last base kept in them.
 pub fn kept_is_taken()
     ensures { KeptIsTaken }
 {}
 
-/// What files keep that were closed is all that the next base over them may find.
+/// Files that were closed hold what was kept and no more: the next base over them finds that alone.
 pub fn kept_is_found()
     ensures { KeptIsFound }
 {}
 
-/// Content that is sound under a policy and schemes is taken as it was: nothing is widened.
+/// Where policy and schemes are those that the content is sound under, nothing is widened: it is taken as it was.
 pub fn sound_is_taken_as_it_was()
     ensures { SoundIsTakenAsItWas }
 {}

@@ -4,13 +4,13 @@ ghost use Rattle.mls_fragments.specs.Based.{fault_of};
 ghost use Rattle.mls_fragments.specs.Changes.Change.{Finds, Appends, Clears};
 
 use crate::finding::Found;
-use crate::recalled::Recalled;
+use crate::recalled::GhostContent;
 use mls_filterview::BaseFault;
 use mls_statements::StoreFault;
 
 #[derive(Drop)]
 pub struct Noted {
-    pub content: Recalled,
+    pub content: GhostContent,
     /// The number of the last entry, 0 where there is none.
     pub last: i64,
 }
@@ -22,7 +22,7 @@ impl Noted {
         ensures last { result.last ≡ pos 0 }
     {
         Noted {
-            content: Recalled::new(),
+            content: GhostContent::new(),
             last: 0,
         }
     }
@@ -33,7 +33,7 @@ impl Noted {
             (map (λ t. t.entries) found.now.tables.items) found.now.entries ∷ [] }
         ensures last { result.last ≡ found.now.last }
     {
-        let mut content = Recalled::new();
+        let mut content = GhostContent::new();
         content.find(&found.tables, &found.entries);
         Noted {
             content,
@@ -70,7 +70,7 @@ impl Noted {
 }
 
 /// The fault of the base where the store failed: the rows hold what they held at the last commit.
-pub fn fall(now: &mut Noted, kept: &Noted, fault: StoreFault) -> BaseFault
+pub fn abandon_changes(now: &mut Noted, kept: &Noted, fault: StoreFault) -> BaseFault
     ensures fault { result ≡ fault_of fault }
     ensures content { now.new.content.changes ≡ kept.now.content.changes }
     ensures last { now.new.last ≡ kept.now.last }

@@ -1,28 +1,24 @@
 //! Stores that are opened.
-ghost use Rattle.std.specs.Prelude.{◌≡◌, ◌≢◌, ◌⊎◌, ◌≤◌, false, [], ◌∷◌, length, map, string_bytes, None, IsTrue};
-ghost use Rattle.std.specs.Prelude.{IfOk, IfErr, IfSome, OnOk, OnErr};
-ghost use Rattle.std.specs.List.{AllByRecursion};
+ghost use Rattle.std.specs.Prelude.{◌≡◌, ◌⊎◌, false, length, map, string_bytes, None, IsTrue, IfOk, IfErr, IfSome, OnOk};
 ghost use Rattle.sqlite.specs.Files.{file_state};
 ghost use Rattle.sqlite.specs.Held.{state};
-ghost use Rattle.sqlite.specs.State.{HasCleanDisk, KeepsCommit};
+ghost use Rattle.sqlite.specs.State.{HasCleanDisk};
 ghost use Rattle.sqlite.specs.WalFiles.{image_at};
 ghost use Rattle.mls_lattice.specs.Canon as lattice;
 ghost use Rattle.mls_lattice.specs.Version.{version_number, later};
 ghost use Rattle.mls_scheme.specs.Canon as scheme;
 ghost use Rattle.mls_scheme.specs.Scheme.{AreUnder};
-ghost use Rattle.mls_filterview.specs.Content.{Content, no_content};
+ghost use Rattle.mls_filterview.specs.Content.{no_content};
 ghost use Rattle.mls_statements.specs.Rows.{described, first_meta, is_meta_row, tables_of};
 ghost use Rattle.mls_statements.specs.Schema.{no_schema};
 ghost use Rattle.mls_statements.specs.Statements.{AreRows, HasSettled, IsRewritten};
 ghost use Rattle.mls_statements.specs.Store.{IsClean};
 ghost use Rattle.mls_fragments.specs.Again.{FindsHoldings};
 ghost use Rattle.mls_fragments.specs.Based.{IsBaseOf, state_of};
-ghost use Rattle.mls_fragments.specs.Finding.{IsSoundContent, IsSpelledEntry, node_rows, cell_rows};
-ghost use Rattle.mls_fragments.specs.Holding.{Holds};
+ghost use Rattle.mls_fragments.specs.Finding.{IsSoundContent, node_rows, cell_rows};
 ghost use Rattle.mls_fragments.specs.Holdings.{HasHoldings, HaveOneMeta};
-ghost use Rattle.mls_fragments.specs.Migrating.{IsBefore, IsSoundBefore, IsWidenedContent};
-ghost use Rattle.mls_fragments.specs.Opening.{HoldsSound, IsBad, IsOfOthers};
-ghost use Rattle.mls_fragments.specs.Opening.{IsFoundIn, IsFoundUnadopted, IsRefused, IsUnadopted};
+ghost use Rattle.mls_fragments.specs.Migrating.{IsBefore, IsSoundBefore, AreSpelledTables};
+ghost use Rattle.mls_fragments.specs.Opening.{AreTexts, HoldsContent, IsFoundIn, IsFoundUnadopted, IsMigrated, IsRefused, IsStoreOrMemory, IsUnadopted, IsUnmade, IsUnopened, IsUntaken};
 
 use crate::base::SqlBase;
 use crate::comparing::{cell_rows, node_rows};
@@ -63,18 +59,13 @@ fn created<S: Alter>(
     file: &SchemesFile,
     texts: &(String, String),
 ) -> Result<SqlBase<S>, (OpenFault, Connection<S>)>
-    requires lattice { string_bytes texts.now.0 ≡ lattice.lattice_of policy.now }
-    requires schemes { string_bytes texts.now.1 ≡ scheme.canon_of policy.now file.now.version file.now.schemes }
+    requires texts { AreTexts policy.now file.now (string_bytes texts.now.0) (string_bytes texts.now.1) }
     requires nothing { HasCleanDisk (state S.Store conn) → (state S.Store conn).now.schema ≡ no_schema }
     ensures content { IfOk result (λ b. state_of b ≡ record { now = no_content; kept = no_content; begun = false }) }
-    ensures described { IfOk result (λ b. IsClean b.tables
-        → b.tables.now ≡ described (version_number (later policy.now.version file.now.version))
-        (lattice.lattice_of policy.now) (scheme.canon_of policy.now file.now.version file.now.schemes)) }
-    ensures clean { IfOk result (λ b. IsClean b.tables → HasCleanDisk (state S.Store conn)) }
-    ensures fault { IfErr result (λ e. (e.0 ≡ OpenFault.Store) ⊎ (e.0 ≡ OpenFault.Memory)) }
-    ensures refused { IfErr result (λ e. IsRefused (state S.Store conn) (state S.Store e.1)) }
-    ensures kept { IfErr result (λ e. HasCleanDisk (state S.Store e.1)
-        → KeepsCommit (state S.Store conn) (state S.Store e.1)) }
+    ensures described { IfOk result (λ b. IsClean b.tables → HasCleanDisk (state S.Store conn)
+        × (b.tables.now ≡ described (version_number (later policy.now.version file.now.version))
+        (lattice.lattice_of policy.now) (scheme.canon_of policy.now file.now.version file.now.schemes))) }
+    ensures unmade { IfErr result (λ e. IsUnmade (state S.Store conn) (state S.Store e.1) e.0) }
 {
     let version = policy.version().later(file.version);
     match TableStore::create(alloc, conn, version.number() as u32, &texts.0, &texts.1) {
@@ -91,17 +82,13 @@ fn taken<S: Alter>(
     schemes: &Schemes,
 ) -> Result<SqlBase<S>, (OpenFault, Connection<S>)>
     requires under { AreUnder (length policy.now.labels) schemes.now }
-    requires described { HasCleanDisk (state S.Store conn) → AreRows is_meta_row ((state S.Store conn).now.trees 5) }
-    requires meta { HasCleanDisk (state S.Store conn) → HaveOneMeta (tables_of (state S.Store conn).now.trees) }
-    ensures rows { IfOk result (λ b. IsClean b.tables → b.tables.now ≡ tables_of (state S.Store conn).now.trees) }
-    ensures holds { IfOk result (λ b. IsClean b.tables → Holds b.tables.now (state_of b).now) }
-    ensures sound { IfOk result (λ b. IsSoundContent policy.now schemes.now (state_of b).now) }
-    ensures mode { IfOk result (λ b. (state_of b).begun ≡ false) }
-    ensures clean { IfOk result (λ b. IsClean b.tables → HasCleanDisk (state S.Store conn)) }
-    ensures refused { IfErr result (λ e. IsRefused (state S.Store conn) (state S.Store e.1)) }
-    ensures texts { IfErr result (λ e. e.0 ≢ OpenFault.OtherPolicy) }
-    ensures bad { IfErr result (λ e. HasCleanDisk (state S.Store e.1) → e.0 ≡ OpenFault.BadRows
-        → ¬ HoldsSound (IsSoundContent policy.now schemes.now) (state S.Store conn).now) }
+    requires described { HasCleanDisk (state S.Store conn) → AreRows is_meta_row ((state S.Store conn).now.trees 5)
+        × HaveOneMeta (tables_of (state S.Store conn).now.trees) }
+    ensures rows { IfOk result (λ b. IsClean b.tables → HasCleanDisk (state S.Store conn)
+        × (b.tables.now ≡ tables_of (state S.Store conn).now.trees)) }
+    ensures content { IfOk result (HoldsContent policy.now schemes.now) }
+    ensures untaken { IfErr result (λ e.
+        IsUntaken (IsSoundContent policy.now schemes.now) (state S.Store conn) (state S.Store e.1) e.0) }
 {
     let rows = match read_store(&mut conn, alloc) {
         Ok(rows) => rows,
@@ -120,15 +107,14 @@ fn rewritten<S: Alter>(
     found: &Found,
     texts: &(String, String),
 ) -> Result<(), OpenFault>
-    requires few { length found.now.tables.items ≤ 256 }
-    requires spelled { AllByRecursion (λ t. AllByRecursion IsSpelledEntry t.entries) found.now.tables.items }
+    requires tables { AreSpelledTables found.now }
     requires settled { HasCleanDisk (state S.Store conn.old) → HasSettled (state S.Store conn.old) }
     ensures rewritten { HasCleanDisk (state S.Store conn.new)
         → OnOk result (IsRewritten (node_rows 0 (map (λ t. t.entries) found.now.tables.items))
         (cell_rows 0 (map (λ t. t.entries) found.now.tables.items)) 2 (string_bytes texts.now.0)
         (string_bytes texts.now.1) (state S.Store conn.old) (state S.Store conn.new)) }
-    ensures fault { IfErr result (λ e. (e ≡ OpenFault.Store) ⊎ (e ≡ OpenFault.Memory)) }
-    ensures refused { OnErr result (IsRefused (state S.Store conn.old) (state S.Store conn.new)) }
+    ensures refused { IfErr result (λ e.
+        IsStoreOrMemory e × IsRefused (state S.Store conn.old) (state S.Store conn.new)) }
     ensures clean { HasCleanDisk (state S.Store conn.new) → HasCleanDisk (state S.Store conn.old) }
 {
     let nodes = node_rows(alloc, &found.tables)?;
@@ -147,24 +133,15 @@ fn migrated<S: Alter>(
     texts: &(String, String),
     older: &Older,
 ) -> Result<SqlBase<S>, (OpenFault, Connection<S>)>
-    requires under { AreUnder (length policy.now.labels) schemes.now }
-    requires before { IsBefore policy.now schemes.now older.now.labels older.now.counts.items }
+    requires older { AreUnder (length policy.now.labels) schemes.now
+        × IsBefore policy.now schemes.now older.now.labels older.now.counts.items }
     requires described { HasCleanDisk (state S.Store conn) → AreRows is_meta_row ((state S.Store conn).now.trees 5) }
-    ensures widened { IfOk result (λ b. IsClean b.tables
-        → (c : Content) × Holds (tables_of (state S.Store conn).now.trees) c
-        × IsSoundBefore policy.now schemes.now older.now.labels older.now.counts.items c
-        × IsWidenedContent schemes.now older.now.counts.items c (state_of b).now) }
-    ensures described { IfOk result (λ b. IsClean b.tables
-        → b.tables.now.meta ≡ first_meta 2 (string_bytes texts.now.0) (string_bytes texts.now.1) ∷ []) }
-    ensures holds { IfOk result (λ b. IsClean b.tables → Holds b.tables.now (state_of b).now) }
-    ensures sound { IfOk result (λ b. IsSoundContent policy.now schemes.now (state_of b).now) }
-    ensures mode { IfOk result (λ b. (state_of b).begun ≡ false) }
-    ensures clean { IfOk result (λ b. IsClean b.tables → HasCleanDisk (state S.Store conn)) }
-    ensures refused { IfErr result (λ e. IsRefused (state S.Store conn) (state S.Store e.1)) }
-    ensures texts { IfErr result (λ e. e.0 ≢ OpenFault.OtherPolicy) }
-    ensures bad { IfErr result (λ e. HasCleanDisk (state S.Store e.1) → e.0 ≡ OpenFault.BadRows
-        → ¬ HoldsSound (IsSoundBefore policy.now schemes.now older.now.labels older.now.counts.items)
-        (state S.Store conn).now) }
+    ensures migrated { IfOk result (IsMigrated policy.now schemes.now older.now.labels older.now.counts.items
+        (first_meta 2 (string_bytes texts.now.0) (string_bytes texts.now.1)) (state S.Store conn)) }
+    ensures content { IfOk result (HoldsContent policy.now schemes.now) }
+    ensures untaken { IfErr result (λ e.
+        IsUntaken (IsSoundBefore policy.now schemes.now older.now.labels older.now.counts.items)
+        (state S.Store conn) (state S.Store e.1) e.0) }
 {
     let rows = match read_store(&mut conn, alloc) {
         Ok(rows) => rows,
@@ -194,17 +171,12 @@ fn opened<S: Alter>(
     texts: &(String, String),
 ) -> Result<SqlBase<S>, (OpenFault, Connection<S>)>
     requires under { AreUnder (length policy.now.labels) file.now.schemes }
-    requires lattice { string_bytes texts.now.0 ≡ lattice.lattice_of policy.now }
-    requires schemes { string_bytes texts.now.1 ≡ scheme.canon_of policy.now file.now.version file.now.schemes }
+    requires texts { AreTexts policy.now file.now (string_bytes texts.now.0) (string_bytes texts.now.1) }
     ensures over { IfOk result (λ b. IsClean b.tables → HasCleanDisk (state S.Store conn)
         × IsBaseOf (HasHoldings (state S.Store conn).now) policy.now file.now b) }
-    ensures sound { IfOk result (λ b. IsSoundContent policy.now file.now.schemes (state_of b).now) }
-    ensures mode { IfOk result (λ b. (state_of b).begun ≡ false) }
-    ensures refused { IfErr result (λ e. IsRefused (state S.Store conn) (state S.Store e.1)) }
-    ensures policy { IfErr result (λ e. HasCleanDisk (state S.Store e.1) → e.0 ≡ OpenFault.OtherPolicy
-        → IsOfOthers policy.now file.now (state S.Store conn).now) }
-    ensures bad { IfErr result (λ e. HasCleanDisk (state S.Store e.1) → e.0 ≡ OpenFault.BadRows
-        → IsBad policy.now file.now (state S.Store conn).now) }
+    ensures content { IfOk result (HoldsContent policy.now file.now.schemes) }
+    ensures unopened { IfErr result (λ e.
+        IsUnopened policy.now file.now (state S.Store conn) (state S.Store e.1) e.0) }
 {
     let described = match read_description(&mut conn, alloc) {
         Ok(described) => described,

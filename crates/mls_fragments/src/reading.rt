@@ -1,5 +1,5 @@
 //! Nodes, cells and entries from rows.
-ghost use Rattle.std.specs.Prelude.{◌≡◌, ◌↔◌, ◌<◌, ◌≤◌, ℕ, List, map, filter, nat_eq, Option, IsOk, IfOk, IfErr, IfSome, OnOk, IsPermutation};
+ghost use Rattle.std.specs.Prelude.{◌≡◌, ◌↔◌, ◌<◌, ◌≤◌, ℕ, List, map, filter, nat_eq, Option, IsOk, IfOk, IfErr, IfSome, IsPermutation};
 ghost use Rattle.std.specs.List.{AllByRecursion, list_any};
 ghost use Rattle.mls_scheme.specs.declared.value.Value.{Value as SpecValue};
 ghost use Rattle.mls_scheme.specs.declared.key_fault.KeyFault.TheVariants.{Memory as KeyMemory};
@@ -7,7 +7,8 @@ ghost use Rattle.mls_scheme.specs.Spelling.{HasSpelling, IsSpelledKey, key_spell
 ghost use Rattle.mls_filterview.specs.Content.{Content};
 ghost use Rattle.mls_filterview.specs.Fragment.{IsFragment, AreFragments};
 ghost use Rattle.mls_statements.specs.Rows.{numbered, has_bit};
-ghost use Rattle.mls_statements.specs.Store.{IsClean, IsFault, IsCall, IsSame};
+ghost use Rattle.mls_statements.specs.Store.{IsClean, IsStoreFault};
+ghost use Rattle.mls_fragments.specs.Calls.{IsRead};
 ghost use Rattle.mls_fragments.specs.declared.reading.RowFault.TheVariants.{Memory};
 ghost use Rattle.mls_fragments.specs.Finding.{IsMemory, IsNodeRow, IsCellRow, AreReadable};
 ghost use Rattle.mls_fragments.specs.Holding.{Holds, node_row, cell_row, value_bytes, IsSpelledNode, IsSpelledCell};
@@ -58,10 +59,10 @@ impl From<KeyFault> for RowFault {
 
 /// Ends the change, if one is begun, after a row that can't be read or made. A row that can't be read is a failure of a store
 /// that gives back other rows than were written.
-pub(crate) fn give_up<S: Alter>(store: &mut TableStore<S>, fault: RowFault) -> StoreFault
+pub(crate) fn abandon_at_row<S: Alter>(store: &mut TableStore<S>, fault: RowFault) -> StoreFault
     requires { fault ≡ RowFault.BadRow → IsClean store.old → ⊥ }
     ensures clean { IsClean store.new → IsClean store.old }
-    ensures fault { IsFault result store.old store.new }
+    ensures fault { IsStoreFault result store.old store.new }
     ensures count { store.old.failures ≤ store.new.failures }
 {
     match fault {
@@ -76,7 +77,7 @@ pub(crate) fn give_up<S: Alter>(store: &mut TableStore<S>, fault: RowFault) -> S
     }
 }
 
-fn label_in(number: u32) -> Result<LabelNo, RowFault>
+fn decoded_label(number: u32) -> Result<LabelNo, RowFault>
     ensures found { IfOk result (λ label. label ≡ number) }
     ensures only { number < 256 → IsOk result }
 {
@@ -86,14 +87,14 @@ fn label_in(number: u32) -> Result<LabelNo, RowFault>
     }
 }
 
-fn key_in(alloc: Global, bytes: &[u8]) -> Result<Items<Value>, RowFault>
+fn decoded_key(alloc: Global, bytes: &[u8]) -> Result<Items<Value>, RowFault>
     ensures found { IfOk result (λ key. IsSpelledKey key × (key_spelling key ≡ bytes.now)) }
     ensures only { (key : List SpecValue) → IsSpelledKey key → bytes.now ≡ key_spelling key → IfErr result IsMemory }
 {
     Ok(Items::from(key_of(alloc, bytes)?))
 }
 
-pub(crate) fn pattern_in(alloc: Global, bytes: &[u8]) -> Result<Items<LabelNo>, RowFault>
+pub(crate) fn decoded_pattern(alloc: Global, bytes: &[u8]) -> Result<Items<LabelNo>, RowFault>
     ensures found { IfOk result (λ pattern. pattern ≡ bytes.now) }
     ensures only { IfErr result IsMemory }
 {
@@ -104,20 +105,20 @@ pub(crate) fn pattern_in(alloc: Global, bytes: &[u8]) -> Result<Items<LabelNo>, 
     Ok(Items::from(labels))
 }
 
-fn node_in(alloc: Global, row: &NodeRow) -> Result<Node, RowFault>
+fn decoded_node(alloc: Global, row: &NodeRow) -> Result<Node, RowFault>
     ensures found { IfOk result (λ n. (node_row row.now.rel n ≡ row.now) × IsSpelledNode n) }
     ensures only { IsNodeRow row.now → IfErr result IsMemory }
 {
     Ok(Node {
-        key: key_in(alloc, &row.ent)?,
-        key_class: label_in(row.kclass)?,
-        label: label_in(row.label)?,
-        pattern: pattern_in(alloc, &row.pattern)?,
+        key: decoded_key(alloc, &row.ent)?,
+        key_class: decoded_label(row.kclass)?,
+        label: decoded_label(row.label)?,
+        pattern: decoded_pattern(alloc, &row.pattern)?,
     })
 }
 
 /// The nodes of one relation among rows.
-pub(crate) fn nodes_in(
+pub(crate) fn nodes_of_relation(
     alloc: Global,
     rel: RelNo,
     rows: &[NodeRow],
@@ -131,14 +132,14 @@ pub(crate) fn nodes_in(
     let mut nodes = Vec::new(alloc);
     for row in rows {
         if row.rel == u32::from(rel.byte()) {
-            nodes.push(node_in(alloc, row)?)?;
+            nodes.push(decoded_node(alloc, row)?)?;
         }
         at.pass();
     }
     Ok(Items::from(nodes))
 }
 
-fn value_in(alloc: Global, bytes: &[u8]) -> Result<Option<Value>, RowFault>
+fn decoded_value(alloc: Global, bytes: &[u8]) -> Result<Option<Value>, RowFault>
     ensures found { IfOk result (λ value. (value_bytes value ≡ bytes.now) × IfSome value HasSpelling) }
     ensures only { (value : Option SpecValue) → IfSome value HasSpelling → bytes.now ≡ value_bytes value
         → IfErr result IsMemory }
@@ -153,21 +154,21 @@ fn value_in(alloc: Global, bytes: &[u8]) -> Result<Option<Value>, RowFault>
     Ok(Some(value))
 }
 
-fn cell_in(alloc: Global, row: &CellRow) -> Result<Cell, RowFault>
+fn decoded_cell(alloc: Global, row: &CellRow) -> Result<Cell, RowFault>
     ensures found { IfOk result (λ c. (cell_row row.now.rel c ≡ row.now) × IsSpelledCell c) }
     ensures only { IsCellRow row.now → IfErr result IsMemory }
 {
     Ok(Cell {
-        key: key_in(alloc, &row.ent)?,
-        key_class: label_in(row.kclass)?,
+        key: decoded_key(alloc, &row.ent)?,
+        key_class: decoded_label(row.kclass)?,
         attr: row.attr as usize,
-        label: label_in(row.label)?,
-        value: value_in(alloc, &row.value)?,
+        label: decoded_label(row.label)?,
+        value: decoded_value(alloc, &row.value)?,
     })
 }
 
 /// The cells of one relation among rows.
-pub(crate) fn cells_in(
+pub(crate) fn cells_of_relation(
     alloc: Global,
     rel: RelNo,
     rows: &[CellRow],
@@ -181,14 +182,14 @@ pub(crate) fn cells_in(
     let mut cells = Vec::new(alloc);
     for row in rows {
         if row.rel == u32::from(rel.byte()) {
-            cells.push(cell_in(alloc, row)?)?;
+            cells.push(decoded_cell(alloc, row)?)?;
         }
         at.pass();
     }
     Ok(Items::from(cells))
 }
 
-pub(crate) fn fragment_in(
+pub(crate) fn fragment_of_relation(
     alloc: Global,
     rel: RelNo,
     nodes: &[NodeRow],
@@ -201,8 +202,8 @@ pub(crate) fn fragment_in(
 {
     let mut at = Where::start();
     Ok(Fragment {
-        nodes: nodes_in(alloc, rel, nodes, &mut at)?,
-        cells: cells_in(alloc, rel, cells, &mut at)?,
+        nodes: nodes_of_relation(alloc, rel, nodes, &mut at)?,
+        cells: cells_of_relation(alloc, rel, cells, &mut at)?,
     })
 }
 
@@ -214,17 +215,15 @@ pub(crate) fn read_fragment<S: Alter>(
     label: LabelNo,
 ) -> Result<Fragment, StoreFault>
     requires readable { IsClean store.old → AreReadable store.old.now }
-    ensures call { IsCall store.old store.new result }
-    ensures mode { OnOk result (store.new.begun ≡ store.old.begun) }
+    ensures read { IsRead store.old store.new result }
     ensures found { IsClean store.new → (c : Content) → Holds store.old.now c
         → IfOk result (IsFragment (c.db rel) label) }
-    ensures same { IsClean store.new → OnOk result (IsSame store.old store.new) }
 {
-    let nodes = store.nodes_at(u32::from(rel.byte()), u32::from(label.byte()))?;
-    let cells = store.cells_at(u32::from(rel.byte()), u32::from(label.byte()))?;
-    match fragment_in(alloc, rel, &nodes, &cells) {
+    let nodes = store.nodes_of_class(u32::from(rel.byte()), u32::from(label.byte()))?;
+    let cells = store.cells_of_class(u32::from(rel.byte()), u32::from(label.byte()))?;
+    match fragment_of_relation(alloc, rel, &nodes, &cells) {
         Ok(fragment) => Ok(fragment),
-        Err(fault) => Err(give_up(store, fault)),
+        Err(fault) => Err(abandon_at_row(store, fault)),
     }
 }
 
@@ -249,22 +248,23 @@ pub(crate) fn read_fragments<S: Alter>(
 ) -> Result<Fragment, StoreFault>
     requires few { AllByRecursion (λ m. m < 64) labels.now }
     requires readable { IsClean store.old → AreReadable store.old.now }
-    ensures call { IsCall store.old store.new result }
-    ensures mode { OnOk result (store.new.begun ≡ store.old.begun) }
+    ensures read { IsRead store.old store.new result }
     ensures found { IsClean store.new → (c : Content) → Holds store.old.now c
         → IfOk result (AreFragments (c.db rel) labels.now) }
-    ensures same { IsClean store.new → OnOk result (IsSame store.old store.new) }
 {
     let bits = bits_of(labels);
     let nodes = store.nodes_among(u32::from(rel.byte()), bits)?;
     let cells = store.cells_among(u32::from(rel.byte()), bits)?;
-    match fragment_in(alloc, rel, &nodes, &cells) {
+    match fragment_of_relation(alloc, rel, &nodes, &cells) {
         Ok(fragment) => Ok(fragment),
-        Err(fault) => Err(give_up(store, fault)),
+        Err(fault) => Err(abandon_at_row(store, fault)),
     }
 }
 
-pub(crate) fn entries_in(alloc: Global, rows: Vec<AuditRow>) -> Result<Items<Items<u8>>, RowFault>
+pub(crate) fn decoded_entries(
+    alloc: Global,
+    rows: Vec<AuditRow>,
+) -> Result<Items<Items<u8>>, RowFault>
     ensures found { IfOk result (λ entries. entries ≡ map (λ r. r.bytes) rows.items) }
     ensures only { IfErr result IsMemory }
 {
@@ -276,7 +276,7 @@ pub(crate) fn entries_in(alloc: Global, rows: Vec<AuditRow>) -> Result<Items<Ite
 }
 
 /// The entries of rows, in the order of their numbers, which are 1, 2, .. up to their count.
-fn numbered_in(alloc: Global, mut rows: Vec<AuditRow>) -> Result<Items<Items<u8>>, RowFault>
+fn entries_in_order(alloc: Global, mut rows: Vec<AuditRow>) -> Result<Items<Items<u8>>, RowFault>
     ensures found { (list : List (List ℕ)) → IsPermutation (numbered 1 list) rows.items
         → IfOk result (λ entries. entries ≡ list) }
     ensures only { (list : List (List ℕ)) → IsPermutation (numbered 1 list) rows.items → IfErr result IsMemory }
@@ -285,7 +285,7 @@ fn numbered_in(alloc: Global, mut rows: Vec<AuditRow>) -> Result<Items<Items<u8>
     if !are_numbered(&rows) {
         return Err(RowFault::BadRow);
     }
-    entries_in(alloc, rows)
+    decoded_entries(alloc, rows)
 }
 
 /// The entries of the audit list.
@@ -294,15 +294,13 @@ pub(crate) fn read_entries<S: Alter>(
     alloc: Global,
 ) -> Result<Items<Items<u8>>, StoreFault>
     requires readable { IsClean store.old → AreReadable store.old.now }
-    ensures call { IsCall store.old store.new result }
-    ensures mode { OnOk result (store.new.begun ≡ store.old.begun) }
+    ensures read { IsRead store.old store.new result }
     ensures found { IsClean store.new → (c : Content) → Holds store.old.now c
         → IfOk result (λ entries. entries ≡ c.audit) }
-    ensures same { IsClean store.new → OnOk result (IsSame store.old store.new) }
 {
     let rows = store.entries()?;
-    match numbered_in(alloc, rows) {
+    match entries_in_order(alloc, rows) {
         Ok(entries) => Ok(entries),
-        Err(fault) => Err(give_up(store, fault)),
+        Err(fault) => Err(abandon_at_row(store, fault)),
     }
 }

@@ -11,21 +11,21 @@ use std::marker::{Model, PhantomData};
 
 /// The changes that made some content, the last one first.
 #[derive(Drop)]
-pub struct Recalled {
+pub struct GhostContent {
     marker: PhantomData<u8>,
     pub ghost changes: { List Change },
 }
 
-impl Model for Recalled {
+impl Model for GhostContent {
     ghost also_owns = { λ _. ftrue };
 }
 
-impl Recalled {
+impl GhostContent {
     /// No change is recalled.
-    pub fn new() -> Recalled
+    pub fn new() -> GhostContent
         ensures { result.changes ≡ [] }
     {
-        Recalled {
+        GhostContent {
             marker: PhantomData,
         }
     }
@@ -45,7 +45,7 @@ impl Recalled {
     }
 
     /// The changes of another.
-    pub fn copy(&mut self, other: &Recalled)
+    pub fn copy(&mut self, other: &GhostContent)
         ensures { self.new.changes ≡ other.now.changes }
     {
         self.note(other);

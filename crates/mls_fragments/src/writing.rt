@@ -9,7 +9,7 @@ ghost use Rattle.mls_fragments.specs.Calls.{IsStep, IsSpelledTuple, CanSetValue}
 ghost use Rattle.mls_fragments.specs.Finding.{IsMemory};
 ghost use Rattle.mls_fragments.specs.Holding.{node_row, cell_row, value_bytes, IsSpelledCell, value_row, own_cell, AddsTuple, DropsTuple};
 
-use crate::reading::{RowFault, give_up};
+use crate::reading::{RowFault, abandon_at_row};
 use mls_filterview::{Cell, Node};
 use mls_lattice::{Items, LabelNo};
 use mls_scheme::{Place, RelNo, Value, key_bytes, value_bytes};
@@ -185,7 +185,7 @@ pub(crate) fn add_tuple<S: Alter>(
             store.add_node(&rows.node)?;
             store.add_cells(&rows.node, &rows.own)
         }
-        Err(fault) => Err(give_up(store, fault)),
+        Err(fault) => Err(abandon_at_row(store, fault)),
     }
 }
 
@@ -206,7 +206,7 @@ pub(crate) fn set_value<S: Alter>(
 {
     match row_of_value(alloc, rel, place, attr, value) {
         Ok(row) => store.set_cell(&row),
-        Err(fault) => Err(give_up(store, fault)),
+        Err(fault) => Err(abandon_at_row(store, fault)),
     }
 }
 
@@ -224,7 +224,7 @@ pub(crate) fn drop_tuple<S: Alter>(
 {
     let ent = match ent_of(alloc, &place.key) {
         Ok(ent) => ent,
-        Err(fault) => return Err(give_up(store, fault)),
+        Err(fault) => return Err(abandon_at_row(store, fault)),
     };
     let rel = u32::from(rel.byte());
     let kclass = u32::from(place.key_class.byte());
@@ -272,6 +272,6 @@ pub(crate) fn add_entry<S: Alter>(
             store.add_entry(&row)?;
             Ok(row.number)
         }
-        Err(fault) => Err(give_up(store, fault)),
+        Err(fault) => Err(abandon_at_row(store, fault)),
     }
 }

@@ -2,7 +2,7 @@
 use Rattle.std.proofs.Common.{◌≡◌, ◌≢◌, ◌↔◌, ℕ, List, Option, Result, Ok, Err, IfErr, refl, sym, subst}
 use Rattle.std.specs.Result.{IsErrAnd}
 use Rattle.toml.specs.Data.{Members}
-use Rattle.mls_lattice.specs.Policy.{Tables}
+use Rattle.mls_lattice.specs.Policy.{Policy}
 use Rattle.mls_lattice.specs.ReadsPolicy.{IsDocument, HasFault}
 use Rattle.mls_lattice.specs.declared.fault.PolicyFault.{PolicyFault}
 use Rattle.mls_lattice.specs.declared.fault.PolicyFault.TheVariants as policies
@@ -42,7 +42,7 @@ module _ (bytes : List ℕ) where
   is_document : (e : SchemeFault) → e ≢ schemes.NotToml → (e ≡ schemes.NotToml) ↔ IsNoDocument bytes → ¬ IsNoDocument bytes
   is_document e other not_toml none = other (not_toml.1 none)
 
-  pub scheme_fault : (policy : Tables) (e : SchemeFault) → (e ≢ schemes.Memory → (document : Members) → IsDocument bytes document → schemes_at policy document ≡ Err e)
+  pub scheme_fault : (policy : Policy) (e : SchemeFault) → (e ≢ schemes.Memory → (document : Members) → IsDocument bytes document → schemes_at policy document ≡ Err e)
       → (e ≢ schemes.Memory → (e ≡ schemes.NotToml) ↔ IsNoDocument bytes) → IsSchemeFault policy bytes e
   scheme_fault policy schemes.NotToml first not_toml = (not_toml (λ x. cc)).0 refl
   scheme_fault policy schemes.MissingField first not_toml = (is_document schemes.MissingField (λ x. cc) (not_toml (λ x. cc)), first (λ x. cc))

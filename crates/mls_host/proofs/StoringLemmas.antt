@@ -1,12 +1,12 @@
 -- What is stored was read under the policy and the schemes, and was checked under the policy where it has a certificate.
 use Rattle.std.proofs.Common.{◌≡◌, List, [], ◌∷◌, Option, Some, None, Ok, Err, sym, subst, ap, ◌∙◌}
 use Rattle.std.specs.List.{AllByRecursion}
-use Rattle.mls_lattice.specs.Policy.{Tables}
+use Rattle.mls_lattice.specs.Policy.{Policy}
 use Rattle.mls_scheme.specs.Scheme.{Schemes}
 use Rattle.mls_translang.specs.Tx.{Tx}
 use Rattle.mls_translang.specs.Fits.{IsReadUnder}
-use Rattle.mls_certificate.specs.declared.cert.Certificate.{Certificate}
-use Rattle.mls_certificate.specs.Reading.{Block}
+use Rattle.mls_certcheck.specs.declared.cert.Certificate.{Certificate}
+use Rattle.mls_certcheck.specs.Reading.{Block}
 use Rattle.mls_certcheck.specs.Rules.{Claim, Rules}
 use Rattle.mls_certcheck.specs.Checks.{First}
 use Rattle.mls_certcheck.specs.declared.refusal.Refusal.{Refusal}
@@ -22,7 +22,7 @@ use Rattle.mls_host.specs.Storing.{IsStoredWith, AreStoredWith, cert_named}
 pub refused_breaks : (c : Claim) (e : Refusal) → First c ≡ Err e → Rules c → ⊥
 refused_breaks c e refused rules = let both : Err e ≡ Ok tt = sym refused ∙ first_from_rules c rules in absurd cc
 
-module _ (policy : Tables) where
+module _ (policy : Policy) where
   same_tx : (o : Option Certificate) (tx : Tx) (s : Stored) → IsStoredWith policy o tx s → tx_of s ≡ tx
   same_tx None tx s h = ap tx_of h
   same_tx (Some cert) tx (Certified k) h = h.0

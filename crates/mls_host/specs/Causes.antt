@@ -4,7 +4,7 @@ use Rattle.std.specs.Prelude.{◌≡◌, ◌≢◌, ℕ, List, Option, Some, Non
 use Rattle.std.specs.List.{position}
 use Rattle.std.specs.Str.{bytes_eq}
 use Rattle.toml.specs.Data.{Members}
-use Rattle.mls_lattice.specs.Policy.{Tables}
+use Rattle.mls_lattice.specs.Policy.{Policy}
 use Rattle.mls_lattice.specs.ReadsPolicy.{IsDocument, HasFault}
 use Rattle.mls_lattice.specs.declared.fault.PolicyFault.{PolicyFault}
 use Rattle.mls_lattice.specs.declared.fault.PolicyFault.TheVariants as policies
@@ -18,9 +18,9 @@ use Rattle.mls_translang.specs.Tells.{Tells}
 use Rattle.mls_parser.specs.Parsing.{parse_at}
 use Rattle.mls_parser.specs.declared.fault.TextFault.{TextFault}
 use Rattle.mls_parser.specs.declared.fault.TextCause.TheVariants as texts
-use Rattle.mls_certificate.specs.Reading.{file_in}
-use Rattle.mls_certificate.specs.declared.fault.CertFault.{CertFault}
-use Rattle.mls_certificate.specs.declared.fault.CertCause.TheVariants as certs
+use Rattle.mls_certcheck.specs.Reading.{file_in}
+use Rattle.mls_certcheck.specs.declared.fault.CertFault.{CertFault}
+use Rattle.mls_certcheck.specs.declared.fault.CertCause.TheVariants as certs
 use Rattle.mls_script.specs.Reading.{script_at}
 use Rattle.mls_script.specs.declared.fault.ScriptFault.{ScriptFault}
 use Rattle.mls_script.specs.declared.fault.ScriptCause.TheVariants as scripts
@@ -35,7 +35,7 @@ use Rattle.mls_host.specs.declared.host.HostFault.{HostFault}
 use Rattle.mls_host.specs.declared.reason.Role.{Role}
 use Rattle.mls_host.specs.declared.reason.Role.TheVariants as role
 use Rattle.mls_host.specs.declared.reason.Reason.{Reason}
-use Rattle.mls_host.specs.declared.reason.Reason.TheVariants.{Policy, Reader, Label, Schemes as OfSchemes, Transactions}
+use Rattle.mls_host.specs.declared.reason.Reason.TheVariants.{Policy as OfPolicy, Reader, Label, Schemes as OfSchemes, Transactions}
 use Rattle.mls_host.specs.declared.reason.Reason.TheVariants.{Certificates, Script, Store, Memory}
 use Rattle.mls_host.specs.Hosting.{Hosting}
 use Rattle.mls_host.specs.Reason.{input_reason}
@@ -51,21 +51,21 @@ IsPolicyFault bytes policies.Memory = ⊤
 IsPolicyFault bytes policies.NotToml = IsNoDocument bytes
 IsPolicyFault bytes fault = HasFault bytes fault
 
-abbrev pub IsSchemeFault : Tables → List ℕ → SchemeFault → Type 0
+abbrev pub IsSchemeFault : Policy → List ℕ → SchemeFault → Type 0
 IsSchemeFault policy bytes schemes.Memory = ⊤
 IsSchemeFault policy bytes schemes.NotToml = IsNoDocument bytes
 IsSchemeFault policy bytes fault =
     ¬ IsNoDocument bytes × ((document : Members) → IsDocument bytes document → schemes_at policy document ≡ Err fault)
 
 abbrev pub RefusesPolicy : List ℕ → Reason → Type 0
-RefusesPolicy bytes reason = (fault : PolicyFault) × (reason ≡ Policy fault) × IsPolicyFault bytes fault
+RefusesPolicy bytes reason = (fault : PolicyFault) × (reason ≡ OfPolicy fault) × IsPolicyFault bytes fault
 
-abbrev pub RefusesSchemes : Tables → List ℕ → Reason → Type 0
+abbrev pub RefusesSchemes : Policy → List ℕ → Reason → Type 0
 RefusesSchemes policy bytes reason =
     (fault : SchemeFault) × (reason ≡ OfSchemes fault) × IsSchemeFault policy bytes fault
 
 -- the first fault, with its place
-abbrev pub RefusesTransactions : Tables → Schemes → List ℕ → Reason → Type 0
+abbrev pub RefusesTransactions : Policy → Schemes → List ℕ → Reason → Type 0
 RefusesTransactions policy schemes bytes reason =
     (fault : TextFault) × (reason ≡ Transactions fault)
     × (fault.cause ≢ texts.Memory → parse_at policy schemes bytes ≡ Err fault)
@@ -74,13 +74,13 @@ abbrev pub RefusesCertificates : List ℕ → Reason → Type 0
 RefusesCertificates bytes reason =
     (fault : CertFault) × (reason ≡ Certificates fault) × (fault.cause ≢ certs.Memory → file_in bytes ≡ Err fault)
 
-abbrev pub RefusesScript : Tables → Schemes → List ℕ → Reason → Type 0
+abbrev pub RefusesScript : Policy → Schemes → List ℕ → Reason → Type 0
 RefusesScript policy schemes bytes reason =
     (fault : ScriptFault) × (reason ≡ Script fault)
     × (fault.cause ≢ scripts.Memory → script_at policy schemes bytes ≡ Err fault)
 
 -- the transactions of a text are refused; or they are told, and the certificates of another are refused; or memory
-pub data AreTextsRefused (transactions certificates : List ℕ) (policy : Tables) (schemes : Schemes)
+pub data AreTextsRefused (transactions certificates : List ℕ) (policy : Policy) (schemes : Schemes)
     (reason : Reason) : Type 0 where
   not_told : RefusesTransactions policy schemes transactions reason
       → AreTextsRefused transactions certificates policy schemes reason
@@ -95,7 +95,7 @@ abbrev pub no_reader : Task → Reason
 no_reader (Shell label user) = Label
 no_reader task = Reader
 
-abbrev pub IsReaderUnknown : Tables → Task → Reason → Type 0
+abbrev pub IsReaderUnknown : Policy → Task → Reason → Type 0
 IsReaderUnknown policy task reason =
     (name : List ℕ) × (at_of task ≡ Some name) × (position (λ l. bytes_eq l.name name) policy.labels ≡ None)
     × (reason ≡ no_reader task)
@@ -119,16 +119,16 @@ module _ (h : Hosting) where
   IsPolicyRefused None reason = RefusesPolicy POLICY.now reason
   IsPolicyRefused (Some d) reason = IsInputRefused role.Policy (Some d.policy.now) RefusesPolicy reason
 
-  abbrev pub AreSchemesRefused : Option Documents → Tables → Reason → Type 0
+  abbrev pub AreSchemesRefused : Option Documents → Policy → Reason → Type 0
   AreSchemesRefused None policy reason = RefusesSchemes policy SCHEMES.now reason
   AreSchemesRefused (Some d) policy reason =
       IsInputRefused role.Schemes (Some d.schemes.now) (RefusesSchemes policy) reason
 
-  abbrev pub IsScriptRefused : Option (List ℕ) → Tables → Schemes → Reason → Type 0
+  abbrev pub IsScriptRefused : Option (List ℕ) → Policy → Schemes → Reason → Type 0
   IsScriptRefused source policy schemes reason = IsInputRefused role.Script source (RefusesScript policy schemes) reason
 
   -- none is refused without a path
-  abbrev pub AreTransactionsRefused : Option (List ℕ) → Tables → Schemes → Reason → Type 0
+  abbrev pub AreTransactionsRefused : Option (List ℕ) → Policy → Schemes → Reason → Type 0
   AreTransactionsRefused None policy schemes reason = ⊥
   AreTransactionsRefused (Some path) policy schemes reason =
       IsInputRefused role.Transactions (Some path) (RefusesTransactions policy schemes) reason
@@ -137,16 +137,16 @@ module _ (h : Hosting) where
   AreCertificatesRefused None reason = ⊥
   AreCertificatesRefused (Some path) reason = IsInputRefused role.Certificates (Some path) RefusesCertificates reason
 
-  abbrev pub AreEventsRefused : Task → Option (List ℕ) → Tables → Schemes → Reason → Type 0
+  abbrev pub AreEventsRefused : Task → Option (List ℕ) → Policy → Schemes → Reason → Type 0
   AreEventsRefused (Run at is_table) source policy schemes reason = IsScriptRefused source policy schemes reason
   AreEventsRefused task source policy schemes reason = ⊥
 
   -- a store in memory lacks memory alone; one at a path is not opened for what the host says
-  abbrev pub IsBarred : Tables → SchemesFile → Option (List ℕ) → Reason → Type 0
+  abbrev pub IsBarred : Policy → SchemesFile → Option (List ℕ) → Reason → Type 0
   IsBarred policy file None reason = reason ≡ Store stores.Memory
   IsBarred policy file (Some path) reason = (fault : OpenFault) × h.bars path policy file fault × (reason ≡ Store fault)
 
   -- what is done over a store is not begun: there is no memory for what it needs; or its store is barred
-  pub data IsNotBegun (policy : Tables) (file : SchemesFile) (store : Option (List ℕ)) (reason : Reason) : Type 0 where
+  pub data IsNotBegun (policy : Policy) (file : SchemesFile) (store : Option (List ℕ)) (reason : Reason) : Type 0 where
     no_memory : reason ≡ Memory → IsNotBegun policy file store reason
     no_store : IsBarred policy file store reason → IsNotBegun policy file store reason

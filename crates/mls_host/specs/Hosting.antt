@@ -1,7 +1,7 @@
 -- What a host gives and lacks, keeps and bars, what is done over a store of it, and what is told on standard error.
 use Rattle.std.specs.Prelude.{◌≡◌, ◌↔◌, ℕ, Bool, List, Option, Some, None, ⊤}
 use Rattle.std.specs.Io.KnownBytes.{Appends}
-use Rattle.mls_lattice.specs.Policy.{Tables}
+use Rattle.mls_lattice.specs.Policy.{Policy}
 use Rattle.mls_scheme.specs.declared.file.SchemesFile.{SchemesFile}
 use Rattle.mls_filterview.specs.Content.{Content, no_content}
 use Rattle.mls_statements.specs.declared.rows.MetaRow.{MetaRow}
@@ -29,7 +29,7 @@ pub record Hosting : Type 1 where
   -- what the store at a path keeps: the row that describes it, and its content
   pub keeps : List ℕ → Holdings → Type 0
   -- why that store is not opened under a policy and schemes
-  pub bars : List ℕ → Tables → SchemesFile → OpenFault → Type 0
+  pub bars : List ℕ → Policy → SchemesFile → OpenFault → Type 0
   -- the bytes of its log and of its database file, as they are shown
   pub shows : List ℕ → List ℕ → List ℕ → Type 0
   -- why none are shown
@@ -68,7 +68,7 @@ module _ (h : Hosted) where
   LeavesStores (Some path) = ⊤
 
   -- without a path it begins with nothing; with one, with what is taken of what the store there kept
-  abbrev pub BeginsWith : Tables → SchemesFile → Option (List ℕ) → Content → Type 0
+  abbrev pub BeginsWith : Policy → SchemesFile → Option (List ℕ) → Content → Type 0
   BeginsWith policy file None first = first ≡ no_content
   BeginsWith policy file (Some path) first = IsTakenOf (h.before.keeps path) policy file first
 
@@ -78,7 +78,7 @@ module _ (h : Hosted) where
   IsKeptAt (Some path) left = (row : MetaRow) × h.after.keeps path (holdings_of row left)
 
   -- what leads from one content to another, under a policy and schemes, is done over a store
-  pub record IsOver (policy : Tables) (file : SchemesFile) (store : Option (List ℕ))
+  pub record IsOver (policy : Policy) (file : SchemesFile) (store : Option (List ℕ))
       (Leads : Content → Content → Type 0) : Type 0 where
     pub first : Content
     pub left : Content

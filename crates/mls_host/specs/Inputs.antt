@@ -2,7 +2,7 @@
 use Rattle.std.specs.Prelude.{◌≡◌, ℕ, List, [], Option, Some, None}
 use Rattle.std.specs.List.{position}
 use Rattle.std.specs.Str.{bytes_eq}
-use Rattle.mls_lattice.specs.Policy.{Tables}
+use Rattle.mls_lattice.specs.Policy.{Policy}
 use Rattle.mls_lattice.specs.ReadsPolicy.{ReadsPolicy}
 use Rattle.mls_scheme.specs.Scheme.{Schemes}
 use Rattle.mls_scheme.specs.declared.file.SchemesFile.{SchemesFile}
@@ -11,8 +11,8 @@ use Rattle.mls_script.specs.declared.event.Event.{Event}
 use Rattle.mls_script.specs.Script.{ReadsScript}
 use Rattle.mls_translang.specs.Tx.{Tx}
 use Rattle.mls_translang.specs.Tells.{Tells}
-use Rattle.mls_certificate.specs.Reading.{Block}
-use Rattle.mls_certificate.specs.Spelling.{IsFile, file_text}
+use Rattle.mls_certcheck.specs.Reading.{Block}
+use Rattle.mls_certcheck.specs.Spelling.{IsFile, file_text}
 use Rattle.mls_machine.specs.declared.stored.Stored.{Stored}
 use Rattle.mls_host.specs.declared.samples.TheConstants.{POLICY, SCHEMES}
 use Rattle.mls_host.specs.declared.words.Documents.{Documents}
@@ -22,17 +22,17 @@ use Rattle.mls_host.specs.Words.{at_of}
 use Rattle.mls_host.specs.Storing.{AreStoredWith}
 
 -- none without a name; with one, the label of the name
-abbrev pub IsNamed : Tables → Option (List ℕ) → Option ℕ → Type 0
+abbrev pub IsNamed : Policy → Option (List ℕ) → Option ℕ → Type 0
 IsNamed policy None reader = reader ≡ None
 IsNamed policy (Some name) reader =
     (label : ℕ) × (reader ≡ Some label) × (position (λ l. bytes_eq l.name name) policy.labels ≡ Some label)
 
-abbrev pub IsReader : Tables → Task → Option ℕ → Type 0
+abbrev pub IsReader : Policy → Task → Option ℕ → Type 0
 IsReader policy task reader = IsNamed policy (at_of task) reader
 
 -- the transactions that a text tells, each with the first certificate of
 -- its name in another text where that holds for it
-pub record AreStoredOf (transactions certificates : List ℕ) (policy : Tables) (schemes : Schemes)
+pub record AreStoredOf (transactions certificates : List ℕ) (policy : Policy) (schemes : Schemes)
     (stored : List Stored) : Type 0 where
   pub txs : List Tx
   pub blocks : List Block
@@ -47,27 +47,27 @@ module _ (Gives : Option (List ℕ) → List ℕ → Type 0) where
   IsFrom source Says = (bytes : List ℕ) × Gives source bytes × Says bytes
 
   -- the policy and the schemes: those of the samples, or of files
-  abbrev pub IsPolicyOf : Option Documents → Tables → Type 0
+  abbrev pub IsPolicyOf : Option Documents → Policy → Type 0
   IsPolicyOf None policy = ReadsPolicy POLICY.now policy
   IsPolicyOf (Some d) policy = IsFrom (Some d.policy.now) (λ bytes. ReadsPolicy bytes policy)
 
-  abbrev pub AreSchemesOf : Option Documents → Tables → SchemesFile → Type 0
+  abbrev pub AreSchemesOf : Option Documents → Policy → SchemesFile → Type 0
   AreSchemesOf None policy file = ReadsSchemes policy SCHEMES.now file.version file.schemes
   AreSchemesOf (Some d) policy file =
       IsFrom (Some d.schemes.now) (λ bytes. ReadsSchemes policy bytes file.version file.schemes)
 
   -- the events of a script
-  abbrev pub IsScriptFrom : Option (List ℕ) → Tables → Schemes → List Event → Type 0
+  abbrev pub IsScriptFrom : Option (List ℕ) → Policy → Schemes → List Event → Type 0
   IsScriptFrom source policy schemes events = IsFrom source (λ script. ReadsScript policy schemes script events)
 
-  abbrev pub AreToldIn : List ℕ → Tables → Schemes → List Tx → Type 0
+  abbrev pub AreToldIn : List ℕ → Policy → Schemes → List Tx → Type 0
   AreToldIn path policy schemes txs = IsFrom (Some path) (λ bytes. Tells policy schemes bytes txs)
 
   abbrev pub AreBlocksIn : List ℕ → List Block → Type 0
   AreBlocksIn path blocks = IsFrom (Some path) (λ bytes. IsFile blocks × (bytes ≡ file_text blocks))
 
   -- none without a path
-  abbrev pub AreTransactionsFrom : Option (List ℕ) → Tables → Schemes → List Tx → Type 0
+  abbrev pub AreTransactionsFrom : Option (List ℕ) → Policy → Schemes → List Tx → Type 0
   AreTransactionsFrom None policy schemes txs = txs ≡ []
   AreTransactionsFrom (Some path) policy schemes txs = AreToldIn path policy schemes txs
 
@@ -76,6 +76,6 @@ module _ (Gives : Option (List ℕ) → List ℕ → Type 0) where
   AreCertificatesFrom (Some path) blocks = AreBlocksIn path blocks
 
   -- those of the script of a run; no other task has any
-  abbrev pub AreEventsOf : Task → Option (List ℕ) → Tables → Schemes → List Event → Type 0
+  abbrev pub AreEventsOf : Task → Option (List ℕ) → Policy → Schemes → List Event → Type 0
   AreEventsOf (Run at is_table) source policy schemes events = IsScriptFrom source policy schemes events
   AreEventsOf task source policy schemes events = events ≡ []

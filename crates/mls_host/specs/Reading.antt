@@ -3,13 +3,13 @@ use Rattle.std.specs.Prelude.{◌≡◌, ◌<◌, ℕ, List, Option, length, tru
 use Rattle.std.specs.Option.{IfSome}
 use Rattle.std.specs.List.{AllByRecursion}
 use Rattle.mls_lattice.specs.Name.{is_name}
-use Rattle.mls_lattice.specs.Policy.{Tables}
+use Rattle.mls_lattice.specs.Policy.{Policy}
 use Rattle.mls_scheme.specs.Scheme.{AreUnder}
 use Rattle.mls_script.specs.declared.event.Event.{Event}
 use Rattle.mls_script.specs.Event.{EventFits}
 use Rattle.mls_translang.specs.Tx.{Tx}
 use Rattle.mls_translang.specs.Fits.{IsReadUnder}
-use Rattle.mls_certificate.specs.Reading.{Block}
+use Rattle.mls_certcheck.specs.Reading.{Block}
 use Rattle.mls_host.specs.declared.words.Job.{Job}
 use Rattle.mls_host.specs.declared.words.Task.{Task}
 use Rattle.mls_host.specs.declared.words.Task.TheVariants.{Shell}
@@ -72,9 +72,9 @@ module _ (h : Hosting) (job : Job) where
   -- the policy is refused; or it is read, and no label has the reader's name; or the schemes are refused
   pub data IsSettingRefused (reason : Reason) : Type 0 where
     no_policy : IsPolicyRefused h job.documents reason → IsSettingRefused reason
-    no_label : (policy : Tables) → IsPolicyOf h.gives job.documents policy → IsReaderUnknown policy job.task reason
+    no_label : (policy : Policy) → IsPolicyOf h.gives job.documents policy → IsReaderUnknown policy job.task reason
         → IsSettingRefused reason
-    no_schemes : (policy : Tables) (reader : Option ℕ) → IsPolicyOf h.gives job.documents policy
+    no_schemes : (policy : Policy) (reader : Option ℕ) → IsPolicyOf h.gives job.documents policy
         → IsReader policy job.task reader → AreSchemesRefused h job.documents policy reason → IsSettingRefused reason
 
   -- each behind what was read before it: the user, the transactions, the certificates, the script

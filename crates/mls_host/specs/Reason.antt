@@ -11,10 +11,10 @@ use Rattle.mls_parser.specs.declared.fault.TextFault.{TextFault}
 use Rattle.mls_parser.specs.declared.fault.TextCause.{TextCause}
 use Rattle.mls_parser.specs.declared.fault.TextCause.TheVariants as texts
 use Rattle.mls_parser.specs.Fault as text_faults
-use Rattle.mls_certificate.specs.declared.fault.CertFault.{CertFault}
-use Rattle.mls_certificate.specs.declared.fault.CertCause.{CertCause}
-use Rattle.mls_certificate.specs.declared.fault.CertCause.TheVariants as certs
-use Rattle.mls_certificate.specs.Fault as cert_faults
+use Rattle.mls_certcheck.specs.declared.fault.CertFault.{CertFault}
+use Rattle.mls_certcheck.specs.declared.fault.CertCause.{CertCause}
+use Rattle.mls_certcheck.specs.declared.fault.CertCause.TheVariants as certs
+use Rattle.mls_certcheck.specs.Fault as cert_faults
 use Rattle.mls_script.specs.declared.fault.ScriptFault.{ScriptFault}
 use Rattle.mls_script.specs.declared.fault.ScriptCause.{ScriptCause}
 use Rattle.mls_script.specs.declared.fault.ScriptCause.TheVariants as scripts

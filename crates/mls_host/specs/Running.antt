@@ -1,6 +1,6 @@
 -- What a run of the program writes, what it begins with and what it leaves.
 use Rattle.std.specs.Prelude.{◌≡◌, ◌≢◌, ℕ, ◌-◌, if◌then◌else◌, Bool, List, [], ◌++◌, take, IfSome, Result, Ok, Err}
-use Rattle.mls_lattice.specs.Policy.{Tables}
+use Rattle.mls_lattice.specs.Policy.{Policy}
 use Rattle.mls_scheme.specs.Scheme.{Schemes}
 use Rattle.mls_filterview.specs.Content.{Content}
 use Rattle.mls_machine.specs.declared.stored.Stored.{Stored}
@@ -21,7 +21,7 @@ use Rattle.mls_sessions.specs.World.{world_at, IsSound}
 abbrev pub form_of : Bool → Form
 form_of is_table = if is_table then Table else Lines
 
-abbrev pub site_of : Tables → Schemes → List Stored → Site
+abbrev pub site_of : Policy → Schemes → List Stored → Site
 site_of policy schemes stored = record { policy = policy; schemes = schemes; stored = stored }
 
 -- the tuples and the entries of the content, and no session

@@ -2,10 +2,10 @@
 use Rattle.std.specs.Prelude.{◌≡◌, List, Option, Some, None, option_map}
 use Rattle.std.specs.List.{find, AllZip}
 use Rattle.std.specs.Str.{bytes_eq}
-use Rattle.mls_lattice.specs.Policy.{Name, Tables}
+use Rattle.mls_lattice.specs.Policy.{Name, Policy}
 use Rattle.mls_translang.specs.Tx.{Tx}
-use Rattle.mls_certificate.specs.declared.cert.Certificate.{Certificate}
-use Rattle.mls_certificate.specs.Reading.{Block}
+use Rattle.mls_certcheck.specs.declared.cert.Certificate.{Certificate}
+use Rattle.mls_certcheck.specs.Reading.{Block}
 use Rattle.mls_certcheck.specs.Rules.{Rules, claim}
 use Rattle.mls_machine.specs.declared.stored.Stored.{Stored}
 use Rattle.mls_machine.specs.declared.stored.Stored.TheVariants.{Certified, Plain}
@@ -14,15 +14,15 @@ use Rattle.mls_machine.specs.declared.stored.Stored.TheVariants.{Certified, Plai
 abbrev pub cert_named : List Block → Name → Option Certificate
 cert_named blocks name = option_map (λ b. b.1) (find (λ b. bytes_eq b.0 name) blocks)
 
-module _ (policy : Tables) where
+module _ (policy : Policy) where
   -- with the certificate, checked under the policy; without it just where the rules do not hold under it
-  abbrev pub IsChecked : Tx → Certificate → Stored → Type 0
-  IsChecked tx cert (Certified k) = (k.tx ≡ tx) × (k.cert ≡ cert) × (k.policy.value ≡ policy)
-  IsChecked tx cert (Plain t) = (t ≡ tx) × (Rules (claim policy tx cert) → ⊥)
+  abbrev pub IsAccepted : Tx → Certificate → Stored → Type 0
+  IsAccepted tx cert (Certified k) = (k.tx ≡ tx) × (k.cert ≡ cert) × (k.policy.value ≡ policy)
+  IsAccepted tx cert (Plain t) = (t ≡ tx) × (Rules (claim policy tx cert) → ⊥)
 
   abbrev pub IsStoredWith : Option Certificate → Tx → Stored → Type 0
   IsStoredWith None tx s = s ≡ Plain tx
-  IsStoredWith (Some cert) tx s = IsChecked tx cert s
+  IsStoredWith (Some cert) tx s = IsAccepted tx cert s
 
   -- each transaction, in order, with the first certificate of its name
   abbrev pub AreStoredWith : List Block → List Tx → List Stored → Type 0

@@ -97,15 +97,15 @@ samples = record {
 }
 
 -- a flag is among the words
-abbrev pub is_on : Option Text → Bool
-is_on None = false
-is_on (Some t) = bytes_eq t (codes "true")
+abbrev pub is_flag_set : Option Text → Bool
+is_flag_set None = false
+is_flag_set (Some t) = bytes_eq t (codes "true")
 
 -- a task, by the name of its command and the values of its arguments
 abbrev pub IsTask : Text → List Row → Task → Type 0
 IsTask name rows ShowPolicy = name ≡ codes "show-policy"
 IsTask name rows (Run at is_table) =
-    (name ≡ codes "run") × (named at ≡ first_of (codes "at") rows) × (is_table ≡ is_on (first_of (codes "table") rows))
+    (name ≡ codes "run") × (named at ≡ first_of (codes "at") rows) × (is_table ≡ is_flag_set (first_of (codes "table") rows))
 IsTask name rows (Shell label user) =
     (name ≡ codes "shell") × (Some label.now ≡ first_of (codes "LABEL") rows) × (Some user.now ≡ first_of (codes "USER") rows)
 IsTask name rows Serve = name ≡ codes "serve"

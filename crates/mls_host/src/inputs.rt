@@ -20,7 +20,7 @@ use crate::readers::{
 use crate::reason::{Reason, Role};
 use crate::samples;
 use crate::words::{Documents, Job, Task};
-use mls_certificate::Certificate;
+use mls_certcheck::Certificate;
 use mls_lattice::{Items, LabelNo, Policy, Str};
 use mls_scheme::{Schemes, SchemesFile};
 use mls_script::Event;
@@ -55,7 +55,7 @@ fn input_of<H: Host>(
 }
 
 /// The policy of a file.
-fn policy_in<H: Host>(alloc: Global, host: &H, path: &str) -> Result<Policy, Reason>
+fn policy_of_file<H: Host>(alloc: Global, host: &H, path: &str) -> Result<Policy, Reason>
     ensures policy { IfOk result (λ policy. IsFrom (H.hosting host.now).gives (Some path.now)
         (λ bytes. ReadsPolicy bytes policy)) }
     ensures refused { IfErr result (IsInputRefused (H.hosting host.now) Role.Policy (Some path.now) RefusesPolicy) }
@@ -65,7 +65,7 @@ fn policy_in<H: Host>(alloc: Global, host: &H, path: &str) -> Result<Policy, Rea
 }
 
 /// The policy of a file, or that of the samples.
-pub fn policy_of<H: Host>(
+pub fn policy_or_sample<H: Host>(
     alloc: Global,
     host: &H,
     documents: Option<Documents>,
@@ -75,12 +75,12 @@ pub fn policy_of<H: Host>(
 {
     match documents {
         None => read_policy(alloc, samples::POLICY.as_bytes()),
-        Some(files) => policy_in(alloc, host, files.policy),
+        Some(files) => policy_of_file(alloc, host, files.policy),
     }
 }
 
 /// The schemes of a file.
-fn schemes_in<H: Host>(
+fn schemes_of_file<H: Host>(
     alloc: Global,
     host: &H,
     policy: &Policy,
@@ -97,7 +97,7 @@ fn schemes_in<H: Host>(
 }
 
 /// The schemes of a file, or those of the samples.
-pub fn schemes_of<H: Host>(
+pub fn schemes_or_sample<H: Host>(
     alloc: Global,
     host: &H,
     policy: &Policy,
@@ -109,7 +109,7 @@ pub fn schemes_of<H: Host>(
 {
     match documents {
         None => read_schemes(alloc, policy, samples::SCHEMES.as_bytes()),
-        Some(files) => schemes_in(alloc, host, policy, files.schemes),
+        Some(files) => schemes_of_file(alloc, host, policy, files.schemes),
     }
 }
 
@@ -139,7 +139,7 @@ pub(crate) fn reader_of(policy: &Policy, task: Task) -> Result<Option<LabelNo>, 
 }
 
 /// The transactions of a file.
-fn transactions_in<H: Host>(
+fn transactions_of_file<H: Host>(
     alloc: Global,
     host: &H,
     policy: &Policy,
@@ -156,7 +156,7 @@ fn transactions_in<H: Host>(
 }
 
 /// The transactions of a file, if one is named.
-pub(crate) fn transactions_of<H: Host>(
+pub(crate) fn transactions_if_named<H: Host>(
     alloc: Global,
     host: &H,
     policy: &Policy,
@@ -171,12 +171,12 @@ pub(crate) fn transactions_of<H: Host>(
 {
     match path {
         None => Ok(Items::from(Vec::new(alloc))),
-        Some(path) => transactions_in(alloc, host, policy, schemes, path),
+        Some(path) => transactions_of_file(alloc, host, policy, schemes, path),
     }
 }
 
 /// The certificates of a file, with the names of their transactions.
-fn certificates_in<H: Host>(
+fn certificates_of_file<H: Host>(
     alloc: Global,
     host: &H,
     path: &str,
@@ -189,7 +189,7 @@ fn certificates_in<H: Host>(
 }
 
 /// The certificates of a file, if one is named.
-pub(crate) fn certificates_of<H: Host>(
+pub(crate) fn certificates_if_named<H: Host>(
     alloc: Global,
     host: &H,
     path: Option<&str>,
@@ -200,12 +200,12 @@ pub(crate) fn certificates_of<H: Host>(
 {
     match path {
         None => Ok(Vec::new(alloc)),
-        Some(path) => certificates_in(alloc, host, path),
+        Some(path) => certificates_of_file(alloc, host, path),
     }
 }
 
 /// The events of a script, in a file or on the standard input.
-fn script_in<H: Host>(
+fn events_of_script<H: Host>(
     alloc: Global,
     host: &H,
     policy: &Policy,
@@ -236,7 +236,7 @@ pub(crate) fn events_of<H: Host>(
         policy.now schemes.now) }
 {
     match job.task {
-        Task::Run { .. } => script_in(alloc, host, policy, schemes, job.files.script),
+        Task::Run { .. } => events_of_script(alloc, host, policy, schemes, job.files.script),
         _ => Ok(Vec::new(alloc)),
     }
 }

@@ -1,5 +1,5 @@
 //! What a job has read before it does anything.
-use mls_certificate::Certificate;
+use mls_certcheck::Certificate;
 use mls_lattice::{Items, LabelNo, Policy, Str};
 use mls_scheme::SchemesFile;
 use mls_script::Event;

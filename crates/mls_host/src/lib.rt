@@ -21,7 +21,7 @@ pub use crate::ending::{Ending, ending_if};
 pub use crate::errors::Errors;
 pub use crate::form::form_of;
 pub use crate::host::{CloseFault, Host, HostFault, StoreCause, StoreFiles, read_whole};
-pub use crate::inputs::{policy_of, schemes_of};
+pub use crate::inputs::{policy_or_sample, schemes_or_sample};
 pub use crate::job::{Inputs, Setting};
 pub use crate::readers::read_script;
 pub use crate::reading::{inputs_of, setting_of};

@@ -6,13 +6,13 @@ ghost use Rattle.mls_scheme.specs.Document.{ReadsSchemes};
 ghost use Rattle.mls_scheme.specs.Scheme.{AreUnder};
 ghost use Rattle.mls_translang.specs.Fits.{IsReadUnder};
 ghost use Rattle.mls_translang.specs.Tells.{Tells};
-ghost use Rattle.mls_certificate.specs.Spelling.{IsFile, file_text};
+ghost use Rattle.mls_certcheck.specs.Spelling.{IsFile, file_text};
 ghost use Rattle.mls_script.specs.Event.{EventFits};
 ghost use Rattle.mls_script.specs.Script.{ReadsScript};
 ghost use Rattle.mls_host.specs.Causes.{RefusesPolicy, RefusesSchemes, RefusesTransactions, RefusesCertificates, RefusesScript};
 
 use crate::reason::Reason;
-use mls_certificate::{Certificate, certs_read};
+use mls_certcheck::{Certificate, certs_read};
 use mls_lattice::{Items, Policy, Str};
 use mls_parser::parse;
 use mls_scheme::{Schemes, SchemesFile};

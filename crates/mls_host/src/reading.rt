@@ -5,12 +5,13 @@ ghost use Rattle.mls_host.specs.Reading.{IsConsistent, FitSetting, AreReady};
 
 use crate::host::Host;
 use crate::inputs::{
-    certificates_of, events_of, policy_of, reader_of, schemes_of, transactions_of,
+    certificates_if_named, events_of, policy_or_sample, reader_of, schemes_or_sample,
+    transactions_if_named,
 };
 use crate::job::{Inputs, Setting};
 use crate::reason::Reason;
 use crate::words::{Job, Task};
-use mls_certificate::Certificate;
+use mls_certcheck::Certificate;
 use mls_lattice::{Items, Str, is_name};
 use mls_script::Event;
 use mls_translang::Tx;
@@ -25,9 +26,9 @@ pub fn setting_of<H: Host>(alloc: Global, host: &H, job: Job) -> Result<Setting,
     ensures consistent { IfOk result IsConsistent }
     ensures refused { IfErr result (IsSettingRefused (H.hosting host.now) job.entry) }
 {
-    let policy = policy_of(alloc, host, job.documents)?;
+    let policy = policy_or_sample(alloc, host, job.documents)?;
     let reader = reader_of(&policy, job.task)?;
-    let file = schemes_of(alloc, host, &policy, job.documents)?;
+    let file = schemes_or_sample(alloc, host, &policy, job.documents)?;
     Ok(Setting {
         policy,
         file,
@@ -59,8 +60,8 @@ fn contents_of<H: Host>(
 {
     check_user(job.task)?;
     let (policy, schemes) = (&setting.policy, &setting.file.schemes);
-    let transactions = transactions_of(alloc, host, policy, schemes, job.files.transactions)?;
-    let certificates = certificates_of(alloc, host, job.files.certificates)?;
+    let transactions = transactions_if_named(alloc, host, policy, schemes, job.files.transactions)?;
+    let certificates = certificates_if_named(alloc, host, job.files.certificates)?;
     let events = events_of(alloc, host, policy, schemes, job)?;
     Ok((transactions, Items::from(certificates), Items::from(events)))
 }

@@ -5,7 +5,7 @@ ghost use Rattle.mls_host.specs.Reason.{role_word, input_reason, input_text, fau
 
 use crate::host::HostFault;
 use crate::usage::tell_memory;
-use mls_certificate::{CertCause, CertFault};
+use mls_certcheck::{CertCause, CertFault};
 use mls_fragments::OpenFault;
 use mls_lattice::PolicyFault;
 use mls_parser::{TextCause, TextFault};

@@ -4,12 +4,11 @@ ghost use Rattle.mls_machine.specs.Observation.{AreRead, AreCertified};
 ghost use Rattle.mls_host.specs.Causes.{AreTextsRefused};
 ghost use Rattle.mls_host.specs.Inputs.{AreStoredOf};
 ghost use Rattle.mls_host.specs.Running.{site_of};
-ghost use Rattle.mls_host.specs.Storing.{cert_named, IsChecked, IsStoredWith, AreStoredWith};
+ghost use Rattle.mls_host.specs.Storing.{cert_named, IsAccepted, IsStoredWith, AreStoredWith};
 
 use crate::readers::{read_certificates, read_transactions};
 use crate::reason::Reason;
-use mls_certcheck::Certified;
-use mls_certificate::Certificate;
+use mls_certcheck::{Certificate, Certified};
 use mls_lattice::{Items, Policy, Str};
 use mls_machine::Stored;
 use mls_scheme::Schemes;
@@ -30,7 +29,7 @@ pub fn cert_named<'a>(blocks: &'a [(Str, Certificate)], name: &str) -> Option<&'
 
 /// A transaction with a certificate, where that holds for it.
 fn checked(policy: &Policy, tx: Tx, cert: Certificate) -> Stored
-    ensures { IsChecked policy.now tx cert result }
+    ensures { IsAccepted policy.now tx cert result }
 {
     match Certified::new(policy, tx, cert) {
         Ok(certified) => Stored::Certified(certified),
@@ -38,7 +37,7 @@ fn checked(policy: &Policy, tx: Tx, cert: Certificate) -> Stored
     }
 }
 
-fn stored_as(policy: &Policy, blocks: &[(Str, Certificate)], tx: Tx) -> Result<Stored, AllocError>
+fn stored_with(policy: &Policy, blocks: &[(Str, Certificate)], tx: Tx) -> Result<Stored, AllocError>
     ensures { IfOk result (λ s. IsStoredWith policy.now (cert_named blocks.now tx.name) tx s) }
 {
     match cert_named(blocks, tx.name()) {
@@ -60,7 +59,7 @@ pub fn stored_of(
 {
     let mut stored = Vec::new(alloc);
     for tx in txs.into_vec() {
-        stored.push(stored_as(policy, blocks, tx)?)?;
+        stored.push(stored_with(policy, blocks, tx)?)?;
     }
     Ok(Items::from(stored))
 }

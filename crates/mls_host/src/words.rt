@@ -6,14 +6,15 @@ ghost use Rattle.clap.specs.declared.builder.command.Command.TheViews.{out-Comma
 ghost use Rattle.mls_host.specs.declared.words.Task.{Task as SpecTask};
 ghost use Rattle.mls_host.specs.declared.words.Job.{Job as SpecJob};
 ghost use Rattle.mls_host.specs.declared.usage.Usage.TheVariants.{Memory};
-ghost use Rattle.mls_host.specs.Words.{at_of, texts_of, place, option, flag, is_on, AreFilesOf, with_stored, needed, run, shell, serve, turn, show_policy, certify, check, explain, program, command_line, IsTask, IsCommand, IsCommandOf, Asks, AskNothing};
+ghost use Rattle.mls_host.specs.Words.{at_of, texts_of, place, option, flag, is_flag_set, AreFilesOf, with_stored, needed, run, shell, serve, turn, show_policy, certify, check, explain, program, command_line, IsTask, IsCommand, IsCommandOf, Asks, AskNothing};
 
 use crate::usage::Usage;
 use clap::error::ErrorKind;
 use clap::{Arg, ArgAction, ArgMatches, Command, Error};
 use std::alloc::{AllocError, Global};
 
-const ABOUT: &str = "A relational database whose elements have security levels, proved";
+const ABOUT: &str =
+    "A relational database in which each session sees what its label may see, proved";
 
 const VERSION: &str = "2.0.0 (stores of versions 1 and 2)";
 
@@ -21,14 +22,14 @@ const EXAMPLE: &str = "\
 Without any words mldb runs the script on standard input under a sample policy and schemes.
 
 Example:
-  mldb run samples/policy.toml samples/schemes.toml samples/first.script
+  mldb run --table samples/policy.toml samples/schemes.toml samples/enterprise.script
 
 Status: 0 all well; 1 certify, check, explain or a shell refused something; 2 an input or the command line was refused;
-3 store, writing or memory.
+3 store, writing or memory. docs/codes.md lists all numbers.
 ";
 
 const RUN_NOTES: &str = "\
-Each line of the script is the level and the name of a session, and a command; each line that is printed begins with the label
+Each line of the script is the label and the name of a session, and a command; each line that is printed begins with the label
 that may see it. A store is made where there is none; tuples and the audit list are kept in it, sessions are not.
 
 Example:
@@ -45,7 +46,7 @@ Status: 0 all well; 2 an input was refused; 3 writing or memory.
 ";
 
 const SHELL_NOTES: &str = "\
-Opens a session for USER at LABEL, and reads its commands from standard input, one a line, without the names of level and session.
+Opens a session for USER at LABEL, and reads its commands from standard input, one a line, without label and name of the session.
 Each is answered before the next is read, by the lines that LABEL may see. A line that is refused is told on standard error, and the
 shell goes on. It ends at `close`, or at the end of the input; `help` on a line of its own lists the commands. At a terminal `describe`
 shows what is declared; else the last line on standard error counts the lines that are done.
@@ -59,7 +60,7 @@ Status: 0 all was done; 1 something was denied, refused or not understood; 2 an 
 
 const SERVE_NOTES: &str = "\
 Reads lines from standard input, as of a script but without a bound on their number, and answers each before the next is read. An answer
-is the lines of the reply that the level of that line's session may see, and then a line that begins with `=`: `=` alone, also for a
+is the lines of the reply that the label of that line's session may see, and then a line that begins with `=`: `=` alone, also for a
 blank line or a comment; `= CODE NAME at COLUMN` where the line is refused, and nothing of it is done; `= too long`. A session is opened
 for the user of its own name alone. It ends at the end of its input.
 
@@ -70,7 +71,7 @@ Status: 0 all lines were answered; 1 a line could not be read; 2 an input was re
 ";
 
 const TURN_NOTES: &str = "\
-Prints the entries of the audit list, each behind the label that may see it, and then empties the list, in one change: where the output
+Prints the entries of the audit list, each after the label that may see it, and then empties the list, in one change: where the output
 is not taken, no entry is dropped. With --at fewer are printed, and all are dropped. No session can do this: it is for whoever has the
 file. Keep what it prints.
 
@@ -125,7 +126,7 @@ const CERTIFICATES: &str = "Their certificates";
 
 const SCRIPT: &str = "The commands of the sessions, one a line";
 
-const LABEL: &str = "The level of the session";
+const LABEL: &str = "The label of the session";
 
 const USER: &str = "The user, who gives the session its name";
 
@@ -386,7 +387,7 @@ fn serve_command<'a>(alloc: Global) -> Result<Command<'a>, AllocError>
     ensures app { IfOk result (λ c. app_of c ≡ serve) }
     ensures local { IfOk result (λ c. (fields_of c).has_globals ≡ false) }
 {
-    let about = "Answers the lines of many sessions, each for its own level";
+    let about = "Answers the lines of many sessions, each for its own label";
     let serve = with_option(
         alloc,
         bare(alloc, "serve", about, SERVE_NOTES),
@@ -509,8 +510,8 @@ fn value_of<'a>(matches: &ArgMatches<'a>, name: &str) -> Option<&'a str>
 }
 
 /// Whether a flag is among the words, by its value.
-fn is_on(value: Option<&str>) -> bool
-    ensures { result ≡ is_on (option_map (λ p. p.now) value.entry) }
+fn is_flag_set(value: Option<&str>) -> bool
+    ensures { result ≡ is_flag_set (option_map (λ p. p.now) value.entry) }
 {
     match value {
         Some(text) => text == "true",
@@ -585,7 +586,7 @@ fn task_of<'a>(name: &str, matches: &ArgMatches<'a>) -> Option<Task<'a>>
     match name {
         "run" => Some(Task::Run {
             at: value_of(matches, "at"),
-            is_table: is_on(value_of(matches, "table")),
+            is_table: is_flag_set(value_of(matches, "table")),
         }),
         "shell" => shell_task(matches),
         "serve" => Some(Task::Serve),
@@ -656,7 +657,7 @@ fn job_named<'a>(name: &str, matches: &ArgMatches<'a>) -> Option<Job<'a>>
     }
 }
 
-fn job_in<'a>(matches: &ArgMatches<'a>) -> Option<Job<'a>>
+fn job_of_matches<'a>(matches: &ArgMatches<'a>) -> Option<Job<'a>>
     ensures some { IfSome result (IsCommandOf (subcommand_rows_of matches.now)) }
     ensures none { result ≡ None → (job : SpecJob) → IsCommandOf (subcommand_rows_of matches.now) job → ⊥ }
 {
@@ -687,7 +688,7 @@ pub fn job_of<'a>(alloc: Global, words: &'a [&'a str]) -> Result<Job<'a>, Usage>
         return Ok(SAMPLES);
     }
     let matches = matches_of(alloc, words)?;
-    match job_in(&matches) {
+    match job_of_matches(&matches) {
         Some(job) => Ok(job),
         None => Err(no_command(alloc)),
     }

@@ -5,7 +5,7 @@ use Rattle.mls_lattice.specs.Lattice.{Pair, Dominates}
 use Rattle.mls_lattice.specs.Labels.{Labels, label_of}
 use Rattle.mls_lattice.proofs.LatticeLemmas.{Dominates-refl, Dominates-trans}
 use Rattle.mls_translang.specs.Tx.{Tx}
-use Rattle.mls_certificate.specs.declared.cert.Certificate.{Certificate}
+use Rattle.mls_certcheck.specs.declared.cert.Certificate.{Certificate}
 use Rattle.mls_certcheck.specs.declared.flow.Line.{Line}
 use Rattle.mls_certcheck.specs.Lines.{by, within_ends, tx_lines, lines}
 use Rattle.mls_certcheck.specs.Rules.{Claim, Rules, hi, slot_label, source_label, IsOver, Holds}

@@ -6,10 +6,10 @@ use Rattle.std.specs.List.{AllByRecursion}
 use Rattle.std.proofs.lemmas.List.{map-set, map-append, length-map, get_or-map, get_or-set_same}
 use Rattle.mls_lattice.specs.declared.label.Label.{Label}
 use Rattle.mls_certcheck.specs.Rules.{row_after}
-use Rattle.mls_certificate.specs.declared.cert.Certificate.TheVariants.{One}
+use Rattle.mls_certcheck.specs.declared.cert.Certificate.TheVariants.{One}
 use Rattle.mls_labeller.specs.Rising.{rows_of, certificate, HasSlot, put}
-use Rattle.mls_certificate.specs.declared.cert.Version.{Version}
-use Rattle.mls_certificate.specs.declared.cert.Version.TheVariants as version
+use Rattle.mls_certcheck.specs.declared.cert.Version.{Version}
+use Rattle.mls_certcheck.specs.declared.cert.Version.TheVariants as version
 use Rattle.mls_certcheck.specs.declared.flow.Slot.TheVariants.{Variable}
 use Rattle.mls_certcheck.proofs.EachLemmas.{all_both}
 use Rattle.mls_labeller.proofs.RiseLemmas.{row_there}

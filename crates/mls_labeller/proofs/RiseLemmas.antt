@@ -7,16 +7,16 @@ use Rattle.mls_lattice.specs.declared.label.Label.{Label}
 use Rattle.mls_lattice.specs.Lattice.{Pair, Dominates, join, bottom, pair_of}
 use Rattle.mls_lattice.specs.Policy.{labels_of}
 use Rattle.mls_lattice.proofs.LatticeLemmas.{Dominates-refl, Dominates-trans, join-left, join-right, join-least}
-use Rattle.mls_certificate.specs.declared.cert.Cert.{Cert}
-use Rattle.mls_certificate.specs.declared.cert.Cert2.{Cert2}
-use Rattle.mls_certificate.specs.declared.cert.Certificate.{Certificate}
-use Rattle.mls_certificate.specs.declared.cert.Certificate.TheVariants.{One, Two}
+use Rattle.mls_certcheck.specs.declared.cert.Cert.{Cert}
+use Rattle.mls_certcheck.specs.declared.cert.Cert2.{Cert2}
+use Rattle.mls_certcheck.specs.declared.cert.Certificate.{Certificate}
+use Rattle.mls_certcheck.specs.declared.cert.Certificate.TheVariants.{One, Two}
 use Rattle.mls_certcheck.proofs.LabelLemmas.{above_bottom, label_here}
 use Rattle.mls_certcheck.specs.Rules.{Claim, claim, after, pc, slot_label, source_label, Holds}
 use Rattle.mls_labeller.specs.Flows.{IsBounded}
 use Rattle.mls_labeller.specs.Least.{IsOf, Below}
-use Rattle.mls_certificate.specs.declared.cert.Version.{Version}
-use Rattle.mls_certificate.specs.declared.cert.Version.TheVariants as version
+use Rattle.mls_certcheck.specs.declared.cert.Version.{Version}
+use Rattle.mls_certcheck.specs.declared.cert.Version.TheVariants as version
 use Rattle.mls_labeller.specs.Rising.{certificate, HasSlot, HasCounts, AreLowest, IsLowest, put, room_of, room_in, room, IsJoin, Over, Each, Keeps, KeepsBelow, Rises}
 use Rattle.mls_certcheck.specs.declared.flow.Slot.{Slot}
 use Rattle.mls_certcheck.specs.declared.flow.Slot.TheVariants.{Variable, Statement}

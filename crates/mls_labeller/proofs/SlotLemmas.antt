@@ -5,8 +5,8 @@ use Rattle.std.specs.List.{AllByRecursion}
 use Rattle.mls_translang.specs.Tree.{Writing, Inserting, Updating, Deleting, Stmt, Assign, Write_at, Release, Emit, Block, End, Do, If, For, statements}
 use Rattle.mls_translang.specs.Scope.{Scope, in_loop}
 use Rattle.mls_translang.specs.Tx.{Tx, IsTx, BlockIsOwn, StmtIsOwn, scope_of}
-use Rattle.mls_certificate.specs.declared.cert.Certificate.{Certificate}
-use Rattle.mls_certificate.specs.declared.cert.Certificate.TheVariants.{One, Two}
+use Rattle.mls_certcheck.specs.declared.cert.Certificate.{Certificate}
+use Rattle.mls_certcheck.specs.declared.cert.Certificate.TheVariants.{One, Two}
 use Rattle.mls_certcheck.specs.Place.{Place, Plain, directs, places}
 use Rattle.mls_certcheck.specs.declared.flow.Line.{Line}
 use Rattle.mls_certcheck.specs.Lines.{stmt_lines, own_lines, rest as rest_lines, lines_at, all_places}

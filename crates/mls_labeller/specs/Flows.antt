@@ -1,16 +1,17 @@
 -- What sets lower bounds on the labels of a certificate: of the lines of the statements, those by which something flows into variables and statements.
-use Rattle.std.specs.Prelude.{List, length}
-use Rattle.std.specs.List.{flat_map}
-use Rattle.mls_translang.specs.Tx.{Tx}
-use Rattle.mls_certcheck.specs.declared.flow.Line.{Line}
-use Rattle.mls_certcheck.specs.Lines.{lines_at, all_places}
+use Rattle.std.specs.Prelude.{ℕ, List, map}
+use Rattle.mls_translang.specs.Tree.{Block}
+use Rattle.mls_certcheck.specs.Place.{directs}
+pub use Rattle.mls_certcheck.specs.Lines.{body_lines}
 use Rattle.mls_certcheck.specs.Rules.{Claim, Holds}
+use Rattle.mls_certcheck.specs.declared.flow.Slot.{Slot}
+use Rattle.mls_certcheck.specs.declared.flow.Slot.TheVariants.{Statement}
 use Rattle.mls_certcheck.specs.declared.flow.Flow.{Flow}
 use Rattle.mls_certcheck.specs.declared.flow.Flow.TheVariants.{Into, Kept, Within, Under}
 
--- all lines but those of the transaction itself
-abbrev pub body_lines : Tx → List Line
-body_lines tx = flat_map (lines_at (length tx.vars)) (all_places tx)
+-- a block's own statements, the first of which is n
+unfoldable pub own_slots : ℕ → Block → List Slot
+own_slots n block = map (λ m. Statement m) (directs n block)
 
 -- it holds, if it sets a bound: what flows out raises no label
 abbrev pub IsBounded : Claim → Flow → Type 0

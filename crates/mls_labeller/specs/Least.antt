@@ -2,16 +2,16 @@
 use Rattle.std.specs.Prelude.{◌≡◌, ℕ, length}
 use Rattle.std.specs.List.{AllByRecursion}
 use Rattle.mls_lattice.specs.Lattice.{Dominates}
-use Rattle.mls_lattice.specs.Policy.{Tables}
+use Rattle.mls_lattice.specs.Policy.{Policy}
 use Rattle.mls_translang.specs.Tree.{statements}
 use Rattle.mls_translang.specs.Tx.{Tx}
-use Rattle.mls_certificate.specs.declared.cert.Certificate.{Certificate}
-use Rattle.mls_certificate.specs.declared.cert.Certificate.TheVariants.{One, Two}
+use Rattle.mls_certcheck.specs.declared.cert.Certificate.{Certificate}
+use Rattle.mls_certcheck.specs.declared.cert.Certificate.TheVariants.{One, Two}
 use Rattle.mls_certcheck.specs.Lines.{lines}
 use Rattle.mls_certcheck.specs.Rules.{Claim, claim, after, pc, var_rows, Counts}
 use Rattle.mls_labeller.specs.Flows.{IsBounded}
-use Rattle.mls_certificate.specs.declared.cert.Version.{Version}
-use Rattle.mls_certificate.specs.declared.cert.Version.TheVariants as version
+use Rattle.mls_certcheck.specs.declared.cert.Version.{Version}
+use Rattle.mls_certcheck.specs.declared.cert.Version.TheVariants as version
 
 -- a certificate has this version
 abbrev pub IsOf : Version → Certificate → Type 0
@@ -33,7 +33,7 @@ pub record Below (c d : Claim) : Type 0 where
   pub stmts : (n : ℕ) → Dominates (pc d n) (pc c n)
 
 -- it meets the lower bounds, and its labels are below those of each of its version that does
-pub record IsLeast (v : Version) (policy : Tables) (tx : Tx) (cert : Certificate) : Type 0 where
+pub record IsLeast (v : Version) (policy : Policy) (tx : Tx) (cert : Certificate) : Type 0 where
   pub version : IsOf v cert
   pub meets : Meets (claim policy tx cert)
   pub least : (other : Certificate) → IsOf v other → Meets (claim policy tx other) → Below (claim policy tx cert) (claim policy tx other)

@@ -1,6 +1,5 @@
 -- The definitions of least labels: `Flows` says what bounds them, `Least` which they are.
 pub mod Flows
-pub mod Walk
 pub mod Least
 pub mod Fault
 pub mod Rising

@@ -2,7 +2,7 @@
 use Rattle.std.specs.Prelude.{◌≡◌, ℕ, ◌<◌, Bool, true, false, if◌then◌else◌, List, [], ◌∷◌, ◌++◌, length, Option}
 use Rattle.std.specs.List.{Contains}
 use Rattle.mls_lattice.specs.Labels.{Labels}
-use Rattle.mls_lattice.specs.Policy.{Name, Tables, labels_of}
+use Rattle.mls_lattice.specs.Policy.{Name, Policy, labels_of}
 use Rattle.mls_scheme.specs.declared.value.Value.{Value}
 use Rattle.mls_scheme.specs.declared.tuple.Tuple.{Tuple}
 use Rattle.mls_scheme.specs.Scheme.{Schemes}
@@ -68,7 +68,7 @@ pub record World : Type 0 where
   pub db : Database
   pub args : List (Option Value)
 
-module _ (policy : Tables) (schemes : Schemes) (tx : Tx) (c : ℕ) where
+module _ (policy : Policy) (schemes : Schemes) (tx : Tx) (c : ℕ) where
   abbrev pub run_of : World → Progress
   run_of w = run_tx (labels_of policy) schemes tx w.args w.db
 
@@ -88,6 +88,6 @@ module _ (policy : Tables) (schemes : Schemes) (tx : Tx) (c : ℕ) where
 -- by one call c can tell apart at most as many classes of worlds as there are lists of items of the ranges that are told
 abbrev pub CallsTellFew : Type 0
 CallsTellFew =
-    (policy : Tables) (tx : Tx) → Secure policy tx → (told : List Told) → AreTold tx told
+    (policy : Policy) (tx : Tx) → Secure policy tx → (told : List Told) → AreTold tx told
     → (schemes : Schemes) → IsReadUnder policy schemes tx → (c : ℕ) (lists : List (List Item)) → HasAll policy schemes tx c told lists
     → TellsAtMost policy schemes tx c (length lists)

@@ -4,14 +4,14 @@ use Rattle.std.specs.Global.{Global}
 use Rattle.std.specs.List.{AllByRecursion}
 use Rattle.mls_lattice.specs.Lattice.{Pair, Dominates, bottom, pair_of}
 use Rattle.mls_lattice.specs.declared.label.Label.{Label}
-use Rattle.mls_certificate.specs.declared.cert.Certificate.{Certificate}
-use Rattle.mls_certificate.specs.declared.cert.Certificate.TheVariants.{One, Two}
+use Rattle.mls_certcheck.specs.declared.cert.Certificate.{Certificate}
+use Rattle.mls_certcheck.specs.declared.cert.Certificate.TheVariants.{One, Two}
 use Rattle.mls_certcheck.specs.declared.flow.Line.{Line}
 use Rattle.mls_certcheck.specs.Rules.{Claim, claim, after, row_after, var_rows, pc_labels, Counts, slot_label, IsOver}
 use Rattle.mls_labeller.specs.Flows.{IsBounded}
 use Rattle.mls_labeller.specs.Least.{IsOf, Below}
-use Rattle.mls_certificate.specs.declared.cert.Version.{Version}
-use Rattle.mls_certificate.specs.declared.cert.Version.TheVariants as version
+use Rattle.mls_certcheck.specs.declared.cert.Version.{Version}
+use Rattle.mls_certcheck.specs.declared.cert.Version.TheVariants as version
 use Rattle.mls_certcheck.specs.declared.flow.Slot.{Slot}
 use Rattle.mls_certcheck.specs.declared.flow.Slot.TheVariants.{Variable, Statement}
 use Rattle.mls_certcheck.specs.declared.flow.Source.{Source}

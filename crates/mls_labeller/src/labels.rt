@@ -5,8 +5,7 @@ ghost use Rattle.mls_certcheck.specs.Rules.{row_after};
 ghost use Rattle.mls_labeller.specs.Least.{IsOf};
 ghost use Rattle.mls_labeller.specs.Rising.{cert_of, rows_of, HasSlot, IsLowest, put};
 
-use mls_certcheck::Slot;
-use mls_certificate::{Cert, Cert2, Certificate, Version};
+use mls_certcheck::{Cert, Cert2, Certificate, Slot, Version};
 use mls_lattice::{Items, Label};
 use std::alloc::{AllocError, Global};
 

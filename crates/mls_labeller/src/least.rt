@@ -12,8 +12,7 @@ ghost use Rattle.mls_certcheck.specs.declared.flow.Slot.TheVariants.{Variable};
 ghost use Rattle.mls_certcheck.specs.declared.flow.Flow.TheVariants.{Into, Kept};
 
 use crate::labels::Labels;
-use mls_certcheck::{Flow, Line, Slot, Source};
-use mls_certificate::Version;
+use mls_certcheck::{Flow, Line, Slot, Source, Version};
 use mls_lattice::{Label, LabelNo, Policy};
 use mls_translang::{Tx, statements};
 use std::alloc::{AllocError, Global};

@@ -8,7 +8,7 @@ use Rattle.std.proofs.lemmas.List.Folds.{flat_map-map}
 use Rattle.mls_lattice.specs.declared.tables.NamedLabel.{NamedLabel}
 use Rattle.mls_lattice.specs.Lattice.{bottom}
 use Rattle.mls_lattice.specs.Labels.{Labels, label_of, below}
-use Rattle.mls_lattice.specs.Policy.{Name, Named, named, Tables, labels_of}
+use Rattle.mls_lattice.specs.Policy.{Name, Named, named, Policy, labels_of}
 use Rattle.mls_lattice.specs.Canon.{level_line, category_line, label_line}
 use Rattle.mls_lattice.specs.Extending.{Extends, OldLabelsAreOne, BeginWith}
 
@@ -92,7 +92,7 @@ category-not_level (n ∷ names) (suc j) rest other name more e = let bad : 99 �
 
 -- ---- the old lattice
 
-module _ (p : Tables) (old : List ℕ) where
+module _ (p : Policy) (old : List ℕ) where
   -- What three loops took off the front of a text.
   pub record Taken (i j k : ℕ) (after_levels after_categories rest : List ℕ) : Type 0 where
     pub levels : BeginWith level_line p.levels old i after_levels
@@ -151,7 +151,7 @@ pub one : OldLabelsAreOne
 one p old k l a b = (taken-whole p old a.levels a.categories k l _ _ [] (extension-taken p old k a) b).1
 
 -- What is left shows that there is no extension.
-pub none-taken : (p : Tables) (old : List ℕ) (i j k : ℕ) (a b c : List ℕ) → Taken p old i j k a b c → (0 < i → 0 < k → c ≡ [] → ⊥) → (l : ℕ) → Extends p old l → ⊥
+pub none-taken : (p : Policy) (old : List ℕ) (i j k : ℕ) (a b c : List ℕ) → Taken p old i j k a b c → (0 < i → 0 < k → c ≡ [] → ⊥) → (l : ℕ) → Extends p old l → ⊥
 none-taken p old i j k a b c t other l e =
     let same = taken-whole p old i j k l a b c t e in
     let some_level = e.some_level in
@@ -166,7 +166,7 @@ some-iff P None b is found none = (λ t. absurd cc, λ some. absurd (none refl s
 some-iff P (Some k) b is found none = (λ t. (k, found), λ some. is)
 
 -- what the loops of a policy took
-pub taken-by : (p : Tables) (ls : List NamedLabel) (old : List ℕ) (i j k : ℕ) (a b c : List ℕ) → map named ls ≡ p.labels → BeginWith level_line p.levels old i a
+pub taken-by : (p : Policy) (ls : List NamedLabel) (old : List ℕ) (i j k : ℕ) (a b c : List ℕ) → map named ls ≡ p.labels → BeginWith level_line p.levels old i a
     → BeginWith category_line p.categories a j b → BeginWith (λ l. label_line p.levels p.categories (named l)) ls b k c → Taken p old i j k a b c
 taken-by p ls old i j k a b c is levels categories labels =
     let line = label_line p.levels p.categories in
@@ -184,7 +184,7 @@ empty-not b (x ∷ xs) e off same = absurd cc
 
 -- ---- the first labels
 
-pub labels_of-take : (p : Tables) (k : ℕ) → labels_of (record p { labels = take k p.labels }) ≡ take k (labels_of p)
+pub labels_of-take : (p : Policy) (k : ℕ) → labels_of (record p { labels = take k p.labels }) ≡ take k (labels_of p)
 labels_of-take p k = sym (take-map (λ (l : Named). l.value) k p.labels)
 
 pub label_of-take : (ls : Labels) (k a : ℕ) → a < k → label_of (take k ls) a ≡ label_of ls a

@@ -20,7 +20,7 @@ use Rattle.mls_lattice.specs.declared.tables.Right.{Right}
 use Rattle.mls_lattice.specs.Lattice.{Pair, same_pair}
 use Rattle.mls_lattice.specs.Labels.{label_of, AreDistinct, below}
 use Rattle.mls_lattice.specs.Name.{is_name}
-use Rattle.mls_lattice.specs.Policy.{Name, Named, Tables, labels_of, HasLevel, IsCleared, IsTrusted, HasUser, HasKnownModes, same_entry, AreNames, IsPolicy}
+use Rattle.mls_lattice.specs.Policy.{Name, Named, Policy, labels_of, HasLevel, IsCleared, IsTrusted, HasUser, HasKnownModes, same_entry, AreNames, IsPolicy}
 use Rattle.mls_lattice.specs.Says.{Rows, SaysName, SaysLabel, SaysUser, SaysTrusted, SaysMode, SaysRight, Says}
 use Rattle.mls_lattice.specs.Reading.{version_at}
 use Rattle.mls_lattice.specs.PolicyReading.{levels_at, categories_at, labels_at, users_at, matrix_at, policy_at}
@@ -79,25 +79,25 @@ names-distinct : (ds : Items) (names : List Name) → Rows SaysName [] ds names 
 names-distinct ds names h =
     all-rows SaysName (IsDistinct bytes_eq) (λ before d name says apart. IsDistinct-push nat_list_eq_equiv before name apart says.new) [] ds names h (none-distinct bytes_eq)
 
-kept-level_names : (document : Members) (p : Tables) → Says document p → AreNames p.levels
+kept-level_names : (document : Members) (p : Policy) → Says document p → AreNames p.levels
 kept-level_names document p says = names-named says.levels.0 p.levels says.levels.2
 
-kept-levels_distinct : (document : Members) (p : Tables) → Says document p → IsDistinct bytes_eq p.levels
+kept-levels_distinct : (document : Members) (p : Policy) → Says document p → IsDistinct bytes_eq p.levels
 kept-levels_distinct document p says = names-distinct says.levels.0 p.levels says.levels.2
 
-kept-category_names : (document : Members) (p : Tables) → Says document p → AreNames p.categories
+kept-category_names : (document : Members) (p : Policy) → Says document p → AreNames p.categories
 kept-category_names document p says = names-named says.categories.0 p.categories says.categories.2
 
-kept-categories_distinct : (document : Members) (p : Tables) → Says document p → IsDistinct bytes_eq p.categories
+kept-categories_distinct : (document : Members) (p : Policy) → Says document p → IsDistinct bytes_eq p.categories
 kept-categories_distinct document p says = names-distinct says.categories.0 p.categories says.categories.2
 
 -- ---- labels
 
-kept-label_names : (document : Members) (p : Tables) → Says document p → AreNames (map (λ l. l.name) p.labels)
+kept-label_names : (document : Members) (p : Policy) → Says document p → AreNames (map (λ l. l.name) p.labels)
 kept-label_names document p says =
     named-rows (λ (l : Named). l.name) (SaysLabel p.levels p.categories) (λ before d l h. h.name.is_name) [] says.labels.0 p.labels says.labels.2
 
-kept-names : (document : Members) (p : Tables) → Says document p → IsDistinct bytes_eq (map (λ l. l.name) p.labels)
+kept-names : (document : Members) (p : Policy) → Says document p → IsDistinct bytes_eq (map (λ l. l.name) p.labels)
 kept-names document p says =
     all-rows (SaysLabel p.levels p.categories) (λ ls. IsDistinct bytes_eq (map (λ l. l.name) ls)) (λ before d l h apart. more-names (λ (x : Named). x.name) before l h.new_name apart)
     [] says.labels.0 p.labels says.labels.2 (none-distinct bytes_eq)
@@ -111,24 +111,24 @@ new-value (l ∷ ls) p h zero lt e =
     cc
 new-value (l ∷ ls) p h (suc a) lt e = new-value ls p (or_parts (same_pair l.value p) _ h).1 a (omega (arith, lt)) e
 
-kept-distinct : (document : Members) (p : Tables) → Says document p → AreDistinct (labels_of p)
+kept-distinct : (document : Members) (p : Policy) → Says document p → AreDistinct (labels_of p)
 kept-distinct document p says =
     all-rows (SaysLabel p.levels p.categories) (λ ls. AreDistinct (map (λ l. l.value) ls))
     (λ before d l h apart. rw (map_push (λ (x : Named). x.value) before l) (distinct_more (map (λ (x : Named). x.value) before) l.value apart (new-value before l.value h.new_value)))
     [] says.labels.0 p.labels says.labels.2 distinct-none
 
-kept-ranked : (document : Members) (p : Tables) → Says document p → AllByRecursion (HasLevel (length p.levels)) p.labels
+kept-ranked : (document : Members) (p : Policy) → Says document p → AllByRecursion (HasLevel (length p.levels)) p.labels
 kept-ranked document p says =
     each-row (SaysLabel p.levels p.categories) (HasLevel (length p.levels)) (λ before d l h. record { rank = (position-Some _ p.levels l.value.rank [] h.value.rank).0 })
     [] says.labels.0 p.labels says.labels.2
 
 -- ---- users
 
-kept-user_names : (document : Members) (p : Tables) → Says document p → AreNames (map (λ u. u.name) p.users)
+kept-user_names : (document : Members) (p : Policy) → Says document p → AreNames (map (λ u. u.name) p.users)
 kept-user_names document p says =
     named-rows (λ (u : User). u.name) (SaysUser p.labels) (λ before d u h. h.name.is_name) [] says.users.0 p.users says.users.2
 
-kept-users_distinct : (document : Members) (p : Tables) → Says document p → IsDistinct bytes_eq (map (λ u. u.name) p.users)
+kept-users_distinct : (document : Members) (p : Policy) → Says document p → IsDistinct bytes_eq (map (λ u. u.name) p.users)
 kept-users_distinct document p says =
     all-rows (SaysUser p.labels) (λ us. IsDistinct bytes_eq (map (λ u. u.name) us)) (λ before d u h apart. more-names (λ (x : User). x.name) before u h.new_name apart)
     [] says.users.0 p.users says.users.2 (none-distinct bytes_eq)
@@ -145,13 +145,13 @@ trusted-ordered : (labels : List Named) (field : Option Data) (o : Option (ℕ �
 trusted-ordered labels field None h = tt
 trusted-ordered labels field (Some i) (low, high, is, l, h, order) = order
 
-kept-cleared : (document : Members) (p : Tables) → Says document p → AllByRecursion (IsCleared (length p.labels)) p.users
+kept-cleared : (document : Members) (p : Policy) → Says document p → AllByRecursion (IsCleared (length p.labels)) p.users
 kept-cleared document p says =
     each-row (SaysUser p.labels) (IsCleared (length p.labels))
     (λ before d u h. record { clearance = within p.labels h.cleared u.clearance h.clearance; trusted = trusted-declared p.labels _ u.trusted h.trusted })
     [] says.users.0 p.users says.users.2
 
-kept-trusted : (document : Members) (p : Tables) → Says document p → AllByRecursion (IsTrusted (labels_of p)) p.users
+kept-trusted : (document : Members) (p : Policy) → Says document p → AllByRecursion (IsTrusted (labels_of p)) p.users
 kept-trusted document p says =
     each-row (SaysUser p.labels) (IsTrusted (labels_of p)) (λ before d u h. trusted-ordered p.labels _ u.trusted h.trusted) [] says.users.0 p.users says.users.2
 
@@ -161,11 +161,11 @@ user-within : (users : List User) (name : Name) (k : ℕ) → position (λ u. by
 user-within [] name k e = absurd cc
 user-within (u ∷ us) name k e = (position-Some (λ x. bytes_eq x.name name) (u ∷ us) k u e).0
 
-kept-held : (document : Members) (p : Tables) → Says document p → AllByRecursion (HasUser (length p.users)) p.matrix
+kept-held : (document : Members) (p : Policy) → Says document p → AllByRecursion (HasUser (length p.users)) p.matrix
 kept-held document p says =
     each-row (SaysRight p.users) (HasUser (length p.users)) (λ before d r h. record { user = user-within p.users h.name r.user h.user }) [] says.matrix.0 p.matrix says.matrix.2
 
-kept-object_names : (document : Members) (p : Tables) → Says document p → AreNames (map (λ r. r.object) p.matrix)
+kept-object_names : (document : Members) (p : Policy) → Says document p → AreNames (map (λ r. r.object) p.matrix)
 kept-object_names document p says =
     named-rows (λ (r : Right). r.object) (SaysRight p.users) (λ before d r h. h.object.is_name) [] says.matrix.0 p.matrix says.matrix.2
 
@@ -185,7 +185,7 @@ entry-equiv = record {
         nat_list_eq_equiv.symm t.object r.object ∙ sym (nat_list_eq_equiv.congr s.object r.object t.object p.1) ∙ nat_list_eq_equiv.symm s.object t.object in
         rw (user, object) refl
 
-kept-entries_distinct : (document : Members) (p : Tables) → Says document p → IsDistinct same_entry p.matrix
+kept-entries_distinct : (document : Members) (p : Policy) → Says document p → IsDistinct same_entry p.matrix
 kept-entries_distinct document p says =
     all-rows (SaysRight p.users) (IsDistinct same_entry) (λ before d r h apart. IsDistinct-push entry-equiv before r apart h.new) [] says.matrix.0 p.matrix says.matrix.2 (none-distinct same_entry)
 
@@ -200,7 +200,7 @@ together-small : (n : ℕ) (modes : List ℕ) → n < 2 ^ 4 → AllByRecursion (
 together-small n [] small all = small
 together-small n (m ∷ modes) small all = together-small (bit_or n m) modes (or_lt 4 n m small all.0) all.1
 
-kept-modes : (document : Members) (p : Tables) → Says document p → AllByRecursion HasKnownModes p.matrix
+kept-modes : (document : Members) (p : Policy) → Says document p → AllByRecursion HasKnownModes p.matrix
 kept-modes document p says =
     each-row (SaysRight p.users) HasKnownModes
     (λ before d r h. record {
@@ -209,7 +209,7 @@ kept-modes document p says =
     })
     [] says.matrix.0 p.matrix says.matrix.2
 
-pub policy-kept : (document : Members) (p : Tables) → Says document p → IsPolicy p
+pub policy-kept : (document : Members) (p : Policy) → Says document p → IsPolicy p
 policy-kept document p says = record {
   some_level = says.some_level;
   few_levels = says.few_levels;
@@ -243,6 +243,6 @@ pub policy-read : (document : Members) (version : Version) (levels categories : 
     → IsPolicy (record { version = version; levels = levels; categories = categories; labels = labels; users = users; matrix = matrix })
 unfolding policy_at
 policy-read document version levels categories labels users matrix v l c b u m =
-    let p : Tables = record { version = version; levels = levels; categories = categories; labels = labels; users = users; matrix = matrix } in
+    let p : Policy = record { version = version; levels = levels; categories = categories; labels = labels; users = users; matrix = matrix } in
     let read : policy_at document ≡ Ok p = rw (v, l, c, b, u, m) refl in
     policy-kept document p (says_found document p read)

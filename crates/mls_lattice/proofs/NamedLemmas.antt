@@ -13,7 +13,7 @@ use Rattle.std.proofs.lemmas.Option.{slice_get-get_or}
 use Rattle.std.proofs.lemmas.Slice.Eq.{bytes_eq-Decides}
 use Rattle.mls_lattice.specs.Lattice.{bottom}
 use Rattle.mls_lattice.specs.Name.{is_name}
-use Rattle.mls_lattice.specs.Policy.{Name, Named, Tables, AreNames, IsPolicy}
+use Rattle.mls_lattice.specs.Policy.{Name, Named, Policy, AreNames, IsPolicy}
 use Rattle.mls_lattice.specs.Canon.{label_name, user_name}
 
 -- ---- any things
@@ -65,13 +65,13 @@ label_found labels s n e =
     let there = named_there (λ l. l.name) labels no_label s n e in
     (there.0, name_there (λ l. l.name) labels no_label n there.0 ∙ there.1)
 
-pub label_again : (policy : Tables) → IsPolicy policy → (n : ℕ) → n < length policy.labels → position (λ l. bytes_eq l.name (label_name policy.labels n)) policy.labels ≡ Some n
+pub label_again : (policy : Policy) → IsPolicy policy → (n : ℕ) → n < length policy.labels → position (λ l. bytes_eq l.name (label_name policy.labels n)) policy.labels ≡ Some n
 label_again policy valid n within =
     ap (λ s. position (λ l. bytes_eq l.name s) policy.labels) (name_there (λ l. l.name) policy.labels no_label n within)
     ∙ found_again (λ l. l.name) policy.labels no_label valid.names n within
 
-pub label_is_name : (policy : Tables) → IsPolicy policy → (n : ℕ) → n < length policy.labels → is_name (label_name policy.labels n) ≡ true
+pub label_is_name : (policy : Policy) → IsPolicy policy → (n : ℕ) → n < length policy.labels → is_name (label_name policy.labels n) ≡ true
 label_is_name policy valid = is_name_there (λ l. l.name) policy.labels valid.label_names
 
-pub user_is_name : (policy : Tables) → IsPolicy policy → (n : ℕ) → n < length policy.users → is_name (user_name policy.users n) ≡ true
+pub user_is_name : (policy : Policy) → IsPolicy policy → (n : ℕ) → n < length policy.users → is_name (user_name policy.users n) ≡ true
 user_is_name policy valid = is_name_there (λ u. u.name) policy.users valid.user_names

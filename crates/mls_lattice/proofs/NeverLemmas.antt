@@ -15,7 +15,7 @@ use Rattle.mls_lattice.specs.Lattice.{same_pair}
 use Rattle.mls_lattice.specs.Labels.{below}
 use Rattle.mls_lattice.specs.Name.{is_name}
 use Rattle.mls_lattice.specs.Policy.{Name, Named, is_entry}
-use Rattle.mls_lattice.specs.Reading.{◌>>=◌, GivesUnless, Gives, wanted, text_at, integer_at, array_at, table_at, name_at, version_at, name_field, items_len, all_items, texts_at, tables_at, optional, at_most, some_of}
+use Rattle.mls_lattice.specs.Reading.{◌>>=◌, GivesUnless, Gives, wanted, text_at, integer_at, array_at, table_at, name_at, version_at, name_field, items_len, all_items, texts_at, tables_at, optional, bounded, some_of}
 use Rattle.mls_lattice.specs.PolicyReading.{rows_at, once, place_in, label_place, user_place, new_name_at, levels_at, categories_at, more_categories, value_at, label_at, labels_at, label_name_at, interval_at, trusted_at, user_at, users_at, mode_of, more_modes, right_at, matrix_at, policy_at}
 
 -- An answer is not this fault.
@@ -103,11 +103,11 @@ pub optional-never : (read : Data → Result Items PolicyFault) → ((d : Data) 
 optional-never read each None = tt
 optional-never read each (Some d) = each d
 
-pub at_most-never : (most : ℕ) (ds : Items) → IsNever NotToml (at_most most ds)
-at_most-never most ds = never-test _ (nat_lt most (items_len ds)) _ _ many tt
+pub bounded-never : (most : ℕ) (ds : Items) → IsNever NotToml (bounded most ds)
+bounded-never most ds = never-test _ (nat_lt most (items_len ds)) _ _ many tt
 
 pub some_of-never : (most : ℕ) (ds : Items) → IsNever NotToml (some_of most ds)
-some_of-never most ds = never-test _ (items_len ds == 0) _ _ missing (at_most-never most ds)
+some_of-never most ds = never-test _ (items_len ds == 0) _ _ missing (bounded-never most ds)
 
 -- ---- rows
 
@@ -143,7 +143,7 @@ categories-never : (m : Members) → IsNever NotToml (categories_at m)
 unfolding categories_at
 categories-never m =
     never-then _ _ _ (optional-never texts_at texts-never (get_member (codes "categories") m)) (λ all.
-    never-then _ _ _ (at_most-never 32 all) (rows-never new_name_at new_name-never []))
+    never-then _ _ _ (bounded-never 32 all) (rows-never new_name_at new_name-never []))
 
 -- ---- labels
 
@@ -204,7 +204,7 @@ users-never : (labels : List Named) (m : Members) → IsNever NotToml (users_at 
 unfolding users_at
 users-never labels m =
     never-then _ _ _ (optional-never tables_at tables-never (get_member (codes "user") m)) (λ all.
-    never-then _ _ _ (at_most-never 64 all) (rows-never (user_at labels) (user-never labels) []))
+    never-then _ _ _ (bounded-never 64 all) (rows-never (user_at labels) (user-never labels) []))
 
 -- ---- the matrix
 
@@ -232,7 +232,7 @@ matrix-never : (users : List User) (m : Members) → IsNever NotToml (matrix_at 
 unfolding matrix_at
 matrix-never users m =
     never-then _ _ _ (optional-never tables_at tables-never (get_member (codes "matrix") m)) (λ all.
-    never-then _ _ _ (at_most-never 1024 all) (rows-never (right_at users) (right-never users) []))
+    never-then _ _ _ (bounded-never 1024 all) (rows-never (right_at users) (right-never users) []))
 
 -- ---- all of it
 

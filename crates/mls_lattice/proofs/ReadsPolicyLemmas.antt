@@ -4,7 +4,7 @@ use Rattle.std.specs.Prelude.{◌↔◌, IfOk, IfErr}
 use Rattle.toml.specs.Data.{Members, as_str, as_table}
 use Rattle.mls_lattice.specs.declared.fault.PolicyFault.{PolicyFault}
 use Rattle.mls_lattice.specs.declared.fault.PolicyFault.TheVariants.{NotToml, Memory}
-use Rattle.mls_lattice.specs.Policy.{Tables}
+use Rattle.mls_lattice.specs.Policy.{Policy}
 use Rattle.mls_lattice.specs.Reading.{Gives, version_at}
 use Rattle.mls_lattice.specs.PolicyReading.{new_name_at, levels_at, categories_at, label_at, labels_at, user_at, users_at, right_at, matrix_at, policy_at}
 use Rattle.mls_lattice.specs.Says.{SaysName, SaysLabel, SaysUser, SaysRight, Says}
@@ -13,7 +13,7 @@ use Rattle.mls_lattice.proofs.ReadingLemmas.{ok_is, same_ok, bind_ok}
 use Rattle.mls_lattice.proofs.SaysLemmas.{required_found, required_again, optional_rows_found, optional_rows_again}
 use Rattle.mls_lattice.proofs.SaysTablesLemmas.{new_name_found, new_name_again, name_kind, label_found, label_again, label_kind, user_found, user_again, user_kind, right_found, right_again, right_kind, version_found, version_again}
 
-pub says_found : (document : Members) (p : Tables) → policy_at document ≡ Ok p → Says document p
+pub says_found : (document : Members) (p : Policy) → policy_at document ≡ Ok p → Says document p
 unfolding policy_at levels_at categories_at labels_at users_at matrix_at
 says_found document p e =
     let v = bind_ok (version_at document) _ p e in
@@ -22,13 +22,13 @@ says_found document p e =
     let b = bind_ok (labels_at l.0 c.0 document) _ p c.2 in
     let u = bind_ok (users_at b.0 document) _ p b.2 in
     let m = bind_ok (matrix_at u.0 document) _ p u.2 in
-    let made : Tables = record { version = v.0; levels = l.0; categories = c.0; labels = b.0; users = u.0; matrix = m.0 } in
+    let made : Policy = record { version = v.0; levels = l.0; categories = c.0; labels = b.0; users = u.0; matrix = m.0 } in
     let levels = required_found new_name_at SaysName (λ x. is_some (as_str x)) (codes "levels") document 16 new_name_found l.0 l.1 in
     let categories = optional_rows_found new_name_at SaysName (λ x. is_some (as_str x)) (codes "categories") document 32 new_name_found c.0 c.1 in
     let labels = required_found (label_at l.0 c.0) (SaysLabel l.0 c.0) (λ x. is_some (as_table x)) (codes "label") document 64 (label_found l.0 c.0) b.0 b.1 in
     let users = optional_rows_found (user_at b.0) (SaysUser b.0) (λ x. is_some (as_table x)) (codes "user") document 64 (user_found b.0) u.0 u.1 in
     let matrix = optional_rows_found (right_at u.0) (SaysRight u.0) (λ x. is_some (as_table x)) (codes "matrix") document 1024 (right_found u.0) m.0 m.1 in
-    subst (λ (x : Tables). Says document x) (ok_is made p m.2)
+    subst (λ (x : Policy). Says document x) (ok_is made p m.2)
     (record {
       version = version_found document v.0 v.1;
       levels = levels.has;
@@ -45,27 +45,27 @@ says_found document p e =
       few_rights = matrix.few;
     })
 
-levels_again : (document : Members) (p : Tables) → Says document p → levels_at document ≡ Ok p.levels
+levels_again : (document : Members) (p : Policy) → Says document p → levels_at document ≡ Ok p.levels
 unfolding levels_at
 levels_again document p h = required_again new_name_at SaysName (λ x. is_some (as_str x)) (codes "levels") document 16 new_name_again name_kind p.levels h.levels h.some_level h.few_levels
 
-categories_again : (document : Members) (p : Tables) → Says document p → categories_at document ≡ Ok p.categories
+categories_again : (document : Members) (p : Policy) → Says document p → categories_at document ≡ Ok p.categories
 unfolding categories_at
 categories_again document p h = optional_rows_again new_name_at SaysName (λ x. is_some (as_str x)) (codes "categories") document 32 new_name_again name_kind p.categories h.categories h.few_categories
 
-labels_again : (document : Members) (p : Tables) → Says document p → labels_at p.levels p.categories document ≡ Ok p.labels
+labels_again : (document : Members) (p : Policy) → Says document p → labels_at p.levels p.categories document ≡ Ok p.labels
 unfolding labels_at
 labels_again document p h = required_again (label_at p.levels p.categories) (SaysLabel p.levels p.categories) (λ x. is_some (as_table x)) (codes "label") document 64 (label_again p.levels p.categories) (label_kind p.levels p.categories) p.labels h.labels h.some_label h.few_labels
 
-users_again : (document : Members) (p : Tables) → Says document p → users_at p.labels document ≡ Ok p.users
+users_again : (document : Members) (p : Policy) → Says document p → users_at p.labels document ≡ Ok p.users
 unfolding users_at
 users_again document p h = optional_rows_again (user_at p.labels) (SaysUser p.labels) (λ x. is_some (as_table x)) (codes "user") document 64 (user_again p.labels) (user_kind p.labels) p.users h.users h.few_users
 
-matrix_again : (document : Members) (p : Tables) → Says document p → matrix_at p.users document ≡ Ok p.matrix
+matrix_again : (document : Members) (p : Policy) → Says document p → matrix_at p.users document ≡ Ok p.matrix
 unfolding matrix_at
 matrix_again document p h = optional_rows_again (right_at p.users) (SaysRight p.users) (λ x. is_some (as_table x)) (codes "matrix") document 1024 (right_again p.users) (right_kind p.users) p.matrix h.matrix h.few_rights
 
-pub says_again : (document : Members) (p : Tables) → Says document p → policy_at document ≡ Ok p
+pub says_again : (document : Members) (p : Policy) → Says document p → policy_at document ≡ Ok p
 unfolding policy_at
 says_again document p h =
     rw (version_again document p.version h.version, levels_again document p h, categories_again document p h, labels_again document p h, users_again document p h, matrix_again document p h) refl
@@ -81,12 +81,12 @@ one document p q a b = same_ok (policy_at document) p q (says_again document p a
 pub one_document : (bytes : List ℕ) (d e : Members) → IsDocument bytes d → IsDocument bytes e → d ≡ e
 one_document bytes d e a b = let h : Some d ≡ Some e = sym a.1 ∙ b.1 in cc
 
-pub read_found : (bytes : List ℕ) (document : Members) (r : Result Tables PolicyFault) → IsDocument bytes document → Gives (λ p. p) r (policy_at document) → IfOk r (ReadsPolicy bytes)
+pub read_found : (bytes : List ℕ) (document : Members) (r : Result Policy PolicyFault) → IsDocument bytes document → Gives (λ p. p) r (policy_at document) → IfOk r (ReadsPolicy bytes)
 read_found bytes document (Ok p) is given = (document, is, says_found document p given)
 read_found bytes document (Err e) is given = tt
 
-pub read_refused : (bytes : List ℕ) (document : Members) (r : Result Tables PolicyFault) → IsDocument bytes document → Gives (λ p. p) r (policy_at document)
-    → IfErr r (λ e. e ≢ Memory → (p : Tables) → ReadsPolicy bytes p → ⊥)
+pub read_refused : (bytes : List ℕ) (document : Members) (r : Result Policy PolicyFault) → IsDocument bytes document → Gives (λ p. p) r (policy_at document)
+    → IfErr r (λ e. e ≢ Memory → (p : Policy) → ReadsPolicy bytes p → ⊥)
 read_refused bytes document (Ok p) is given = tt
 read_refused bytes document (Err e) is given = λ other p (read, is_read, says).
     let same = one_document bytes read document is_read is in
@@ -94,7 +94,7 @@ read_refused bytes document (Err e) is given = λ other p (read, is_read, says).
     let err : policy_at document ≡ Err e = given other in
     absurd cc
 
-pub read_not_toml : (bytes : List ℕ) (document : Members) (r : Result Tables PolicyFault) → IsDocument bytes document → IfErr r (λ e. e ≢ NotToml)
+pub read_not_toml : (bytes : List ℕ) (document : Members) (r : Result Policy PolicyFault) → IsDocument bytes document → IfErr r (λ e. e ≢ NotToml)
     → IfErr r (λ e. e ≢ Memory → (e ≡ NotToml) ↔ ((document : Members) → IsDocument bytes document → ⊥))
 read_not_toml bytes document (Ok p) is other = tt
 read_not_toml bytes document (Err e) is other = λ _. (λ same. absurd (other same), λ none. absurd (none document is))

@@ -7,7 +7,7 @@ use Rattle.mls_lattice.specs.declared.fault.PolicyFault.{PolicyFault}
 use Rattle.mls_lattice.specs.declared.fault.PolicyFault.TheVariants.{MissingField, WrongKind, TooMany, BadName}
 use Rattle.mls_lattice.specs.Name.{is_name}
 use Rattle.mls_lattice.specs.Policy.{Name}
-use Rattle.mls_lattice.specs.Reading.{◌>>=◌, wanted, text_at, array_at, name_at, name_field, items_len, all_items, optional, at_most, some_of}
+use Rattle.mls_lattice.specs.Reading.{◌>>=◌, wanted, text_at, array_at, name_at, name_field, items_len, all_items, optional, bounded, some_of}
 use Rattle.mls_lattice.specs.PolicyReading.{rows_at, once}
 use Rattle.mls_lattice.specs.Says.{Rows, MayHaveItems, HasName, HasRows, MayHaveRows}
 use Rattle.mls_lattice.proofs.ReadingLemmas.{ok_is, bind_ok, guard_ok, pass_ok, found_ok, string_from_as_str, array_from_as_array}
@@ -88,18 +88,18 @@ pub optional_again : (p : Data → Bool) (key : List ℕ) (fields : Members) (ds
 optional_again p key fields ds (inl h) all = rw (h, all) refl
 optional_again p key fields ds (inr h) all = rw h.0 (ap (λ (x : Items). Ok x) (sym h.1))
 
-pub most_found : (most : ℕ) (all ds : Items) → at_most most all ≡ Ok ds → (all ≡ ds) × (items_len ds ≤ most)
+pub most_found : (most : ℕ) (all ds : Items) → bounded most all ≡ Ok ds → (all ≡ ds) × (items_len ds ≤ most)
 most_found most all ds e =
     let a = guard_ok (nat_lt most (items_len all)) TooMany (Ok all) ds e in
     let same : all ≡ ds = ok_is all ds a.1 in
     (same, rw (← same) (ltb-false most (items_len all) a.0))
 
-pub most_again : (most : ℕ) (ds : Items) → items_len ds ≤ most → at_most most ds ≡ Ok ds
+pub most_again : (most : ℕ) (ds : Items) → items_len ds ≤ most → bounded most ds ≡ Ok ds
 most_again most ds few = rw (le-ltb most (items_len ds) few) refl
 
 some_found : (most : ℕ) (all ds : Items) → some_of most all ≡ Ok ds → (all ≡ ds) × (0 < items_len ds) × (items_len ds ≤ most)
 some_found most all ds e =
-    let a = guard_ok (items_len all == 0) MissingField (at_most most all) ds e in
+    let a = guard_ok (items_len all == 0) MissingField (bounded most all) ds e in
     let b = most_found most all ds a.1 in
     let not_none : items_len all ≡ 0 → ⊥ = eqb-false (items_len all) 0 a.0 in
     let len : items_len all ≡ items_len ds = ap items_len b.0 in
@@ -140,10 +140,10 @@ module _ {B : Type 0} (read : List B → Data → Result B PolicyFault) (R : Lis
       rw (h.1, rows_all R p kind [] h.0 all h.2, some_again most h.0 (omega (arith, some, len)) (omega (arith, few, len))) (rows_again read R again [] h.0 all h.2)
 
   pub optional_rows_found : ((before : List B) (d : Data) (row : B) → read before d ≡ Ok row → R before d row)
-      → (all : List B) → (optional (kind_at p) (get_member key document) >>= λ ds. at_most most ds >>= rows_at read []) ≡ Ok all → IsTable (MayHaveRows R key document) 0 most all
+      → (all : List B) → (optional (kind_at p) (get_member key document) >>= λ ds. bounded most ds >>= rows_at read []) ≡ Ok all → IsTable (MayHaveRows R key document) 0 most all
   optional_rows_found found all e =
       let a = bind_ok (optional (kind_at p) (get_member key document)) _ all e in
-      let b = bind_ok (at_most most a.0) _ all a.2 in
+      let b = bind_ok (bounded most a.0) _ all a.2 in
       let s = most_found most a.0 b.0 b.1 in
       let r = rows_found read R found [] b.0 all b.2 in
       let rows : Rows R [] b.0 all = subst (λ (x : List B). Rows R [] b.0 x) (sym r.1) r.2 in
@@ -155,7 +155,7 @@ module _ {B : Type 0} (read : List B → Data → Result B PolicyFault) (R : Lis
       }
 
   pub optional_rows_again : ((before : List B) (d : Data) (row : B) → R before d row → read before d ≡ Ok row) → ((before : List B) (d : Data) (row : B) → R before d row → p d ≡ true)
-      → (all : List B) → MayHaveRows R key document all → length all ≤ most → (optional (kind_at p) (get_member key document) >>= λ ds. at_most most ds >>= rows_at read []) ≡ Ok all
+      → (all : List B) → MayHaveRows R key document all → length all ≤ most → (optional (kind_at p) (get_member key document) >>= λ ds. bounded most ds >>= rows_at read []) ≡ Ok all
   optional_rows_again again kind all h few =
       let len = rows_len R [] h.0 all h.2 in
       rw (optional_again p key document h.0 h.1 (rows_all R p kind [] h.0 all h.2), most_again most h.0 (omega (arith, few, len))) (rows_again read R again [] h.0 all h.2)

@@ -7,7 +7,7 @@ use Rattle.mls_lattice.specs.declared.tables.User.{User}
 use Rattle.mls_lattice.specs.declared.tables.Right.{Right}
 use Rattle.mls_lattice.specs.Lattice.{Categories}
 use Rattle.mls_lattice.specs.Version.{version_text}
-use Rattle.mls_lattice.specs.Policy.{Name, Named, Tables}
+use Rattle.mls_lattice.specs.Policy.{Name, Named, Policy}
 
 -- the names of a level, of a label and of a user by number
 abbrev pub name_at : List Name → ℕ → Name
@@ -39,7 +39,7 @@ label_line levels categories l =
     codes "label " ++ l.name ++ spaced (name_at levels l.value.rank) ++ flat_map spaced (names_of 0 categories l.value.cats) ++ codes "\n"
 
 -- the levels, categories and labels
-abbrev pub lattice_of : Tables → List ℕ
+abbrev pub lattice_of : Policy → List ℕ
 lattice_of p =
     flat_map level_line p.levels ++ flat_map category_line p.categories ++ flat_map (label_line p.levels p.categories) p.labels
 
@@ -63,6 +63,6 @@ modes_text modes =
 abbrev pub right_line : List User → Right → List ℕ
 right_line users r = codes "matrix " ++ user_name users r.user ++ spaced r.object ++ modes_text r.modes.0 ++ codes "\n"
 
-abbrev pub canon_of : Tables → List ℕ
+abbrev pub canon_of : Policy → List ℕ
 canon_of p =
     codes "policy " ++ version_text p.version ++ codes "\n" ++ lattice_of p ++ flat_map (user_line p.labels) p.users ++ flat_map (right_line p.users) p.matrix

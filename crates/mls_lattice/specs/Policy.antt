@@ -21,7 +21,7 @@ pub record Named : Type 0 where
   pub value : Pair
 
 -- all that a policy says, in the order of its file
-pub record Tables : Type 0 where
+pub record Policy : Type 0 where
   pub version : Version
   pub levels : List Name
   pub categories : List Name
@@ -33,7 +33,7 @@ abbrev pub named : NamedLabel → Named
 named l = record { name = l.name; value = pair_of l.label }
 
 -- the declared labels, by number
-abbrev pub labels_of : Tables → Labels
+abbrev pub labels_of : Policy → Labels
 labels_of p = map (λ l. l.value) p.labels
 
 -- each is a NAME
@@ -71,7 +71,7 @@ same_entry r s = is_entry r.user r.object s
 
 -- What holds of every policy: names are NAMEs, none is twice where it names a thing, no two labels have one value, what a row
 -- names is declared, and a trusted interval isn't empty.
-pub record IsPolicy (p : Tables) : Type 0 where
+pub record IsPolicy (p : Policy) : Type 0 where
   pub some_level : 0 < length p.levels
   pub few_levels : length p.levels ≤ 16
   pub level_names : AreNames p.levels
@@ -97,6 +97,6 @@ pub record IsPolicy (p : Tables) : Type 0 where
   pub entries : IsDistinct same_entry p.matrix
 
 -- the modes of the entry for a user and an object, or none
-abbrev pub modes_in : List Right → ℕ → Name → ℕ
-modes_in [] user object = 0
-modes_in (r ∷ rs) user object = if is_entry user object r then r.modes.0 else modes_in rs user object
+abbrev pub granted_modes : List Right → ℕ → Name → ℕ
+granted_modes [] user object = 0
+granted_modes (r ∷ rs) user object = if is_entry user object r then r.modes.0 else granted_modes rs user object

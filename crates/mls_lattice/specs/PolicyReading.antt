@@ -12,8 +12,8 @@ use Rattle.mls_lattice.specs.declared.tables.User.{User}
 use Rattle.mls_lattice.specs.declared.tables.Right.{Right}
 use Rattle.mls_lattice.specs.Lattice.{Pair, same_pair}
 use Rattle.mls_lattice.specs.Labels.{below}
-use Rattle.mls_lattice.specs.Policy.{Name, Named, Tables, is_entry}
-use Rattle.mls_lattice.specs.Reading.{◌>>=◌, wanted, text_at, table_at, version_at, name_at, name_field, texts_at, tables_at, optional, at_most, some_of}
+use Rattle.mls_lattice.specs.Policy.{Name, Named, Policy, is_entry}
+use Rattle.mls_lattice.specs.Reading.{◌>>=◌, wanted, text_at, table_at, version_at, name_at, name_field, texts_at, tables_at, optional, bounded, some_of}
 
 -- the rows of the items, after those in front, which each row may depend on
 abbrev pub rows_at : {B : Type 0} → (List B → Data → Result B PolicyFault) → List B → Items → Result (List B) PolicyFault
@@ -53,7 +53,7 @@ levels_at document = do
 unfoldable pub categories_at : Members → Result (List Name) PolicyFault
 categories_at document = do
   all ← optional texts_at (get_member (codes "categories") document)
-  ds ← at_most 32 all
+  ds ← bounded 32 all
   rows_at new_name_at [] ds
 
 -- ---- labels
@@ -118,7 +118,7 @@ user_at labels front d = do
 unfoldable pub users_at : List Named → Members → Result (List User) PolicyFault
 users_at labels document = do
   all ← optional tables_at (get_member (codes "user") document)
-  ds ← at_most 64 all
+  ds ← bounded 64 all
   rows_at (user_at labels) [] ds
 
 -- ---- the matrix
@@ -152,12 +152,12 @@ right_at users front d = do
 unfoldable pub matrix_at : List User → Members → Result (List Right) PolicyFault
 matrix_at users document = do
   all ← optional tables_at (get_member (codes "matrix") document)
-  ds ← at_most 1024 all
+  ds ← bounded 1024 all
   rows_at (right_at users) [] ds
 
 -- ---- all of it
 
-unfoldable pub policy_at : Members → Result Tables PolicyFault
+unfoldable pub policy_at : Members → Result Policy PolicyFault
 policy_at document = do
   version ← version_at document
   levels ← levels_at document

@@ -74,9 +74,9 @@ optional read None = Ok no_items
 optional read (Some d) = read d
 
 -- no more items than these
-abbrev pub at_most : ℕ → Items → Result Items PolicyFault
-at_most most ds = if nat_lt most (items_len ds) then Err TooMany else Ok ds
+abbrev pub bounded : ℕ → Items → Result Items PolicyFault
+bounded most ds = if nat_lt most (items_len ds) then Err TooMany else Ok ds
 
 -- as many, and one at least
 abbrev pub some_of : ℕ → Items → Result Items PolicyFault
-some_of most ds = if items_len ds == 0 then Err MissingField else at_most most ds
+some_of most ds = if items_len ds == 0 then Err MissingField else bounded most ds

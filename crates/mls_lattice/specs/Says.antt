@@ -11,7 +11,7 @@ use Rattle.mls_lattice.specs.Lattice.{Pair, same_pair}
 use Rattle.mls_lattice.specs.Labels.{below}
 use Rattle.mls_lattice.specs.Name.{is_name}
 use Rattle.mls_lattice.specs.Version.{version_number}
-use Rattle.mls_lattice.specs.Policy.{Name, Named, Tables, is_entry}
+use Rattle.mls_lattice.specs.Policy.{Name, Named, Policy, is_entry}
 use Rattle.mls_lattice.specs.PolicyReading.{mode_of}
 
 -- the items say the rows, one each, where a row may depend on those before it
@@ -131,7 +131,7 @@ abbrev pub MayHaveRows : {B : Type 0} → (List B → Data → B → Type 0) →
 MayHaveRows Says key document rows = (ds : Items) × MayHaveItems key document ds × Rows Says [] ds rows
 
 -- the document is that of the policy
-pub record Says (document : Members) (p : Tables) : Type 0 where
+pub record Says (document : Members) (p : Policy) : Type 0 where
   pub version : get_member (codes "version") document ≡ Some (integer (pos (version_number p.version)))
   pub levels : HasRows SaysName (codes "levels") document p.levels
   pub some_level : 0 < length p.levels

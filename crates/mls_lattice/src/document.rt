@@ -3,7 +3,7 @@ ghost use Rattle.std.specs.Prelude.{◌≡◌, option_map, is_some};
 ghost use Rattle.std.specs.List.{list_all};
 ghost use Rattle.toml.specs.Data.{get_member, as_str, as_table};
 ghost use Rattle.toml.specs.View.{view, items_view, table_view};
-ghost use Rattle.mls_lattice.specs.Reading.{Gives, wanted, text_at, integer_at, version_at, array_at, table_at, name_at, name_field, texts_at, tables_at, optional, at_most, some_of};
+ghost use Rattle.mls_lattice.specs.Reading.{Gives, wanted, text_at, integer_at, version_at, array_at, table_at, name_at, name_field, texts_at, tables_at, optional, bounded, some_of};
 
 use crate::fault::PolicyFault;
 use crate::name::is_name;
@@ -142,8 +142,8 @@ pub fn optional_tables<'a>(table: &'a Table, key: &str) -> Result<&'a [Value], P
 
 /// The same items, if they are no more than these.
 #[tactic(auto, using(crate::proofs::ReadingLemmas::counts))]
-pub fn at_most(items: &[Value], most: usize) -> Result<&[Value], PolicyFault>
-    ensures { Gives (λ items. items_view items.now) result (at_most most (items_view items.now)) }
+pub fn bounded(items: &[Value], most: usize) -> Result<&[Value], PolicyFault>
+    ensures { Gives (λ items. items_view items.now) result (bounded most (items_view items.now)) }
 {
     if items.len() > most {
         Err(PolicyFault::TooMany)
@@ -160,7 +160,7 @@ pub fn some_of(items: &[Value], most: usize) -> Result<&[Value], PolicyFault>
     if items.is_empty() {
         Err(PolicyFault::MissingField)
     } else {
-        at_most(items, most)
+        bounded(items, most)
     }
 }
 

@@ -24,7 +24,7 @@ const MAX_LABELS: usize = 64;
 
 /// The words of a set with the categories of these names.
 #[tactic(auto, using(crate::proofs::PolicyReadingLemmas::category_steps))]
-fn categories_in(categories: &[Str], items: &[Value], at: &mut Trail) -> Result<u32, PolicyFault>
+fn categories_named(categories: &[Str], items: &[Value], at: &mut Trail) -> Result<u32, PolicyFault>
     requires { length categories.now ≤ 32 }
     ensures { Gives cats_of result (more_categories categories.now set.empty (items_view items.now)) }
 {
@@ -66,7 +66,7 @@ fn value_of(
 {
     let rank = place_of(levels, name_field(fields, at.field(1, "level"))?)? as u8;
     let items = optional_texts(fields, at.field(1, "categories"))?;
-    let cats = categories_in(categories, items, at)?;
+    let cats = categories_named(categories, items, at)?;
     Ok(Label { rank, cats })
 }
 

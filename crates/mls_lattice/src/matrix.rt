@@ -2,11 +2,11 @@
 ghost use Rattle.std.specs.Prelude.{◌≡◌, ◌≤◌, [], length};
 ghost use Rattle.std.specs.List.{list_any};
 ghost use Rattle.toml.specs.View.{view, items_view, table_view};
-ghost use Rattle.mls_lattice.specs.Policy.{is_entry, modes_in};
+ghost use Rattle.mls_lattice.specs.Policy.{is_entry, granted_modes};
 ghost use Rattle.mls_lattice.specs.Reading.{Gives};
 ghost use Rattle.mls_lattice.specs.PolicyReading.{rows_at, mode_of, more_modes, right_at, matrix_at};
 
-use crate::document::{at_most, name_field, optional_tables, table_of, text_of, texts_of, wanted};
+use crate::document::{bounded, name_field, optional_tables, table_of, text_of, texts_of, wanted};
 use crate::fault::PolicyFault;
 use crate::modes::Modes;
 use crate::number::UserNo;
@@ -65,8 +65,8 @@ fn has_entry(matrix: &[Right], user: UserNo, object: &str) -> bool
 }
 
 /// The modes of the entry for a user and an object, or none.
-pub(crate) fn modes_in(matrix: &[Right], user: UserNo, object: &str) -> Modes
-    ensures { result.0 ≡ modes_in matrix.now user object.now }
+pub(crate) fn granted_modes(matrix: &[Right], user: UserNo, object: &str) -> Modes
+    ensures { result.0 ≡ granted_modes matrix.now user object.now }
 {
     for right in matrix {
         if is_entry(right, user, object) {
@@ -134,6 +134,6 @@ pub(crate) fn matrix_of(
     ensures { Gives (λ v. v.items) result (matrix_at users.now (table_view document.now)) }
 {
     let all = optional_tables(document, at.field(0, "matrix"))?;
-    let items = at_most(all, MAX_RIGHTS)?;
+    let items = bounded(all, MAX_RIGHTS)?;
     rows_of(alloc, users, items, at)
 }

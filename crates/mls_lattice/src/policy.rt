@@ -5,7 +5,7 @@ ghost use Rattle.std.specs.Str.{bytes_eq};
 ghost use Rattle.mls_lattice.specs.Lattice.{pair_of};
 ghost use Rattle.mls_lattice.specs.Labels.{label_of, below, AreDistinct};
 ghost use Rattle.mls_lattice.specs.Name.{is_name};
-ghost use Rattle.mls_lattice.specs.Policy.{Tables, labels_of, modes_in, IsPolicy};
+ghost use Rattle.mls_lattice.specs.Policy.{Policy, labels_of, granted_modes, IsPolicy};
 ghost use Rattle.mls_lattice.specs.Canon.{label_name, user_name, canon_of, lattice_of};
 ghost use Rattle.mls_lattice.specs.Extending.{Extends};
 ghost use Rattle.mls_lattice.specs.Reading.{Gives};
@@ -17,13 +17,13 @@ ghost use Rattle.toml.specs.View.{table_view};
 use crate::canon::{
     categories_to, label_name, labels_to, levels_to, matrix_to, user_name, users_to, version_to,
 };
-use crate::document::{at_most, optional_texts, some_of, texts_of, version_of, wanted};
+use crate::document::{bounded, optional_texts, some_of, texts_of, version_of, wanted};
 use crate::extending::{labels_before, names_before};
 use crate::fault::PolicyFault;
 use crate::items::Items;
 use crate::label::Label;
 use crate::labels::{labels_of, position_of_label};
-use crate::matrix::{matrix_of, modes_in};
+use crate::matrix::{granted_modes, matrix_of};
 use crate::modes::Modes;
 use crate::names::names_of;
 use crate::number::{LabelNo, UserNo};
@@ -52,9 +52,9 @@ impl Model for Policy {
     ghost use Rattle.std.specs.Prelude.{map};
     ghost use Rattle.std.specs.Coded.{codes};
     ghost use Rattle.mls_lattice.specs.Lattice.{pair_code};
-    ghost use Rattle.mls_lattice.specs.Policy.{Tables, named, IsPolicy};
+    ghost use Rattle.mls_lattice.specs.Policy.{Policy, named, IsPolicy};
 
-    ghost Value = { Tables };
+    ghost Value = { Policy };
 
     ghost coded = { Prim.hlevel (codes, pair_code) };
 
@@ -71,7 +71,7 @@ impl Policy {
         // What is read is what the bytes say.
         ensures found { IfOk result (ReadsPolicy bytes.now) }
         // Nothing that says a policy is refused, unless memory runs out.
-        ensures refused { IfErr result (λ e. e.fault ≢ PolicyFault.Memory → (p : Tables) → ReadsPolicy bytes.now p → ⊥) }
+        ensures refused { IfErr result (λ e. e.fault ≢ PolicyFault.Memory → (p : Policy) → ReadsPolicy bytes.now p → ⊥) }
         // Another fault of a document is its first.
         ensures first { IfErr result (λ e. e.fault ≢ PolicyFault.Memory → e.fault ≢ PolicyFault.NotToml
             → HasFault bytes.now e.fault) }
@@ -99,7 +99,7 @@ impl Policy {
     /// The same, with the fault alone.
     pub fn read(alloc: Global, bytes: &[u8]) -> Result<Policy, PolicyFault>
         ensures found { IfOk result (ReadsPolicy bytes.now) }
-        ensures refused { IfErr result (λ e. e ≢ PolicyFault.Memory → (p : Tables) → ReadsPolicy bytes.now p → ⊥) }
+        ensures refused { IfErr result (λ e. e ≢ PolicyFault.Memory → (p : Policy) → ReadsPolicy bytes.now p → ⊥) }
         ensures first { IfErr result (λ e. e ≢ PolicyFault.Memory → e ≢ PolicyFault.NotToml → HasFault bytes.now e) }
         ensures not_toml { IfErr result (λ e. e ≢ PolicyFault.Memory
             → (e ≡ PolicyFault.NotToml) ↔ ((document : Members) → IsDocument bytes.now document → ⊥)) }
@@ -283,9 +283,9 @@ impl Policy {
 
     /// What a user may do with an object: nothing where the matrix has no entry.
     pub fn modes(&self, user: UserNo, object: &str) -> Modes
-        ensures { result.0 ≡ modes_in self.now.matrix user object.now }
+        ensures { result.0 ≡ granted_modes self.now.matrix user object.now }
     {
-        modes_in(&self.matrix, user, object)
+        granted_modes(&self.matrix, user, object)
     }
 }
 
@@ -311,7 +311,7 @@ fn categories_of(alloc: Global, document: &Table, at: &mut Trail) -> Result<Vec<
     ensures count { IfOk result (λ v. length v.items ≤ 32) }
 {
     let all = optional_texts(document, at.field(0, "categories"))?;
-    let items = at_most(all, MAX_CATEGORIES)?;
+    let items = bounded(all, MAX_CATEGORIES)?;
     names_of(alloc, items, at)
 }
 

@@ -9,7 +9,7 @@ ghost use Rattle.mls_lattice.specs.Policy.{named};
 ghost use Rattle.mls_lattice.specs.Reading.{Gives};
 ghost use Rattle.mls_lattice.specs.PolicyReading.{rows_at, label_name_at, interval_at, trusted_at, user_at, users_at, user_place};
 
-use crate::document::{at_most, field, name_field, name_of, optional_tables, table_of, texts_of};
+use crate::document::{bounded, field, name_field, name_of, optional_tables, table_of, texts_of};
 use crate::fault::PolicyFault;
 use crate::labels::label_place;
 use crate::number::LabelNo;
@@ -145,7 +145,7 @@ pub(crate) fn users_of(
     ensures count { IfOk result (λ v. length v.items ≤ 64) }
 {
     let all = optional_tables(document, at.field(0, "user"))?;
-    let items = at_most(all, MAX_USERS)?;
+    let items = bounded(all, MAX_USERS)?;
     rows_of(alloc, labels, items, at)
 }
 

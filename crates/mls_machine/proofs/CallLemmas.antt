@@ -25,7 +25,7 @@ use Rattle.mls_machine.specs.declared.stored.Stored.{Stored}
 use Rattle.mls_machine.specs.declared.stored.Stored.TheVariants.{Certified, Plain}
 use Rattle.mls_machine.specs.Stored.{tx_of}
 use Rattle.mls_machine.specs.Site.{Site, site_labels}
-use Rattle.mls_machine.specs.Denying.{first_denial, clearance_of, trusted_of, exceed, execute_mode, lacks_on, lie_outside, stored_named, are_wrong_at, fitted, call_denials}
+use Rattle.mls_machine.specs.Denying.{first_denial, clearance_of, trusted_of, exceed, execute_mode, lacks_rights_on, lie_outside, stored_named, are_wrong_at, fitted, call_denials}
 use Rattle.mls_machine.specs.Machine.{World, Step, unless, denial_entry, denied, call_entries, called, call_step, step_at, step}
 use Rattle.mls_machine.specs.Output.{line, call_texts, item_lines, reply_lines}
 use Rattle.mls_machine.specs.Observation.{AreStored, params_of, blanked, shown, glimpse, IsBelowCeiling, IsNoCall, out, released_in, reply_shown}
@@ -80,7 +80,7 @@ module _ (site : Site) (distinct : AreDistinct (site_labels site)) (c : ℕ) (v 
               let count = same_count (site_labels site) c tx.params vs ws same in
               let kinds = same_wrong (site_labels site) c tx.lo (ap (λ l. below (site_labels site) l c) (eqb-true tx.lo e.level q) ∙ sees) tx.params vs ws same in
               λ i. of_both (nat_eq tx.lo e.level) (not (nat_eq (count i) (length tx.params)) || kinds i)
-          | false ↦ λ q. ap (λ b. of_both b (wrong vs)) q ∙ no_matter (lacks_on site user tx.name (execute_mode ∷ [])) (exceed site (clearance_of site.policy user) (tx.hi ∷ [])) ∙ ap (λ b. of_both b (wrong ws)) (sym q)
+          | false ↦ λ q. ap (λ b. of_both b (wrong vs)) q ∙ no_matter (lacks_rights_on site user tx.name (execute_mode ∷ [])) (exceed site (clearance_of site.policy user) (tx.hi ∷ [])) ∙ ap (λ b. of_both b (wrong ws)) (sym q)
         ] refl
       where
         wrong : List (Option Value) → Bool
@@ -93,7 +93,7 @@ module _ (site : Site) (distinct : AreDistinct (site_labels site)) (c : ℕ) (v 
         of_all ds ss b r = first_denial ((ds, Ds) ∷ (ss, Ss) ∷ (not b, Star) ∷ (trust, Trust) ∷ (r, Arguments) ∷ [])
 
         of_both : Bool → Bool → Option Denial
-        of_both b r = of_all (lacks_on site user tx.name (execute_mode ∷ [])) (exceed site (clearance_of site.policy user) (tx.hi ∷ [])) b r
+        of_both b r = of_all (lacks_rights_on site user tx.name (execute_mode ∷ [])) (exceed site (clearance_of site.policy user) (tx.hi ∷ [])) b r
 
         no_matter : (ds ss : Bool) → of_all ds ss false (wrong vs) ≡ of_all ds ss false (wrong ws)
         no_matter ds ss = refl

@@ -10,7 +10,7 @@ use Rattle.mls_lattice.specs.declared.tables.Right.{Right}
 use Rattle.mls_lattice.specs.declared.version.Version.TheVariants.{One}
 use Rattle.mls_lattice.specs.Lattice.{Pair}
 use Rattle.mls_lattice.specs.Labels.{Labels, below}
-use Rattle.mls_lattice.specs.Policy.{Name, Tables, modes_in}
+use Rattle.mls_lattice.specs.Policy.{Name, Policy, granted_modes}
 use Rattle.mls_scheme.specs.declared.value.Kind.TheVariants as kinds
 use Rattle.mls_scheme.specs.declared.value.Value.{Value}
 use Rattle.mls_scheme.specs.declared.value.Value.TheVariants.{Text}
@@ -52,7 +52,7 @@ module _ (u s : Pair) (rights : List Right) (k : Certified) (is : k.tx ≡ pass)
   abbrev ls : Labels
   ls = u ∷ s ∷ []
 
-  abbrev policy : Tables
+  abbrev policy : Policy
   policy = record {
     version = One;
     levels = [];
@@ -123,7 +123,7 @@ module _ (u s : Pair) (rights : List Right) (k : Certified) (is : k.tx ≡ pass)
   unfolding run_lines
   next w e es t h = ap (λ (x : Step). reply_lines site e x.reply ++ run_lines Lines site x.world es) h
 
-  module _ (u-u : below ls 0 0 ≡ true) (u-s : below ls 0 1 ≡ true) (s-s : below ls 1 1 ≡ true) (executes : modes_in rights 0 (codes "Pass") ≡ 1) where
+  module _ (u-u : below ls 0 0 ≡ true) (u-s : below ls 0 1 ≡ true) (s-s : below ls 1 1 ≡ true) (executes : granted_modes rights 0 (codes "Pass") ≡ 1) where
     opening : Bool → Step
     opening b = open_step site start opens (cond (not b || false) (Err Ss) (Ok 0))
 

@@ -7,7 +7,7 @@ use Rattle.std.proofs.lemmas.List.Quantifiers.{position-Some}
 use Rattle.std.proofs.lemmas.Option.{slice_get-get_or, none-some}
 use Rattle.mls_lattice.specs.declared.tables.User.{User}
 use Rattle.mls_lattice.specs.Labels.{below}
-use Rattle.mls_lattice.specs.Policy.{Name, Tables}
+use Rattle.mls_lattice.specs.Policy.{Name, Policy}
 use Rattle.mls_scheme.specs.declared.value.Value.{Value}
 use Rattle.mls_translang.specs.Tx.{Tx}
 use Rattle.mls_machine.specs.declared.reply.Denial.{Denial}
@@ -16,13 +16,13 @@ use Rattle.mls_machine.specs.Denying.{first_denial, no_user, user_named, clearan
 
 -- ---- users
 
-pub user_below : (policy : Tables) (name : Name) (user : ℕ) → user_named policy name ≡ Some user → user < length policy.users
+pub user_below : (policy : Policy) (name : Name) (user : ℕ) → user_named policy name ≡ Some user → user < length policy.users
 user_below policy name user h = (position-Some (λ u. bytes_eq u.name name) policy.users user no_user h).0
 
 some_is : (a b : ℕ) → Some a ≡ Some b → a ≡ b
 some_is a b e = cc
 
-pub clearance_found : (policy : Tables) (user label : ℕ) → user < length policy.users → option_map (λ u. u.clearance) (slice_get policy.users user) ≡ Some label
+pub clearance_found : (policy : Policy) (user label : ℕ) → user < length policy.users → option_map (λ u. u.clearance) (slice_get policy.users user) ≡ Some label
     → label ≡ clearance_of policy user
 clearance_found policy user label within row =
     some_is label (clearance_of policy user) (sym row ∙ ap (option_map (λ (u : User). u.clearance)) (slice_get-get_or policy.users user no_user within))

@@ -6,7 +6,7 @@ use Rattle.std.proofs.lemmas.Bool.{ne_eqb, and_left}
 use Rattle.std.proofs.lemmas.List.Elements.{filter-append}
 use Rattle.std.specs.Option.{IfSome}
 use Rattle.mls_lattice.specs.Labels.{Labels, below, AreDistinct}
-use Rattle.mls_lattice.specs.Policy.{Name, Tables}
+use Rattle.mls_lattice.specs.Policy.{Name, Policy}
 use Rattle.mls_filterview.specs.View.{low}
 use Rattle.mls_scheme.specs.declared.value.Value.{Value}
 use Rattle.mls_filterview.proofs.LevelLemmas.{low_from_views}
@@ -37,7 +37,7 @@ use Rattle.mls_machine.proofs.ItemLemmas.{lines_of, lines_seen, entries_of, entr
 
 -- ---- lines
 
-pub hidden_lines : (ls : Labels) (c : ℕ) (p : Tables) (e : Event) (label : ℕ) → below ls label c ≡ false → (texts : List (List ℕ)) → out ls c (map (line p e label) texts) ≡ []
+pub hidden_lines : (ls : Labels) (c : ℕ) (p : Policy) (e : Event) (label : ℕ) → below ls label c ≡ false → (texts : List (List ℕ)) → out ls c (map (line p e label) texts) ≡ []
 hidden_lines ls c p e label h [] = refl
 hidden_lines ls c p e label h (text ∷ texts) =
     ap (λ b. cond b (line p e label text ∷ out ls c (map (line p e label) texts)) (out ls c (map (line p e label) texts))) h ∙ hidden_lines ls c p e label h texts

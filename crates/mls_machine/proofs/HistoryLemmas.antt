@@ -5,7 +5,7 @@ use Rattle.std.specs.List.{AllByRecursion, AllZip}
 use Rattle.std.proofs.lemmas.Simd.{map-map}
 use Rattle.std.proofs.lemmas.List.Elements.{filter-append}
 use Rattle.mls_lattice.specs.Labels.{Labels, AreDistinct, below}
-use Rattle.mls_lattice.specs.Policy.{Tables}
+use Rattle.mls_lattice.specs.Policy.{Policy}
 use Rattle.mls_scheme.specs.Table.{Database}
 use Rattle.mls_scheme.specs.Scheme.{Schemes}
 use Rattle.mls_certcheck.specs.Secure as secure
@@ -36,7 +36,7 @@ module _ (ls : Labels) (c : ℕ) (v w : World) (h : AgreeAt ls c v w) where
   both_turned true = turned_alike ls c v w h
   both_turned false = h
 
-  both_lines : (p : Tables) (b : Bool) → out ls c (cond b (turn_lines p v.audit) []) ≡ out ls c (cond b (turn_lines p w.audit) [])
+  both_lines : (p : Policy) (b : Bool) → out ls c (cond b (turn_lines p v.audit) []) ≡ out ls c (cond b (turn_lines p w.audit) [])
   both_lines p true = turned_lines p ls c v w h
   both_lines p false = refl
 

@@ -4,7 +4,7 @@ use Rattle.std.specs.Prelude.{codes}
 use Rattle.std.specs.List.{filter}
 use Rattle.std.proofs.lemmas.List.Elements.{filter-append}
 use Rattle.mls_lattice.specs.Labels.{Labels, below}
-use Rattle.mls_lattice.specs.Policy.{Name, Tables}
+use Rattle.mls_lattice.specs.Policy.{Name, Policy}
 use Rattle.mls_audit.specs.declared.entry.Entry.{Entry}
 use Rattle.mls_audit.specs.declared.entry.Entry.TheVariants as entries
 use Rattle.mls_audit.specs.Entry.{label_of, visible}
@@ -28,7 +28,7 @@ filter-map p f (x ∷ xs) =
     ]
 
 -- the lines of items, emitted and released
-abbrev pub lines_of : Tables → Event → List Item → List Item → List Line
+abbrev pub lines_of : Policy → Event → List Item → List Item → List Line
 lines_of p e emitted released = map (item_line p e (codes "emit ")) emitted ++ map (item_line p e (codes "release ")) released
 
 -- the entry of a call where its level is seen, and those of releases
@@ -37,7 +37,7 @@ entries_of site e user name b released =
     cond b (entries.Called e.level (user_name site.policy.users user) e.session name ∷ map (release_entry site e user) released) (map (release_entry site e user) released)
 
 module _ (ls : Labels) (c : ℕ) where
-  pub lines_seen : (p : Tables) (e : Event) (emitted released : List Item)
+  pub lines_seen : (p : Policy) (e : Event) (emitted released : List Item)
       → out ls c (item_lines p e (Ran (record { emitted = emitted; released = released }))) ≡ lines_of p e (seen_items ls c emitted) (seen_items ls c released)
   lines_seen p e emitted released =
       filter-append (λ l. below ls l.label c) (map (item_line p e (codes "emit ")) emitted) (map (item_line p e (codes "release ")) released)

@@ -22,3 +22,10 @@ pub mod PartingLemmas
 pub mod PickingLemmas
 pub mod SampleLemmas
 pub mod CallSampleLemmas
+pub mod KnownLemmas
+pub mod DumpLemmas
+pub mod PrintingSteps
+pub mod ShownLemmas
+pub mod TableSteps
+pub mod ShowingLemmas
+pub mod TurningLemmas

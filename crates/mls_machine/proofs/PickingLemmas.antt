@@ -9,7 +9,7 @@ use Rattle.std.proofs.lemmas.List.Elements.{filter-append}
 use Rattle.mls_tokens.specs.Writing.{printable}
 use Rattle.mls_lattice.specs.Labels.{below}
 use Rattle.mls_lattice.specs.Name.{is_name, is_name_byte, is_reserved}
-use Rattle.mls_lattice.specs.Policy.{Tables, IsPolicy}
+use Rattle.mls_lattice.specs.Policy.{Policy, IsPolicy}
 use Rattle.mls_lattice.specs.Canon.{label_name}
 use Rattle.mls_lattice.proofs.NamedLemmas.{label_found, label_again, label_is_name}
 use Rattle.mls_certcheck.specs.Meaning.{Item}
@@ -51,7 +51,7 @@ not_a_name : is_name [] ≡ true → ⊥
 unfolding is_name
 not_a_name h = true≢false (sym h)
 
-module _ (p : Tables) (policy : IsPolicy p) where
+module _ (p : Policy) (policy : IsPolicy p) where
   told : (n : ℕ) → n < length p.labels → (rest : List ℕ) → label_told p (label_name p.labels n ++ 32 ∷ rest) ≡ Some n
   told n within rest =
       ap (λ s. position (λ l. bytes_eq l.name s) p.labels) (word_of (label_name p.labels n) rest (name_bytes _ (label_is_name p policy n within)))

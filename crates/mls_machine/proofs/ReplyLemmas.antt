@@ -6,7 +6,7 @@ use Rattle.std.specs.FinMap.{get, entries}
 use Rattle.std.specs.Option.{IfSome}
 use Rattle.std.proofs.lemmas.List.{length-map}
 use Rattle.mls_lattice.specs.Labels.{Labels, below, AreDistinct}
-use Rattle.mls_lattice.specs.Policy.{Name, Tables}
+use Rattle.mls_lattice.specs.Policy.{Name, Policy}
 use Rattle.mls_scheme.specs.declared.tuple.Element.{Element}
 use Rattle.mls_scheme.specs.declared.tuple.Tuple.{Tuple}
 use Rattle.mls_scheme.specs.declared.place.Place.{Place}
@@ -101,12 +101,12 @@ module _ (P : Tuple → Type 0) (ls : Labels) (ts : List Tuple) (h : AllByRecurs
 
 -- ---- entries
 
-filter_known : (p : Entry → Bool) (policy : Tables) (es : List Entry) → EntriesAreKnown policy es → EntriesAreKnown policy (filter p es)
+filter_known : (p : Entry → Bool) (policy : Policy) (es : List Entry) → EntriesAreKnown policy es → EntriesAreKnown policy (filter p es)
 filter_known p policy [] h = tt
 filter_known p policy (e ∷ es) h =
     elim (p e) as (λ b. EntriesAreKnown policy (cond b (e ∷ filter p es) (filter p es))) [ true ↦ (h.0, filter_known p policy es h.1) | false ↦ filter_known p policy es h.1 ]
 
-append_known : (policy : Tables) (es fs : List Entry) → EntriesAreKnown policy es → EntriesAreKnown policy fs → EntriesAreKnown policy (es ++ fs)
+append_known : (policy : Policy) (es fs : List Entry) → EntriesAreKnown policy es → EntriesAreKnown policy fs → EntriesAreKnown policy (es ++ fs)
 append_known policy [] fs h k = k
 append_known policy (e ∷ es) fs h k = (h.0, append_known policy es fs h.1 k)
 

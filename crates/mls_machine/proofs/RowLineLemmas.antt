@@ -7,7 +7,7 @@ use Rattle.std.proofs.lemmas.List.Folds.{list_any-append}
 use Rattle.mls_tokens.specs.Writing.{printable}
 use Rattle.mls_tokens.specs.Table.{padded, ruled}
 use Rattle.mls_lattice.specs.Lattice.{Pair, same_pair}
-use Rattle.mls_lattice.specs.Policy.{Name, Named, Tables, labels_of}
+use Rattle.mls_lattice.specs.Policy.{Name, Named, Policy, labels_of}
 use Rattle.mls_lattice.specs.Canon.{label_name}
 use Rattle.mls_scheme.specs.declared.value.Value.{Value}
 use Rattle.mls_scheme.specs.declared.value.Value.TheVariants as values
@@ -40,7 +40,7 @@ scheme_line (s ∷ schemes) (suc rel) h = scheme_line schemes rel h.1
 
 -- ---- rows
 
-module _ (p : Tables) (labels : AllByRecursion (λ l. IsOneLine l.name) p.labels) where
+module _ (p : Policy) (labels : AllByRecursion (λ l. IsOneLine l.name) p.labels) where
   pub label_line : (n : ℕ) → IsOneLine (label_name p.labels n)
   label_line n = one_line-at (λ l. l.name) p.labels n labels
 

@@ -8,7 +8,7 @@ use Rattle.mls_lattice.specs.declared.tables.Right.{Right}
 use Rattle.mls_lattice.specs.declared.version.Version.TheVariants.{One}
 use Rattle.mls_lattice.specs.Lattice.{Pair}
 use Rattle.mls_lattice.specs.Labels.{Labels, below}
-use Rattle.mls_lattice.specs.Policy.{Name, Tables, modes_in}
+use Rattle.mls_lattice.specs.Policy.{Name, Policy, granted_modes}
 use Rattle.mls_scheme.specs.Scheme.{Scheme}
 use Rattle.mls_audit.specs.declared.entry.Entry.{Entry}
 use Rattle.mls_script.specs.Grammar.{no_query}
@@ -33,7 +33,7 @@ module _ (u s h : Pair) (rights : List Right) where
   abbrev ls : Labels
   ls = u ∷ s ∷ h ∷ []
 
-  abbrev policy : Tables
+  abbrev policy : Policy
   policy = record {
     version = One;
     levels = [];
@@ -112,7 +112,7 @@ module _ (u s h : Pair) (rights : List Right) where
   next w e es s h = ap (λ (x : Step). reply_lines site e x.reply ++ run_lines Lines site x.world es) h
 
   module _ (u-u : below ls 0 0 ≡ true) (u-s : below ls 0 1 ≡ true) (u-h : below ls 0 2 ≡ true) (s-u : below ls 1 0 ≡ false) (s-s : below ls 1 1 ≡ true) (s-h : below ls 1 2 ≡ true) (h-s : below ls 2 1 ≡ false)
-      (tom-reads : modes_in rights 0 (codes "SOD") ≡ 2) (bob-writes : modes_in rights 1 (codes "SOD") ≡ 8) where
+      (tom-reads : granted_modes rights 0 (codes "SOD") ≡ 2) (bob-writes : granted_modes rights 1 (codes "SOD") ≡ 8) where
     tom_opens : step site start opens_t ≡ record { world = with_tom; reply = Opened 0 }
     unfolding step
     tom_opens = ap (opening start opens_t 0) u-h

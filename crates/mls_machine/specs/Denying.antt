@@ -6,7 +6,7 @@ use Rattle.std.specs.List.{list_any, position, find}
 use Rattle.std.specs.Str.{bytes_eq}
 use Rattle.mls_lattice.specs.declared.tables.User.{User}
 use Rattle.mls_lattice.specs.Labels.{Labels, below}
-use Rattle.mls_lattice.specs.Policy.{Name, Tables, modes_in}
+use Rattle.mls_lattice.specs.Policy.{Name, Policy, granted_modes}
 use Rattle.mls_scheme.specs.declared.value.Value.{Value}
 use Rattle.mls_scheme.specs.Value.{fits_kind}
 use Rattle.mls_updates.specs.Writes.{Write, Insert, Update, Delete}
@@ -27,17 +27,17 @@ first_denial (d ∷ ds) = if d.0 then Some d.1 else first_denial ds
 
 -- ---- users
 
-abbrev pub user_named : Tables → Name → Option ℕ
+abbrev pub user_named : Policy → Name → Option ℕ
 user_named policy name = position (λ u. bytes_eq u.name name) policy.users
 
 abbrev pub no_user : User
 no_user = record { name = []; clearance = 0; trusted = None }
 
-abbrev pub clearance_of : Tables → ℕ → ℕ
+abbrev pub clearance_of : Policy → ℕ → ℕ
 clearance_of policy user = (slice_index_or policy.users user no_user).clearance
 
 -- the interval in which a user is trusted, if there is one
-abbrev pub trusted_of : Tables → ℕ → Option (ℕ × ℕ)
+abbrev pub trusted_of : Policy → ℕ → Option (ℕ × ℕ)
 trusted_of policy user = (slice_index_or policy.users user no_user).trusted
 
 -- ---- labels and modes
@@ -65,13 +65,13 @@ abbrev pub write_mode : ℕ
 write_mode = 8
 
 -- the matrix grants the user none of the modes on what has the name
-abbrev pub lacks_on : Site → ℕ → Name → List ℕ → Bool
-lacks_on site user object modes =
-    not (list_any (λ mode. bit_and (modes_in site.policy.matrix user object) mode == mode) modes)
+abbrev pub lacks_rights_on : Site → ℕ → Name → List ℕ → Bool
+lacks_rights_on site user object modes =
+    not (list_any (λ mode. bit_and (granted_modes site.policy.matrix user object) mode == mode) modes)
 
 -- on the relation
 abbrev pub lacks : Site → ℕ → ℕ → List ℕ → Bool
-lacks site user rel modes = lacks_on site user (site_scheme site rel).name modes
+lacks site user rel modes = lacks_rights_on site user (site_scheme site rel).name modes
 
 -- the modes of which a write needs one
 abbrev pub modes_for : Write → List ℕ
@@ -123,7 +123,7 @@ write_denials site level user rel wr = access_denials site level user rel (modes
 -- of a transaction with a certificate
 abbrev pub call_denials : Site → ℕ → ℕ → Tx → List (Option Value) → List (Bool × Denial)
 call_denials site level user tx args =
-    (lacks_on site user tx.name (execute_mode ∷ []), Ds)
+    (lacks_rights_on site user tx.name (execute_mode ∷ []), Ds)
     ∷ (exceed site (clearance_of site.policy user) (tx.hi ∷ []), Ss)
     ∷ (not (nat_eq tx.lo level), Star)
     ∷ (

@@ -13,3 +13,6 @@ pub mod Turning
 pub mod Parting
 pub mod Laws
 pub mod History
+pub mod Under
+pub mod Known
+pub mod Seen

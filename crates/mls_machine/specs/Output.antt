@@ -7,7 +7,7 @@ use Rattle.mls_tokens.specs.Screen.{escaped}
 use Rattle.mls_tokens.specs.Table.{wider, padded, ruled}
 use Rattle.mls_lattice.specs.Lattice.{Pair, same_pair}
 use Rattle.mls_lattice.specs.Name.{is_name}
-use Rattle.mls_lattice.specs.Policy.{Name, Named, Tables, labels_of}
+use Rattle.mls_lattice.specs.Policy.{Name, Named, Policy, labels_of}
 use Rattle.mls_lattice.specs.Canon.{label_name, user_name}
 use Rattle.mls_scheme.specs.declared.value.Value.{Value}
 use Rattle.mls_scheme.specs.declared.tuple.Tuple.{Tuple}
@@ -46,7 +46,7 @@ abbrev pub cell_entry : List Named → ℕ → Option Value → List ℕ
 cell_entry labels class v = cell_text v ++ codes " " ++ label_name labels class ++ codes " | "
 
 -- the key with its class, the elements with theirs, and the class of the tuple
-abbrev pub row_text : Tables → Tuple → List ℕ
+abbrev pub row_text : Policy → Tuple → List ℕ
 row_text p t =
     codes "row " ++ flat_map (λ v. cell_entry p.labels t.key_class (Some v)) t.key
     ++ flat_map (λ e. cell_entry p.labels e.class e.value) t.elements
@@ -63,16 +63,16 @@ query_words q =
     ++ word_if (is_some q.first) (codes "first") ++ word_if (is_some q.test) (codes "where")
 
 -- what was asked of a relation at a label, under a verb
-abbrev pub asked : Tables → List ℕ → Scheme → ℕ → Query → List ℕ
+abbrev pub asked : Policy → List ℕ → Scheme → ℕ → Query → List ℕ
 asked p verb s label q = verb ++ codes " " ++ s.name ++ codes " at " ++ label_name p.labels label ++ query_words q ++ codes ":"
 
-abbrev pub heading : Tables → Scheme → ℕ → Query → List ℕ
+abbrev pub heading : Policy → Scheme → ℕ → Query → List ℕ
 heading p s label q =
     asked p (codes "view") s label q ++ flat_map (λ a. codes " " ++ a.name) s.keys
     ++ flat_map (λ a. codes " " ++ a.name) s.others
 
 -- how many rows were found
-abbrev pub count_text : Tables → Scheme → ℕ → Query → ℕ → List ℕ
+abbrev pub count_text : Policy → Scheme → ℕ → Query → ℕ → List ℕ
 count_text p s label q n = asked p (codes "count") s label q ++ codes " " ++ decimal n
 
 -- the texts of rows, which answer a view and nothing else: the rows or their number
@@ -88,7 +88,7 @@ view_texts site command tuples = []
 abbrev pub table_cell : List Named → ℕ → Option Value → List ℕ
 table_cell labels class v = escaped (cell_text v ++ codes " " ++ label_name labels class)
 
-abbrev pub tuple_cells : Tables → Tuple → List (List ℕ)
+abbrev pub tuple_cells : Policy → Tuple → List (List ℕ)
 tuple_cells p t =
     map (λ v. table_cell p.labels t.key_class (Some v)) t.key
     ++ map (λ e. table_cell p.labels e.class e.value) t.elements
@@ -97,14 +97,14 @@ abbrev pub name_cells : Scheme → List (List ℕ)
 name_cells s = map (λ a. a.name) s.keys ++ map (λ a. a.name) s.others
 
 -- the widths of columns that have room for the cells of these tuples too
-abbrev pub widths_with : Tables → List ℕ → List Tuple → List ℕ
+abbrev pub widths_with : Policy → List ℕ → List Tuple → List ℕ
 widths_with p widths [] = widths
 widths_with p widths (t ∷ ts) = widths_with p (wider widths 0 (tuple_cells p t)) ts
 
-abbrev pub table_widths : Tables → Scheme → List Tuple → List ℕ
+abbrev pub table_widths : Policy → Scheme → List Tuple → List ℕ
 table_widths p s tuples = widths_with p (wider [] 0 (name_cells s)) tuples
 
-abbrev pub table_title : Tables → Scheme → ℕ → Query → List ℕ
+abbrev pub table_title : Policy → Scheme → ℕ → Query → List ℕ
 table_title p s label q = asked p (codes "view") s label q
 
 -- the names of the attributes, and a rule below them
@@ -115,10 +115,10 @@ abbrev pub table_rule : List ℕ → List ℕ
 table_rule widths = flat_map ruled widths ++ codes "-----"
 
 -- the cells of a tuple, and its class
-abbrev pub table_row : Tables → List ℕ → Tuple → List ℕ
+abbrev pub table_row : Policy → List ℕ → Tuple → List ℕ
 table_row p widths t = padded widths 0 (tuple_cells p t) ++ name_of p.labels (tuple_class (labels_of p) t)
 
-abbrev pub table_of : Tables → Scheme → ℕ → Query → List ℕ → List Tuple → List (List ℕ)
+abbrev pub table_of : Policy → Scheme → ℕ → Query → List ℕ → List Tuple → List (List ℕ)
 table_of p s label q widths tuples =
     table_title p s label q ∷ table_names s widths ∷ table_rule widths ∷ map (table_row p widths) tuples
 
@@ -150,11 +150,11 @@ dump_texts site session command tuples = []
 -- ---- entries
 
 -- the label, what was done, the user and the session
-abbrev pub entry_front : Tables → ℕ → List ℕ → Name → Name → List ℕ
+abbrev pub entry_front : Policy → ℕ → List ℕ → Name → Name → List ℕ
 entry_front p label deed user session =
     codes "entry " ++ label_name p.labels label ++ deed ++ printable user ++ codes " " ++ printable session ++ codes " "
 
-abbrev pub entry_text : Tables → Entry → List ℕ
+abbrev pub entry_text : Policy → Entry → List ℕ
 entry_text p (entries.Called label user session transaction) =
     entry_front p label (codes " called ") user session ++ printable transaction
 entry_text p (entries.Denied label user session code) =
@@ -201,20 +201,20 @@ pub record Line : Type 0 where
   pub text : List ℕ
 
 -- a line begins with its label and the session that it answers
-abbrev pub front : Tables → Event → ℕ → List ℕ
+abbrev pub front : Policy → Event → ℕ → List ℕ
 front p e label =
     label_name p.labels label ++ codes " " ++ label_name p.labels e.level ++ codes "/" ++ printable e.session
     ++ codes " "
 
-abbrev pub line : Tables → Event → ℕ → List ℕ → Line
+abbrev pub line : Policy → Event → ℕ → List ℕ → Line
 line p e label text = record { label = label; text = front p e label ++ text }
 
 -- an item, in a line of its own label
-abbrev pub item_line : Tables → Event → List ℕ → Item → Line
+abbrev pub item_line : Policy → Event → List ℕ → Item → Line
 item_line p e deed item = line p e item.0 (deed ++ cell_text item.1)
 
 -- the items of a reply: first those that are emitted, then those that are released
-abbrev pub item_lines : Tables → Event → Reply → List Line
+abbrev pub item_lines : Policy → Event → Reply → List Line
 item_lines p e (Ran run) =
     map (item_line p e (codes "emit ")) run.emitted ++ map (item_line p e (codes "release ")) run.released
 item_lines p e reply = []
@@ -252,14 +252,14 @@ CommandIsKnown site (commands.Dump rel) = rel < length site.schemes
 CommandIsKnown site command = ⊤
 
 -- the labels of entries are declared
-abbrev pub EntriesAreKnown : Tables → List Entry → Type 0
+abbrev pub EntriesAreKnown : Policy → List Entry → Type 0
 EntriesAreKnown p = AllByRecursion (λ e. label_of e < length p.labels)
 
 -- the labels of items are declared
-abbrev pub ItemsAreKnown : Tables → List Item → Type 0
+abbrev pub ItemsAreKnown : Policy → List Item → Type 0
 ItemsAreKnown p = AllByRecursion (λ i. i.0 < length p.labels)
 
-abbrev pub ReplyIsKnown : Tables → Reply → Type 0
+abbrev pub ReplyIsKnown : Policy → Reply → Type 0
 ReplyIsKnown p (Opened user) = user < length p.users
 ReplyIsKnown p Closed = ⊤
 ReplyIsKnown p (Rows tuples) = AllByRecursion (HasClassesBelow (length p.labels)) tuples

@@ -4,7 +4,7 @@ use Rattle.std.specs.Prelude.{◌≡◌, ℕ, ◌==◌, Bool, false, List, [], �
 use Rattle.std.specs.List.{list_any, filter, position, before_first, slice_split, AllByRecursion}
 use Rattle.std.specs.Str.{bytes_eq}
 use Rattle.mls_lattice.specs.Labels.{Labels, below}
-use Rattle.mls_lattice.specs.Policy.{Tables, IsPolicy}
+use Rattle.mls_lattice.specs.Policy.{Policy, IsPolicy}
 use Rattle.mls_scheme.specs.Scheme.{Scheme, AreSchemes}
 use Rattle.mls_audit.specs.declared.entry.Entry.{Entry}
 use Rattle.mls_script.specs.declared.event.Event.{Event}
@@ -74,7 +74,7 @@ abbrev pub is_space : ℕ → Bool
 is_space b = b == 32
 
 -- the label that the first word of a text names, if it names one
-abbrev pub label_told : Tables → List ℕ → Option ℕ
+abbrev pub label_told : Policy → List ℕ → Option ℕ
 label_told p text = position (λ l. bytes_eq l.name (before_first is_space text)) p.labels
 
 abbrev pub may_see : Labels → ℕ → Option ℕ → Bool

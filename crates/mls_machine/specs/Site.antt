@@ -1,13 +1,13 @@
 -- Sites: the policy, the schemes and the stored transactions that a run is under.
 use Rattle.std.specs.Prelude.{ℕ, List}
 use Rattle.mls_lattice.specs.Labels.{Labels}
-use Rattle.mls_lattice.specs.Policy.{Tables, labels_of}
+use Rattle.mls_lattice.specs.Policy.{Policy, labels_of}
 use Rattle.mls_scheme.specs.Scheme.{Scheme, Schemes, scheme_of}
 use Rattle.mls_machine.specs.declared.stored.Stored.{Stored}
 
 -- a policy, the schemes of its relations, and the stored transactions
 pub record Site : Type 0 where
-  pub policy : Tables
+  pub policy : Policy
   pub schemes : Schemes
   pub stored : List Stored
 

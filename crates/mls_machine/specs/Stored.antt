@@ -1,6 +1,6 @@
 -- Stored transactions: with a certificate, or without one.
 use Rattle.std.specs.Prelude.{◌≡◌, ⊤}
-use Rattle.mls_lattice.specs.Policy.{Tables}
+use Rattle.mls_lattice.specs.Policy.{Policy}
 use Rattle.mls_translang.specs.Tx.{Tx}
 use Rattle.mls_certcheck.specs.Rules.{Rules, claim}
 use Rattle.mls_machine.specs.declared.stored.Stored.{Stored}
@@ -16,11 +16,11 @@ WhereCertified P (Certified k) = P k.tx
 WhereCertified P (Plain tx) = ⊤
 
 -- where it has a certificate, the rules hold under it
-abbrev pub IsCertifiedUnder : Tables → Stored → Type 0
+abbrev pub IsCertifiedUnder : Policy → Stored → Type 0
 IsCertifiedUnder policy (Certified k) = Rules (claim policy k.tx k.cert)
 IsCertifiedUnder policy (Plain tx) = ⊤
 
 -- where it has a certificate, it was checked under the policy
-abbrev pub IsMadeUnder : Tables → Stored → Type 0
+abbrev pub IsMadeUnder : Policy → Stored → Type 0
 IsMadeUnder policy (Certified k) = k.policy.value ≡ policy
 IsMadeUnder policy (Plain tx) = ⊤

@@ -1,7 +1,7 @@
 -- Turning the audit list: its entries are printed, and then it is emptied.
 use Rattle.std.specs.Prelude.{◌≡◌, ℕ, List, [], ◌++◌, map, codes}
 use Rattle.mls_lattice.specs.Labels.{Labels}
-use Rattle.mls_lattice.specs.Policy.{Tables}
+use Rattle.mls_lattice.specs.Policy.{Policy}
 use Rattle.mls_lattice.specs.Canon.{label_name}
 use Rattle.mls_audit.specs.declared.entry.Entry.{Entry}
 use Rattle.mls_audit.specs.Entry.{label_of}
@@ -10,10 +10,10 @@ use Rattle.mls_machine.specs.Output.{Line, entry_text}
 use Rattle.mls_machine.specs.Observation.{AgreeAt, out}
 
 -- a line for each entry, in order: the name of its label, which may see it, and its text
-abbrev pub turn_line : Tables → Entry → Line
+abbrev pub turn_line : Policy → Entry → Line
 turn_line p e = record { label = label_of e; text = label_name p.labels (label_of e) ++ codes " " ++ entry_text p e }
 
-abbrev pub turn_lines : Tables → List Entry → List Line
+abbrev pub turn_lines : Policy → List Entry → List Line
 turn_lines p entries = map (turn_line p) entries
 
 -- the world without its entries
@@ -30,5 +30,5 @@ TurnedWorldsAreAlike =
 -- and turning them shows it the same lines
 abbrev pub TurningsShowTheSame : Type 0
 TurningsShowTheSame =
-    (p : Tables) (ls : Labels) (c : ℕ) (v w : World) → AgreeAt ls c v w
+    (p : Policy) (ls : Labels) (c : ℕ) (v w : World) → AgreeAt ls c v w
     → out ls c (turn_lines p v.audit) ≡ out ls c (turn_lines p w.audit)

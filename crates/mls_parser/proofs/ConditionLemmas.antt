@@ -1,125 +1,194 @@
--- What conditions without faults are.
-use Rattle.std.proofs.Common.{◌≡◌, ℕ, List, [], ◌++◌, Option, Some, None, Result, Ok, Err, refl, sym, ap, ◌∙◌, subst}
+-- Attributes of a row by their names alone.
+use Rattle.std.proofs.Common.{◌≡◌, ℕ, zero, suc, ◌+◌, ◌-◌, ◌<◌, ◌≤◌, false, List, [], ◌∷◌, ◌++◌, length, map, get_or, take, slice_get, Option, Some, None, option_map, Result, Ok, Err, refl, sym, ap, ◌∙◌, subst, arith, inl, inr, length-append, append_assoc, drop}
 use Rattle.std.specs.Prelude.{IfOk}
-use Rattle.mls_lattice.specs.Policy.{Name, Tables}
-use Rattle.mls_scheme.specs.Scheme.{Schemes, scheme_of}
-use Rattle.mls_translang.specs.Tokens.{Place}
-use Rattle.mls_translang.specs.Tree as core
-use Rattle.mls_syntax.specs.ExprTree.{Expr, Literal, Null, Name as Named, Field, No, Op}
-use Rattle.mls_syntax.specs.Limits.{HasLiterals}
-use Rattle.mls_syntax.specs.Places.{bare}
-use Rattle.mls_parser.specs.declared.fault.TextCause.TheVariants.{Memory, Kind}
+use Rattle.std.specs.List.{AllByRecursion, IsDistinct}
+use Rattle.std.specs.Str.{bytes_eq}
+use Rattle.std.proofs.lemmas.Bool.{cases_lt}
+use Rattle.std.proofs.lemmas.List.{length-map, map-append, take-append-drop, drop_more, take_more}
+use Rattle.std.specs.Cmp.Lexicographic.{nat_list_eq_equiv}
+use Rattle.mls_lattice.specs.Policy.{Name, Policy, IsPolicy, AreNames}
+use Rattle.mls_scheme.specs.declared.value.Kind.{Kind}
+use Rattle.mls_scheme.specs.declared.attributes.Column.{Column}
+use Rattle.mls_scheme.specs.Scheme.{column_of, attribute_named, Attribute, Scheme, Schemes, IsScheme, AreSchemes, scheme_of, no_attribute}
+use Rattle.mls_scheme.proofs.CanonLemmas.{attribute_there}
+use Rattle.mls_scheme.proofs.SchemeNameLemmas.{scheme_is}
+use Rattle.mls_tokens.specs.Scanning.{Left, without_places}
+use Rattle.mls_translang.specs.declared.operator.Operator.{Operator}
+use Rattle.mls_translang.specs.declared.operator.Operator.TheVariants as operators
+use Rattle.mls_translang.specs.Fits.{width, ExprFits}
+use Rattle.mls_translang.specs.Kinds.{Sort, Of, Truth, OperatorGives, HasSort, field_of}
+use Rattle.mls_translang.specs.Named.{has_name}
+use Rattle.mls_translang.specs.Scope.{kind_of_var}
+use Rattle.mls_translang.specs.Tree.{Expr, Known, Null, Var, Param, Field, No, Op}
+use Rattle.mls_translang.specs.Tx.{HasOwn}
+use Rattle.mls_translang.proofs.FieldLemmas.{as_key, as_other}
 use Rattle.mls_parser.specs.declared.fault.PlacedFault.{PlacedFault}
-use Rattle.mls_parser.specs.Conditions.{of_row, row_place, named, condition_faults, condition_in, IsJudged, Gives, IsConditionOf}
-use Rattle.mls_parser.specs.Elaboration.{expr}
-use Rattle.mls_parser.specs.Fault.{least_from, least, IsLeast}
-use Rattle.mls_syntax.specs.ReadCondition.{place_of}
-use Rattle.mls_parser.specs.Faults.{expr_faults, tested}
-use Rattle.mls_parser.specs.Infer.{may_be_truth, infer}
-use Rattle.mls_parser.specs.Parsing.{answer}
-use Rattle.mls_parser.specs.Laws.{PlacesChangeNoCondition}
-use Rattle.mls_parser.proofs.BareLemmas.{causes, no_causes, expr_bare, tested_same}
-use Rattle.mls_parser.proofs.FaultLemmas.{none_at_all, neither, holds}
-use Rattle.mls_parser.proofs.LeastLemmas.{least_is}
-use Rattle.mls_parser.proofs.SortLemmas.{as_truth, expr_sound}
+use Rattle.mls_parser.specs.declared.given.Given.{Given}
+use Rattle.mls_parser.specs.Condition.{IsConditionOf, TellsCondition}
+use Rattle.mls_parser.specs.ReadCondition.{attribute_var, row_vars, row_scope, written_scope, written_place, as_fields}
+use Rattle.mls_parser.proofs.FoundLemmas.{HasNames, named_any, new_behind, distinct_front}
 
--- the same literals
-row_literals : (row : Name) (e : Expr) → HasLiterals e → HasLiterals (of_row row e)
-row_literals row (Literal v at) h = h
-row_literals row (Null at) h = tt
-row_literals row (Named n) h = tt
-row_literals row (Field own attribute) h = tt
-row_literals row (No at e) h = row_literals row e h
-row_literals row (Op at left op op_at right) h = (row_literals row left h.0, row_literals row right h.1)
+-- ---- variables
 
-module _ (policy : Tables) (schemes : Schemes) (rel : ℕ) (written : Expr) where
-  abbrev here : Place
-  here = row_place policy schemes rel
+pub row_width : (scheme : Scheme) → length (row_vars scheme) ≡ width scheme
+row_width scheme = length-map (scheme.keys ++ scheme.others) attribute_var ∙ length-append scheme.keys scheme.others
 
-  abbrev tree : Expr
-  tree = named policy schemes rel written
+-- the attribute of a number, of one list and of two
+one_kind : (xs : List Attribute) (i : ℕ) (k : Kind) → option_map (λ v. v.1) (slice_get (map attribute_var xs) i) ≡ Some k → (get_or xs i no_attribute).kind ≡ k
+one_kind [] i k e = absurd cc
+one_kind (a ∷ rest) zero k e = let same : Some a.kind ≡ Some k = e in cc
+one_kind (a ∷ rest) (suc i) k e = one_kind rest i k e
 
-  abbrev found : List PlacedFault
-  found = condition_faults policy schemes rel written
+kind_at : (keys others : List Attribute) (i : ℕ) (k : Kind) → option_map (λ v. v.1) (slice_get (map attribute_var (keys ++ others)) i) ≡ Some k
+    → ((i < length keys) → (get_or keys i no_attribute).kind ≡ k) × ((length keys ≤ i) → (get_or others (i - length keys) no_attribute).kind ≡ k)
+kind_at [] others i k e =
+    let none : i - length {A = Attribute} [] ≡ i = omega arith in
+    (λ lt. absurd (omega (arith, lt)), λ le. ap (λ (n : ℕ). (get_or others n no_attribute).kind) none ∙ one_kind others i k e)
+kind_at (a ∷ rest) others zero k e = (λ lt. let same : Some a.kind ≡ Some k = e in cc, λ le. absurd (omega (arith, le)))
+kind_at (a ∷ rest) others (suc i) k e =
+    let h = kind_at rest others i k e in (
+      λ lt. h.0 (omega (arith, lt)),
+      λ le.
+          let less : suc i - length (a ∷ rest) ≡ i - length rest = omega arith in
+          ap (λ (n : ℕ). (get_or others n no_attribute).kind) less ∙ h.1 (omega (arith, le)),
+    )
 
-  is_condition : HasLiterals written → found ≡ [] → IsConditionOf schemes rel (expr here tree)
-  is_condition l h =
-      let t = neither _ (expr_faults here tree) h in
-      let s = expr_sound here tree (row_literals (scheme_of schemes rel).name written l) t.1 in
-      record { own = s.own; fits = s.fits; truth = as_truth here (infer here tree) (expr here tree) (holds (may_be_truth (infer here tree)) (place_of tree) Kind t.0) s.gives }
+var_kind : (scheme : Scheme) (i : ℕ) (k : Kind) → option_map (λ v. v.1) (slice_get (row_vars scheme) i) ≡ Some k → k ≡ (field_of scheme i).kind
+var_kind scheme i k e =
+    let h = kind_at scheme.keys scheme.others i k e in
+    elim (cases_lt i (length scheme.keys)) [
+      | inl key ↦ sym (ap (λ (a : Attribute). a.kind) (as_key scheme i key) ∙ h.0 key)
+      | inr other ↦ let le : length scheme.keys ≤ i = omega (arith, other) in sym (ap (λ (a : Attribute). a.kind) (as_other scheme i le) ∙ h.1 le)
+    ]
 
-  abbrev answered : Option PlacedFault → Result core.Expr PlacedFault
-  answered o = answer o (expr here tree)
+-- ---- they are fields of the row
 
-  judged_at : (r : Result core.Expr PlacedFault) (o : Option PlacedFault) → least found ≡ o → Gives r (answered o) → IsJudged policy schemes rel written r
-  judged_at (Ok e) None is g = none_at_all found is
-  judged_at (Ok e) (Some f) is g = absurd cc
-  judged_at (Err f) None is g = λ other. absurd (let bad = g other in cc)
-  judged_at (Err f) (Some x) is g =
-      λ other.
-      let same : x ≡ f = (let e = g other in cc) in
-      subst (λ y. IsLeast found y) same (least_is found x is)
+operands_made : (op : Operator) (t : Sort) (P Q : Sort → Type 0) → ((u : Sort) → P u → Q u) → OperatorGives op t P → OperatorGives op t Q
+operands_made operators.Plus t P Q made h = (h.0, made (Of _) h.1)
+operands_made operators.Minus t P Q made h = (h.0, made (Of _) h.1)
+operands_made operators.Times t P Q made h = (h.0, made (Of _) h.1)
+operands_made operators.And t P Q made h = (h.0, made Truth h.1)
+operands_made operators.Or t P Q made h = (h.0, made Truth h.1)
+operands_made operators.Equal t P Q made h = (h.0, (h.1.0, made (Of h.1.0) h.1.1))
+operands_made operators.Unequal t P Q made h = (h.0, (h.1.0, made (Of h.1.0) h.1.1))
+operands_made operators.Less t P Q made h = (h.0, (h.1.0, made (Of h.1.0) h.1.1))
+operands_made operators.AtMost t P Q made h = (h.0, (h.1.0, made (Of h.1.0) h.1.1))
+operands_made operators.Greater t P Q made h = (h.0, (h.1.0, made (Of h.1.0) h.1.1))
+operands_made operators.AtLeast t P Q made h = (h.0, (h.1.0, made (Of h.1.0) h.1.1))
 
-  fits_at : (r : Result core.Expr PlacedFault) (o : Option PlacedFault) → least found ≡ o → Gives r (answered o) → HasLiterals written → IfOk r (IsConditionOf schemes rel)
-  fits_at (Ok e) None is g l =
-      let same : expr here tree ≡ e = cc in
-      subst (IsConditionOf schemes rel) same (is_condition l (none_at_all found is))
-  fits_at (Ok e) (Some f) is g l = absurd cc
-  fits_at (Err f) o is g l = tt
+module _ (schemes : Schemes) (rel : ℕ) where
+  abbrev scheme : Scheme
+  scheme = scheme_of schemes rel
 
-  module _ (r : Result core.Expr PlacedFault) (g : Gives r (condition_in policy schemes rel written)) where
-    pub is_judged : IsJudged policy schemes rel written r
-    unfolding condition_in
-    is_judged = judged_at r (least found) refl g
+  fields_own : (e : Expr) → HasOwn (written_scope schemes rel) e → HasOwn (row_scope schemes rel) (as_fields e)
+  fields_own (Known v) h = h
+  fields_own Null h = h
+  fields_own (Var i) h = omega arith
+  fields_own (Param i) h = h
+  fields_own (Field d i) h = h
+  fields_own (No e) h = fields_own e h
+  fields_own (Op op left right) h = (fields_own left h.0, fields_own right h.1)
 
-    pub is_fit : HasLiterals written → IfOk r (IsConditionOf schemes rel)
-    unfolding condition_in
-    is_fit l = fits_at r (least found) refl g l
+  fields_fit : (e : Expr) → HasOwn (written_scope schemes rel) e → ExprFits schemes (written_scope schemes rel) e → ExprFits schemes (row_scope schemes rel) (as_fields e)
+  fields_fit (Known v) h f = tt
+  fields_fit Null h f = tt
+  fields_fit (Var i) h f = subst (λ n. i < n) (row_width scheme) h
+  fields_fit (Param i) h f = tt
+  fields_fit (Field d i) h f = f
+  fields_fit (No e) h f = fields_fit e h f
+  fields_fit (Op op left right) h f = (fields_fit left h.0 f.0, fields_fit right h.1 f.1)
 
--- ---- without places
+  fields_sort : (e : Expr) (t : Sort) → HasSort schemes (written_scope schemes rel) t e → HasSort schemes (row_scope schemes rel) t (as_fields e)
+  fields_sort (Known v) (Of k) h = h
+  fields_sort (Known v) Truth h = h
+  fields_sort Null (Of k) h = h
+  fields_sort Null Truth h = h
+  fields_sort (Var i) t h = h.1 ∙ ap (λ k. Of k) (var_kind scheme i h.0 h.2)
+  fields_sort (Param i) t h = h
+  fields_sort (Field d i) t h = h
+  fields_sort (No e) t h = (h.0, fields_sort e Truth h.1)
+  fields_sort (Op op left right) t h =
+      operands_made op t (λ u. HasSort schemes (written_scope schemes rel) u left × HasSort schemes (written_scope schemes rel) u right)
+      (λ u. HasSort schemes (row_scope schemes rel) u (as_fields left) × HasSort schemes (row_scope schemes rel) u (as_fields right))
+      (λ u both. (fields_sort left u both.0, fields_sort right u both.1)) h
 
-row_bare : (row : Name) (e : Expr) → bare (of_row row e) ≡ of_row row (bare e)
-row_bare row (Literal v at) = refl
-row_bare row (Null at) = refl
-row_bare row (Named n) = refl
-row_bare row (Field own attribute) = refl
-row_bare row (No at e) = ap (λ x. No 0 x) (row_bare row e)
-row_bare row (Op at left op op_at right) = λ i. Op 0 (row_bare row left i) op 0 (row_bare row right i)
+  -- what is told is a condition of the row
+  pub told_of_row : (policy : Policy) (test : Expr) (ts : List _) → TellsCondition policy schemes rel test ts → IsConditionOf schemes rel test
+  told_of_row policy test ts h =
+      subst (IsConditionOf schemes rel) (sym h.is)
+      (record { own = fields_own h.written h.own; fits = fields_fit h.written h.own h.fits; truth = fields_sort h.written Truth h.truth })
 
-module _ (policy : Tables) (schemes : Schemes) (rel : ℕ) (written other : Expr) (same : bare written ≡ bare other) where
-  abbrev place : Place
-  place = row_place policy schemes rel
+-- ---- their names
 
-  abbrev one : Expr
-  one = named policy schemes rel written
+vars_named : (xs : List Attribute) → map (λ v. v.0) (map attribute_var xs) ≡ map (λ a. a.name) xs
+vars_named [] = refl
+vars_named (a ∷ rest) = ap (λ ns. a.name ∷ ns) (vars_named rest)
 
-  abbrev two : Expr
-  two = named policy schemes rel other
+-- the names of a relation, of its attributes, and of policy and schemes are in order
+pub written_names : (policy : Policy) (schemes : Schemes) → IsPolicy policy → AreSchemes schemes → (rel : ℕ) → rel < length schemes → HasNames (written_place policy schemes rel)
+unfolding IsDistinct
+written_names policy schemes is_policy valid rel within =
+    let scheme = scheme_of schemes rel in
+    let h = scheme_is schemes valid rel within in
+    let same = sym (vars_named (scheme.keys ++ scheme.others)) in
+    record {
+      policy = is_policy;
+      schemes = valid;
+      names = (h.named, subst AreNames same h.names);
+      row_apart = (tt, tt);
+      apart = subst (IsDistinct bytes_eq) same h.distinct;
+      rows = (within, tt);
+    }
 
-  row_same : bare one ≡ bare two
-  row_same = row_bare (scheme_of schemes rel).name written ∙ ap (of_row (scheme_of schemes rel).name) same ∙ sym (row_bare (scheme_of schemes rel).name other)
+-- ---- one attribute more
 
-  same_expr : expr place one ≡ expr place two
-  same_expr = sym (expr_bare place one) ∙ ap (expr place) row_same ∙ expr_bare place two
+module _ (front : List (Name × Kind)) (attributes : List Attribute) (i : ℕ) (name : Name) (c : Column)
+    (named : option_map (λ a. a.name) (slice_get attributes i) ≡ Some name) (said : option_map column_of (slice_get attributes i) ≡ Some c) where
+  abbrev next : Attribute
+  next = attribute_named name c
 
-  same_causes : causes (condition_faults policy schemes rel written) ≡ causes (condition_faults policy schemes rel other)
-  same_causes = sym (tested_same place may_be_truth one) ∙ ap (λ x. causes (tested place may_be_truth x)) row_same ∙ tested_same place may_be_truth two
+  abbrev pushed : List (Name × Kind)
+  pushed = front ++ map attribute_var (take i attributes)
 
-  none_least : (fs : List PlacedFault) → fs ≡ [] → least fs ≡ None
-  unfolding least_from
-  none_least fs e = ap (λ x. least_from None x) e
+  there : (next ≡ get_or attributes i next) × (i < length attributes)
+  there = attribute_there attributes i name c named said
 
-  read_so : (e : core.Expr) → condition_in policy schemes rel written ≡ Ok e → condition_in policy schemes rel other ≡ Ok e
-  unfolding condition_in
-  read_so e h = go (least (condition_faults policy schemes rel written)) refl h
-    where
-      go : (o : Option PlacedFault) → least (condition_faults policy schemes rel written) ≡ o → answer o (expr place one) ≡ Ok e
-          → answer (least (condition_faults policy schemes rel other)) (expr place two) ≡ Ok e
-      go None is k =
-          let none = none_at_all (condition_faults policy schemes rel written) is in
-          let clean = no_causes (condition_faults policy schemes rel other) (sym same_causes ∙ ap causes none) in
-          ap (λ o. answer o (expr place two)) (none_least (condition_faults policy schemes rel other) clean) ∙ ap (answer None) (sym same_expr) ∙ k
-      go (Some f) is k = absurd cc
+  -- it has no name of one before
+  pub var_new : IsDistinct bytes_eq (map (λ v. v.0) (front ++ map attribute_var attributes)) → has_name pushed name ≡ false
+  var_new apart =
+      let rest = map attribute_var (drop (i + 1) attributes) in
+      let here : attributes ≡ take i attributes ++ next ∷ drop (i + 1) attributes =
+      sym (take-append-drop i attributes) ∙ ap (λ xs. take i attributes ++ xs) (drop_more attributes i next there.1 ∙ ap (λ x. x ∷ drop (i + 1) attributes) (sym there.0)) in
+      let all : front ++ map attribute_var attributes ≡ pushed ++ (name, c.kind) ∷ rest =
+      ap (λ xs. front ++ map attribute_var xs) here ∙ ap (λ vs. front ++ vs) (map-append attribute_var (take i attributes) (next ∷ drop (i + 1) attributes))
+      ∙ sym (append_assoc front (map attribute_var (take i attributes)) ((name, c.kind) ∷ rest)) in
+      let parts : map (λ v. v.0) (front ++ map attribute_var attributes) ≡ map (λ v. v.0) pushed ++ name ∷ map (λ v. v.0) rest =
+      ap (map (λ (v : Name × Kind). v.0)) all ∙ map-append (λ (v : Name × Kind). v.0) pushed ((name, c.kind) ∷ rest) in
+      sym (named_any (λ (v : Name × Kind). v.0) pushed name) ∙ new_behind bytes_eq nat_list_eq_equiv (map (λ v. v.0) pushed) name (map (λ v. v.0) rest) (subst (IsDistinct bytes_eq) parts apart)
 
-pub places_change_no_condition : (policy : Tables) (schemes : Schemes) → PlacesChangeNoCondition policy schemes
-places_change_no_condition policy schemes rel written other e same is = read_so policy schemes rel written other same e is
+  pub var_more : pushed ++ (name, c.kind) ∷ [] ≡ front ++ map attribute_var (take (i + 1) attributes)
+  var_more =
+      append_assoc front (map attribute_var (take i attributes)) ((name, c.kind) ∷ [])
+      ∙ ap (λ vs. front ++ vs) (sym (map-append attribute_var (take i attributes) (next ∷ [])))
+      ∙ ap (λ (x : Attribute). front ++ map attribute_var (take i attributes ++ x ∷ [])) there.0
+      ∙ ap (λ xs. front ++ map attribute_var xs) (sym (take_more attributes i next there.1))
+
+-- ---- those of the key and the others
+
+vars_apart : (scheme : Scheme) → IsScheme scheme → IsDistinct bytes_eq (map (λ v. v.0) (map attribute_var scheme.keys ++ map attribute_var scheme.others))
+vars_apart scheme h =
+    subst (λ vs. IsDistinct bytes_eq (map (λ v. v.0) vs)) (map-append attribute_var scheme.keys scheme.others)
+    (subst (IsDistinct bytes_eq) (sym (vars_named (scheme.keys ++ scheme.others))) h.distinct)
+
+pub keys_apart : (scheme : Scheme) (vars : List (Name × Kind)) (ks : List Attribute) → IsScheme scheme → vars ≡ [] → ks ≡ scheme.keys → IsDistinct bytes_eq (map (λ v. v.0) (vars ++ map attribute_var ks))
+keys_apart scheme vars ks h e f =
+    subst (λ vs. IsDistinct bytes_eq (map (λ v. v.0) vs)) (sym (λ i. e i ++ map attribute_var (f i)))
+    (distinct_front bytes_eq (map (λ v. v.0) (map attribute_var scheme.keys)) (map (λ v. v.0) (map attribute_var scheme.others))
+    (subst (IsDistinct bytes_eq) (map-append (λ (v : Name × Kind). v.0) (map attribute_var scheme.keys) (map attribute_var scheme.others)) (vars_apart scheme h)))
+
+pub others_apart : (scheme : Scheme) (first vars : List (Name × Kind)) (ks os : List Attribute) → IsScheme scheme → first ≡ [] → vars ≡ first ++ map attribute_var ks → ks ≡ scheme.keys → os ≡ scheme.others
+    → IsDistinct bytes_eq (map (λ v. v.0) (vars ++ map attribute_var os))
+others_apart scheme first vars ks os h e f g k =
+    subst (λ vs. IsDistinct bytes_eq (map (λ v. v.0) vs)) (sym (λ i. (f ∙ (λ j. e j ++ map attribute_var (g j))) i ++ map attribute_var (k i))) (vars_apart scheme h)
+
+pub ruleset vars_steps = (keys_apart, others_apart)

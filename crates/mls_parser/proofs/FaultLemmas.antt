@@ -1,33 +1,9 @@
--- The least of several faults, and what it means that there is none.
+-- What it means that there is no fault.
 use Rattle.std.proofs.Common.{◌≡◌, ℕ, Bool, true, false, List, [], ◌∷◌, ◌++◌, Option, Some, None, refl}
 use Rattle.std.specs.Prelude.{is_some}
 use Rattle.mls_parser.specs.declared.fault.TextCause.{TextCause}
-use Rattle.mls_parser.specs.declared.fault.PlacedFault.{PlacedFault}
-use Rattle.mls_parser.specs.Fault.{unless, sooner, least_from}
-use Rattle.mls_parser.specs.Faults.{known}
-
-pub least-append : (found : Option PlacedFault) (xs ys : List PlacedFault) → least_from found (xs ++ ys) ≡ least_from (least_from found xs) ys
-unfolding least_from
-least-append found [] ys = refl
-least-append found (x ∷ xs) ys = least-append (Some (sooner found x)) xs ys
-
-pub least-none : (found : Option PlacedFault) → least_from found [] ≡ found
-unfolding least_from
-least-none found = refl
-
-pub ruleset fault_steps = (least-append, least-none)
-
--- ---- no fault
-
-stays : (f : PlacedFault) (fs : List PlacedFault) → least_from (Some f) fs ≡ None → ⊥
-unfolding least_from
-stays f [] e = cc
-stays f (g ∷ fs) e = stays (sooner (Some f) g) fs e
-
-pub none_at_all : (fs : List PlacedFault) → least_from None fs ≡ None → fs ≡ []
-unfolding least_from
-none_at_all [] e = refl
-none_at_all (f ∷ fs) e = absurd (stays f fs e)
+use Rattle.mls_parser.specs.Fault.{unless}
+use Rattle.mls_parser.specs.Noted.{known}
 
 pub neither : {X : Type 0} (xs ys : List X) → xs ++ ys ≡ [] → (xs ≡ []) × (ys ≡ [])
 neither [] ys e = (refl, e)

@@ -12,7 +12,7 @@ use Rattle.std.proofs.lemmas.List.Elements.{All-from_recursion}
 use Rattle.std.proofs.lemmas.Map.Keys.{IsDistinct-head, IsDistinct-tail}
 use Rattle.mls_lattice.specs.Canon.{label_name}
 use Rattle.mls_lattice.specs.Name.{is_name}
-use Rattle.mls_lattice.specs.Policy.{Name, Tables, IsPolicy, AreNames}
+use Rattle.mls_lattice.specs.Policy.{Name, Policy, IsPolicy, AreNames}
 use Rattle.mls_scheme.specs.Scheme.{Attribute, Scheme, Schemes, IsScheme, AreSchemes, scheme_of, other_of, no_attribute}
 use Rattle.mls_lattice.proofs.NamedLemmas.{distinct_behind, name_there, found_again, is_name_at, is_name_there}
 use Rattle.mls_lattice.proofs.NamedLemmas as named
@@ -25,9 +25,14 @@ use Rattle.mls_translang.specs.Scope.{names_in, row_at, no_row}
 use Rattle.mls_translang.specs.Tokens.{Place, name_at}
 use Rattle.mls_translang.proofs.FieldLemmas.{as_key, as_other}
 use Rattle.mls_parser.specs.Names.{label_named, relation_named, variable_named, parameter_named, row_named, or_behind, attribute_named, other_named, row_scheme}
-use Rattle.mls_parser.proofs.WholeLemmas.{named_any}
 
 -- ---- lists
+
+module _ {X : Type 0} (name_of : X → Name) where
+  -- a name is in a list where a thing in it has the name
+  pub named_any : (xs : List X) (name : Name) → list_any (bytes_eq name) (map name_of xs) ≡ list_any (λ x. bytes_eq (name_of x) name) xs
+  named_any [] name = refl
+  named_any (x ∷ xs) name = λ i. nat_list_eq_equiv.symm name (name_of x) i || named_any xs name i
 
 module _ {K : Type 0} (eq : K → K → Bool) where
   pub distinct_front : (xs ys : List K) → IsDistinct eq (xs ++ ys) → IsDistinct eq xs
@@ -61,7 +66,7 @@ none_of (Some x) e = absurd cc
 
 -- ---- labels and relations
 
-pub label_again : (policy : Tables) → IsPolicy policy → (n : ℕ) → n < length policy.labels → label_named policy (label_name policy.labels n) ≡ Some n
+pub label_again : (policy : Policy) → IsPolicy policy → (n : ℕ) → n < length policy.labels → label_named policy (label_name policy.labels n) ≡ Some n
 unfolding label_named
 label_again = named.label_again
 
@@ -115,12 +120,13 @@ module _ (scheme : Scheme) (valid : IsScheme scheme) where
 
 -- ---- variables, parameters and rows
 
--- what is declared, and which names are taken, are in order
+-- what is declared, and which names are taken, are in order; a row may be named as a parameter or a variable
 pub record HasNames (p : Place) : Type 0 where
   pub policy : IsPolicy p.policy
   pub schemes : AreSchemes p.schemes
   pub names : AreNames (names_in p.scope)
-  pub apart : IsDistinct bytes_eq (names_in p.scope)
+  pub row_apart : IsDistinct bytes_eq (map (λ r. r.name) p.scope.rows)
+  pub apart : IsDistinct bytes_eq (map (λ x. x.0) p.scope.params ++ map (λ v. v.0) p.scope.vars)
   pub rows : AllByRecursion (λ r. r.relation < length p.schemes) p.scope.rows
 
 module _ {T : Type 0} (xs : List (Name × T)) where
@@ -151,22 +157,19 @@ module _ (p : Place) (h : HasNames p) where
   abbrev var_names : List Name
   var_names = map (λ x. x.0) p.scope.vars
 
-  inner_apart : IsDistinct bytes_eq (param_names ++ var_names)
-  inner_apart = distinct_behind bytes_eq row_names (param_names ++ var_names) h.apart
-
   inner_names : AreNames (param_names ++ var_names)
   inner_names = every_back (λ n. is_name n ≡ true) _ row_names (param_names ++ var_names) h.names refl
 
   pub variable_again : (n : ℕ) → n < length p.scope.vars → variable_named p (name_at p.scope.vars n) ≡ Some n
   unfolding variable_named
-  variable_again n within = pair_again p.scope.vars n (distinct_behind bytes_eq param_names var_names inner_apart) within
+  variable_again n within = pair_again p.scope.vars n (distinct_behind bytes_eq param_names var_names h.apart) within
 
   pub variable_is_name : (n : ℕ) → n < length p.scope.vars → is_name (name_at p.scope.vars n) ≡ true
   variable_is_name n within = is_name_there (λ x. x.0) p.scope.vars (every_back (λ x. is_name x ≡ true) _ param_names var_names inner_names refl) n within
 
   pub parameter_again : (n : ℕ) → n < length p.scope.params → parameter_named p (name_at p.scope.params n) ≡ Some n
   unfolding parameter_named
-  parameter_again n within = pair_again p.scope.params n (distinct_front bytes_eq param_names var_names inner_apart) within
+  parameter_again n within = pair_again p.scope.params n (distinct_front bytes_eq param_names var_names h.apart) within
 
   pub parameter_is_name : (n : ℕ) → n < length p.scope.params → is_name (name_at p.scope.params n) ≡ true
   parameter_is_name n within = is_name_there (λ x. x.0) p.scope.params (every_front (λ x. is_name x ≡ true) _ param_names var_names inner_names refl) n within
@@ -176,11 +179,11 @@ module _ (p : Place) (h : HasNames p) where
   no_variable n within =
       let name = name_at p.scope.params n in
       none_of (position (λ v. bytes_eq v.0 name) p.scope.vars)
-      (is_some-position (λ v. bytes_eq v.0 name) p.scope.vars ∙ sym (named_any (λ v. v.0) p.scope.vars name) ∙ pair_apart p.scope.params var_names n inner_apart within)
+      (is_some-position (λ v. bytes_eq v.0 name) p.scope.vars ∙ sym (named_any (λ v. v.0) p.scope.vars name) ∙ pair_apart p.scope.params var_names n h.apart within)
 
   pub row_again : (n : ℕ) → n < length p.scope.rows → row_named p (row_at p.scope n).name ≡ Some n
   unfolding row_named
-  row_again n within = found_again (λ r. r.name) p.scope.rows no_row (distinct_front bytes_eq row_names (param_names ++ var_names) h.apart) n within
+  row_again n within = found_again (λ r. r.name) p.scope.rows no_row h.row_apart n within
 
   pub row_is_name : (n : ℕ) → n < length p.scope.rows → is_name (row_at p.scope n).name ≡ true
   row_is_name n within = is_name_at (λ r. r.name) p.scope.rows no_row (every_front (λ x. is_name x ≡ true) _ row_names (param_names ++ var_names) h.names refl) n within

@@ -2,17 +2,15 @@
 use Rattle.std.proofs.Common.{◌≡◌, ℕ, zero, suc, Bool, true, false, ◌&&◌, ◌||◌, ◌==◌, nat_lt, if◌then◌else◌, List, [], ◌∷◌, Option, Some, None, Result, Ok, Err, map, refl, sym, ap, ◌∙◌, subst, arith, ◌⊎◌, inl, inr}
 use Rattle.std.specs.List.{Contains}
 use Rattle.std.proofs.lemmas.Bool.Decides.{nat_tests}
-use Rattle.mls_lattice.specs.Policy.{Tables}
+use Rattle.mls_lattice.specs.Policy.{Policy}
 use Rattle.mls_scheme.specs.Scheme.{Schemes}
 use Rattle.mls_translang.specs.Tx.{Tx}
-use Rattle.mls_syntax.specs.declared.transaction.Transaction.{Transaction}
-use Rattle.mls_syntax.specs.Reading.{syntax_at}
+use Rattle.mls_parser.specs.declared.draft.Draft.{Draft}
 use Rattle.mls_parser.specs.declared.fault.PlacedFault.{PlacedFault}
 use Rattle.mls_parser.specs.Fault.{code_of, is_before, sooner, least_from, least, IsLeast}
-use Rattle.mls_parser.specs.Faults.{txs_faults}
-use Rattle.mls_parser.specs.Elaboration.{transaction}
-use Rattle.mls_parser.specs.Parsing.{answer, elaborated, behind, parsed}
-use Rattle.mls_parser.proofs.FaultLemmas.{none_at_all}
+use Rattle.mls_parser.specs.Noted.{State}
+use Rattle.mls_parser.specs.ReadTx.{tx_of}
+use Rattle.mls_parser.specs.Parsing.{answer, judged, noted, parsed}
 
 -- ---- the order of faults
 
@@ -80,25 +78,35 @@ unfolding least_from
 least_is [] x e = absurd cc
 least_is (f ∷ fs) x e = least_of f fs x e
 
--- ---- both passes
+never : (f : PlacedFault) (fs : List PlacedFault) → least_from (Some f) fs ≡ None → ⊥
+unfolding least_from
+never f [] e = absurd cc
+never f (g ∷ gs) e = never (if is_before g f then g else f) gs e
 
-module _ (policy : Tables) (schemes : Schemes) (bytes : List ℕ) (txs : List Transaction) (right : syntax_at bytes ≡ Ok txs) where
-  judged : {r : Result (List Tx) PlacedFault} → parsed policy schemes bytes ≡ r → answer (least (txs_faults policy schemes [] txs)) (map (transaction policy schemes) txs) ≡ r
-  unfolding parsed elaborated
-  judged e = ap (behind policy schemes) (sym right) ∙ e
+pub none_at_all : (fs : List PlacedFault) → least fs ≡ None → fs ≡ []
+unfolding least_from
+none_at_all [] e = refl
+none_at_all (f ∷ fs) e = absurd (never f fs e)
 
-  pub read_right : (xs : List Tx) → parsed policy schemes bytes ≡ Ok xs → txs_faults policy schemes [] txs ≡ []
-  read_right xs e = go (least (txs_faults policy schemes [] txs)) refl (judged e)
+-- ---- texts
+
+module _ (policy : Policy) (schemes : Schemes) (bytes : List ℕ) (x : List Draft × State) (right : noted policy schemes bytes ≡ Ok x) where
+  is_judged : {r : Result (List Tx) PlacedFault} → parsed policy schemes bytes ≡ r → answer (least x.1.0) (map tx_of x.0) ≡ r
+  unfolding parsed
+  is_judged e = ap judged (sym right) ∙ e
+
+  pub read_right : (xs : List Tx) → parsed policy schemes bytes ≡ Ok xs → x.1.0 ≡ []
+  read_right xs e = go (least x.1.0) refl (is_judged e)
     where
-      go : (o : Option PlacedFault) → least (txs_faults policy schemes [] txs) ≡ o → answer o (map (transaction policy schemes) txs) ≡ Ok xs → txs_faults policy schemes [] txs ≡ []
-      go None is h = none_at_all (txs_faults policy schemes [] txs) is
+      go : (o : Option PlacedFault) → least x.1.0 ≡ o → answer o (map tx_of x.0) ≡ Ok xs → x.1.0 ≡ []
+      go None is h = none_at_all x.1.0 is
       go (Some f) is h = absurd cc
 
-  pub refused_least : (f : PlacedFault) → parsed policy schemes bytes ≡ Err f → IsLeast (txs_faults policy schemes [] txs) f
-  refused_least f e = go (least (txs_faults policy schemes [] txs)) refl (judged e)
+  pub refused_least : (f : PlacedFault) → parsed policy schemes bytes ≡ Err f → IsLeast x.1.0 f
+  refused_least f e = go (least x.1.0) refl (is_judged e)
     where
-      go : (o : Option PlacedFault) → least (txs_faults policy schemes [] txs) ≡ o → answer o (map (transaction policy schemes) txs) ≡ Err f → IsLeast (txs_faults policy schemes [] txs) f
+      go : (o : Option PlacedFault) → least x.1.0 ≡ o → answer o (map tx_of x.0) ≡ Err f → IsLeast x.1.0 f
       go None is h = absurd cc
       go (Some g) is h =
           let same : g ≡ f = cc in
-          subst (λ y. IsLeast (txs_faults policy schemes [] txs) y) same (least_is (txs_faults policy schemes [] txs) g is)
+          subst (λ y. IsLeast x.1.0 y) same (least_is x.1.0 g is)

@@ -4,17 +4,17 @@ use Rattle.std.specs.Option.{IfSome}
 use Rattle.std.specs.List.{position, AllByRecursion}
 use Rattle.std.specs.Str.{bytes_eq}
 use Rattle.std.proofs.lemmas.Bool.Decides.{nat_tests}
-use Rattle.mls_lattice.specs.Policy.{Name, Tables}
+use Rattle.mls_lattice.specs.Policy.{Name, Policy}
 use Rattle.mls_scheme.specs.declared.attributes.Column.{Column}
 use Rattle.mls_scheme.specs.Scheme.{Attribute, Scheme, no_attribute, column_of, other_of}
 use Rattle.mls_lattice.proofs.NamedLemmas.{label_found}
 use Rattle.mls_scheme.proofs.SchemeNameLemmas.{column_there}
-use Rattle.mls_translang.specs.declared.row.Row.{Row}
+use Rattle.mls_translang.specs.declared.row.LoopRow.{LoopRow}
 use Rattle.mls_translang.specs.Kinds.{field_of}
 
 -- ---- labels
 
-pub label_place : (policy : Tables) (name : Name) (o : Option ℕ) → o ≡ position (λ l. bytes_eq l.name name) policy.labels → IfSome o (λ n. n < length policy.labels)
+pub label_place : (policy : Policy) (name : Name) (o : Option ℕ) → o ≡ position (λ l. bytes_eq l.name name) policy.labels → IfSome o (λ n. n < length policy.labels)
 label_place policy name None e = tt
 label_place policy name (Some i) e = (label_found policy.labels name i (sym e)).0
 
@@ -55,9 +55,9 @@ pub ruleset kind_steps = (other_kind_at)
 
 -- ---- rows
 
-pub row_known : (n : ℕ) (rows : List Row) (i : ℕ) (r : Row) → AllByRecursion (λ x. x.relation < n) rows → i < length rows → r ≡ get_or rows i r → r.relation < n
+pub row_known : (n : ℕ) (rows : List LoopRow) (i : ℕ) (r : LoopRow) → AllByRecursion (λ x. x.relation < n) rows → i < length rows → r ≡ get_or rows i r → r.relation < n
 row_known n [] i r h within is = absurd (omega arith)
-row_known n (x ∷ xs) zero r h within is = let e : r.relation ≡ x.relation = ap (λ (y : Row). y.relation) is in omega (arith, e, h.0)
+row_known n (x ∷ xs) zero r h within is = let e : r.relation ≡ x.relation = ap (λ (y : LoopRow). y.relation) is in omega (arith, e, h.0)
 row_known n (x ∷ xs) (suc i) r h within is = row_known n xs i r h.1 (omega arith) is
 
 pub ruleset row_steps = (row_known)

@@ -5,7 +5,7 @@ use Rattle.std.specs.List.{position}
 use Rattle.std.specs.Str.{bytes_eq}
 use Rattle.std.proofs.lemmas.Bool.Decides.{nat_tests}
 use Rattle.mls_lattice.specs.Canon.{label_name}
-use Rattle.mls_lattice.specs.Policy.{Name, Tables}
+use Rattle.mls_lattice.specs.Policy.{Name, Policy}
 use Rattle.mls_scheme.specs.Scheme.{Scheme, Schemes, scheme_of, other_of, no_attribute}
 use Rattle.mls_lattice.proofs.NamedLemmas.{name_there, named_there, label_found}
 use Rattle.mls_scheme.proofs.SchemeNameLemmas.{relation_found}
@@ -13,14 +13,14 @@ use Rattle.mls_translang.specs.Kinds.{field_of}
 use Rattle.mls_translang.specs.Scope.{row_at, no_row}
 use Rattle.mls_translang.specs.Tokens.{Place, name_at}
 use Rattle.mls_parser.specs.Names.{label_named, relation_named, variable_named, parameter_named, row_named, or_behind, attribute_named, other_named, numbered}
-use Rattle.mls_parser.specs.Faults.{known}
+use Rattle.mls_parser.specs.Noted.{known}
 use Rattle.mls_parser.proofs.FaultLemmas.{is_known}
 
 -- what is found has the name
 got_there : {X : Type 0} (name_of : X → Name) (xs : List X) (n : Name) (i : ℕ) (d : X) → position (λ x. bytes_eq (name_of x) n) xs ≡ Some i → unwrap_or (option_map name_of (slice_get xs i)) [] ≡ n
 got_there name_of xs n i d e = let there = named_there name_of xs d n i e in name_there name_of xs d i there.0 ∙ there.1
 
-pub label_there : (policy : Tables) (n : Name) (i : ℕ) → label_named policy n ≡ Some i → label_name policy.labels i ≡ n
+pub label_there : (policy : Policy) (n : Name) (i : ℕ) → label_named policy n ≡ Some i → label_name policy.labels i ≡ n
 unfolding label_named
 label_there policy n i e = (label_found policy.labels n i e).1
 
@@ -80,7 +80,7 @@ attribute_there scheme n i e = behind_there scheme n (position (λ x. bytes_eq x
 pub of_known : (o : Option ℕ) (at : ℕ) (F : ℕ → Type 0) → known o at ≡ [] → ((i : ℕ) → o ≡ Some i → F i) → F (numbered o)
 of_known o at F h f = let i = is_known o at h in subst (λ m. F (numbered m)) (sym i.1) (f i.0 i.1)
 
-pub label_spelled : (policy : Tables) (n : Name) (at : ℕ) → known (label_named policy n) at ≡ [] → label_name policy.labels (numbered (label_named policy n)) ≡ n
+pub label_spelled : (policy : Policy) (n : Name) (at : ℕ) → known (label_named policy n) at ≡ [] → label_name policy.labels (numbered (label_named policy n)) ≡ n
 label_spelled policy n at h = of_known (label_named policy n) at (λ i. label_name policy.labels i ≡ n) h (label_there policy n)
 
 pub relation_spelled : (schemes : Schemes) (n : Name) (at : ℕ) → known (relation_named schemes n) at ≡ [] → (scheme_of schemes (numbered (relation_named schemes n))).name ≡ n

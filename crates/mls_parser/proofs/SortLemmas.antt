@@ -1,5 +1,5 @@
 -- What an expression without faults is and gives.
-use Rattle.std.proofs.Common.{◌≡◌, ℕ, ◌+◌, ◌^◌, ◌<◌, ◌≤◌, max, nat_lt, Bool, true, false, ◌&&◌, ◌||◌, List, [], length, get_or, Option, Some, None, option_map, refl, sym, ap, subst, ◌∙◌, arith}
+use Rattle.std.proofs.Common.{◌≡◌, ℕ, ◌+◌, ◌^◌, ◌<◌, ◌≤◌, nat_lt, Bool, true, false, ◌&&◌, ◌||◌, List, [], length, get_or, Option, Some, None, option_map, refl, sym, ap, subst, ◌∙◌, arith}
 use Rattle.std.specs.Prelude.{is_some}
 use Rattle.std.specs.List.{position}
 use Rattle.std.specs.Str.{bytes_eq}
@@ -21,22 +21,17 @@ use Rattle.mls_translang.specs.declared.operator.Operator.TheVariants as operato
 use Rattle.mls_translang.specs.declared.tx.Parameter.{Parameter}
 use Rattle.mls_translang.specs.Tree as core
 use Rattle.mls_translang.specs.Scope.{kind_of_var, kind_of_param}
-use Rattle.mls_translang.specs.Tx.{IsLiteral, HasOwn, IsOwn, nesting}
+use Rattle.mls_translang.specs.Tx.{IsLiteral, HasOwn}
 use Rattle.mls_translang.specs.Fits.{width, ExprFits}
 use Rattle.mls_translang.specs.Kinds.{Of, Truth, HasSort}
 use Rattle.mls_translang.specs.Tokens.{Place}
-use Rattle.mls_syntax.specs.ExprTree.{Expr, Literal, Null, Name as Named, Field, No, Op}
-use Rattle.mls_syntax.specs.Limits.{HasLiterals, IsShallow, nesting as depth_of}
-use Rattle.mls_parser.specs.declared.names.Referent.{Referent}
 use Rattle.mls_parser.specs.declared.names.Referent.TheVariants.{Variable, Parameter as Param}
 use Rattle.mls_parser.specs.declared.inferred.Inferred.{Inferred}
 use Rattle.mls_parser.specs.declared.inferred.Inferred.TheVariants as inferred
-use Rattle.mls_parser.specs.Names.{variable_named, parameter_named, row_named, or_behind, attribute_named, numbered, referent_or, referent, row_scheme}
-use Rattle.mls_parser.specs.Infer.{may_be, may_be_truth, may_be_value, both, operands_fit, given_by, of_kind, of_referent, of_attribute, of_field, infer}
-use Rattle.mls_syntax.specs.ReadCondition.{place_of}
-use Rattle.mls_parser.specs.Faults.{expr_faults, field_faults, tested}
-use Rattle.mls_parser.specs.Elaboration.{refer, field, expr}
-use Rattle.mls_parser.proofs.FaultLemmas.{neither, holds}
+use Rattle.mls_parser.specs.Names.{variable_named, parameter_named, row_named, or_behind, attribute_named, numbered, referent_or, row_scheme}
+use Rattle.mls_parser.specs.Infer.{may_be, may_be_truth, may_be_value, both, operands_fit, given_by_operator, of_kind, of_referent, of_attribute}
+use Rattle.mls_parser.specs.ReadExpr.{refer, field_faults, field_given}
+use Rattle.mls_parser.proofs.FaultLemmas.{holds}
 
 -- ---- what is known of an expression holds
 
@@ -91,7 +86,7 @@ module _ (p : Place) where
       go true is e = (kinds.Int, as_both kinds.Int a b x y is g q)
       go false is e = (kinds.Text, as_both kinds.Text a b x y e g q)
 
-  operator_gives : (op : Operator) (a b : Inferred) (x y : core.Expr) → operands_fit op a b ≡ true → Gives p a x → Gives p b y → Gives p (given_by op) (core.Op op x y)
+  pub operator_gives : (op : Operator) (a b : Inferred) (x y : core.Expr) → operands_fit op a b ≡ true → Gives p a x → Gives p b y → Gives p (given_by_operator op) (core.Op op x y)
   operator_gives operators.Plus a b x y h g q = (refl, as_both kinds.Int a b x y h g q)
   operator_gives operators.Minus a b x y h g q = (refl, as_both kinds.Int a b x y h g q)
   operator_gives operators.Times a b x y h g q = (refl, as_both kinds.Int a b x y h g q)
@@ -142,7 +137,7 @@ module _ (p : Place) where
       let F : Option Kind → Type 0 = λ o. Gives p (of_kind o) (core.Param i) in
       record { own = lt; fits = tt; gives = subst F (sym k.1) (k.0, refl, k.1) }
 
-  name_sound : (name : Name) (a b : Option ℕ) → variable_named p name ≡ a → parameter_named p name ≡ b → is_some (referent_or a b) ≡ true
+  pub name_sound : (name : Name) (a b : Option ℕ) → variable_named p name ≡ a → parameter_named p name ≡ b → is_some (referent_or a b) ≡ true
       → IsSound p (of_referent p (referent_or a b)) (refer (referent_or a b))
   name_sound name (Some i) b is other e = variable_sound i (variable_within name i is)
   name_sound name None (Some i) is other e = parameter_sound i (parameter_within name i other)
@@ -172,74 +167,16 @@ module _ (p : Place) where
   attribute_sound d name lt None is e = absurd cc
   attribute_sound d name lt (Some i) is e = record { own = lt; fits = attribute_within (row_scheme p d) name i is; gives = refl }
 
-  field_sound : (row attribute : PlacedName) (o : Option ℕ) → row_named p row.0 ≡ o → field_faults p o row attribute ≡ []
-      → IsSound p (of_field p o attribute.0) (field p o attribute.0)
+  pub field_sound : (row attribute : PlacedName) (o : Option ℕ) → row_named p row.0 ≡ o → field_faults p row attribute o ≡ []
+      → IsSound p (field_given p row attribute o).gives (field_given p row attribute o).expr
   field_sound row attribute None is e = absurd cc
   field_sound row attribute (Some d) is e =
       attribute_sound d attribute.0 (row_within row.0 d is) (attribute_named (row_scheme p d) attribute.0) refl
       (holds (is_some (attribute_named (row_scheme p d) attribute.0)) attribute.1 _ e)
 
-  -- ---- expressions
-
-  literal_kind : (v : Value) → IsLiteral v → is_kind v (kind_of v) ≡ true
+  pub literal_kind : (v : Value) → IsLiteral v → is_kind v (kind_of v) ≡ true
   literal_kind (values.Int n) h = signed-from n h
   literal_kind (values.Text s) h = sym (text-from s h.utf8) ∙ (let lt : length s ≤ 1024 = h.short in short (length s) lt)
     where
       short : (n : ℕ) → n ≤ 1024 → nat_lt n (2 ^ 32) ≡ true
       short n h = grind (arith, nat_tests)
-
-  pub expr_sound : (e : Expr) → HasLiterals e → expr_faults p e ≡ [] → IsSound p (infer p e) (expr p e)
-  expr_sound (Literal v at) l h = record { own = l; fits = tt; gives = literal_kind v l }
-  expr_sound (Null at) l h = record { own = tt; fits = tt; gives = λ k. tt }
-  expr_sound (Named n) l h = name_sound n.0 (variable_named p n.0) (parameter_named p n.0) refl refl (holds (is_some (referent p n.0)) n.1 _ h)
-  expr_sound (Field row attribute) l h = field_sound row attribute (row_named p row.0) refl h
-  expr_sound (No at e) l h =
-      let t = neither _ (expr_faults p e) h in
-      let s = expr_sound e l t.1 in
-      record { own = s.own; fits = s.fits; gives = (refl, as_truth (infer p e) (expr p e) (holds (may_be_truth (infer p e)) at _ t.0) s.gives) }
-  expr_sound (Op at left op op_at right) l h =
-      let t = neither (expr_faults p left) _ h in
-      let u = neither _ (expr_faults p right) t.1 in
-      let a = expr_sound left l.0 t.0 in
-      let b = expr_sound right l.1 u.1 in
-      record {
-        own = (a.own, b.own);
-        fits = (a.fits, b.fits);
-        gives = operator_gives op (infer p left) (infer p right) (expr p left) (expr p right) (holds (operands_fit op (infer p left) (infer p right)) op_at _ u.0) a.gives b.gives;
-      }
-
-  -- ---- depths
-
-  refer_flat : (o : Option Referent) → nesting (refer o) ≡ 0
-  refer_flat None = refl
-  refer_flat (Some (Variable i)) = refl
-  refer_flat (Some (Param i)) = refl
-
-  field_flat : (o : Option ℕ) (name : Name) → nesting (field p o name) ≡ 0
-  field_flat None name = refl
-  field_flat (Some d) name = refl
-
-  same_nesting : (e : Expr) → nesting (expr p e) ≡ depth_of e
-  same_nesting (Literal v at) = refl
-  same_nesting (Null at) = refl
-  same_nesting (Named n) = refer_flat (referent p n.0)
-  same_nesting (Field row attribute) = field_flat (row_named p row.0) attribute.0
-  same_nesting (No at e) = ap (λ n. 1 + n) (same_nesting e)
-  same_nesting (Op at left op op_at right) = λ i. 1 + max (same_nesting left i) (same_nesting right i)
-
-  -- ---- expressions of statements
-
-  pub record IsRight (given : Inferred) (e : core.Expr) : Type 0 where
-    pub own : IsOwn p.scope e
-    pub fits : ExprFits p.schemes p.scope e
-    pub gives : Gives p given e
-
-  pub expr_right : (e : Expr) → IsShallow e → expr_faults p e ≡ [] → IsRight (infer p e) (expr p e)
-  expr_right e l h =
-      let s = expr_sound e l.literals h in
-      record { own = record { nesting = rw (same_nesting e) l.nesting; numbers = s.own }; fits = s.fits; gives = s.gives }
-
-  pub tested_right : (test : Inferred → Bool) (e : Expr) → IsShallow e → tested p test e ≡ [] → (test (infer p e) ≡ true) × IsRight (infer p e) (expr p e)
-  tested_right test e l h =
-      let t = neither _ (expr_faults p e) h in
-      (holds (test (infer p e)) (place_of e) _ t.0, expr_right e l t.1)

@@ -2,9 +2,9 @@
 use Rattle.std.specs.Prelude.{◌≡◌, ℕ, ◌-◌, Bool, true, false, ◌==◌, ◌&&◌, ◌||◌, nat_lt, if◌then◌else◌, List, [], ◌∷◌, codes, Option, Some, None}
 use Rattle.std.specs.List.{Contains, AllByRecursion}
 use Rattle.mls_tokens.specs.Spot.{spot_at}
-use Rattle.mls_syntax.specs.declared.fault.SyntaxCause.{SyntaxCause}
-use Rattle.mls_syntax.specs.declared.fault.SyntaxCause.TheVariants as syntax
-use Rattle.mls_syntax.specs.declared.fault.SyntaxFault.{SyntaxFault}
+use Rattle.mls_tokens.specs.declared.fault.TokenCause.{TokenCause}
+use Rattle.mls_tokens.specs.declared.fault.TokenCause.TheVariants as tokens
+use Rattle.mls_tokens.specs.declared.fault.TokenFault.{TokenFault}
 use Rattle.mls_parser.specs.declared.fault.TextCause.{TextCause}
 use Rattle.mls_parser.specs.declared.fault.TextCause.TheVariants.{Token, Expected, UnknownName, Kind, Repeated, Depth, TooLong, LabelOrder, Memory}
 use Rattle.mls_parser.specs.declared.fault.PlacedFault.{PlacedFault}
@@ -42,17 +42,16 @@ abbrev pub unless : Bool → ℕ → TextCause → List PlacedFault
 unless true at cause = []
 unless false at cause = fault at cause ∷ []
 
--- ---- faults of the first pass
+-- ---- faults of tokens
 
-abbrev pub lifted_cause : SyntaxCause → TextCause
-lifted_cause syntax.Token = Token
-lifted_cause syntax.Expected = Expected
-lifted_cause syntax.Depth = Depth
-lifted_cause syntax.TooLong = TooLong
-lifted_cause syntax.Memory = Memory
+abbrev pub lifted_cause : TokenCause → TextCause
+lifted_cause tokens.Token = Token
+lifted_cause tokens.Expected = Expected
+lifted_cause tokens.TooLong = TooLong
+lifted_cause tokens.Memory = Memory
 
-abbrev pub from_syntax : SyntaxFault → PlacedFault
-from_syntax f = fault f.at (lifted_cause f.cause)
+abbrev pub lifted : TokenFault → PlacedFault
+lifted f = fault f.at (lifted_cause f.cause)
 
 -- ---- the least of them
 

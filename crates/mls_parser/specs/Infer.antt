@@ -2,7 +2,6 @@
 use Rattle.std.specs.Prelude.{ℕ, Bool, true, false, ◌&&◌, ◌||◌, Option, Some, None}
 use Rattle.mls_scheme.specs.declared.value.Kind.{Kind}
 use Rattle.mls_scheme.specs.declared.value.Kind.TheVariants.{Int, Text}
-use Rattle.mls_scheme.specs.Value.{kind_of}
 use Rattle.mls_scheme.specs.Scheme.{Scheme}
 use Rattle.mls_lattice.specs.Policy.{Name}
 use Rattle.mls_translang.specs.declared.operator.Operator.{Operator}
@@ -10,12 +9,11 @@ use Rattle.mls_translang.specs.declared.operator.Operator.TheVariants.{Plus, Min
 use Rattle.mls_translang.specs.Scope.{kind_of_var, kind_of_param}
 use Rattle.mls_translang.specs.Kinds.{field_of}
 use Rattle.mls_translang.specs.Tokens.{Place}
-use Rattle.mls_syntax.specs.ExprTree.{Expr, Literal, Null, Name as Named, Field, No, Op}
 use Rattle.mls_parser.specs.declared.names.Referent.{Referent}
 use Rattle.mls_parser.specs.declared.names.Referent.TheVariants.{Variable, Parameter}
 use Rattle.mls_parser.specs.declared.inferred.Inferred.{Inferred}
 use Rattle.mls_parser.specs.declared.inferred.Inferred.TheVariants as inferred
-use Rattle.mls_parser.specs.Names.{attribute_named, referent, row_named, row_scheme}
+use Rattle.mls_parser.specs.Names.{attribute_named, row_scheme}
 
 -- ---- what may stand where
 
@@ -55,11 +53,11 @@ operands_fit Or left right = may_be_truth left && may_be_truth right
 operands_fit _ left right = both Int left right || both Text left right
 
 -- whatever its operands are
-abbrev pub given_by : Operator → Inferred
-given_by Plus = inferred.Value Int
-given_by Minus = inferred.Value Int
-given_by Times = inferred.Value Int
-given_by _ = inferred.Truth
+abbrev pub given_by_operator : Operator → Inferred
+given_by_operator Plus = inferred.Value Int
+given_by_operator Minus = inferred.Value Int
+given_by_operator Times = inferred.Value Int
+given_by_operator _ = inferred.Truth
 
 -- ---- expressions
 
@@ -79,11 +77,3 @@ of_attribute scheme (Some i) = inferred.Value (field_of scheme i).kind
 abbrev pub of_field : Place → Option ℕ → Name → Inferred
 of_field p None name = inferred.Unknown
 of_field p (Some depth) name = of_attribute (row_scheme p depth) (attribute_named (row_scheme p depth) name)
-
-abbrev pub infer : Place → Expr → Inferred
-infer p (Literal v at) = inferred.Value (kind_of v)
-infer p (Null at) = inferred.Null
-infer p (Named n) = of_referent p (referent p n.0)
-infer p (Field row attribute) = of_field p (row_named p row.0) attribute.0
-infer p (No at e) = inferred.Truth
-infer p (Op at left op op_at right) = given_by op

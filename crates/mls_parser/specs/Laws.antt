@@ -1,22 +1,18 @@
--- What a text tells is what is read from it, and places change no condition.
+-- What a text tells is what is read from it.
 use Rattle.std.specs.Prelude.{◌≡◌, ◌↔◌, ℕ, List, [], ◌∷◌, Ok}
-use Rattle.mls_lattice.specs.Policy.{Tables, IsPolicy}
+use Rattle.mls_lattice.specs.Policy.{Policy, IsPolicy}
 use Rattle.mls_scheme.specs.Scheme.{Schemes, AreSchemes}
 use Rattle.mls_translang.specs.Fits.{IsReadUnder}
 use Rattle.mls_translang.specs.Tells.{Tells}
 use Rattle.mls_translang.specs.Tokens.{printed}
-use Rattle.mls_translang.specs.Tree as core
 use Rattle.mls_translang.specs.Tx.{Tx, IsTx}
-use Rattle.mls_syntax.specs.ExprTree.{Expr}
-use Rattle.mls_syntax.specs.Places.{bare}
-use Rattle.mls_parser.specs.Conditions.{condition_in}
 use Rattle.mls_parser.specs.Parsing.{parse_at}
 
 -- no list of transactions is told
-abbrev pub TellsNone : Tables → Schemes → List ℕ → Type 0
+abbrev pub TellsNone : Policy → Schemes → List ℕ → Type 0
 TellsNone policy schemes bytes = (txs : List Tx) → Tells policy schemes bytes txs → ⊥
 
-module _ (policy : Tables) (schemes : Schemes) where
+module _ (policy : Policy) (schemes : Schemes) where
   -- a text is read as the transactions that it tells
   abbrev pub TextsAreReadAsTold : Type 0
   TextsAreReadAsTold = (bytes : List ℕ) (txs : List Tx) → (parse_at policy schemes bytes ≡ Ok txs) ↔ Tells policy schemes bytes txs
@@ -29,12 +25,6 @@ module _ (policy : Tables) (schemes : Schemes) where
   abbrev pub PrintsAreRead : Type 0
   PrintsAreRead = (tx : Tx) → IsTx tx → IsReadUnder policy schemes tx → parse_at policy schemes (printed policy schemes tx) ≡ Ok (tx ∷ [])
 
-  -- a condition that is read is the same wherever its parts stand
-  abbrev pub PlacesChangeNoCondition : Type 0
-  PlacesChangeNoCondition =
-      (rel : ℕ) (written other : Expr) (e : core.Expr) → bare written ≡ bare other
-      → condition_in policy schemes rel written ≡ Ok e → condition_in policy schemes rel other ≡ Ok e
-
 -- under policies and schemes
-abbrev pub Under : (Tables → Schemes → Type 0) → Type 0
-Under law = (policy : Tables) (schemes : Schemes) → IsPolicy policy → AreSchemes schemes → law policy schemes
+abbrev pub Under : (Policy → Schemes → Type 0) → Type 0
+Under law = (policy : Policy) (schemes : Schemes) → IsPolicy policy → AreSchemes schemes → law policy schemes

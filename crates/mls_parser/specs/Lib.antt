@@ -1,11 +1,13 @@
--- The definitions of texts of transactions: `Parsing` says what a text says, `Faults` what may be wrong in
--- it.
 pub mod Fault
-pub mod Marks
 pub mod Names
 pub mod Infer
-pub mod Faults
-pub mod Elaboration
+pub mod Words
+pub mod Noted
+pub mod ReadExpr
+pub mod ReadList
+pub mod ReadBlock
+pub mod ReadTx
 pub mod Parsing
-pub mod Conditions
+pub mod ReadCondition
+pub mod Condition
 pub mod Laws

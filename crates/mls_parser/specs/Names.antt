@@ -3,7 +3,7 @@ use Rattle.std.specs.Prelude.{ℕ, ◌+◌, ◌<◌, ◌≤◌, Bool, ◌||◌, 
 use Rattle.std.specs.Option.{unwrap_or}
 use Rattle.std.specs.List.{position, AllByRecursion}
 use Rattle.std.specs.Str.{bytes_eq}
-use Rattle.mls_lattice.specs.Policy.{Name, Tables}
+use Rattle.mls_lattice.specs.Policy.{Name, Policy}
 use Rattle.mls_scheme.specs.Scheme.{Scheme, Schemes, scheme_of}
 use Rattle.mls_translang.specs.Scope.{row_at}
 use Rattle.mls_translang.specs.Tokens.{Place}
@@ -12,7 +12,7 @@ use Rattle.mls_parser.specs.declared.names.Referent.TheVariants.{Variable, Param
 
 -- ---- numbers of names
 
-unfoldable pub label_named : Tables → Name → Option ℕ
+unfoldable pub label_named : Policy → Name → Option ℕ
 label_named policy name = position (λ l. bytes_eq l.name name) policy.labels
 
 unfoldable pub relation_named : Schemes → Name → Option ℕ

@@ -1,18 +1,17 @@
 //! The place in a transaction at which names are looked up.
 ghost use Rattle.std.specs.Prelude.{◌≡◌, ◌<◌, ◌≤◌, length, Some, IfSome};
 ghost use Rattle.std.specs.List.{AllByRecursion};
-ghost use Rattle.mls_scheme.specs.Scheme.{IsScheme, scheme_of};
+ghost use Rattle.mls_scheme.specs.Scheme.{IsScheme};
+ghost use Rattle.mls_translang.specs.Fits.{width};
 ghost use Rattle.mls_translang.specs.Scope.{kind_of_var, kind_of_param};
 ghost use Rattle.mls_parser.specs.Names.{label_named, relation_named, variable_named, parameter_named, row_named, numbered, referent, row_scheme, is_taken, IsReferent, IsPlace};
-ghost use Rattle.mls_parser.specs.Infer.{of_referent, of_field, infer};
-ghost use Rattle.mls_parser.specs.Faults.{scheme_named};
+ghost use Rattle.mls_parser.specs.Infer.{of_referent, of_attribute};
 
-use crate::inferred::{Inferred, given_by};
-use crate::names::{Referent, attribute, attribute_kind, row_place};
+use crate::inferred::Inferred;
+use crate::names::{Name, Referent, attribute_kind, row_place};
 use mls_lattice::{LabelNo, Policy};
 use mls_scheme::{Kind, RelNo, Scheme, Schemes};
-use mls_syntax::{Expr, Name, Term};
-use mls_translang::{Named, Parameter, Row};
+use mls_translang::{LoopRow, Named, Parameter};
 use std::marker::Model;
 
 /// A policy, schemes, a ceiling, parameters and variables, and the rows of the loops around, the innermost first.
@@ -23,7 +22,7 @@ pub(crate) struct Context<'a> {
     pub hi: LabelNo,
     pub params: &'a Named<Parameter>,
     pub vars: &'a Named<Kind>,
-    pub rows: &'a [Row],
+    pub rows: &'a [LoopRow],
 }
 
 impl<'a> Model for Context<'a> {
@@ -35,7 +34,11 @@ impl<'a> Model for Context<'a> {
 
     ghost coded = { Prim.hlevel (codes, pair_code) };
 
+    ghost use Rattle.mls_parser.specs.Names.{IsPlace};
+
     ghost view = { λ a. record { policy = a.policy.now; schemes = a.schemes.now; hi = a.hi; scope = record { params = a.params.now; vars = a.vars.now; rows = a.rows.now } } };
+
+    ghost invariant = { λ a. IsPlace (record { policy = a.policy.now; schemes = a.schemes.now; hi = a.hi; scope = record { params = a.params.now; vars = a.vars.now; rows = a.rows.now } }) };
 }
 
 /// The number of the label of a name.
@@ -44,7 +47,7 @@ pub(crate) fn label(policy: &Policy, name: &Name) -> Option<LabelNo>
     ensures exact { result ≡ label_named policy.now name.now.0 }
     ensures within { IfSome result (λ n. n < length policy.now.labels) }
 {
-    policy.label(name.text())
+    policy.label(name.0.as_str())
 }
 
 /// The same, or the first.
@@ -66,7 +69,7 @@ pub(crate) fn relation(schemes: &Schemes, name: &Name) -> Option<RelNo>
     ensures exact { result ≡ relation_named schemes.now name.now.0 }
     ensures within { IfSome result (λ n. n < length schemes.now) }
 {
-    schemes.relation(name.text())
+    schemes.relation(name.0.as_str())
 }
 
 /// The same, or the first.
@@ -83,21 +86,12 @@ pub(crate) fn relation_or_first(schemes: &Schemes, name: &Name) -> RelNo
 }
 
 impl Context<'_> {
-    /// The scheme of the relation of a name, or of the first.
-    pub fn scheme(&self, relation: &Name) -> &Scheme
-        ensures exact { result.now ≡ scheme_named self.now relation.now }
-        ensures valid { IsScheme result.now }
-    {
-        self.schemes
-            .scheme(relation_or_first(self.schemes, relation))
-    }
-
     #[tactic(auto, unfolding(crate::specs::Names::variable_named))]
     pub fn variable(&self, name: &Name) -> Option<usize>
         ensures exact { result ≡ variable_named self.now name.now.0 }
         ensures within { IfSome result (λ i. i < length self.now.scope.vars) }
     {
-        self.vars.place(name.text())
+        self.vars.place(name.0.as_str())
     }
 
     #[tactic(auto, unfolding(crate::specs::Names::parameter_named))]
@@ -105,7 +99,7 @@ impl Context<'_> {
         ensures exact { result ≡ parameter_named self.now name.now.0 }
         ensures within { IfSome result (λ i. i < length self.now.scope.params) }
     {
-        self.params.place(name.text())
+        self.params.place(name.0.as_str())
     }
 
     /// The depth of the innermost row of a name.
@@ -113,14 +107,14 @@ impl Context<'_> {
     pub fn row(&self, name: &Name) -> Option<usize>
         ensures exact { result ≡ row_named self.now name.now.0 }
         ensures within { IfSome result (λ i. i < length self.now.scope.rows) }
+        ensures few { length self.now.scope.rows ≤ 16 }
     {
-        row_place(self.rows, name.text())
+        row_place(self.rows, name.0.as_str())
     }
 
     /// The relation of the row at a depth.
     #[tactic(auto, using(crate::proofs::NameLemmas::row_steps))]
     pub fn row_scheme(&self, depth: usize) -> &Scheme
-        requires place { IsPlace self.now }
         requires within { depth < length self.now.scope.rows }
         ensures exact { result.now ≡ row_scheme self.now depth }
         ensures valid { IsScheme result.now }
@@ -149,9 +143,9 @@ impl Context<'_> {
 }
 
 impl Context<'_> {
-    /// The kind of the variable of a name, if there is one.
+    /// What the variable or parameter of a name gives, if there is one.
     #[tactic(auto, unfolding(crate::specs::Names::variable_named))]
-    fn name_gives(&self, name: &Name) -> Inferred
+    pub fn name_gives(&self, name: &Name) -> Inferred
         ensures { result ≡ of_referent self.now (referent self.now name.now.0) }
     {
         match (self.variable(name), self.parameter(name)) {
@@ -161,32 +155,15 @@ impl Context<'_> {
         }
     }
 
-    fn field_gives(&self, row: &Name, name: &Name) -> Inferred
-        requires { IsPlace self.now }
-        ensures { result ≡ of_field self.now (row_named self.now row.now.0) name.now.0 }
+    /// What an attribute of the row at a depth gives, if there is one of the number.
+    pub fn attribute_gives(&self, depth: usize, number: Option<usize>) -> Inferred
+        requires row { depth < length self.now.scope.rows }
+        requires within { IfSome number (λ i. i < width (row_scheme self.now depth)) }
+        ensures { result ≡ of_attribute (row_scheme self.now depth) number }
     {
-        let Some(depth) = self.row(row) else {
-            return Inferred::Unknown;
-        };
-        let scheme = self.row_scheme(depth);
-        match attribute(scheme, name.text()) {
-            Some(number) => Inferred::Value(attribute_kind(scheme, number)),
+        match number {
+            Some(number) => Inferred::Value(attribute_kind(self.row_scheme(depth), number)),
             None => Inferred::Unknown,
-        }
-    }
-
-    /// What an expression gives.
-    pub fn infer(&self, expr: &Expr) -> Inferred
-        requires { IsPlace self.now }
-        ensures { result ≡ infer self.now expr.now }
-    {
-        match &expr.term {
-            Term::Literal { value, .. } => Inferred::Value(value.kind()),
-            Term::Null { .. } => Inferred::Null,
-            Term::Name(name) => self.name_gives(name),
-            Term::Field { row, attribute } => self.field_gives(row, attribute),
-            Term::Not { .. } => Inferred::Truth,
-            Term::Op { operator, .. } => given_by(*operator),
         }
     }
 }

@@ -1,11 +1,9 @@
-//! Why a text of transactions is refused, and where.
-ghost use Rattle.std.specs.Prelude.{◌≡◌, Some};
+ghost use Rattle.std.specs.Prelude.{◌≡◌, ◌++◌, OnOk};
 ghost use Rattle.mls_parser.specs.declared.fault.TextCause.TheVariants.{Memory};
-ghost use Rattle.mls_parser.specs.Fault.{code_of, word_of, unless, is_before, sooner, least_from, in_text, from_syntax};
+ghost use Rattle.mls_parser.specs.Fault.{fault, code_of, word_of, unless, is_before, sooner, least, in_text, lifted};
 
-use mls_syntax::{SyntaxCause, SyntaxFault};
-use mls_tokens::spot_at;
-use std::alloc::AllocError;
+use mls_tokens::{TokenCause, TokenFault, spot_at};
+use std::alloc::{AllocError, AllocFailed};
 use std::fmt;
 use thiserror::Error;
 
@@ -32,17 +30,16 @@ pub enum TextCause {
     Memory,
 }
 
-/// A fault of the first pass.
-impl From<SyntaxFault> for PlacedFault {
-    ghost from_gives = { λ f e. e ≡ from_syntax f };
+/// A fault of the tokens.
+impl From<TokenFault> for PlacedFault {
+    ghost from_gives = { λ f e. e ≡ lifted f };
 
-    fn from(fault: SyntaxFault) -> PlacedFault {
+    fn from(fault: TokenFault) -> PlacedFault {
         let cause = match fault.cause {
-            SyntaxCause::Token => TextCause::Token,
-            SyntaxCause::Expected => TextCause::Expected,
-            SyntaxCause::Depth => TextCause::Depth,
-            SyntaxCause::TooLong => TextCause::TooLong,
-            SyntaxCause::Memory => TextCause::Memory,
+            TokenCause::Token => TextCause::Token,
+            TokenCause::Expected => TextCause::Expected,
+            TokenCause::TooLong => TextCause::TooLong,
+            TokenCause::Memory => TextCause::Memory,
         };
         PlacedFault {
             at: fault.at,
@@ -55,6 +52,17 @@ impl From<AllocError> for PlacedFault {
     ghost from_gives = { λ _ e. e.cause ≡ Memory };
 
     fn from(_e: AllocError) -> PlacedFault {
+        PlacedFault {
+            at: 0,
+            cause: TextCause::Memory,
+        }
+    }
+}
+
+impl<T: Drop> From<AllocFailed<T>> for PlacedFault {
+    ghost from_gives = { λ _ e. e.cause ≡ Memory };
+
+    fn from(_e: AllocFailed<T>) -> PlacedFault {
         PlacedFault {
             at: 0,
             cause: TextCause::Memory,
@@ -121,9 +129,6 @@ pub struct PlacedFault {
     pub cause: TextCause,
 }
 
-/// The least fault that was found so far.
-pub(crate) type Found = Option<PlacedFault>;
-
 impl PlacedFault {
     /// The fault, by its line and column in the text.
     #[tactic(auto, unfolding(crate::specs::Fault::in_text))]
@@ -146,7 +151,29 @@ impl PlacedFault {
     }
 }
 
-fn sooner(found: Found, fault: PlacedFault) -> PlacedFault
+/// Notes a fault, unless a test holds.
+pub(crate) fn note(
+    faults: &mut Vec<PlacedFault>,
+    holds: bool,
+    at: usize,
+    cause: TextCause,
+) -> Result<(), AllocError>
+    ensures { OnOk result (faults.new.items ≡ faults.old.items ++ unless holds at cause) }
+{
+    if !holds {
+        faults.push(PlacedFault { at, cause })?;
+    }
+    Ok(())
+}
+
+/// The fault of a form.
+pub(crate) fn ill_formed(at: usize, cause: TextCause) -> PlacedFault
+    ensures { result ≡ fault at cause }
+{
+    PlacedFault { at, cause }
+}
+
+fn sooner(found: Option<PlacedFault>, fault: PlacedFault) -> PlacedFault
     ensures { result ≡ sooner found fault }
 {
     match found {
@@ -155,14 +182,14 @@ fn sooner(found: Found, fault: PlacedFault) -> PlacedFault
     }
 }
 
-/// One fault more, unless a test holds.
+/// The least of some faults.
 #[tactic(auto, unfolding(crate::specs::Fault::least_from))]
-pub(crate) fn unless(found: Found, holds: bool, at: usize, cause: TextCause) -> Found
-    ensures { result ≡ least_from found (unless holds at cause) }
+pub(crate) fn least(faults: &[PlacedFault]) -> Option<PlacedFault>
+    ensures { result ≡ least faults.now }
 {
-    if holds {
-        found
-    } else {
-        Some(sooner(found, PlacedFault { at, cause }))
+    let mut found = None;
+    for fault in faults {
+        found = Some(sooner(found, *fault));
     }
+    found
 }

@@ -1,82 +1,192 @@
-//! The parameters and variables of a transaction.
-ghost use Rattle.std.specs.Prelude.{◌≡◌, [], IfOk, OnOk};
+//! The parameters and variables of a transaction, from the tokens that are left.
+ghost use Rattle.std.specs.Prelude.{◌≡◌, [], ◌+◌, ◌<◌, ◌≤◌, length, option_map, IfOk, IfSome, IsNone, OnOk};
 ghost use Rattle.mls_translang.specs.Named.{has_name};
-ghost use Rattle.mls_parser.specs.Fault.{least_from};
-ghost use Rattle.mls_parser.specs.Faults.{kept, params_from, params_faults, vars_from, vars_faults};
+ghost use Rattle.mls_parser.specs.Noted.{Gives};
+ghost use Rattle.mls_parser.specs.ReadList.{items_at};
+ghost use Rattle.mls_parser.specs.ReadTx.{kept, param_behind, next_param, params_at, var_behind, next_var, vars_at};
 
 use crate::context::{label, label_or_first};
-use crate::fault::{Found, TextCause, unless};
+use crate::fault::{PlacedFault, TextCause, ill_formed, note};
+use crate::limits::MAX_NAMES;
+use crate::names::Name;
+use crate::words::{name_behind, pass_kind};
 use mls_lattice::Policy;
 use mls_scheme::Kind;
-use mls_syntax::{Name, Parameter as Param, Variable};
+use mls_tokens::{Sign, Tokens};
 use mls_translang::{Named, Parameter};
 use std::alloc::{AllocError, Global};
 
 fn has<T>(named: &Named<T>, name: &Name) -> bool
     ensures { result ≡ has_name named.now name.now.0 }
 {
-    named.place(name.text()).is_some()
+    named.place(name.0.as_str()).is_some()
 }
 
 /// One thing more, unless the name is taken.
-fn keep<T: Drop>(
-    alloc: Global,
-    named: &mut Named<T>,
-    name: &Name,
-    item: T,
-) -> Result<(), AllocError>
-    ensures { OnOk result (named.new ≡ kept named.old (name.now.0, item)) }
+fn keep<T: Drop>(named: &mut Named<T>, name: Name, item: T) -> Result<(), AllocError>
+    ensures kept { OnOk result (named.new ≡ kept named.old (name.0, item)) }
+    ensures few { OnOk result (length named.new ≤ length named.old + 1) }
 {
-    if has(named, name) {
+    if has(named, &name) {
         return Ok(());
     }
-    named.push(String::from_str(alloc, name.text())?, item)
+    named.push(name.0.into_string(), item)
 }
 
-/// The parameters, and the least fault, those of the parameters among them.
-#[tactic(auto, using(crate::proofs::HeaderLemmas::param_steps))]
+/// One parameter more, behind its name.
+#[tactic(auto, unfolding(crate::specs::ReadTx::param_behind))]
+fn param(
+    policy: &Policy,
+    tokens: &mut Tokens,
+    faults: &mut Vec<PlacedFault>,
+    params: &mut Named<Parameter>,
+    name: Name,
+) -> Result<(), PlacedFault>
+    ensures exact { Gives (λ _. (params.new, (faults.new.items, tokens.new))) result
+        (param_behind policy.now params.old (name.0, name.1) (faults.old.items, tokens.old)) }
+    ensures few { OnOk result (length params.new ≤ length params.old + 1) }
+{
+    tokens.sign(Sign::Colon)?;
+    let (kind, _) = pass_kind(tokens)?;
+    let of = name_behind(tokens, "at")?;
+    note(faults, !has(params, &name), name.1, TextCause::Repeated)?;
+    note(
+        faults,
+        label(policy, &of).is_some(),
+        of.1,
+        TextCause::UnknownName,
+    )?;
+    let label = label_or_first(policy, &of);
+    keep(params, name, Parameter { kind, label })?;
+    Ok(())
+}
+
+/// One parameter more, behind so many.
+#[tactic(auto, unfolding(crate::specs::ReadTx::next_param))]
+fn next_param(
+    policy: &Policy,
+    tokens: &mut Tokens,
+    faults: &mut Vec<PlacedFault>,
+    params: &mut Named<Parameter>,
+    count: usize,
+) -> Result<(), PlacedFault>
+    ensures exact { Gives (λ _. ((params.new, count + 1), (faults.new.items, tokens.new))) result
+        (next_param policy.now (params.old, count) (faults.old.items, tokens.old)) }
+    ensures few { OnOk result (length params.new ≤ length params.old + 1) }
+    ensures room { OnOk result (count < 64) }
+{
+    let name = tokens.name()?;
+    if count >= MAX_NAMES {
+        return Err(ill_formed(name.1, TextCause::TooLong));
+    }
+    param(policy, tokens, faults, params, name)
+}
+
+/// Parameters, one or more with a comma between each two.
+#[tactic(auto, using(crate::proofs::ItemSteps::item_steps))]
+fn some_params(
+    alloc: Global,
+    policy: &Policy,
+    tokens: &mut Tokens,
+    faults: &mut Vec<PlacedFault>,
+) -> Result<(Named<Parameter>, usize), PlacedFault>
+    ensures exact { Gives (λ x. ((x.0, x.1), (faults.new.items, tokens.new))) result
+        (items_at (next_param policy.now) ([], 0) (faults.old.items, tokens.old)) }
+    ensures few { IfOk result (λ x. length x.0 ≤ 64) }
+{
+    let mut params = Named::new(alloc);
+    let mut count = 0;
+    loop {
+        next_param(policy, tokens, faults, &mut params, count)?;
+        count += 1;
+        if tokens.takes_sign(Sign::Comma).is_none() {
+            return Ok((params, count));
+        }
+    }
+}
+
+/// The parameters in their parentheses.
+#[tactic(auto, unfolding(crate::specs::ReadTx::params_at))]
 pub(crate) fn params(
     alloc: Global,
     policy: &Policy,
-    found: Found,
-    syntax: &[Param],
-) -> Result<(Named<Parameter>, Found), AllocError>
-    ensures params { IfOk result (λ x. x.0 ≡ params_from policy.now [] syntax.now) }
-    ensures faults { IfOk result (λ x. x.1 ≡ least_from found (params_faults policy.now [] syntax.now)) }
+    tokens: &mut Tokens,
+    faults: &mut Vec<PlacedFault>,
+) -> Result<Named<Parameter>, PlacedFault>
+    ensures exact { Gives (λ ps. (ps, (faults.new.items, tokens.new))) result (params_at policy.now (faults.old.items, tokens.old)) }
+    ensures few { IfOk result (λ ps. length ps ≤ 64) }
 {
-    let mut params = Named::new(alloc);
-    let mut found = found;
-    for param in syntax {
-        let again = has(&params, &param.name);
-        found = unless(found, !again, param.name.at(), TextCause::Repeated);
-        let known = label(policy, &param.label).is_some();
-        found = unless(found, known, param.label.at(), TextCause::UnknownName);
-        let parameter = Parameter {
-            kind: param.kind,
-            label: label_or_first(policy, &param.label),
-        };
-        keep(alloc, &mut params, &param.name, parameter)?;
+    tokens.sign(Sign::LeftParen)?;
+    if tokens.takes_sign(Sign::RightParen).is_some() {
+        return Ok(Named::new(alloc));
     }
-    Ok((params, found))
+    let (params, _) = some_params(alloc, policy, tokens, faults)?;
+    tokens.sign(Sign::RightParen)?;
+    Ok(params)
 }
 
-/// The variables, and the least fault, those of the variables among them.
-#[tactic(auto, using(crate::proofs::HeaderLemmas::var_steps))]
+/// One variable more, behind its first word.
+#[tactic(auto, unfolding(crate::specs::ReadTx::var_behind))]
+fn var(
+    params: &Named<Parameter>,
+    tokens: &mut Tokens,
+    faults: &mut Vec<PlacedFault>,
+    vars: &mut Named<Kind>,
+) -> Result<(), PlacedFault>
+    ensures exact { Gives (λ _. (vars.new, (faults.new.items, tokens.new))) result
+        (var_behind params.now vars.old (faults.old.items, tokens.old)) }
+    ensures few { OnOk result (length vars.new ≤ length vars.old + 1) }
+{
+    let name = tokens.name()?;
+    tokens.sign(Sign::Colon)?;
+    let (kind, _) = pass_kind(tokens)?;
+    tokens.sign(Sign::Semicolon)?;
+    let again = has(params, &name) || has(vars, &name);
+    note(faults, !again, name.1, TextCause::Repeated)?;
+    keep(vars, name, kind)?;
+    Ok(())
+}
+
+/// One variable more, behind so many, if one stands here; and how many there are then.
+#[tactic(auto, unfolding(crate::specs::ReadTx::next_var))]
+fn next_var(
+    params: &Named<Parameter>,
+    tokens: &mut Tokens,
+    faults: &mut Vec<PlacedFault>,
+    vars: &mut Named<Kind>,
+    count: usize,
+) -> Result<Option<usize>, PlacedFault>
+    ensures exact { Gives (λ x. (option_map (λ n. (vars.new, n)) x, (faults.new.items, tokens.new))) result
+        (next_var params.now (vars.old, count) (faults.old.items, tokens.old)) }
+    ensures few { OnOk result (length vars.new ≤ length vars.old + 1) }
+    ensures counted { IfOk result (λ x. IfSome x (λ n. (count < 64) × (n ≡ count + 1))) }
+    ensures stays { IfOk result (λ x. IsNone x → vars.new ≡ vars.old) }
+{
+    let Some(at) = tokens.takes_word("var") else {
+        return Ok(None);
+    };
+    if count >= MAX_NAMES {
+        return Err(ill_formed(at, TextCause::TooLong));
+    }
+    var(params, tokens, faults, vars)?;
+    Ok(Some(count + 1))
+}
+
+/// The variables.
+#[tactic(auto, using(crate::proofs::HeaderSteps::thing_steps), unfolding(crate::specs::ReadTx::vars_at))]
 pub(crate) fn vars(
     alloc: Global,
     params: &Named<Parameter>,
-    found: Found,
-    syntax: &[Variable],
-) -> Result<(Named<Kind>, Found), AllocError>
-    ensures vars { IfOk result (λ x. x.0 ≡ vars_from [] syntax.now) }
-    ensures faults { IfOk result (λ x. x.1 ≡ least_from found (vars_faults params.now [] syntax.now)) }
+    tokens: &mut Tokens,
+    faults: &mut Vec<PlacedFault>,
+) -> Result<Named<Kind>, PlacedFault>
+    ensures exact { Gives (λ vs. (vs, (faults.new.items, tokens.new))) result (vars_at params.now (faults.old.items, tokens.old)) }
+    ensures few { IfOk result (λ vs. length vs ≤ 64) }
 {
     let mut vars = Named::new(alloc);
-    let mut found = found;
-    for var in syntax {
-        let again = has(params, &var.name) || has(&vars, &var.name);
-        found = unless(found, !again, var.name.at(), TextCause::Repeated);
-        keep(alloc, &mut vars, &var.name, var.kind)?;
+    let mut count = 0;
+    while let Some(next) = next_var(params, tokens, faults, &mut vars, count)? {
+        count = next;
     }
-    Ok((vars, found))
+    Ok(vars)
 }

@@ -1,6 +1,6 @@
 //! What expressions give.
 ghost use Rattle.std.specs.Prelude.{◌≡◌};
-ghost use Rattle.mls_parser.specs.Infer.{may_be, may_be_truth, may_be_value, same_kind, both, operands_fit, given_by};
+ghost use Rattle.mls_parser.specs.Infer.{may_be, may_be_truth, may_be_value, same_kind, both, operands_fit, given_by_operator};
 
 use mls_scheme::Kind;
 use mls_translang::Operator;
@@ -78,8 +78,8 @@ pub(crate) fn operands_fit(operator: Operator, left: Inferred, right: Inferred) 
 }
 
 /// What an operator gives, whatever its operands are.
-pub(crate) fn given_by(operator: Operator) -> Inferred
-    ensures { result ≡ given_by operator }
+pub(crate) fn given_by_operator(operator: Operator) -> Inferred
+    ensures { result ≡ given_by_operator operator }
 {
     match operator {
         Operator::Plus | Operator::Minus | Operator::Times => Inferred::Value(Kind::Int),

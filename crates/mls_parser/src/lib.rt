@@ -1,27 +1,34 @@
-//! Texts of transactions: what the names of syntax trees stand for, and the transactions that they are.
+//! Texts of transactions: read once, with what their names stand for.
 #![tactic(auto)]
 
-ghost use Rattle.mls_parser.specs.Laws.{TextsAreReadAsTold, TransactionsAreReadOnce, PrintsAreRead, PlacesChangeNoCondition, Under};
+ghost use Rattle.mls_parser.specs.Condition.{ConditionsAreRead};
+ghost use Rattle.mls_parser.specs.Laws.{TextsAreReadAsTold, TransactionsAreReadOnce, PrintsAreRead, Under};
 
-mod block;
-mod check_block;
-mod check_expr;
-mod check_list;
-mod check_stmt;
-mod conditions;
 mod context;
-mod expr;
+mod draft;
 mod fault;
+mod given;
 mod header;
 mod inferred;
+mod limits;
 mod names;
 mod parser;
-mod stmt;
-mod transaction;
+mod read_block;
+mod read_condition;
+mod read_expr;
+mod read_list;
+mod read_stmt;
+mod read_tx;
+mod words;
 
-pub use conditions::condition;
 pub use fault::{PlacedFault, TextCause, TextFault};
 pub use parser::parse;
+pub use read_condition::condition;
+
+/// Tokens that tell a condition are read as it, where no condition goes on with what stands behind them.
+pub fn conditions_are_read()
+    ensures { ConditionsAreRead }
+{}
 
 /// A text is read as the transactions that it tells.
 pub fn texts_are_read_as_told()
@@ -36,9 +43,4 @@ pub fn transactions_are_read_once()
 /// The printed text of a transaction is read as that transaction alone.
 pub fn prints_are_read()
     ensures { Under PrintsAreRead }
-{}
-
-/// A condition that is read is the same wherever its parts stand.
-pub fn places_change_no_condition()
-    ensures { Under PlacesChangeNoCondition }
 {}

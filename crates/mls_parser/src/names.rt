@@ -6,9 +6,12 @@ ghost use Rattle.mls_translang.specs.Fits.{width};
 ghost use Rattle.mls_translang.specs.Kinds.{field_of};
 ghost use Rattle.mls_parser.specs.Names.{attribute_named, other_named};
 
+use mls_lattice::Str;
 use mls_scheme::{Kind, Scheme};
-use mls_syntax::Name;
-use mls_translang::Row;
+use mls_translang::LoopRow;
+
+/// A name as it is written, and the place of its first byte: the bytes of the whole text are counted from 1.
+pub(crate) type Name = (Str, usize);
 
 /// A variable or a parameter, by its place.
 #[derive(Clone, Copy)]
@@ -39,7 +42,7 @@ pub(crate) fn other(scheme: &Scheme, name: &Name) -> Option<usize>
     ensures exact { result ≡ other_named scheme.now name.now.0 }
     ensures within { IfSome result (λ i. i < length scheme.now.others) }
 {
-    scheme.others().place(name.text())
+    scheme.others().place(name.0.as_str())
 }
 
 /// The kind of an attribute outside the key, by its number.
@@ -66,7 +69,7 @@ pub(crate) fn attribute_kind(scheme: &Scheme, attribute: usize) -> Kind
 }
 
 /// The depth of the innermost row of a name.
-pub(crate) fn row_place(rows: &[Row], name: &str) -> Option<usize>
+pub(crate) fn row_place(rows: &[LoopRow], name: &str) -> Option<usize>
     ensures exact { result ≡ position (λ r. bytes_eq r.name name.now) rows.now }
     ensures within { IfSome result (λ i. i < length rows.now) }
 {

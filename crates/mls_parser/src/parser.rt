@@ -1,43 +1,44 @@
 //! Transactions of a text.
-ghost use Rattle.std.specs.Prelude.{◌≡◌, ◌≢◌, IfOk, IfErr};
+ghost use Rattle.std.specs.Prelude.{◌≡◌, ◌≢◌, map, IfOk, IfErr};
 ghost use Rattle.std.specs.List.{AllByRecursion};
 ghost use Rattle.mls_translang.specs.Tx.{IsTx};
 ghost use Rattle.mls_translang.specs.Fits.{AreReadUnder};
 ghost use Rattle.mls_translang.specs.Tells.{Tells};
-ghost use Rattle.mls_syntax.specs.Limits.{AreLimited};
 ghost use Rattle.mls_parser.specs.declared.fault.TextCause.TheVariants.{Memory};
+ghost use Rattle.mls_parser.specs.ReadTx.{tx_of};
 ghost use Rattle.mls_parser.specs.Laws.{TellsNone};
-ghost use Rattle.mls_parser.specs.Parsing.{elaborated, parsed, Gives, parse_at, IsParsed, IsJudged};
+ghost use Rattle.mls_parser.specs.Parsing.{parsed, Gives, parse_at, IsParsed, IsJudged};
 
-use crate::fault::{PlacedFault, TextFault};
-use crate::transaction::{check_transactions, transactions};
+use crate::draft::Draft;
+use crate::fault::{PlacedFault, TextFault, least};
+use crate::read_tx::transactions;
 use mls_lattice::{Items, Policy};
 use mls_scheme::Schemes;
-use mls_syntax::{Transaction, syntax};
+use mls_tokens::Tokens;
 use mls_translang::Tx;
-use std::alloc::Global;
+use std::alloc::{AllocError, Global};
 
-/// The transactions that syntax trees stand for, or the least of their faults.
-#[tactic(auto, unfolding(crate::specs::Parsing::elaborated), using(crate::proofs::WholeLemmas::whole_steps))]
-fn elaborate(
-    alloc: Global,
-    policy: &Policy,
-    schemes: &Schemes,
-    txs: &[Transaction],
-) -> Result<Items<Tx>, PlacedFault>
-    requires { AreLimited txs.now }
-    ensures exact { Gives result (elaborated policy.now schemes.now txs.now) }
-    ensures read { IfOk result (λ xs. AreReadUnder policy.now schemes.now xs) }
-    ensures each { IfOk result (λ xs. AllByRecursion IsTx xs) }
+/// What was read without a fault, as transactions.
+fn without_fault(alloc: Global, drafts: Vec<Draft>) -> Result<Items<Tx>, AllocError>
+    requires { AllByRecursion IsTx (map tx_of drafts.items) }
+    ensures { IfOk result (λ xs. xs ≡ map tx_of drafts.items) }
 {
-    match check_transactions(alloc, policy, schemes, txs)? {
-        Some(fault) => Err(fault),
-        None => Ok(transactions(alloc, policy, schemes, txs)?),
+    let mut txs = Vec::new(alloc);
+    for draft in drafts {
+        txs.push(Tx::new(
+            draft.name,
+            draft.lo,
+            draft.hi,
+            draft.params,
+            draft.vars,
+            draft.body,
+        ))?;
     }
+    Ok(Items::from(txs))
 }
 
-/// Both passes, with the place of a fault.
-#[tactic(auto, unfolding(crate::specs::Parsing::parsed), using(crate::proofs::ToldLemmas::told_steps))]
+/// The transactions of a text, or its fault and the place of that.
+#[tactic(auto, unfolding(crate::specs::Parsing::parsed), using(crate::proofs::ParsedLemmas::parsed_steps))]
 fn placed(
     alloc: Global,
     policy: &Policy,
@@ -45,12 +46,15 @@ fn placed(
     bytes: &[u8],
 ) -> Result<Items<Tx>, PlacedFault>
     ensures exact { Gives result (parsed policy.now schemes.now bytes.now) }
-    ensures read { IfOk result (λ xs. AreReadUnder policy.now schemes.now xs) }
-    ensures each { IfOk result (λ xs. AllByRecursion IsTx xs) }
     ensures told { IfOk result (λ xs. Tells policy.now schemes.now bytes.now xs) }
 {
-    let txs = syntax(alloc, bytes)?;
-    elaborate(alloc, policy, schemes, &txs)
+    let mut tokens = Tokens::new(alloc, bytes)?;
+    let mut faults = Vec::new(alloc);
+    let drafts = transactions(alloc, policy, schemes, &mut tokens, &mut faults)?;
+    match least(faults.as_slice()) {
+        Some(fault) => Err(fault),
+        None => Ok(without_fault(alloc, drafts)?),
+    }
 }
 
 /// The transactions of a text, in order; or its first fault by its form: 21 Token where no token stands, 22 Expected at the first

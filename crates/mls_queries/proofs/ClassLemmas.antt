@@ -5,7 +5,7 @@ use Rattle.std.specs.Cmp.{both_ways}
 use Rattle.std.proofs.lemmas.List.{get_or_past, length-map}
 use Rattle.mls_lattice.specs.Lattice.{Pair, Dominates, ◌⊑◌, bottom, cats_of, cats_below, pair_of}
 use Rattle.mls_lattice.specs.Labels.{label_of}
-use Rattle.mls_lattice.specs.Policy.{Tables, labels_of}
+use Rattle.mls_lattice.specs.Policy.{Policy, labels_of}
 use Rattle.mls_lattice.proofs.LatticeLemmas.{⊑-Dominates, Dominates-⊑}
 
 pub bottom_pair : pair_of (record { rank = 0; cats = 0 }) ≡ bottom
@@ -13,7 +13,7 @@ unfolding cats_of cats_below
 bottom_pair = refl
 
 -- a number that no label has
-pub past_labels : (p : Tables) (label : ℕ) → length p.labels ≤ label → label_of (labels_of p) label ≡ bottom
+pub past_labels : (p : Policy) (label : ℕ) → length p.labels ≤ label → label_of (labels_of p) label ≡ bottom
 past_labels p label past = get_or_past (labels_of p) label bottom (omega (arith, length-map p.labels (λ l. l.value)))
 
 pub ruleset class_steps = (bottom_pair, past_labels)

@@ -25,7 +25,7 @@ use Rattle.mls_filterview.specs.Subsumption.{is_max_among}
 use Rattle.mls_filterview.specs.View.{low, rows, IsAmong}
 use Rattle.mls_filterview.proofs.AmongLemmas.{all_at}
 use Rattle.mls_filterview.proofs.EntryLemmas.{Entry, sorted_filter, so_true}
-use Rattle.mls_queries.specs.Query.{is_key, is_above, is_under, tops}
+use Rattle.mls_queries.specs.Query.{is_key, is_above, is_strictly_below, tops}
 use Rattle.mls_queries.specs.Places.{rows_at, AreWithin, AreByKey, is_top, places_from}
 use Rattle.mls_queries.proofs.PlaceLemmas.{all_append, rows_from, from_within}
 
@@ -101,7 +101,7 @@ filter_two p q r (x ∷ xs) ys h k =
 
 module _ (ls : Labels) (h : List Value) (xs ys : List Tuple) (ins : (t : Tuple) → IsAmong t xs → t.key ≡ h) (outs : (t : Tuple) → IsAmong t ys → t.key ≡ h → ⊥) where
   misses : (s t : Tuple) → (s.key ≡ t.key → ⊥) → is_above ls s t ≡ false
-  misses s t n = ap (λ b. b && is_under (tuple_class ls t) (tuple_class ls s)) (false_from_ne_true (is_key s.key t.key) (λ e. n (same_key s.key t.key e)))
+  misses s t n = ap (λ b. b && is_strictly_below (tuple_class ls t) (tuple_class ls s)) (false_from_ne_true (is_key s.key t.key) (λ e. n (same_key s.key t.key e)))
 
   top_front : (t : Tuple) → IsAmong t xs → is_top ls (xs ++ ys) t ≡ is_top ls xs t
   top_front t i = ap not (any_left (λ s. is_above ls s t) xs ys (λ s j. misses s t (λ e. outs s j (e ∙ ins t i))))

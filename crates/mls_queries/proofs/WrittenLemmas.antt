@@ -5,7 +5,7 @@ use Rattle.std.specs.FinMap.{get}
 use Rattle.std.specs.Map.{remove_entry}
 use Rattle.std.specs.Cmp.{nat_eq_equiv}
 use Rattle.mls_lattice.specs.Labels.{Labels, below}
-use Rattle.mls_lattice.specs.Policy.{Tables, labels_of}
+use Rattle.mls_lattice.specs.Policy.{Policy, labels_of}
 use Rattle.mls_scheme.specs.declared.tuple.Tuple.{Tuple}
 use Rattle.mls_scheme.specs.Table.{Table, Database}
 use Rattle.mls_scheme.specs.Scheme.{Scheme}
@@ -54,7 +54,7 @@ other_part rel r b e h = sym (ap (λ x. x && b) (nat_eq_equiv.refl rel)) ∙ ap 
 
 -- ---- over a base
 
-module _ {B : Type 0} (policy : Tables) (is_clean : B → Type 0) (state : B → State) where
+module _ {B : Type 0} (policy : Policy) (is_clean : B → Type 0) (state : B → State) where
   abbrev ls : Labels
   ls = labels_of policy
 

@@ -19,15 +19,15 @@ use Rattle.mls_queries.specs.declared.query.Query.{Query}
 -- ---- the highest of each key
 
 -- q dominates p, and is another
-abbrev pub is_under : Pair → Pair → Bool
-is_under p q = p ⊑ q && not (q ⊑ p)
+abbrev pub is_strictly_below : Pair → Pair → Bool
+is_strictly_below p q = p ⊑ q && not (q ⊑ p)
 
 abbrev pub is_key : List Value → List Value → Bool
 is_key = eq_by_cmp (slice_cmp value_cmp)
 
 -- s has the key of t, and its class dominates that of t and is another
 abbrev pub is_above : Labels → Tuple → Tuple → Bool
-is_above ls s t = is_key s.key t.key && is_under (tuple_class ls t) (tuple_class ls s)
+is_above ls s t = is_key s.key t.key && is_strictly_below (tuple_class ls t) (tuple_class ls s)
 
 -- those above which none of them stands
 abbrev pub tops : Labels → List Tuple → List Tuple
@@ -42,9 +42,9 @@ highest_of ls highest ts = if highest then tops ls ts else ts
 abbrev pub stands : Comparison → Pair → Pair → Bool
 stands compared.Equal class label = same_pair class label
 stands compared.Unequal class label = not (same_pair class label)
-stands compared.Less class label = is_under class label
+stands compared.Less class label = is_strictly_below class label
 stands compared.AtMost class label = class ⊑ label
-stands compared.Greater class label = is_under label class
+stands compared.Greater class label = is_strictly_below label class
 stands compared.AtLeast class label = label ⊑ class
 
 -- the class of a row, as the view shows it, passes the test, if there is one; a number of no label counts as

@@ -2,7 +2,7 @@
 use Rattle.std.specs.Prelude.{◌≡◌, ℕ, ◌<◌, ◌≤◌, Bool, true, false, not, ◌&&◌, if◌then◌else◌, nat_eq, List, [], ◌∷◌, ◌++◌, length, Option, Some, None, ⊤, ◌⊎◌}
 use Rattle.std.specs.List.{AllByRecursion, filter, list_any}
 use Rattle.mls_lattice.specs.Labels.{Labels, below}
-use Rattle.mls_lattice.specs.Policy.{Tables, labels_of}
+use Rattle.mls_lattice.specs.Policy.{Policy, labels_of}
 use Rattle.mls_scheme.specs.declared.place.Place.{Place}
 use Rattle.mls_scheme.specs.declared.tuple.Tuple.{Tuple}
 use Rattle.mls_scheme.specs.Spelling.{IsSpelledKey}
@@ -93,7 +93,7 @@ put_view rel label tuples es = put_entries same_key (lru_cache es most_views) (k
 
 -- what is kept over a base: no more views than most, at declared labels, and, over a clean base, as they are now but for
 -- the entities that were written
-pub record AreViews {B : Type 0} (policy : Tables) (is_clean : B → Type 0) (state : B → State) (base : B) (es : Kept) : Type 0 where
+pub record AreViews {B : Type 0} (policy : Policy) (is_clean : B → Type 0) (state : B → State) (base : B) (es : Kept) : Type 0 where
   pub most : length es ≤ most_views
   pub declared : AreDeclared (length policy.labels) es
   pub rows : is_clean base → AreRows (labels_of policy) (state base).now.db es

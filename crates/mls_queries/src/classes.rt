@@ -4,7 +4,7 @@ ghost use Rattle.mls_lattice.specs.Lattice.{pair_of, ◌⊑◌};
 ghost use Rattle.mls_lattice.specs.Labels.{label_of};
 ghost use Rattle.mls_lattice.specs.Policy.{labels_of};
 ghost use Rattle.mls_scheme.specs.Tuple.{tuple_class};
-ghost use Rattle.mls_queries.specs.Query.{is_under, stands, has_class};
+ghost use Rattle.mls_queries.specs.Query.{is_strictly_below, stands, has_class};
 
 use crate::query::{ClassTest, Comparison};
 use mls_lattice::{Label, LabelNo, Policy};
@@ -41,8 +41,8 @@ fn is_at_most(low: Label, high: Label) -> bool
 }
 
 /// Whether a label dominates another, and is another.
-pub(crate) fn is_under(low: Label, high: Label) -> bool
-    ensures { result ≡ is_under (pair_of low) (pair_of high) }
+pub(crate) fn is_strictly_below(low: Label, high: Label) -> bool
+    ensures { result ≡ is_strictly_below (pair_of low) (pair_of high) }
 {
     is_at_most(low, high) && !is_at_most(high, low)
 }
@@ -54,9 +54,9 @@ fn stands(comparison: Comparison, class: Label, label: Label) -> bool
     match comparison {
         Comparison::Equal => class.same(label),
         Comparison::Unequal => !class.same(label),
-        Comparison::Less => is_under(class, label),
+        Comparison::Less => is_strictly_below(class, label),
         Comparison::AtMost => is_at_most(class, label),
-        Comparison::Greater => is_under(label, class),
+        Comparison::Greater => is_strictly_below(label, class),
         Comparison::AtLeast => is_at_most(label, class),
     }
 }

@@ -16,7 +16,7 @@ use crate::looking::look_up;
 use crate::query::Query;
 use crate::selecting::select;
 use crate::selection::Selection;
-use mls_filterview::{Base, BaseFault, SharedView, made};
+use mls_filterview::{Base, BaseFault, SharedView, settle};
 use mls_lattice::{Items, LabelNo, Policy};
 use mls_scheme::{RelNo, Scheme, Schemes, Value};
 use std::alloc::Global;
@@ -39,7 +39,7 @@ fn find_in_view<B: Base>(
     ensures views { OnOk result (AreViews policy.now B.is_clean B.state base.new views.new) }
 {
     let view = views.view(alloc, base, policy, rel, label)?;
-    let found = made(base, select(alloc, policy, view, query))?;
+    let found = settle(base, select(alloc, policy, view, query))?;
     Ok(found)
 }
 
@@ -63,8 +63,8 @@ fn find_by_key<B: Base>(
         (rows (labels_of policy.now) label ((B.state base.old).now.db rel))) }
 {
     let tuples = look_up(alloc, base, policy, rel, label, key)?;
-    let view = made(base, SharedView::new(alloc, tuples))?;
-    let found = made(base, select(alloc, policy, view, query))?;
+    let view = settle(base, SharedView::new(alloc, tuples))?;
+    let found = settle(base, select(alloc, policy, view, query))?;
     Ok(found)
 }
 
@@ -85,7 +85,7 @@ fn find_now<B: Base>(
         (rows (labels_of policy.now) label ((B.state base.old).now.db rel))) }
     ensures views { OnOk result (AreViews policy.now B.is_clean B.state base.new views.new) }
 {
-    let key = made(base, demanded_key(alloc, scheme, query))?;
+    let key = settle(base, demanded_key(alloc, scheme, query))?;
     match key {
         Some(key) => find_by_key(alloc, base, policy, scheme, rel, label, query, key),
         None => find_in_view(alloc, base, views, policy, rel, label, query),

@@ -5,7 +5,7 @@ ghost use Rattle.mls_lattice.specs.Policy.{labels_of};
 ghost use Rattle.mls_queries.specs.Query.{is_key, is_above, tops};
 ghost use Rattle.mls_queries.specs.Places.{rows_at, AreWithin, AreByKey, is_top, places_from};
 
-use crate::classes::{class_of, is_under};
+use crate::classes::{class_of, is_strictly_below};
 use mls_lattice::{Items, Policy};
 use mls_scheme::{Tuple, Value, order_keys};
 use std::alloc::{AllocError, Global};
@@ -21,7 +21,7 @@ fn is_key(left: &Items<Value>, right: &Items<Value>) -> bool
 fn is_above(policy: &Policy, high: &Tuple, low: &Tuple) -> bool
     ensures { result ≡ is_above (labels_of policy.now) high.now low.now }
 {
-    is_key(&high.key, &low.key) && is_under(class_of(policy, low), class_of(policy, high))
+    is_key(&high.key, &low.key) && is_strictly_below(class_of(policy, low), class_of(policy, high))
 }
 
 /// Whether one of these rows stands above a row.

@@ -14,7 +14,7 @@ ghost use Rattle.mls_filterview.specs.Checking.{are_declared};
 ghost use Rattle.mls_queries.specs.Parts.{has_known};
 
 use crate::parts::key_parts;
-use mls_filterview::{Base, BaseFault, Fragment, Rows, filter, made, rows_of, values_of};
+use mls_filterview::{Base, BaseFault, Fragment, Rows, filter, rows_of, settle, values_of};
 use mls_lattice::{Items, LabelNo, Policy};
 use mls_scheme::{Element, Place, RelNo, Tuple, Value};
 use std::alloc::{AllocError, Global};
@@ -89,6 +89,6 @@ pub(crate) fn look_up<B: Base>(
         (of_key key ((B.state base.old).now.db rel))) }
 {
     let parts = key_parts(alloc, base, policy, rel, label, key)?;
-    let tuples = made(base, seen(alloc, policy, parts, label))?;
+    let tuples = settle(base, seen(alloc, policy, parts, label))?;
     Ok(tuples)
 }

@@ -6,7 +6,7 @@ ghost use Rattle.mls_filterview.specs.Calls.{IsRead, CanSee};
 ghost use Rattle.mls_filterview.specs.Assembly.{AreLow};
 ghost use Rattle.mls_queries.specs.Demanded.{of_key};
 
-use mls_filterview::{Base, BaseFault, Fragment, entity_parts, gather, made};
+use mls_filterview::{Base, BaseFault, Fragment, entity_parts, gather, settle};
 use mls_lattice::{Items, LabelNo, Policy};
 use mls_scheme::{Place, RelNo, Value};
 use std::alloc::Global;
@@ -39,7 +39,7 @@ pub(crate) fn key_parts<B: Base>(
             continue;
         }
         let parts = entity_parts(alloc, base, policy, rel, label, key_class, &mut place)?;
-        made(base, gather(&mut nodes, &mut cells, parts))?;
+        settle(base, gather(&mut nodes, &mut cells, parts))?;
     }
     Ok(Fragment {
         nodes: Items::from(nodes),

@@ -7,7 +7,7 @@ ghost use Rattle.mls_filterview.specs.Stored.{IsStored, is_entity};
 ghost use Rattle.mls_filterview.specs.Calls.{IsRead, CanSee};
 ghost use Rattle.mls_queries.specs.Views.{AgreesWith, IsNamed, fresh, noted};
 
-use mls_filterview::{Base, BaseFault, SharedView, is_entity, made, mend, view};
+use mls_filterview::{Base, BaseFault, SharedView, is_entity, mend, settle, view};
 use mls_lattice::{Items, LabelNo, Policy};
 use mls_scheme::{Place, RelNo, Tuple, copy_key};
 use std::alloc::{AllocError, Global};
@@ -126,9 +126,9 @@ fn mended<B: Base>(
     if written.is_empty() {
         return Ok(tuples);
     }
-    let tuples = made(base, tuples.into_tuples(alloc))?;
+    let tuples = settle(base, tuples.into_tuples(alloc))?;
     let tuples = mend_each(alloc, base, policy, rel, label, tuples, written)?;
-    let shared = made(base, SharedView::new(alloc, tuples))?;
+    let shared = settle(base, SharedView::new(alloc, tuples))?;
     Ok(shared)
 }
 
@@ -146,7 +146,7 @@ fn resolved<B: Base>(
         ((B.state base.old).now.db rel)) }
 {
     let tuples = view(alloc, base, policy, rel, label)?;
-    let shared = made(base, SharedView::new(alloc, tuples))?;
+    let shared = settle(base, SharedView::new(alloc, tuples))?;
     Ok(shared)
 }
 

@@ -28,7 +28,7 @@ use Rattle.mls_host.specs.Refusal.{IsEnd}
 use Rattle.mls_host.specs.Running.{site_of, first_world}
 use Rattle.mls_host.proofs.RunningLemmas.{end_weaker}
 use Rattle.mls_host.specs.Words.{named}
-use Rattle.mls_shells.specs.Shell.{events_in}
+use Rattle.mls_runs.specs.Shell.{events_in}
 use Rattle.mls_runs.specs.Desk.{IsService, IsDesk}
 use Rattle.mls_runs.specs.DeskRun.{IsDeskFrom, IsDeskRun}
 

@@ -5,7 +5,7 @@ use Rattle.std.specs.Io.KnownBytes.{Appends}
 use Rattle.std.proofs.KnownBytes.{Appends-nil, Appends-trans}
 use Rattle.std.proofs.lemmas.List.{length-append}
 use Rattle.std.proofs.Math.Seq.{take-append-add}
-use Rattle.mls_lattice.specs.Policy.{Tables}
+use Rattle.mls_lattice.specs.Policy.{Policy}
 use Rattle.mls_scheme.specs.Scheme.{Schemes}
 use Rattle.mls_filterview.specs.Content.{State}
 use Rattle.mls_script.specs.declared.event.Event.{Event}
@@ -17,15 +17,15 @@ use Rattle.mls_sessions.specs.Sessions.{site_of}
 use Rattle.mls_sessions.specs.declared.cause.RunCause.TheVariants.{Memory}
 use Rattle.mls_sessions.specs.declared.cause.RunFault.{RunFault}
 use Rattle.mls_sessions.specs.declared.engine.Engine.{Engine}
-use Rattle.mls_sessions.specs.Engine.{site, world_of, IsReady, IsKept}
+use Rattle.mls_sessions.specs.Engine.{site, world_of, IsEngineReady, IsKept}
 use Rattle.mls_sessions.specs.Run.{IsFaultOf}
 use Rattle.mls_host.specs.declared.ending.Ending.{Ending}
 use Rattle.mls_host.specs.Ending.{ending_if}
 use Rattle.mls_host.specs.Running.{standing}
-use Rattle.mls_shells.specs.declared.seat.Fate.{Fate}
-use Rattle.mls_shells.specs.Shell.{Turn, IsTurn, events_of, events_in, is_last, is_failed, is_lost, FateFits, IsRead}
-use Rattle.mls_shells.proofs.ShellLemmas.{end_of-append, all-append, events-snoc, any-snoc, none_failed, failed_there}
-use Rattle.mls_shells.proofs.TalkLemmas.{fate_fits, last_line, failed_last}
+use Rattle.mls_runs.specs.declared.seat.Fate.{Fate}
+use Rattle.mls_runs.specs.Shell.{Turn, IsShellTurn, events_of, events_in, is_last, is_failed, is_lost, FateFits, IsRead}
+use Rattle.mls_runs.proofs.ShellLemmas.{end_of-append, all-append, events-snoc, any-snoc, none_failed, failed_there}
+use Rattle.mls_runs.proofs.TalkLemmas.{fate_fits, last_line, failed_last}
 use Rattle.mls_runs.specs.Marks.{mark_of}
 use Rattle.mls_runs.specs.Desk.{IsFate, AreLines, answer_of, desk, IsFollowed, IsService, at_line, between}
 
@@ -50,10 +50,10 @@ module _ (site : Site) where
   world-snoc : (w : World) (ts : List Turn) (t : Turn) → end_of site (end_of site w (events_in ts)) (events_of t.fate) ≡ end_of site w (events_in (ts ++ t ∷ []))
   world-snoc w ts t = sym (ap (end_of site w) (events-snoc ts t) ∙ end_of-append site w (events_in ts) (events_of t.fate))
 
-lines-snoc : (echo : List ℕ → List ℕ) (policy : Tables) (schemes : Schemes) (a b c : Option (List ℕ)) (ts : List Turn) (t : Turn) → AreLines echo policy schemes a b ts → list_any (λ (t : Turn). is_last t.fate) ts ≡ false
-    → IsTurn echo (IsFate policy schemes) b c t → AreLines echo policy schemes a c (ts ++ t ∷ [])
+lines-snoc : (echo : List ℕ → List ℕ) (policy : Policy) (schemes : Schemes) (a b c : Option (List ℕ)) (ts : List Turn) (t : Turn) → AreLines echo policy schemes a b ts → list_any (λ (t : Turn). is_last t.fate) ts ≡ false
+    → IsShellTurn echo (IsFate policy schemes) b c t → AreLines echo policy schemes a c (ts ++ t ∷ [])
 unfolding AreLines
-lines-snoc echo policy schemes a b c [] t h l n = (c, subst (λ x. IsTurn echo (IsFate policy schemes) x c t) (sym h) n, (λ e. absurd (e refl)), refl)
+lines-snoc echo policy schemes a b c [] t h l n = (c, subst (λ x. IsShellTurn echo (IsFate policy schemes) x c t) (sym h) n, (λ e. absurd (e refl)), refl)
 lines-snoc echo policy schemes a b c (x ∷ ts) t h l n =
     let (left, turn, on, more) = h in
     let none = or_none (is_last x.fate) (list_any (λ (t : Turn). is_last t.fate) ts) l in
@@ -80,7 +80,7 @@ module _ {B : Type 0} (state : B → State) (is_clean : B → Type 0) (echo : Li
     pub world : is_clean now.base → world_of state now ≡ end_of at w (events_in turns)
     pub written : is_clean now.base → Appends was is (desk at w turns)
 
-  pub so_far_start : IsReady state is_clean first → SoFar first given was false
+  pub so_far_start : IsEngineReady state is_clean first → SoFar first given was false
   unfolding desk AreLines end_of
   so_far_start ready = record {
     turns = [];
@@ -257,7 +257,7 @@ module _ {B : Type 0} (state : B → State) (is_clean : B → Type 0) (echo : Li
 
 -- ---- at a site that is the same
 
-pub heard_at : (echo : List ℕ → List ℕ) (q : Site) (policy : Tables) (schemes : Schemes) (a b c d : Option (List ℕ)) (Broken : Type 0) (fate : Fate) → q.policy ≡ policy → q.schemes ≡ schemes
+pub heard_at : (echo : List ℕ → List ℕ) (q : Site) (policy : Policy) (schemes : Schemes) (a b c d : Option (List ℕ)) (Broken : Type 0) (fate : Fate) → q.policy ≡ policy → q.schemes ≡ schemes
     → IsRead echo (IsFate policy schemes) a b c d Broken fate → IsRead echo (IsFate q.policy q.schemes) a b c d Broken fate
 heard_at echo q policy schemes a b c d Broken fate e f h =
     subst (λ y. IsRead echo (IsFate q.policy y) a b c d Broken fate) (sym f) (subst (λ x. IsRead echo (IsFate x schemes) a b c d Broken fate) (sym e) h)

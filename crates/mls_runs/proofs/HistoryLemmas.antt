@@ -9,7 +9,7 @@ use Rattle.sqlite_disk.specs.declared.Files.{Files}
 use Rattle.sqlite.specs.Files.{image_of}
 use Rattle.sqlite.specs.WalReads.{AreClean}
 use Rattle.mls_lattice.specs.Labels.{Labels, AreDistinct}
-use Rattle.mls_lattice.specs.Policy.{Tables, labels_of}
+use Rattle.mls_lattice.specs.Policy.{Policy, labels_of}
 use Rattle.mls_scheme.specs.Scheme.{Schemes}
 use Rattle.mls_scheme.specs.declared.file.SchemesFile.{SchemesFile}
 use Rattle.mls_filterview.specs.Content.{Content}
@@ -100,7 +100,7 @@ all_taken P (suc n) (x ∷ xs) h = (h.0, all_taken P n xs h.1)
 
 -- ---- runs that are prepared
 
-module _ (policy : Tables) (schemes : Schemes) where
+module _ (policy : Policy) (schemes : Schemes) where
   -- at a site of the labels and the schemes, where what is stored was checked, and the events fit
   abbrev pub IsReady : RunAt → Type 0
   IsReady r = IsSiteUnder (labels_of policy) schemes r.site × EventsFit r.site r.events × AreCertified r.site
@@ -208,14 +208,14 @@ module _ (policy : Tables) (schemes : Schemes) where
         (end_more w rs ss ∙ ap (λ v. history_end v ss) h.history.left_by ∙ k.history.left_by) k.sound
 
 -- what is written of whole runs may be told of otherwise
-told_runs : (policy : Tables) (schemes : Schemes) (audience : Audience) (rs : List RunAt) (P Q : List ℕ → Type 0) (first left : Content)
+told_runs : (policy : Policy) (schemes : Schemes) (audience : Audience) (rs : List RunAt) (P Q : List ℕ → Type 0) (first left : Content)
     → (P (concat (history_bytes (labels_of policy) audience (world_of policy first) rs)) → Q (concat (history_bytes (labels_of policy) audience (world_of policy first) rs)))
     → IsHistoryRun policy schemes audience rs P first left → IsHistoryRun policy schemes audience rs Q first left
 told_runs policy schemes audience rs P Q first left f h = record { begins = h.begins; written = f h.written; history = h.history; sound = h.sound; shown = h.shown }
 
 -- ---- one run over files
 
-module _ {D : Type 0} (g : Ghosts D) (policy : Tables) (file : SchemesFile) (audience : Audience) (distinct : AreDistinct (labels_of policy)) (start now : Files D) (stored : List Stored) (events : List Event)
+module _ {D : Type 0} (g : Ghosts D) (policy : Policy) (file : SchemesFile) (audience : Audience) (distinct : AreDistinct (labels_of policy)) (start now : Files D) (stored : List Stored) (events : List Event)
     (Wrote : List ℕ → Type 0) (first left : Content) (ready : IsReady policy file.schemes (run_at (site_of policy file.schemes stored) events)) (sound : IsSoundContent policy file.schemes first) where
   abbrev One : RunAt
   One = run_at (site_of policy file.schemes stored) events
@@ -250,7 +250,7 @@ module _ {D : Type 0} (g : Ghosts D) (policy : Tables) (file : SchemesFile) (aud
 
 -- ---- behind others
 
-module _ {D : Type 0} (g : Ghosts D) (policy : Tables) (file : SchemesFile) (audience : Audience) (distinct : AreDistinct (labels_of policy)) (start : Files D) where
+module _ {D : Type 0} (g : Ghosts D) (policy : Policy) (file : SchemesFile) (audience : Audience) (distinct : AreDistinct (labels_of policy)) (start : Files D) where
   -- whole runs end with what the next begins with
   reached : (rs : List RunAt) (Wrote : List ℕ → Type 0) (mid : Files D) → AreRunsOver g policy file audience start rs Wrote mid → (next : Content) → BeginsIn g policy file mid next → IsSoundContent policy file.schemes next
       → (first : Content) × BeginsIn g policy file start first × IsHistoryRun policy file.schemes audience rs Wrote first next
@@ -329,17 +329,17 @@ module _ {D : Type 0} (g : Ghosts D) (policy : Tables) (file : SchemesFile) (aud
 
 -- ---- runs in order
 
-ready_front : (policy : Tables) (schemes : Schemes) (xs : List Run) (y : Run) (ys : List Run) → AllByRecursion (IsPrepared policy schemes) (xs ++ y ∷ ys) → AreReady policy schemes (runs_at policy schemes xs) × IsReady policy schemes (run_of policy schemes y)
+ready_front : (policy : Policy) (schemes : Schemes) (xs : List Run) (y : Run) (ys : List Run) → AllByRecursion (IsPrepared policy schemes) (xs ++ y ∷ ys) → AreReady policy schemes (runs_at policy schemes xs) × IsReady policy schemes (run_of policy schemes y)
 ready_front policy schemes [] y ys h = (tt, ready_run policy schemes y h.0)
 ready_front policy schemes (x ∷ xs) y ys h = let rest = ready_front policy schemes xs y ys h.1 in ((ready_run policy schemes x h.0, rest.0), rest.1)
 
 -- some of the runs are done, and the others are to come
-pub record Goes {D : Type 0} (g : Ghosts D) (policy : Tables) (file : SchemesFile) (audience : Audience) (runs : List Run) (start : Files D) (before : Option (List ℕ)) (done rest : List Run) (number : ℕ) (now : Files D) (after : Option (List ℕ)) : Type 0 where
+pub record Goes {D : Type 0} (g : Ghosts D) (policy : Policy) (file : SchemesFile) (audience : Audience) (runs : List Run) (start : Files D) (before : Option (List ℕ)) (done rest : List Run) (number : ℕ) (now : Files D) (after : Option (List ℕ)) : Type 0 where
   pub all : done ++ rest ≡ runs
   pub count : number ≡ length done
   pub over : AreRunsOver g policy file audience start (runs_at policy file.schemes done) (Appends before after) now
 
-module _ {D : Type 0} (g : Ghosts D) (policy : Tables) (file : SchemesFile) (audience : Audience) (runs : List Run) (start : Files D) (before : Option (List ℕ)) where
+module _ {D : Type 0} (g : Ghosts D) (policy : Policy) (file : SchemesFile) (audience : Audience) (runs : List Run) (start : Files D) (before : Option (List ℕ)) where
   pub goes_first : Goes g policy file audience runs start before [] runs 0 start before
   goes_first = record { all = refl; count = refl; over = (Appends-nil before, refl) }
 

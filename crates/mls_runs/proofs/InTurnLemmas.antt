@@ -3,7 +3,7 @@ use Rattle.std.proofs.Common.{◌≡◌, ℕ, ◌-◌, if◌then◌else◌, List
 use Rattle.std.specs.List.{AllByRecursion}
 use Rattle.std.proofs.lemmas.List.{length-map, take_all}
 use Rattle.mls_lattice.specs.Labels.{AreDistinct}
-use Rattle.mls_lattice.specs.Policy.{Tables, labels_of}
+use Rattle.mls_lattice.specs.Policy.{Policy, labels_of}
 use Rattle.mls_lattice.specs.ReadsPolicy.{ReadsPolicy}
 use Rattle.mls_lattice.proofs.KeptLemmas.{policy-kept}
 use Rattle.mls_scheme.specs.Scheme.{Schemes}
@@ -54,7 +54,7 @@ module _ (site : Site) (v : World) (es : List Event) where
 
 -- ---- what is stored was read
 
-transactions_read : (gives : Option (List ℕ) → List ℕ → Type 0) (path : Option (List ℕ)) (policy : Tables) (schemes : Schemes) (txs : List Tx) → AreTransactionsFrom gives path policy schemes txs → AllByRecursion (IsReadUnder policy schemes) txs
+transactions_read : (gives : Option (List ℕ) → List ℕ → Type 0) (path : Option (List ℕ)) (policy : Policy) (schemes : Schemes) (txs : List Tx) → AreTransactionsFrom gives path policy schemes txs → AllByRecursion (IsReadUnder policy schemes) txs
 transactions_read gives None policy schemes txs h = subst (AllByRecursion (IsReadUnder policy schemes)) (sym h) tt
 transactions_read gives (Some path) policy schemes txs h = h.2.read.each
 
@@ -64,16 +64,16 @@ are_read h job i stored are each =
 
 -- ---- the labels of a policy that was read differ
 
-read_distinct : (bytes : List ℕ) (policy : Tables) → ReadsPolicy bytes policy → AreDistinct (labels_of policy)
+read_distinct : (bytes : List ℕ) (policy : Policy) → ReadsPolicy bytes policy → AreDistinct (labels_of policy)
 read_distinct bytes policy h = (policy-kept h.0 policy h.2).distinct
 
-policy_distinct : (gives : Option (List ℕ) → List ℕ → Type 0) (documents : Option Documents) (policy : Tables) → IsPolicyOf gives documents policy → AreDistinct (labels_of policy)
+policy_distinct : (gives : Option (List ℕ) → List ℕ → Type 0) (documents : Option Documents) (policy : Policy) → IsPolicyOf gives documents policy → AreDistinct (labels_of policy)
 policy_distinct gives None policy read = read_distinct _ policy read
 policy_distinct gives (Some d) policy read = read_distinct _ policy read.2
 
 -- ---- worlds between runs
 
-same_count : (policy later : Tables) → labels_of later ≡ labels_of policy → length policy.labels ≡ length later.labels
+same_count : (policy later : Policy) → labels_of later ≡ labels_of policy → length policy.labels ≡ length later.labels
 same_count policy later e = sym (length-map policy.labels (λ l. l.value)) ∙ ap length (sym e) ∙ length-map later.labels (λ l. l.value)
 
 abbrev world_with : ℕ → Content → World
@@ -86,7 +86,7 @@ left_world site first left es h = ap settled (sym h.1)
 -- ---- a store that keeps one content
 
 -- what is sound is so under the same labels and schemes
-sound_later : (policy later : Tables) (schemes same : Schemes) (stored : List Stored) (c : Content) → labels_of later ≡ labels_of policy → same ≡ schemes
+sound_later : (policy later : Policy) (schemes same : Schemes) (stored : List Stored) (c : Content) → labels_of later ≡ labels_of policy → same ≡ schemes
     → IsSound (site_of policy schemes stored) c → IsSoundContent later same c
 sound_later policy later schemes same stored c labels relations sound = record {
   content = subst (λ ss. AreContent (labels_of later) ss c.db) (sym relations) (subst (λ ls. AreContent ls schemes c.db) (sym labels) sound.content);
@@ -94,7 +94,7 @@ sound_later policy later schemes same stored c labels relations sound = record {
 }
 
 -- and is taken as it was left
-taken_again : (h k : Hosted) (path : List ℕ) → KeepsOne h k path → (later : Tables) (again : SchemesFile) (left first : Content) → IsSoundContent later again.schemes left
+taken_again : (h k : Hosted) (path : List ℕ) → KeepsOne h k path → (later : Policy) (again : SchemesFile) (left first : Content) → IsSoundContent later again.schemes left
     → (row : MetaRow) × h.after.keeps path (holdings_of row left) → IsTakenOf (k.before.keeps path) later again first → left ≡ first
 taken_again h k path one later again left first sound kept taken =
     let same : left ≡ taken.had.content = ap (λ had. had.content) (one (holdings_of kept.0 left) taken.had kept.1 taken.was) in

@@ -9,9 +9,9 @@ use Rattle.mls_machine.specs.Machine.{World, step, end_of}
 use Rattle.mls_machine.specs.Observation.{run_shows, reader_of}
 use Rattle.mls_machine.specs.Serving.{answer_to, answers_to}
 use Rattle.mls_host.specs.Running.{form_of}
-use Rattle.mls_shells.specs.declared.seat.Seat.{Seat}
-use Rattle.mls_shells.specs.Shell.{audience_at, is_own, answers}
-use Rattle.mls_shells.proofs.ShellLemmas.{prints-append, prints-none}
+use Rattle.mls_runs.specs.declared.seat.Seat.{Seat}
+use Rattle.mls_runs.specs.Shell.{audience_at, is_own, answers}
+use Rattle.mls_runs.proofs.ShellLemmas.{prints-append, prints-none}
 use Rattle.mls_runs.specs.Laws.{ShellsAreDesks}
 use Rattle.mls_runs.proofs.AnsweringLemmas.{shown_one}
 

@@ -9,3 +9,7 @@ pub mod DeskLemmas
 pub mod DeskEndLemmas
 pub mod LawLemmas
 pub mod TurningLemmas
+pub mod TypedLemmas
+pub mod ShellLemmas
+pub mod TalkLemmas
+pub mod ShellEndLemmas

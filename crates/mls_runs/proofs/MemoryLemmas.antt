@@ -5,7 +5,7 @@ use Rattle.sqlite.specs.Effect.{Database}
 use Rattle.sqlite.specs.Held.{state}
 use Rattle.sqlite.specs.State.{State}
 use Rattle.sqlite.specs.Steps.{over_memory}
-use Rattle.mls_lattice.specs.Policy.{Tables}
+use Rattle.mls_lattice.specs.Policy.{Policy}
 use Rattle.mls_scheme.specs.declared.file.SchemesFile.{SchemesFile}
 use Rattle.mls_fragments.specs.Holdings.{Holdings, HasHoldings}
 use Rattle.mls_fragments.specs.Opening.{IsOfOthers, IsBad, IsHandedBack}
@@ -24,7 +24,7 @@ pub in_memory : (W V : List ℕ → Type 0) → RunsInMemoryAreInTurn W V
 in_memory W V old middle new path = in_turn (hosted_in old middle) W (hosted_in middle new) V path (one_of (λ conn. (state over_memory conn).now) middle.store)
 
 -- the store that a connection was, in which no transaction had begun, is not opened for the cause that it comes back with
-pub barred : {A : Type 0} (show : A → Bool × Database) (policy : Tables) (file : SchemesFile) (store : Option A) (conn : A) → Some conn ≡ store → (fault : OpenFault)
+pub barred : {A : Type 0} (show : A → Bool × Database) (policy : Policy) (file : SchemesFile) (store : Option A) (conn : A) → Some conn ≡ store → (fault : OpenFault)
     → (fault ≡ stores.OtherPolicy → IsOfOthers policy file (show conn).1) → (fault ≡ stores.BadRows → IsBad policy file (show conn).1)
     → IsUnopenedFor policy file (option_map show store) (in_memory_fault fault)
 barred show policy file store conn is stores.Store other bad = tt

@@ -2,7 +2,7 @@
 use Rattle.std.proofs.Common.{◌≡◌, ◌≢◌, ℕ, suc, ◌+◌, ◌≤◌, ◌==◌, Bool, true, false, true≢false, List, [], ◌∷◌, ◌++◌, length, Option, Some, None, Result, Ok, Err, cond, nat_eq, eqb-true, ◌⊎◌, refl, sym, ap, ◌∙◌, subst, inl, inr, arith}
 use Rattle.std.specs.List.{list_any, flat_map, filter_map, cons_option}
 use Rattle.std.specs.Io.KnownBytes.{Appends, IsAtEnd}
-use Rattle.mls_lattice.specs.Policy.{Tables}
+use Rattle.mls_lattice.specs.Policy.{Policy}
 use Rattle.mls_scheme.specs.Scheme.{Schemes}
 use Rattle.mls_script.specs.declared.event.Event.{Event}
 use Rattle.mls_script.specs.declared.fault.ScriptFault.{ScriptFault}
@@ -10,11 +10,11 @@ use Rattle.mls_script.specs.Reading.{script_at}
 use Rattle.mls_script.specs.Script.{Line, ReadsScript}
 use Rattle.mls_script.proofs.LawLemmas.{script_found}
 use Rattle.mls_tokens.specs.Typing.{HasNoFeed, IsNext, IsLong}
-use Rattle.mls_shells.specs.declared.seat.Fate.{Fate}
-use Rattle.mls_shells.specs.declared.seat.Fate.TheVariants as fates
-use Rattle.mls_shells.specs.Reading.{Becomes}
-use Rattle.mls_shells.specs.Shell.{events_of, IsTurn, whole, long, cut, IsCut, IsRead}
-use Rattle.mls_shells.proofs.ReadingLemmas.{read_line, read_in_vain}
+use Rattle.mls_runs.specs.declared.seat.Fate.{Fate}
+use Rattle.mls_runs.specs.declared.seat.Fate.TheVariants as fates
+use Rattle.mls_runs.specs.Typed.{Becomes}
+use Rattle.mls_runs.specs.Shell.{events_of, IsShellTurn, whole, long, cut, IsCut, IsRead}
+use Rattle.mls_runs.proofs.TypedLemmas.{read_line, read_in_vain}
 use Rattle.mls_runs.specs.Desk.{opens_other, other_name, IsFate, over, said, other, refused}
 use Rattle.mls_runs.specs.Reading.{fate_of_events, fate_read, fate_of}
 
@@ -29,7 +29,7 @@ some_events : (b : Bool) (events : List Event) (fault : ScriptFault) → cond b 
 some_events true events fault h = absurd cc
 some_events false events fault h = absurd cc
 
-module _ (policy : Tables) (schemes : Schemes) (line : List ℕ) where
+module _ (policy : Policy) (schemes : Schemes) (line : List ℕ) where
   events_are : line ≢ [] → (events : List Event) → ReadsScript policy schemes line events → (b : Bool) → list_any opens_other events ≡ b
       → IsFate policy schemes line (cond b (fates.Refused (other_name line)) (fates.Said events))
   events_are some events reads true h = other events some reads h refl
@@ -132,7 +132,7 @@ one_feed before after line n = by_end n.whole
     by_end (inl h) = with_feed (feeds n.text) (feeds line) none (ap feeds h ∙ feeds-append n.text (10 ∷ []))
     by_end (inr h) = without (feeds n.text) (feeds line) none (ap feeds h.0)
 
-one_told : (policy : Tables) (schemes : Schemes) (line : List ℕ) (events : List Event) → feeds line ≤ 1 → ReadsScript policy schemes line events → length events ≤ 1
+one_told : (policy : Policy) (schemes : Schemes) (line : List ℕ) (events : List Event) → feeds line ≤ 1 → ReadsScript policy schemes line events → length events ≤ 1
 one_told policy schemes line events few r =
     least (length events) (length (filter_map (λ (line : Line). line.event) r.lines)) (length r.lines) (feeds (flat_map (λ (line : Line). line.text ++ 10 ∷ []) r.lines)) (feeds line)
     (ap length r.told) (fewer (λ (line : Line). line.event) r.lines) (feeds-lines r.lines) (ap feeds r.text) few
@@ -140,7 +140,7 @@ one_told policy schemes line events few r =
     least : (n m l f t : ℕ) → n ≡ m → m ≤ l → l ≤ f → t ≡ f → t ≤ 1 → n ≤ 1
     least n m l f t a b c d e = omega (arith, a, b, c, d, e)
 
-fate_one : (policy : Tables) (schemes : Schemes) (line : List ℕ) (fate : Fate) → feeds line ≤ 1 → IsFate policy schemes line fate → length (events_of fate) ≤ 1
+fate_one : (policy : Policy) (schemes : Schemes) (line : List ℕ) (fate : Fate) → feeds line ≤ 1 → IsFate policy schemes line fate → length (events_of fate) ≤ 1
 fate_one policy schemes line fate few (over e f) = subst (λ (x : Fate). length (events_of x) ≤ 1) (sym f) (omega arith)
 fate_one policy schemes line fate few (said events c r n f) = subst (λ (x : Fate). length (events_of x) ≤ 1) (sym f) (one_told policy schemes line events few r)
 fate_one policy schemes line fate few (other events c r n f) = subst (λ (x : Fate). length (events_of x) ≤ 1) (sym f) (omega arith)
@@ -158,11 +158,11 @@ cut_one (fates.Refused fault) h = absurd h
 cut_one fates.TooLong h = absurd h
 
 -- of a line that is read one event is told at most
-pub one_event : (echo : List ℕ → List ℕ) (policy : Tables) (schemes : Schemes) (before after was is : Option (List ℕ)) (Broken : Type 0) (fate : Fate)
+pub one_event : (echo : List ℕ → List ℕ) (policy : Policy) (schemes : Schemes) (before after was is : Option (List ℕ)) (Broken : Type 0) (fate : Fate)
     → IsRead echo (IsFate policy schemes) before after was is Broken fate → length (events_of fate) ≤ 1
 one_event echo policy schemes before after was is Broken fate h = subst (λ (x : Fate). length (events_of x) ≤ 1) h.same (of_turn h.is_turn)
   where
-    of_turn : IsTurn echo (IsFate policy schemes) before after h.turn → length (events_of h.turn.fate) ≤ 1
+    of_turn : IsShellTurn echo (IsFate policy schemes) before after h.turn → length (events_of h.turn.fate) ≤ 1
     of_turn (whole n s e f) = fate_one policy schemes h.turn.line h.turn.fate (one_feed before after h.turn.line n) f
     of_turn (long l e f) = subst (λ (x : Fate). length (events_of x) ≤ 1) (sym f) (omega arith)
     of_turn (cut line rest r e c) = cut_one h.turn.fate c

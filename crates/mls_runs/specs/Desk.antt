@@ -4,7 +4,7 @@ use Rattle.std.specs.Prelude.{Result, Ok, Err, OnOk, IfErr}
 use Rattle.std.specs.List.{list_any}
 use Rattle.std.specs.Str.{bytes_eq}
 use Rattle.std.specs.Io.KnownBytes.{Appends, IsAtEnd}
-use Rattle.mls_lattice.specs.Policy.{Tables}
+use Rattle.mls_lattice.specs.Policy.{Policy}
 use Rattle.mls_tokens.specs.declared.token.Placed.{Placed}
 use Rattle.mls_tokens.specs.Scanning.{tokens_at}
 use Rattle.mls_scheme.specs.Scheme.{Schemes, AreUnder}
@@ -28,9 +28,9 @@ use Rattle.mls_sessions.specs.World.{IsSound}
 use Rattle.mls_host.specs.declared.ending.Ending.{Ending}
 use Rattle.mls_host.specs.Ending.{ending_if}
 use Rattle.mls_host.specs.Running.{first_world, standing, IsLeftBy}
-use Rattle.mls_shells.specs.declared.seat.Fate.{Fate}
-use Rattle.mls_shells.specs.declared.seat.Fate.TheVariants.{Over, Said, Refused}
-use Rattle.mls_shells.specs.Shell.{Turn, IsTurn, FateFits, events_of, events_in, is_last, is_failed, is_lost}
+use Rattle.mls_runs.specs.declared.seat.Fate.{Fate}
+use Rattle.mls_runs.specs.declared.seat.Fate.TheVariants.{Over, Said, Refused}
+use Rattle.mls_runs.specs.Shell.{Turn, IsShellTurn, FateFits, events_of, events_in, is_last, is_failed, is_lost}
 use Rattle.mls_runs.specs.Marks.{mark_of}
 
 -- A desk may begin: what is stored was read and checked under the policy.
@@ -62,7 +62,7 @@ other_name line = record { line = 1; column = name_column line; cause = Expected
 
 -- it tells events, as a script's line does; or one that opens a session under another name, which stands where the
 -- fault is told; or it is refused for its fault as a script's line
-pub data IsFate (policy : Tables) (schemes : Schemes) (line : List ℕ) (fate : Fate) : Type 0 where
+pub data IsFate (policy : Policy) (schemes : Schemes) (line : List ℕ) (fate : Fate) : Type 0 where
   over : line ≡ [] → fate ≡ Over → IsFate policy schemes line fate
   said : (events : List Event) → line ≢ [] → ReadsScript policy schemes line events
       → list_any opens_other events ≡ false → fate ≡ Said events → IsFate policy schemes line fate
@@ -72,17 +72,17 @@ pub data IsFate (policy : Tables) (schemes : Schemes) (line : List ℕ) (fate : 
       → IsFate policy schemes line fate
 
 -- one event at most, which fits
-pub record TellsOne (policy : Tables) (schemes : Schemes) (fate : Fate) : Type 0 where
+pub record TellsOne (policy : Policy) (schemes : Schemes) (fate : Fate) : Type 0 where
   pub fits : FateFits policy schemes fate
   pub one : length (events_of fate) ≤ 1
 
 -- ---- lines, one after another
 
 -- none lost, and none behind a last one
-unfoldable pub AreLines : (List ℕ → List ℕ) → Tables → Schemes → Option (List ℕ) → Option (List ℕ) → List Turn → Type 0
+unfoldable pub AreLines : (List ℕ → List ℕ) → Policy → Schemes → Option (List ℕ) → Option (List ℕ) → List Turn → Type 0
 AreLines echo policy schemes before after [] = before ≡ after
 AreLines echo policy schemes before after (t ∷ ts) =
-    (left : Option (List ℕ)) × IsTurn echo (IsFate policy schemes) before left t × (ts ≢ [] → is_last t.fate ≡ false)
+    (left : Option (List ℕ)) × IsShellTurn echo (IsFate policy schemes) before left t × (ts ≢ [] → is_last t.fate ≡ false)
     × AreLines echo policy schemes left after ts
 
 module _ (site : Site) where

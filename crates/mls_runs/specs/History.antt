@@ -5,7 +5,7 @@ use Rattle.sqlite_disk.specs.declared.Disk.{Ghosts}
 use Rattle.sqlite_disk.specs.declared.Files.{Files}
 use Rattle.sqlite.specs.Files.{image_of}
 use Rattle.sqlite.specs.WalReads.{AreClean}
-use Rattle.mls_lattice.specs.Policy.{Tables, labels_of}
+use Rattle.mls_lattice.specs.Policy.{Policy, labels_of}
 use Rattle.mls_scheme.specs.Scheme.{Schemes}
 use Rattle.mls_scheme.specs.declared.file.SchemesFile.{SchemesFile}
 use Rattle.mls_filterview.specs.Content.{Content}
@@ -29,7 +29,7 @@ use Rattle.mls_host.specs.Running.{site_of, IsRun}
 
 -- ---- runs of a history
 
-module _ (policy : Tables) (schemes : Schemes) where
+module _ (policy : Policy) (schemes : Schemes) where
   abbrev pub run_of : Run → RunAt
   run_of run = run_at (site_of policy schemes run.stored) run.events.items
 
@@ -45,13 +45,13 @@ cause_of (Ok _) = Ok tt
 cause_of (Err fault) = Err (Stopped fault)
 
 -- the tuples and the entries of a content, and no session
-abbrev pub world_of : Tables → Content → World
+abbrev pub world_of : Policy → Content → World
 world_of policy c = record { db = c.db; sessions = no_sessions; audit = entries_in (length policy.labels) c.audit }
 
 -- ---- histories of whole runs
 
 -- from one content to another
-pub record IsHistoryRun (policy : Tables) (schemes : Schemes) (audience : Audience) (rs : List RunAt)
+pub record IsHistoryRun (policy : Policy) (schemes : Schemes) (audience : Audience) (rs : List RunAt)
     (Wrote : List ℕ → Type 0) (first left : Content) : Type 0 where
   pub begins : IsSoundContent policy schemes first
   -- what an audience is shown of all runs
@@ -75,7 +75,7 @@ KeepContent g files left = (row : MetaRow) × AreKept g files (holdings_of row l
 abbrev pub MayKeepContent : {D : Type 0} → Ghosts D → Files D → Content → Type 0
 MayKeepContent g files left = (row : MetaRow) × MayKeep g files (holdings_of row left)
 
-module _ {D : Type 0} (g : Ghosts D) (policy : Tables) (file : SchemesFile) where
+module _ {D : Type 0} (g : Ghosts D) (policy : Policy) (file : SchemesFile) where
   -- the files are clean, and the content is taken of what is found in them
   abbrev pub BeginsIn : Files D → Content → Type 0
   BeginsIn files first =

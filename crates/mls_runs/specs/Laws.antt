@@ -5,8 +5,8 @@ use Rattle.mls_script.specs.declared.event.Event.{Event}
 use Rattle.mls_machine.specs.Site.{Site}
 use Rattle.mls_machine.specs.Machine.{World}
 use Rattle.mls_machine.specs.Serving.{answers_to}
-use Rattle.mls_shells.specs.declared.seat.Seat.{Seat}
-use Rattle.mls_shells.specs.Shell.{is_own, answers}
+use Rattle.mls_runs.specs.declared.seat.Seat.{Seat}
+use Rattle.mls_runs.specs.Shell.{is_own, answers}
 
 -- where nobody types at a terminal, a shell answers to events of its session what a desk answers to them
 abbrev pub ShellsAreDesks : Type 0

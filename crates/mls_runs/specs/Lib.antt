@@ -11,3 +11,7 @@ pub mod Laws
 pub mod Marks
 pub mod Reading
 pub mod TurnRun
+pub mod Typed
+pub mod Shell
+pub mod ShellRun
+pub mod Tally

@@ -7,7 +7,7 @@ use Rattle.sqlite.specs.Effect.{Database}
 use Rattle.sqlite_trees.specs.declared.memory.MemStore.{MemStore}
 use Rattle.sqlite.specs.Held.{Held, state}
 use Rattle.sqlite.specs.Steps.{over_memory}
-use Rattle.mls_lattice.specs.Policy.{Tables}
+use Rattle.mls_lattice.specs.Policy.{Policy}
 use Rattle.mls_scheme.specs.declared.file.SchemesFile.{SchemesFile}
 use Rattle.mls_fragments.specs.Holdings.{Holdings, HasHoldings}
 use Rattle.mls_fragments.specs.Opening.{IsOfOthers, IsBad}
@@ -54,7 +54,7 @@ shown conn = ((state over_memory conn).in_transaction, (state over_memory conn).
 
 -- why a store is not opened: there is none, or a transaction has begun there; or
 -- its texts are those of others, or it is bad; or memory
-abbrev pub IsUnopenedFor : Tables → SchemesFile → Option (Bool × Database) → OpenFault → Type 0
+abbrev pub IsUnopenedFor : Policy → SchemesFile → Option (Bool × Database) → OpenFault → Type 0
 IsUnopenedFor policy file store stores.Store = MatchOption store ⊤ (λ s. s.0 ≡ true)
 IsUnopenedFor policy file store stores.Memory = ⊤
 IsUnopenedFor policy file store stores.OtherPolicy = MatchOption store ⊥ (λ s. IsOfOthers policy file s.1)
@@ -76,7 +76,7 @@ lacks h None fault = IsUncopied h.input.now fault
 lacks h (Some name) fault = IsLacking (option_map (λ f. f.bytes) (file_named h.files.items name)) fault
 
 -- why its store is not opened
-abbrev pub bars : MemoryHost → List ℕ → Tables → SchemesFile → OpenFault → Type 0
+abbrev pub bars : MemoryHost → List ℕ → Policy → SchemesFile → OpenFault → Type 0
 bars h path policy file fault = IsUnopenedFor policy file (option_map shown h.store) fault
 
 -- the files of a store that is looked at: what it gives under the name, and no log

@@ -1,6 +1,6 @@
 -- The audit list of a store, turned.
 use Rattle.std.specs.Prelude.{◌≡◌, ℕ, List, Option, Result}
-use Rattle.mls_lattice.specs.Policy.{Tables, labels_of}
+use Rattle.mls_lattice.specs.Policy.{Policy, labels_of}
 use Rattle.mls_filterview.specs.Content.{Content}
 use Rattle.mls_fragments.specs.Finding.{IsSoundContent}
 use Rattle.mls_machine.specs.Machine.{World}
@@ -14,7 +14,7 @@ use Rattle.mls_runs.specs.History.{world_of}
 
 -- a turning passes nothing down: of any other world that looks alike to a level it shows that the same entries, and leaves
 -- a world that looks alike to it
-abbrev pub TurnPassesNothingDown : Tables → World → Type 0
+abbrev pub TurnPassesNothingDown : Policy → World → Type 0
 TurnPassesNothingDown policy v =
     (c : ℕ) (w : World) → AgreeAt (labels_of policy) c v w
     → (out (labels_of policy) c (turn_lines policy v.audit) ≡ out (labels_of policy) c (turn_lines policy w.audit))

@@ -3,15 +3,16 @@
 //! written. A read that fails is told as a refusal, since all that was answered stands; no mark is printed.
 ghost use Rattle.std.specs.Prelude.{◌≡◌, ◌≤◌, false, length, OnOk};
 ghost use Rattle.mls_machine.specs.Observation.{EventsFit};
-ghost use Rattle.mls_sessions.specs.Engine.{site, world_of, IsReady, Continues, Leaves};
+ghost use Rattle.mls_sessions.specs.Engine.{site, world_of, IsEngineReady, Continues, Leaves};
 ghost use Rattle.mls_sessions.specs.World.{IsSound};
 ghost use Rattle.mls_host.specs.Hosting.{IsAppended};
 ghost use Rattle.mls_host.specs.Running.{site_of};
-ghost use Rattle.mls_shells.specs.Shell.{events_of, is_failed, is_lost};
+ghost use Rattle.mls_runs.specs.Shell.{events_of, is_failed, is_lost};
 ghost use Rattle.mls_runs.specs.Desk.{MayServe, TellsOne, IsDone, IsFollowed, IsService, IsDesk};
 
 use crate::marks::write_mark;
 use crate::reading::next_fate;
+use crate::{Fate, is_last};
 use mls_filterview::Base;
 use mls_host::{Ending, ending_if};
 use mls_lattice::{Items, Policy};
@@ -19,7 +20,6 @@ use mls_machine::{Audience, Form};
 use mls_scheme::Schemes;
 use mls_script::Event;
 use mls_sessions::{Engine, RunCause, RunFault, Stored, run_to};
-use mls_shells::{Fate, is_last};
 use mls_tokens::TypedLines;
 use std::alloc::Global;
 use std::io::Write;
@@ -30,7 +30,7 @@ fn answer<B: Base, W: Write>(
     events: &[Event],
     out: &mut W,
 ) -> Result<(), RunFault>
-    requires ready { IsReady B.state B.is_clean engine.old }
+    requires ready { IsEngineReady B.state B.is_clean engine.old }
     requires fits { EventsFit (site engine.old) events.now }
     requires one { length events.now ≤ 1 }
     ensures continues { Continues B.state B.is_clean B.failures engine.old engine.new result }
@@ -55,7 +55,7 @@ fn perform<B: Base, W: Write>(
     fate: &Fate,
     out: &mut W,
 ) -> Result<(), RunFault>
-    requires ready { IsReady B.state B.is_clean engine.old }
+    requires ready { IsEngineReady B.state B.is_clean engine.old }
     requires line { TellsOne (site engine.old).policy (site engine.old).schemes fate.now }
     ensures continues { Continues B.state B.is_clean B.failures engine.old engine.new result }
     ensures done { B.is_clean engine.new.base → IsDone (site engine.old) (world_of B.state engine.old)
@@ -80,7 +80,7 @@ fn follow<B: Base, W: Write>(
     fate: &Fate,
     out: &mut W,
 ) -> Result<(), RunFault>
-    requires ready { IsReady B.state B.is_clean engine.old }
+    requires ready { IsEngineReady B.state B.is_clean engine.old }
     requires line { TellsOne (site engine.old).policy (site engine.old).schemes fate.now }
     ensures continues { Continues B.state B.is_clean B.failures engine.old engine.new result }
     ensures followed { B.is_clean engine.new.base → IsFollowed (site engine.old) (world_of B.state engine.old) fate.now
@@ -116,7 +116,7 @@ fn serve<B: Base, L: TypedLines, W: Write>(
     lines: &mut L,
     out: &mut W,
 ) -> Result<Ending, RunFault>
-    requires ready { IsReady B.state B.is_clean engine.old }
+    requires ready { IsEngineReady B.state B.is_clean engine.old }
     requires policy { (site engine.old).policy ≡ policy.now }
     requires schemes { (site engine.old).schemes ≡ schemes.now }
     ensures continues { Continues B.state B.is_clean B.failures engine.old engine.new result }
@@ -143,7 +143,7 @@ fn serve<B: Base, L: TypedLines, W: Write>(
 ///
 /// Each answer stands before the next line is read: a host that shows each line among what is written shows it right before its answer.
 /// What sessions are answered whose levels a level dominates passes nothing down to that level but what is released.
-pub fn desk_on<B: Base, L: TypedLines, W: Write>(
+pub fn desk_over_base<B: Base, L: TypedLines, W: Write>(
     alloc: Global,
     policy: &Policy,
     schemes: &Schemes,

@@ -11,7 +11,7 @@ ghost use Rattle.mls_host.specs.Stopping.{IsCaused, IsCausedInMemory};
 ghost use Rattle.mls_runs.specs.Desk.{MayServe, IsDesk};
 ghost use Rattle.mls_runs.specs.DeskRun.{IsDeskFrom, IsDeskRun};
 
-use crate::desk::desk_on;
+use crate::desk::desk_over_base;
 use mls_fragments::OpenFault;
 use mls_host::{Ending, Host, Inputs, Reason, Refusal, ended, stored_of};
 use mls_lattice::{Items, Policy};
@@ -42,7 +42,7 @@ fn desk_in_memory<L: TypedLines, W: Write>(
         Ok(base) => base,
         Err(fault) => return Err(Refusal::Before(Reason::Store(fault))),
     };
-    let (outcome, left) = desk_on(alloc, policy, &file.schemes, stored, base, lines, out);
+    let (outcome, left) = desk_over_base(alloc, policy, &file.schemes, stored, base, lines, out);
     left.close();
     ended(outcome, Ok(()))
 }
@@ -70,13 +70,13 @@ fn desk_in_store<H: Host, L: TypedLines, W: Write>(
         Ok(base) => base,
         Err(fault) => return Err(Refusal::Before(Reason::Store(fault))),
     };
-    let (outcome, left) = desk_on(alloc, policy, &file.schemes, stored, base, lines, out);
+    let (outcome, left) = desk_over_base(alloc, policy, &file.schemes, stored, base, lines, out);
     let closed = host.keep(path, left);
     ended(outcome, closed)
 }
 
 /// A desk over the database in a store of the host, or over an empty one in memory.
-fn desk_over<H: Host, L: TypedLines, W: Write>(
+fn desk_over_store<H: Host, L: TypedLines, W: Write>(
     alloc: Global,
     host: &mut H,
     store: Option<&str>,
@@ -124,5 +124,5 @@ pub fn run_desk<H: Host, W: Write>(
     let (policy, file) = (&setting.policy, &setting.file);
     let stored = stored_of(alloc, policy, transactions, &certificates)?;
     let mut lines = host.lines();
-    desk_over(alloc, host, store, policy, file, stored, &mut lines, out)
+    desk_over_store(alloc, host, store, policy, file, stored, &mut lines, out)
 }

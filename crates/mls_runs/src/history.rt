@@ -8,7 +8,7 @@ ghost use Rattle.mls_scheme.specs.Scheme.{AreUnder};
 ghost use Rattle.mls_host.specs.Hosting.{IsAppended};
 ghost use Rattle.mls_runs.specs.History.{run_of, cause_of, IsPrepared, AreRunsOver, IsBrokenOff, IsHistoryFault};
 
-use crate::running::run_on;
+use crate::running::run_over_base;
 use mls_fragments::{OpenFault, SqlBase};
 use mls_lattice::{Items, Policy};
 use mls_machine::Audience;
@@ -63,7 +63,7 @@ fn same_audience(audience: &Audience) -> Audience
 }
 
 /// Answers the events of a run over the store in files, which is opened and closed for it.
-fn run_over<D: Disk + Drop, W: Write>(
+fn run_over_files<D: Disk + Drop, W: Write>(
     alloc: Global,
     policy: &Policy,
     file: &SchemesFile,
@@ -89,7 +89,9 @@ fn run_over<D: Disk + Drop, W: Write>(
     let Run { stored, events } = run;
     let schemes = &file.schemes;
     let audience = same_audience(audience);
-    let (outcome, left) = run_on(alloc, policy, schemes, stored, base, &events, audience, out);
+    let (outcome, left) = run_over_base(
+        alloc, policy, schemes, stored, base, &events, audience, out,
+    );
     match left.close_files() {
         Ok(files) => (ended(outcome), files),
         Err((_, files)) => (Err(HistoryCause::NotClosed), files),
@@ -124,7 +126,9 @@ pub fn run_history<D: Disk + Drop, W: Write>(
     let mut number = 0;
     for run in runs {
         number += 1;
-        let (outcome, files) = run_over(alloc, policy, file, run, left, options, &audience, out);
+        let (outcome, files) = run_over_files(
+            alloc, policy, file, run, left, options, &audience, out,
+        );
         left = files;
         if let Err(cause) = outcome {
             return (Err(HistoryFault { run: number, cause }), left);

@@ -1,27 +1,49 @@
-//! Scripts that are run over a database: of a host, in memory, and one after another over the files of a store; desks over a host; and audit lists that are turned.
+//! What runs and shells do over a host: scripts that are run over a database of the host, in memory, and one after another over the files
+//! of a store; shells, line by line; desks; and audit lists that are turned.
 #![tactic(auto)]
 
+ghost use Rattle.mls_runs.specs.Shell.{PipesAreToldNoMore};
 ghost use Rattle.mls_runs.specs.Laws.{ShellsAreDesks};
 
+mod denials;
+mod describing;
 mod desk;
 mod desks;
+mod explaining;
+mod help;
 mod history;
 mod marks;
 mod memory;
 mod reading;
+mod refusals;
 mod running;
+mod seat;
+mod shell;
+mod shells;
+mod tally;
+mod telling;
 mod turning;
 mod turns;
+mod typed;
+mod words;
 
-pub use crate::desk::desk_on;
+pub use crate::desk::desk_over_base;
 pub use crate::desks::run_desk;
 pub use crate::history::{HistoryCause, HistoryFault, Run, run_history};
 pub use crate::memory::{HeldFile, MemoryHost, runs_in_memory_are_in_turn};
-pub use crate::running::{run_on, run_script};
+pub use crate::running::{run_over_base, run_script};
+pub use crate::seat::{Fate, Seat};
+pub use crate::shell::{is_last, shell_over_base};
+pub use crate::shells::run_shell;
 pub use crate::turning::turn_store;
 pub use crate::turns::{runs_are_in_turn, runs_write_the_same};
 
 /// A shell is a desk of one session: where nobody types at a terminal, it answers to events of its session what a desk answers to them.
 pub fn shells_are_desks()
     ensures { ShellsAreDesks }
+{}
+
+/// Where nobody reads standard error at a terminal, nothing is told of the lines of a shell but the prompts and what is said of each.
+pub fn pipes_are_told_no_more()
+    ensures { PipesAreToldNoMore }
 {}

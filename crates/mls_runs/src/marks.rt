@@ -2,9 +2,9 @@
 ghost use Rattle.std.specs.Prelude.{◌≡◌, IfOk};
 ghost use Rattle.mls_runs.specs.Marks.{refused_mark, mark_of, IsMarked};
 
+use crate::Fate;
 use mls_script::ScriptFault;
 use mls_sessions::{RunCause, write_whole};
-use mls_shells::Fate;
 use mls_tokens::Piece::{Number, Text};
 use mls_tokens::write_pieces;
 use std::alloc::{AllocError, Global};

@@ -4,16 +4,16 @@
 ghost use Rattle.std.specs.Prelude.{◌≡◌, IfOk};
 ghost use Rattle.std.specs.List.{AllByRecursion, list_any};
 ghost use Rattle.mls_script.specs.Event.{EventFits};
-ghost use Rattle.mls_shells.specs.Reading.{Becomes};
-ghost use Rattle.mls_shells.specs.Shell.{FateFits, IsRead};
+ghost use Rattle.mls_runs.specs.Typed.{Becomes};
+ghost use Rattle.mls_runs.specs.Shell.{FateFits, IsRead};
 ghost use Rattle.mls_runs.specs.Desk.{opens_other, name_column, IsFate};
 ghost use Rattle.mls_runs.specs.Reading.{fate_of_events, fate_of};
 
+use crate::Fate;
 use mls_lattice::{Items, Policy};
 use mls_scheme::Schemes;
 use mls_script::{Command, Event, ScriptCause, ScriptFault, script};
 use mls_sessions::RunCause;
-use mls_shells::Fate;
 use mls_tokens::{TokenFault, Tokens, Typed, TypedLines, TypingFault};
 use std::alloc::Global;
 use std::io::Write;

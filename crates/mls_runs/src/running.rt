@@ -25,7 +25,7 @@ use std::alloc::Global;
 use std::io::Write;
 
 /// Answers events over a base, for an audience, and gives the base back.
-pub fn run_on<B: Base, W: Write>(
+pub fn run_over_base<B: Base, W: Write>(
     alloc: Global,
     policy: &Policy,
     schemes: &Schemes,
@@ -67,7 +67,7 @@ fn run_in_memory<W: Write>(
         Ok(base) => base,
         Err(fault) => return Err(Refusal::Before(Reason::Store(fault))),
     };
-    let (outcome, left) = run_on(
+    let (outcome, left) = run_over_base(
         alloc,
         policy,
         &file.schemes,
@@ -104,7 +104,7 @@ fn run_in_store<H: Host, W: Write>(
         Ok(base) => base,
         Err(fault) => return Err(Refusal::Before(Reason::Store(fault))),
     };
-    let (outcome, left) = run_on(
+    let (outcome, left) = run_over_base(
         alloc,
         policy,
         &file.schemes,

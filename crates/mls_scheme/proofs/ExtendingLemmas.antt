@@ -4,7 +4,7 @@ use Rattle.std.specs.Prelude.{codes, IfSome, IsSomeAnd}
 use Rattle.std.specs.List.{AllByRecursion, flat_map}
 use Rattle.std.proofs.lemmas.List.{append-nil, append_cancel_left, drop_more}
 use Rattle.std.proofs.lemmas.Bool.{eqb-true}
-use Rattle.mls_lattice.specs.Policy.{Tables, labels_of}
+use Rattle.mls_lattice.specs.Policy.{Policy, labels_of}
 use Rattle.mls_lattice.specs.Labels.{Labels, below}
 use Rattle.mls_lattice.specs.declared.version.Version.{Version}
 use Rattle.mls_lattice.specs.declared.version.Version.TheVariants.{One, Two}
@@ -57,7 +57,7 @@ pub full_of : (xs : List ℕ) → (length xs == 0) ≡ false → xs ≡ [] → �
 full_of [] e is = absurd cc
 full_of (x ∷ xs) e is = absurd cc
 
-module _ (p : Tables) where
+module _ (p : Policy) where
   abbrev line : Attribute → List ℕ
   line = attribute_line p (codes "attribute")
 
@@ -153,7 +153,7 @@ first_lines Two Two rest other e = append_cancel_left (first_line Two) rest othe
 first_lines One Two rest other e = absurd (first_apart (ap (λ (x : List ℕ). get_or x 8 0) e))
 first_lines Two One rest other e = absurd (first_apart (sym (ap (λ (x : List ℕ). get_or x 8 0) e)))
 
-module _ (p : Tables) (schemes : Schemes) where
+module _ (p : Policy) (schemes : Schemes) where
   pub extends_found : (old rest counts : List ℕ) → ((v : Version) × (old ≡ first_line v ++ rest)) → AreLines p schemes rest counts → Extends p schemes old counts
   extends_found old rest counts (v, first) lines = record { version = v; counts_are = lines.counts_are; text = first ∙ ap (λ (x : List ℕ). first_line v ++ x) lines.split }
 
@@ -171,7 +171,7 @@ module _ (p : Tables) (schemes : Schemes) where
 
 -- ---- the old numbers are one
 
-lines_one : (p : Tables) (schemes : Schemes) (text ns ms : List ℕ) → AreLines p schemes text ns → AreLines p schemes text ms → ns ≡ ms
+lines_one : (p : Policy) (schemes : Schemes) (text ns ms : List ℕ) → AreLines p schemes text ns → AreLines p schemes text ms → ns ≡ ms
 lines_one p [] text [] [] a b = refl
 lines_one p [] text [] (m ∷ ms) a b = absurd b.counts_are
 lines_one p [] text (n ∷ ns) ms a b = absurd a.counts_are

@@ -8,17 +8,17 @@ use Rattle.toml.specs.Data.{Data, string, integer, array, table, Items, no_items
 use Rattle.mls_lattice.specs.declared.fault.PolicyFault.{PolicyFault}
 use Rattle.mls_lattice.specs.declared.fault.PolicyFault.TheVariants as policy
 use Rattle.mls_lattice.specs.Name.{is_name}
-use Rattle.mls_lattice.specs.Policy.{Name, Tables}
+use Rattle.mls_lattice.specs.Policy.{Name, Policy}
 use Rattle.mls_lattice.specs.declared.version.Version.{Version}
 use Rattle.mls_lattice.specs.Version.{version_number}
-use Rattle.mls_lattice.specs.Reading.{◌>>=◌, wanted, text_at, version_at, table_at, name_at, tables_at, optional, items_len, all_items, at_most, some_of}
+use Rattle.mls_lattice.specs.Reading.{◌>>=◌, wanted, text_at, version_at, table_at, name_at, tables_at, optional, items_len, all_items, bounded, some_of}
 use Rattle.mls_lattice.proofs.ReadingLemmas.{bind_ok, guard_ok, found_ok, string_from_as_str}
 use Rattle.mls_lattice.proofs.SaysLemmas.{field_found, field_again, kind_found as array_of_kind_found, most_found, most_again}
 use Rattle.mls_lattice.proofs.SaysTablesLemmas.{table_found as table_at_found, version_found as policy_version_found, version_again as policy_version_again}
 use Rattle.mls_scheme.specs.declared.fault.SchemeFault.TheVariants.{UnknownName, NoKey}
 use Rattle.mls_scheme.specs.declared.value.Kind.{Kind}
 use Rattle.mls_scheme.specs.declared.value.Kind.TheVariants.{Int, Text}
-use Rattle.mls_scheme.specs.Reading.{lift, name_field, text_field, kind_in, label_in, label_field, key_items, other_items, relation_items}
+use Rattle.mls_scheme.specs.Reading.{lift, name_field, text_field, kind_named, label_named, label_field, key_items, other_items, relation_items}
 use Rattle.mls_scheme.specs.Document.{tables_of, HoldsTables, kind_word, NamesLabel}
 
 pub lift_ok : {X : Type 0} (r : Result X PolicyFault) (x : X) → lift r ≡ Ok x → r ≡ Ok x
@@ -48,7 +48,7 @@ text_field_found key fields n e =
 pub text_field_again : (key : Name) (fields : Members) (n : Name) → get_member key fields ≡ Some (string n) → text_field key fields ≡ Ok n
 text_field_again key fields n h = rw h refl
 
-pub kind_found : (word : Name) (k : Kind) → kind_in word ≡ Ok k → word ≡ kind_word k
+pub kind_found : (word : Name) (k : Kind) → kind_named word ≡ Ok k → word ≡ kind_word k
 kind_found word k e = by_int (bytes_eq word (codes "int")) refl e
   where
     by_text : (b : Bool) → bytes_eq word (codes "text") ≡ b → cond b (Ok Text) (Err UnknownName) ≡ Ok k → word ≡ kind_word k
@@ -59,17 +59,17 @@ kind_found word k e = by_int (bytes_eq word (codes "int")) refl e
     by_int true is e = let same : Int ≡ k = cc in (bytes_decides word (codes "int")).0 is ∙ ap kind_word same
     by_int false is e = by_text (bytes_eq word (codes "text")) refl e
 
-pub kind_again : (k : Kind) → kind_in (kind_word k) ≡ Ok k
+pub kind_again : (k : Kind) → kind_named (kind_word k) ≡ Ok k
 kind_again Int = refl
 kind_again Text = refl
 
-pub label_found : (p : Tables) (key : Name) (fields : Members) (label : ℕ) → label_field p.labels key fields ≡ Ok label → NamesLabel p (get_member key fields) label
+pub label_found : (p : Policy) (key : Name) (fields : Members) (label : ℕ) → label_field p.labels key fields ≡ Ok label → NamesLabel p (get_member key fields) label
 label_found p key fields label e =
-    let a = bind_ok (name_field key fields) (label_in p.labels) label e in
+    let a = bind_ok (name_field key fields) (label_named p.labels) label e in
     let b = name_found key fields a.0 a.1 in
     record { name = a.0; field_is = b.0; named = b.1; declared = found_ok (position (λ l. bytes_eq l.name a.0) p.labels) UnknownName label a.2 }
 
-pub label_again : (p : Tables) (key : Name) (fields : Members) (label : ℕ) → NamesLabel p (get_member key fields) label → label_field p.labels key fields ≡ Ok label
+pub label_again : (p : Policy) (key : Name) (fields : Members) (label : ℕ) → NamesLabel p (get_member key fields) label → label_field p.labels key fields ≡ Ok label
 label_again p key fields label h = rw (name_again key fields h.name h.field_is h.named, h.declared) refl
 
 pub version_found : (document : Members) (v : Version) → lift (version_at document) ≡ Ok v → get_member (codes "version") document ≡ Some (integer (pos (version_number v)))
@@ -100,8 +100,8 @@ pub key_found : (fields : Members) (ds : Items) → key_items fields ≡ Ok ds �
 unfolding key_items
 key_found fields ds e =
     let a = bind_ok (lift (optional tables_at (get_member (codes "key") fields))) _ ds e in
-    let b = guard_ok (items_len a.0 == 0) NoKey (lift (at_most 4 a.0)) ds a.2 in
-    let c = most_found 4 a.0 ds (lift_ok (at_most 4 a.0) ds b.1) in
+    let b = guard_ok (items_len a.0 == 0) NoKey (lift (bounded 4 a.0)) ds a.2 in
+    let c = most_found 4 a.0 ds (lift_ok (bounded 4 a.0) ds b.1) in
     let not_none : items_len a.0 ≡ 0 → ⊥ = eqb-false (items_len a.0) 0 b.0 in
     let len : items_len a.0 ≡ items_len ds = ap items_len c.0 in
     let few = c.1 in
@@ -122,7 +122,7 @@ pub record OtherTables (fields : Members) (ds : Items) : Type 0 where
 pub other_found : (fields : Members) (ds : Items) → other_items fields ≡ Ok ds → OtherTables fields ds
 unfolding other_items
 other_found fields ds e =
-    let a = bind_ok (optional tables_at (get_member (codes "attribute") fields)) (at_most 15) ds (lift_ok (optional tables_at (get_member (codes "attribute") fields) >>= at_most 15) ds e) in
+    let a = bind_ok (optional tables_at (get_member (codes "attribute") fields)) (bounded 15) ds (lift_ok (optional tables_at (get_member (codes "attribute") fields) >>= bounded 15) ds e) in
     let c = most_found 15 a.0 ds a.2 in
     let field : optional tables_at (get_member (codes "attribute") fields) ≡ Ok ds = a.1 ∙ ap (λ (x : Items). Ok x) c.0 in
     record { field_is = optional_found (get_member (codes "attribute") fields) ds field; few = c.1 }
@@ -143,7 +143,7 @@ unfolding relation_items
 relation_found document ds e =
     let a = bind_ok (wanted (codes "relation") document >>= tables_at) (some_of 16) ds (lift_ok (wanted (codes "relation") document >>= tables_at >>= some_of 16) ds e) in
     let b = bind_ok (wanted (codes "relation") document) tables_at a.0 a.1 in
-    let c = guard_ok (items_len a.0 == 0) policy.MissingField (at_most 16 a.0) ds a.2 in
+    let c = guard_ok (items_len a.0 == 0) policy.MissingField (bounded 16 a.0) ds a.2 in
     let d = most_found 16 a.0 ds c.1 in
     let not_none : items_len a.0 ≡ 0 → ⊥ = eqb-false (items_len a.0) 0 c.0 in
     let len : items_len a.0 ≡ items_len ds = ap items_len d.0 in

@@ -6,14 +6,14 @@ use Rattle.toml.specs.Data.{Data, Items, no_items, item, Members, get_member}
 use Rattle.mls_lattice.specs.declared.fault.PolicyFault.{PolicyFault}
 use Rattle.mls_lattice.specs.declared.fault.PolicyFault.TheVariants as policy
 use Rattle.mls_lattice.specs.Labels.{below}
-use Rattle.mls_lattice.specs.Policy.{Name, Tables, Named, labels_of}
+use Rattle.mls_lattice.specs.Policy.{Name, Policy, Named, labels_of}
 use Rattle.mls_lattice.specs.Reading.{tables_at, items_len}
-use Rattle.mls_lattice.proofs.NeverLemmas.{IsNever, never-then, never-found, never-test, never-given, wanted-never, text-never, table-never, version-never, name_field-never, tables-never, optional-never, at_most-never, some_of-never}
+use Rattle.mls_lattice.proofs.NeverLemmas.{IsNever, never-then, never-found, never-test, never-given, wanted-never, text-never, table-never, version-never, name_field-never, tables-never, optional-never, bounded-never, some_of-never}
 use Rattle.mls_scheme.specs.declared.fault.SchemeFault.{SchemeFault}
 use Rattle.mls_scheme.specs.declared.fault.SchemeFault.TheVariants.{NotToml, Repeated, UnknownName, EmptyInterval, Memory, NoKey, KeyIntervals}
 use Rattle.mls_scheme.specs.Fault.{scheme_fault_of}
 use Rattle.mls_scheme.specs.Scheme.{Attribute, Schemes, column_of}
-use Rattle.mls_scheme.specs.Reading.{Gives, lift, gather, name_field, text_field, kind_in, label_in, label_field, column_at, has_attribute, new_name, attribute_at, has_key_interval, key_at, other_at, key_items, other_items, attributes_at, has_relation, scheme_at, relation_items, schemes_at}
+use Rattle.mls_scheme.specs.Reading.{Gives, lift, gather, name_field, text_field, kind_named, label_named, label_field, column_at, has_attribute, new_name, attribute_at, has_key_interval, key_at, other_at, key_items, other_items, attributes_at, has_relation, scheme_at, relation_items, schemes_at}
 
 pub gives-never : {X Y : Type 0} (view : X → Y) (r : Result X SchemeFault) (read : Result Y SchemeFault) → Gives view r read → IsNever NotToml read → IsNever NotToml r
 gives-never view = never-given (λ e. e ≡ Memory) view NotToml (λ same. absurd cc)
@@ -62,10 +62,10 @@ field-never key fields = lifted _ (name_field-never key fields)
 text_field-never : (key : Name) (fields : Members) → IsNever NotToml (text_field key fields)
 text_field-never key fields = lifted _ (never-then _ _ _ (wanted-never key fields) text-never)
 
-kind-never : (word : Name) → IsNever NotToml (kind_in word)
+kind-never : (word : Name) → IsNever NotToml (kind_named word)
 kind-never word = never-test _ (bytes_eq word (codes "int")) _ _ tt (never-test _ (bytes_eq word (codes "text")) _ _ tt unknown)
 
-label-never : (labels : List Named) (name : Name) → IsNever NotToml (label_in labels name)
+label-never : (labels : List Named) (name : Name) → IsNever NotToml (label_named labels name)
 label-never labels name = never-found (position (λ (l : Named). bytes_eq l.name name) labels) unknown
 
 label_field-never : (labels : List Named) (key : Name) (fields : Members) → IsNever NotToml (label_field labels key fields)
@@ -76,24 +76,24 @@ new_name-never taken = never-test _ taken _ _ repeated tt
 
 -- ---- attributes
 
-column-never : (p : Tables) (fields : Members) → IsNever NotToml (column_at p fields)
+column-never : (p : Policy) (fields : Members) → IsNever NotToml (column_at p fields)
 unfolding column_at
 column-never p fields =
     never-then _ _ _ (text_field-never (codes "kind") fields) (λ word. never-then _ _ _ (kind-never word) (λ kind.
     never-then _ _ _ (label_field-never p.labels (codes "low") fields) (λ low. never-then _ _ _ (label_field-never p.labels (codes "high") fields) (λ high.
     never-test _ (below (labels_of p) low high) _ _ tt empty))))
 
-attribute-never : (p : Tables) (before : List Attribute) (d : Data) → IsNever NotToml (attribute_at p before d)
+attribute-never : (p : Policy) (before : List Attribute) (d : Data) → IsNever NotToml (attribute_at p before d)
 unfolding attribute_at
 attribute-never p before d =
     never-then _ _ _ (lifted _ (table-never d)) (λ fields. never-then _ _ _ (field-never (codes "name") fields) (λ name.
     never-then _ _ _ (new_name-never (has_attribute before name)) (λ new. never-then _ _ _ (column-never p fields) (λ column. tt))))
 
-key-never : (p : Tables) (before : List Attribute) (d : Data) → IsNever NotToml (key_at p before d)
+key-never : (p : Policy) (before : List Attribute) (d : Data) → IsNever NotToml (key_at p before d)
 unfolding key_at
 key-never p before d = never-then _ _ _ (attribute-never p before d) (λ a. never-test _ (has_key_interval before (column_of a)) _ _ tt key_intervals)
 
-other-never : (p : Tables) (keys before : List Attribute) (d : Data) → IsNever NotToml (other_at p keys before d)
+other-never : (p : Policy) (keys before : List Attribute) (d : Data) → IsNever NotToml (other_at p keys before d)
 unfolding other_at
 other-never p keys before d = attribute-never p (keys ++ before) d
 
@@ -103,19 +103,19 @@ key_items-never : (fields : Members) → IsNever NotToml (key_items fields)
 unfolding key_items
 key_items-never fields =
     never-then _ _ _ (lifted _ (optional-never tables_at tables-never (get_member (codes "key") fields))) (λ ds.
-    never-test _ (items_len ds == 0) _ _ no_key (lifted _ (at_most-never 4 ds)))
+    never-test _ (items_len ds == 0) _ _ no_key (lifted _ (bounded-never 4 ds)))
 
 other_items-never : (fields : Members) → IsNever NotToml (other_items fields)
 unfolding other_items
-other_items-never fields = lifted _ (never-then _ _ _ (optional-never tables_at tables-never (get_member (codes "attribute") fields)) (at_most-never 15))
+other_items-never fields = lifted _ (never-then _ _ _ (optional-never tables_at tables-never (get_member (codes "attribute") fields)) (bounded-never 15))
 
-attributes-never : (p : Tables) (fields : Members) → IsNever NotToml (attributes_at p fields)
+attributes-never : (p : Policy) (fields : Members) → IsNever NotToml (attributes_at p fields)
 unfolding attributes_at
 attributes-never p fields =
     never-then _ _ _ (key_items-never fields) (λ key_tables. never-then _ _ _ (gathered (key_at p) (key-never p) [] key_tables) (λ keys.
     never-then _ _ _ (other_items-never fields) (λ other_tables. never-then _ _ _ (gathered (other_at p keys) (other-never p keys) [] other_tables) (λ others. tt))))
 
-scheme-never : (p : Tables) (before : Schemes) (d : Data) → IsNever NotToml (scheme_at p before d)
+scheme-never : (p : Policy) (before : Schemes) (d : Data) → IsNever NotToml (scheme_at p before d)
 unfolding scheme_at
 scheme-never p before d =
     never-then _ _ _ (lifted _ (table-never d)) (λ fields. never-then _ _ _ (field-never (codes "name") fields) (λ name.
@@ -125,7 +125,7 @@ relation_items-never : (document : Members) → IsNever NotToml (relation_items 
 unfolding relation_items
 relation_items-never document = lifted _ (never-then _ _ _ (never-then _ _ _ (wanted-never (codes "relation") document) tables-never) (some_of-never 16))
 
-pub schemes-never : (p : Tables) (document : Members) → IsNever NotToml (schemes_at p document)
+pub schemes-never : (p : Policy) (document : Members) → IsNever NotToml (schemes_at p document)
 unfolding schemes_at
 schemes-never p document =
     never-then _ _ _ (lifted _ (version-never document)) (λ version. never-then _ _ _ (relation_items-never document) (λ tables.

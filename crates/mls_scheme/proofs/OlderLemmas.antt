@@ -3,7 +3,7 @@ use Rattle.std.proofs.Common.{◌≡◌, ℕ, zero, suc, arith, ◌+◌, ◌<◌
 use Rattle.std.specs.List.{AllZip, AllByRecursion, IsDistinct}
 use Rattle.std.specs.Str.{bytes_eq}
 use Rattle.std.proofs.lemmas.List.{take-append-drop, drop_more}
-use Rattle.mls_lattice.specs.Policy.{Name, Tables, AreNames}
+use Rattle.mls_lattice.specs.Policy.{Name, Policy, AreNames}
 use Rattle.mls_scheme.specs.declared.attributes.Column.{Column}
 use Rattle.mls_scheme.specs.Scheme.{Attribute, Scheme, Schemes, IsScheme, AreSchemes, IsAmongLabels, AreUnder, scheme_of, no_scheme, attribute_named, column_of}
 use Rattle.mls_scheme.specs.Reading.{has_attribute}
@@ -147,7 +147,7 @@ before_more counts schemes k m d c s =
 
 -- ---- what schemes that extend others have
 
-module _ (p : Tables) (schemes : Schemes) (old counts : List ℕ) (extends : Extends p schemes old counts) where
+module _ (p : Policy) (schemes : Schemes) (old counts : List ℕ) (extends : Extends p schemes old counts) where
   pub extends_long : length counts ≡ length schemes
   extends_long = counts_long (HadOthers p) counts schemes extends.counts_are
 

@@ -7,7 +7,7 @@ use Rattle.std.proofs.lemmas.List.{append-nil}
 use Rattle.std.proofs.lemmas.Bool.{eqb-true, ltb-true, eq-eqb, and_parts, and_from}
 use Rattle.toml.specs.Data.{Data, array, table, Items, no_items, Members, get_member, string}
 use Rattle.mls_lattice.specs.Labels.{below}
-use Rattle.mls_lattice.specs.Policy.{Name, Tables, AreNames, labels_of}
+use Rattle.mls_lattice.specs.Policy.{Name, Policy, AreNames, labels_of}
 use Rattle.mls_lattice.specs.ReadsPolicy.{IsDocument}
 use Rattle.mls_lattice.specs.declared.version.Version.{Version}
 use Rattle.mls_lattice.specs.Reading.{◌>>=◌, version_at, table_at, items_len}
@@ -17,7 +17,7 @@ use Rattle.mls_scheme.specs.declared.fault.SchemeFault.{SchemeFault}
 use Rattle.mls_scheme.specs.declared.fault.SchemeFault.TheVariants.{NotToml, Memory, EmptyInterval, KeyIntervals}
 use Rattle.mls_scheme.specs.declared.attributes.Column.{Column}
 use Rattle.mls_scheme.specs.Scheme.{Attribute, Scheme, Schemes, attribute_named, column_of, no_attribute, first_key, HasInterval, IsScheme, AreSchemes, IsAmongLabels, AreUnder, HaveIntervals}
-use Rattle.mls_scheme.specs.Reading.{Gives, lift, gather, name_field, text_field, kind_in, label_field, column_at, has_attribute, new_name, attribute_at, has_key_interval, key_at, other_at, key_items, other_items, attributes_at, has_relation, scheme_at, relation_items, schemes_at}
+use Rattle.mls_scheme.specs.Reading.{Gives, lift, gather, name_field, text_field, kind_named, label_field, column_at, has_attribute, new_name, attribute_at, has_key_interval, key_at, other_at, key_items, other_items, attributes_at, has_relation, scheme_at, relation_items, schemes_at}
 use Rattle.mls_scheme.specs.Document.{tables_of, HoldsTables, kind_word, SaysAttribute, SaysRelation, Says, ReadsSchemes, SaysOnce}
 use Rattle.mls_scheme.proofs.GatherLemmas.{Each, Step, gather_found, gather_again, items_len-tables_of, Each-left, Each-right, Each-both, distinct_found, distinct_again}
 use Rattle.mls_scheme.proofs.FieldLemmas.{table_found, name_found, name_again, text_field_found, text_field_again, kind_found, kind_again, label_found, label_again, version_found, version_again, key_found, key_again, other_found, other_again, relation_found, relation_again}
@@ -29,12 +29,12 @@ new_found : {A : Type 0} (taken : Bool) (r : Result A SchemeFault) (x : A) → (
 new_found true r x e = absurd cc
 new_found false r x e = (refl, e)
 
-says_column : (p : Tables) (fields : Members) (name : Name) (c : Column) → name_field (codes "name") fields ≡ Ok name → column_at p fields ≡ Ok c → SaysAttribute p fields (attribute_named name c)
+says_column : (p : Policy) (fields : Members) (name : Name) (c : Column) → name_field (codes "name") fields ≡ Ok name → column_at p fields ≡ Ok c → SaysAttribute p fields (attribute_named name c)
 unfolding column_at
 says_column p fields name c named e =
     let n = name_found (codes "name") fields name named in
     let a = bind_ok (text_field (codes "kind") fields) _ c e in
-    let b = bind_ok (kind_in a.0) _ c a.2 in
+    let b = bind_ok (kind_named a.0) _ c a.2 in
     let d = bind_ok (label_field p.labels (codes "low") fields) _ c b.2 in
     let f = bind_ok (label_field p.labels (codes "high") fields) _ c d.2 in
     let g = pass_ok (below (labels_of p) d.0 f.0) EmptyInterval _ c f.2 in
@@ -57,7 +57,7 @@ says_column p fields name c named e =
 abbrev IsNewAfter : List Attribute → List Attribute → Attribute → Type 0
 IsNewAfter base before a = has_attribute (base ++ before) a.name ≡ false
 
-attribute_found : (p : Tables) (before : List Attribute) (d : Data) (a : Attribute) → attribute_at p before d ≡ Ok a → Step (SaysAttribute p) (IsNewAfter []) before d a
+attribute_found : (p : Policy) (before : List Attribute) (d : Data) (a : Attribute) → attribute_at p before d ≡ Ok a → Step (SaysAttribute p) (IsNewAfter []) before d a
 unfolding attribute_at
 attribute_found p before d a e =
     let f = bind_ok (lift (table_at d)) _ a e in
@@ -75,7 +75,7 @@ attribute_found p before d a e =
     attribute_or (Ok x) = x
     attribute_or (Err e) = no_attribute
 
-attribute_again : (p : Tables) (before : List Attribute) (fields : Members) (a : Attribute) → SaysAttribute p fields a → has_attribute before a.name ≡ false → attribute_at p before (table fields) ≡ Ok a
+attribute_again : (p : Policy) (before : List Attribute) (fields : Members) (a : Attribute) → SaysAttribute p fields a → has_attribute before a.name ≡ false → attribute_at p before (table fields) ≡ Ok a
 unfolding attribute_at column_at
 attribute_again p before fields a s fresh =
     rw (
@@ -96,7 +96,7 @@ HasKeyInterval before a = has_key_interval before (column_of a) ≡ true
 abbrev FollowsKeys : List Attribute → Attribute → Type 0
 FollowsKeys before a = IsNewAfter [] before a × HasKeyInterval before a
 
-key_step : (p : Tables) (before : List Attribute) (d : Data) (a : Attribute) → key_at p before d ≡ Ok a → Step (SaysAttribute p) FollowsKeys before d a
+key_step : (p : Policy) (before : List Attribute) (d : Data) (a : Attribute) → key_at p before d ≡ Ok a → Step (SaysAttribute p) FollowsKeys before d a
 unfolding key_at
 key_step p before d a e =
     let b = bind_ok (attribute_at p before d) _ a e in
@@ -105,7 +105,7 @@ key_step p before d a e =
     let s = attribute_found p before d a (b.1 ∙ ap (λ (x : Attribute). Ok x) same) in
     record { fields = s.fields; text = s.text; says = s.says; follows = (s.follows, subst (HasKeyInterval before) same c.0) }
 
-key_step_again : (p : Tables) (before : List Attribute) (fields : Members) (a : Attribute) → SaysAttribute p fields a → FollowsKeys before a → key_at p before (table fields) ≡ Ok a
+key_step_again : (p : Policy) (before : List Attribute) (fields : Members) (a : Attribute) → SaysAttribute p fields a → FollowsKeys before a → key_at p before (table fields) ≡ Ok a
 unfolding key_at
 key_step_again p before fields a s follows = rw (attribute_again p before fields a s follows.0, follows.1) refl
 
@@ -130,20 +130,20 @@ one_interval_again name (k ∷ keys) others all = (refl, interval_again k [] key
 
 -- ---- attributes outside the key
 
-other_step : (p : Tables) (keys before : List Attribute) (d : Data) (a : Attribute) → other_at p keys before d ≡ Ok a → Step (SaysAttribute p) (IsNewAfter keys) before d a
+other_step : (p : Policy) (keys before : List Attribute) (d : Data) (a : Attribute) → other_at p keys before d ≡ Ok a → Step (SaysAttribute p) (IsNewAfter keys) before d a
 unfolding other_at
 other_step p keys before d a e =
     let s = attribute_found p (keys ++ before) d a e in
     record { fields = s.fields; text = s.text; says = s.says; follows = s.follows }
 
-other_step_again : (p : Tables) (keys before : List Attribute) (fields : Members) (a : Attribute) → SaysAttribute p fields a → IsNewAfter keys before a → other_at p keys before (table fields) ≡ Ok a
+other_step_again : (p : Policy) (keys before : List Attribute) (fields : Members) (a : Attribute) → SaysAttribute p fields a → IsNewAfter keys before a → other_at p keys before (table fields) ≡ Ok a
 unfolding other_at
 other_step_again p keys before fields a s follows = attribute_again p (keys ++ before) fields a s follows
 
 -- ---- relations
 
 -- the key attributes and the others that were read
-record Parts (p : Tables) (fields : Members) (s : Scheme) : Type 0 where
+record Parts (p : Policy) (fields : Members) (s : Scheme) : Type 0 where
   key_ds : Items
   key_text : key_items fields ≡ Ok key_ds
   keys : gather (key_at p) [] key_ds ≡ Ok s.keys
@@ -151,7 +151,7 @@ record Parts (p : Tables) (fields : Members) (s : Scheme) : Type 0 where
   other_text : other_items fields ≡ Ok other_ds
   others : gather (other_at p s.keys) [] other_ds ≡ Ok s.others
 
-names_says : (p : Tables) (ts us : List Members) (keys others : List Attribute) → AllZip (SaysAttribute p) ts keys → AllZip (SaysAttribute p) us others → AreNames (map (λ (a : Attribute). a.name) (keys ++ others))
+names_says : (p : Policy) (ts us : List Members) (keys others : List Attribute) → AllZip (SaysAttribute p) ts keys → AllZip (SaysAttribute p) us others → AreNames (map (λ (a : Attribute). a.name) (keys ++ others))
 names_says p [] [] [] [] h g = tt
 names_says p [] [] [] (a ∷ others) h g = absurd g
 names_says p [] (u ∷ us) [] [] h g = absurd g
@@ -160,7 +160,7 @@ names_says p [] us (a ∷ keys) others h g = absurd h
 names_says p (t ∷ ts) us [] others h g = absurd h
 names_says p (t ∷ ts) us (a ∷ keys) others h g = (h.0.named, names_says p ts us keys others h.1 g)
 
-attributes_found : (p : Tables) (fields : Members) (s : Scheme) → attributes_at p fields ≡ Ok (s.keys, s.others) → Parts p fields s
+attributes_found : (p : Policy) (fields : Members) (s : Scheme) → attributes_at p fields ≡ Ok (s.keys, s.others) → Parts p fields s
 unfolding attributes_at
 attributes_found p fields s e =
     let k = bind_ok (key_items fields) _ (s.keys, s.others) e in
@@ -179,7 +179,7 @@ attributes_found p fields s e =
       others = ap (λ (xs : List Attribute). gather (other_at p xs) [] o.0) (sym keys) ∙ os.1 ∙ ap (λ (xs : List Attribute). Ok xs) others;
     }
 
-parts_says : (p : Tables) (fields : Members) (s : Scheme) → name_field (codes "name") fields ≡ Ok s.name → Parts p fields s → SaysRelation p fields s
+parts_says : (p : Policy) (fields : Members) (s : Scheme) → name_field (codes "name") fields ≡ Ok s.name → Parts p fields s → SaysRelation p fields s
 unfolding IsDistinct
 parts_says p fields s named r =
     let n = name_found (codes "name") fields s.name named in
@@ -230,7 +230,7 @@ parts_says p fields s named r =
 abbrev IsNewRelation : Schemes → Scheme → Type 0
 IsNewRelation before s = has_relation before s.name ≡ false
 
-scheme_step : (p : Tables) (before : Schemes) (d : Data) (s : Scheme) → scheme_at p before d ≡ Ok s → Step (SaysRelation p) IsNewRelation before d s
+scheme_step : (p : Policy) (before : Schemes) (d : Data) (s : Scheme) → scheme_at p before d ≡ Ok s → Step (SaysRelation p) IsNewRelation before d s
 unfolding scheme_at
 scheme_step p before d s e =
     let f = bind_ok (lift (table_at d)) _ s e in
@@ -242,7 +242,7 @@ scheme_step p before d s e =
     let says : SaysRelation p f.0 made = parts_says p f.0 made n.1 (attributes_found p f.0 made a.1) in
     record { fields = f.0; text = table_found d f.0 f.1; says = subst (SaysRelation p f.0) here says; follows = subst (IsNewRelation before) here w.0 }
 
-scheme_step_again : (p : Tables) (before : Schemes) (fields : Members) (s : Scheme) → SaysRelation p fields s → IsNewRelation before s → scheme_at p before (table fields) ≡ Ok s
+scheme_step_again : (p : Policy) (before : Schemes) (fields : Members) (s : Scheme) → SaysRelation p fields s → IsNewRelation before s → scheme_at p before (table fields) ≡ Ok s
 unfolding scheme_at attributes_at IsDistinct
 scheme_step_again p before fields s r fresh =
     let key_len : items_len (tables_of r.key_tables) ≡ length s.keys = items_len-tables_of (SaysAttribute p) r.key_tables s.keys r.keys in
@@ -286,13 +286,13 @@ chosen_within k n m e = by (nat_lt k n) refl e
 position_within : {X : Type 0} (f : X → Bool) (xs : List X) (m : ℕ) → position f xs ≡ Some m → m < length xs
 position_within f xs m e = chosen_within _ (length xs) m e
 
-each_valid : (p : Tables) (ts : List Members) (schemes : Schemes) → AllZip (SaysRelation p) ts schemes → AllByRecursion IsScheme schemes
+each_valid : (p : Policy) (ts : List Members) (schemes : Schemes) → AllZip (SaysRelation p) ts schemes → AllByRecursion IsScheme schemes
 each_valid p [] [] h = tt
 each_valid p [] (s ∷ schemes) h = absurd h
 each_valid p (t ∷ ts) [] h = absurd h
 each_valid p (t ∷ ts) (s ∷ schemes) h = (h.0.valid, each_valid p ts schemes h.1)
 
-relations_says : (p : Tables) (document : Members) (v : Version) (ds : Items) (schemes : Schemes) → lift (version_at document) ≡ Ok v → relation_items document ≡ Ok ds → gather (scheme_at p) [] ds ≡ Ok schemes → Says p document v schemes
+relations_says : (p : Policy) (document : Members) (v : Version) (ds : Items) (schemes : Schemes) → lift (version_at document) ≡ Ok v → relation_items document ≡ Ok ds → gather (scheme_at p) [] ds ≡ Ok schemes → Says p document v schemes
 unfolding IsDistinct
 relations_says p document v ds schemes version text e =
     let r = relation_found document ds text in
@@ -315,7 +315,7 @@ relations_says p document v ds schemes version text e =
       };
     }
 
-pub says_found : (p : Tables) (document : Members) (f : Version × Schemes) → schemes_at p document ≡ Ok f → Says p document f.0 f.1
+pub says_found : (p : Policy) (document : Members) (f : Version × Schemes) → schemes_at p document ≡ Ok f → Says p document f.0 f.1
 unfolding schemes_at
 says_found p document f e =
     let v = bind_ok (lift (version_at document)) _ f e in
@@ -324,7 +324,7 @@ says_found p document f e =
     let same : (v.0, g.0) ≡ f = ok_is (v.0, g.0) f g.2 in
     subst (λ (x : Version × Schemes). Says p document x.0 x.1) same (relations_says p document v.0 r.0 g.0 v.1 r.1 g.1)
 
-pub says_again : (p : Tables) (document : Members) (v : Version) (schemes : Schemes) → Says p document v schemes → schemes_at p document ≡ Ok (v, schemes)
+pub says_again : (p : Policy) (document : Members) (v : Version) (schemes : Schemes) → Says p document v schemes → schemes_at p document ≡ Ok (v, schemes)
 unfolding schemes_at
 says_again p document v schemes s =
     let len : items_len (tables_of s.tables) ≡ length schemes = items_len-tables_of (SaysRelation p) s.tables schemes s.relations in
@@ -338,35 +338,35 @@ says_again p document v schemes s =
 
 -- ---- what the code asks and promises
 
-pub scheme_valid : (p : Tables) (fields : Members) (s : Scheme) → name_field (codes "name") fields ≡ Ok s.name → attributes_at p fields ≡ Ok (s.keys, s.others) → IsScheme s
+pub scheme_valid : (p : Policy) (fields : Members) (s : Scheme) → name_field (codes "name") fields ≡ Ok s.name → attributes_at p fields ≡ Ok (s.keys, s.others) → IsScheme s
 scheme_valid p fields s name attributes = (parts_says p fields s name (attributes_found p fields s attributes)).valid
 
-pub schemes_valid : (p : Tables) (document : Members) (v : Version) (ds : Items) (schemes : Schemes) → lift (version_at document) ≡ Ok v → relation_items document ≡ Ok ds → gather (scheme_at p) [] ds ≡ Ok schemes → AreSchemes schemes
+pub schemes_valid : (p : Policy) (document : Members) (v : Version) (ds : Items) (schemes : Schemes) → lift (version_at document) ≡ Ok v → relation_items document ≡ Ok ds → gather (scheme_at p) [] ds ≡ Ok schemes → AreSchemes schemes
 schemes_valid p document v ds schemes version text e = (relations_says p document v ds schemes version text e).valid
 
-among : (p : Tables) (fields : Members) (a : Attribute) → SaysAttribute p fields a → IsAmongLabels (length p.labels) a
+among : (p : Policy) (fields : Members) (a : Attribute) → SaysAttribute p fields a → IsAmongLabels (length p.labels) a
 among p fields a s = record { low = position_within (λ l. bytes_eq l.name s.low.name) p.labels a.low s.low.declared; high = position_within (λ l. bytes_eq l.name s.high.name) p.labels a.high s.high.declared }
 
-all_among : (p : Tables) (ts : List Members) (attributes : List Attribute) → AllZip (SaysAttribute p) ts attributes → AllByRecursion (IsAmongLabels (length p.labels)) attributes
+all_among : (p : Policy) (ts : List Members) (attributes : List Attribute) → AllZip (SaysAttribute p) ts attributes → AllByRecursion (IsAmongLabels (length p.labels)) attributes
 all_among p [] [] h = tt
 all_among p [] (a ∷ attributes) h = absurd h
 all_among p (t ∷ ts) [] h = absurd h
 all_among p (t ∷ ts) (a ∷ attributes) h = (among p t a h.0, all_among p ts attributes h.1)
 
-all_under : (p : Tables) (ts : List Members) (schemes : Schemes) → AllZip (SaysRelation p) ts schemes → AreUnder (length p.labels) schemes
+all_under : (p : Policy) (ts : List Members) (schemes : Schemes) → AllZip (SaysRelation p) ts schemes → AreUnder (length p.labels) schemes
 all_under p [] [] h = tt
 all_under p [] (s ∷ schemes) h = absurd h
 all_under p (t ∷ ts) [] h = absurd h
 all_under p (t ∷ ts) (s ∷ schemes) h =
     (record { keys = all_among p h.0.key_tables s.keys h.0.keys; others = all_among p h.0.other_tables s.others h.0.others }, all_under p ts schemes h.1)
 
-all_intervals : (p : Tables) (ts : List Members) (attributes : List Attribute) → AllZip (SaysAttribute p) ts attributes → AllByRecursion (λ a. below (labels_of p) a.low a.high ≡ true) attributes
+all_intervals : (p : Policy) (ts : List Members) (attributes : List Attribute) → AllZip (SaysAttribute p) ts attributes → AllByRecursion (λ a. below (labels_of p) a.low a.high ≡ true) attributes
 all_intervals p [] [] h = tt
 all_intervals p [] (a ∷ attributes) h = absurd h
 all_intervals p (t ∷ ts) [] h = absurd h
 all_intervals p (t ∷ ts) (a ∷ attributes) h = (h.0.interval, all_intervals p ts attributes h.1)
 
-all_have_intervals : (p : Tables) (ts : List Members) (schemes : Schemes) → AllZip (SaysRelation p) ts schemes → HaveIntervals (labels_of p) schemes
+all_have_intervals : (p : Policy) (ts : List Members) (schemes : Schemes) → AllZip (SaysRelation p) ts schemes → HaveIntervals (labels_of p) schemes
 all_have_intervals p [] [] h = tt
 all_have_intervals p [] (s ∷ schemes) h = absurd h
 all_have_intervals p (t ∷ ts) [] h = absurd h
@@ -375,7 +375,7 @@ all_have_intervals p (t ∷ ts) (s ∷ schemes) h =
 
 -- ---- the clauses of the reader
 
-module _ {F : Type 0} (file : F → Version × Schemes) (p : Tables) (document : Members) where
+module _ {F : Type 0} (file : F → Version × Schemes) (p : Policy) (document : Members) where
   pub read_found : (bytes : List ℕ) (r : Result F SchemeFault) → IsDocument bytes document → Gives file r (schemes_at p document) → IfOk r (λ f. ReadsSchemes p bytes (file f).0 (file f).1)
   read_found bytes (Ok f) is given = (document, is, says_found p document (file f) given)
   read_found bytes (Err e) is given = tt

@@ -1,7 +1,7 @@
 -- The canonical text of schemes.
 use Rattle.std.specs.Prelude.{ℕ, List, [], ◌∷◌, ◌++◌, codes}
 use Rattle.std.specs.List.{flat_map}
-use Rattle.mls_lattice.specs.Policy.{Name, Tables}
+use Rattle.mls_lattice.specs.Policy.{Name, Policy}
 use Rattle.mls_lattice.specs.Canon.{label_name}
 use Rattle.mls_lattice.specs.Version.{version_text}
 use Rattle.mls_lattice.specs.declared.version.Version.{Version}
@@ -15,19 +15,19 @@ line_of (word ∷ []) = word ++ codes "\n"
 line_of (word ∷ next ∷ words) = word ++ (codes " " ++ line_of (next ∷ words))
 
 -- key or attribute, then its name, its kind, and the ends of its interval
-abbrev pub attribute_line : Tables → Name → Attribute → List ℕ
+abbrev pub attribute_line : Policy → Name → Attribute → List ℕ
 attribute_line p word a = line_of (word ∷ a.name ∷ kind_word a.kind ∷ label_name p.labels a.low ∷ label_name p.labels a.high ∷ [])
 
 -- the name of a relation, and its key
-abbrev pub head_lines : Tables → Scheme → List ℕ
+abbrev pub head_lines : Policy → Scheme → List ℕ
 head_lines p s = line_of (codes "relation" ∷ s.name ∷ []) ++ flat_map (attribute_line p (codes "key")) s.keys
 
-abbrev pub relation_lines : Tables → Scheme → List ℕ
+abbrev pub relation_lines : Policy → Scheme → List ℕ
 relation_lines p s = head_lines p s ++ flat_map (attribute_line p (codes "attribute")) s.others
 
 -- what a text of schemes begins with
 abbrev pub first_line : Version → List ℕ
 first_line v = codes "schemes " ++ version_text v ++ codes "\n"
 
-abbrev pub canon_of : Tables → Version → Schemes → List ℕ
+abbrev pub canon_of : Policy → Version → Schemes → List ℕ
 canon_of p v schemes = first_line v ++ flat_map (relation_lines p) schemes

@@ -5,7 +5,7 @@ use Rattle.std.specs.Str.{bytes_eq}
 use Rattle.toml.specs.Data.{Data, Items, no_items, item, Members, get_member, string, integer, array, table}
 use Rattle.mls_lattice.specs.Labels.{below}
 use Rattle.mls_lattice.specs.Name.{is_name}
-use Rattle.mls_lattice.specs.Policy.{Name, Tables, labels_of}
+use Rattle.mls_lattice.specs.Policy.{Name, Policy, labels_of}
 use Rattle.mls_lattice.specs.ReadsPolicy.{IsDocument}
 use Rattle.mls_lattice.specs.Version.{version_number}
 use Rattle.mls_lattice.specs.declared.version.Version.{Version}
@@ -27,13 +27,13 @@ kind_word Int = codes "int"
 kind_word Text = codes "text"
 
 -- the field holds the name of the label of this number
-pub record NamesLabel (p : Tables) (field : Option Data) (label : ℕ) : Type 0 where
+pub record NamesLabel (p : Policy) (field : Option Data) (label : ℕ) : Type 0 where
   pub name : Name
   pub field_is : field ≡ Some (string name)
   pub named : is_name name ≡ true
   pub declared : position (λ l. bytes_eq l.name name) p.labels ≡ Some label
 
-pub record SaysAttribute (p : Tables) (fields : Members) (a : Attribute) : Type 0 where
+pub record SaysAttribute (p : Policy) (fields : Members) (a : Attribute) : Type 0 where
   pub name : get_member (codes "name") fields ≡ Some (string a.name)
   pub named : is_name a.name ≡ true
   pub kind : get_member (codes "kind") fields ≡ Some (string (kind_word a.kind))
@@ -41,7 +41,7 @@ pub record SaysAttribute (p : Tables) (fields : Members) (a : Attribute) : Type 
   pub high : NamesLabel p (get_member (codes "high") fields) a.high
   pub interval : below (labels_of p) a.low a.high ≡ true
 
-pub record SaysRelation (p : Tables) (fields : Members) (s : Scheme) : Type 0 where
+pub record SaysRelation (p : Policy) (fields : Members) (s : Scheme) : Type 0 where
   pub name : get_member (codes "name") fields ≡ Some (string s.name)
   pub key_tables : List Members
   pub key : HoldsTables (get_member (codes "key") fields) key_tables
@@ -52,7 +52,7 @@ pub record SaysRelation (p : Tables) (fields : Members) (s : Scheme) : Type 0 wh
   pub others : AllZip (SaysAttribute p) other_tables s.others
   pub valid : IsScheme s
 
-pub record Says (p : Tables) (document : Members) (v : Version) (schemes : Schemes) : Type 0 where
+pub record Says (p : Policy) (document : Members) (v : Version) (schemes : Schemes) : Type 0 where
   pub version : get_member (codes "version") document ≡ Some (integer (pos (version_number v)))
   pub tables : List Members
   pub relation : HoldsTables (get_member (codes "relation") document) tables
@@ -60,10 +60,10 @@ pub record Says (p : Tables) (document : Members) (v : Version) (schemes : Schem
   pub valid : AreSchemes schemes
 
 -- the bytes are the text of schemes of a version, under a policy
-abbrev pub ReadsSchemes : Tables → List ℕ → Version → Schemes → Type 0
+abbrev pub ReadsSchemes : Policy → List ℕ → Version → Schemes → Type 0
 ReadsSchemes p bytes v schemes = (document : Members) × IsDocument bytes document × Says p document v schemes
 
 -- a text says at most one list of schemes, of one version
 abbrev pub SaysOnce : Type 0
 SaysOnce =
-    (p : Tables) (bytes : List ℕ) (v w : Version) (s t : Schemes) → ReadsSchemes p bytes v s → ReadsSchemes p bytes w t → (v ≡ w) × (s ≡ t)
+    (p : Policy) (bytes : List ℕ) (v w : Version) (s t : Schemes) → ReadsSchemes p bytes v s → ReadsSchemes p bytes w t → (v ≡ w) × (s ≡ t)

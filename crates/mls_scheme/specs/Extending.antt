@@ -2,7 +2,7 @@
 use Rattle.std.specs.Prelude.{◌≡◌, ◌≢◌, ℕ, ◌≤◌, true, List, [], ◌∷◌, ◌++◌, length, take, drop, codes}
 use Rattle.std.specs.List.{AllByRecursion, AllZip, flat_map}
 use Rattle.mls_lattice.specs.Labels.{Labels, below}
-use Rattle.mls_lattice.specs.Policy.{Tables, labels_of}
+use Rattle.mls_lattice.specs.Policy.{Policy, labels_of}
 use Rattle.mls_lattice.specs.declared.version.Version.{Version}
 use Rattle.mls_scheme.specs.Scheme.{Attribute, Scheme, Schemes, first_key}
 use Rattle.mls_scheme.specs.Canon.{attribute_line, relation_lines, canon_of}
@@ -27,11 +27,11 @@ abbrev pub CoversKey : Labels → ℕ → Scheme → Type 0
 CoversKey ls n s = AllByRecursion (Contains ls (first_key s).low (first_key s).high) (drop n s.others)
 
 -- so many of the attributes outside the key are old, and the others cover the key
-abbrev pub HadOthers : Tables → ℕ → Scheme → Type 0
+abbrev pub HadOthers : Policy → ℕ → Scheme → Type 0
 HadOthers p n s = (n ≤ length s.others) × CoversKey (labels_of p) n s
 
 -- The schemes extend those that an old text says, of which each relation had so many attributes outside its key.
-pub record Extends (p : Tables) (schemes : Schemes) (old : List ℕ) (counts : List ℕ) : Type 0 where
+pub record Extends (p : Policy) (schemes : Schemes) (old : List ℕ) (counts : List ℕ) : Type 0 where
   pub version : Version
   pub counts_are : AllZip (HadOthers p) counts schemes
   pub text : old ≡ canon_of p version (schemes_before counts schemes)
@@ -39,20 +39,20 @@ pub record Extends (p : Tables) (schemes : Schemes) (old : List ℕ) (counts : L
 -- the old numbers of attributes are one list
 abbrev pub OldCountsAreOne : Type 0
 OldCountsAreOne =
-    (p : Tables) (schemes : Schemes) (old ns ms : List ℕ) → Extends p schemes old ns → Extends p schemes old ms → ns ≡ ms
+    (p : Policy) (schemes : Schemes) (old ns ms : List ℕ) → Extends p schemes old ns → Extends p schemes old ms → ns ≡ ms
 
 -- ---- parts of a text
 
 -- A text begins with the lines of a relation with the first n of its attributes outside the key.
-pub record BeginsWith (p : Tables) (s : Scheme) (text : List ℕ) (n : ℕ) (rest : List ℕ) : Type 0 where
+pub record BeginsWith (p : Policy) (s : Scheme) (text : List ℕ) (n : ℕ) (rest : List ℕ) : Type 0 where
   pub had : HadOthers p n s
   pub split : text ≡ relation_lines p (scheme_before n s) ++ rest
 
 -- A text is the lines of relations, each with the first so many of its attributes outside the key.
-pub record AreLines (p : Tables) (schemes : Schemes) (text : List ℕ) (counts : List ℕ) : Type 0 where
+pub record AreLines (p : Policy) (schemes : Schemes) (text : List ℕ) (counts : List ℕ) : Type 0 where
   pub counts_are : AllZip (HadOthers p) counts schemes
   pub split : text ≡ flat_map (relation_lines p) (schemes_before counts schemes)
 
 -- no attribute's line begins the text: it is at the end or at a relation
-abbrev pub IsPastAttributes : Tables → List ℕ → Type 0
+abbrev pub IsPastAttributes : Policy → List ℕ → Type 0
 IsPastAttributes p text = (a : Attribute) (more : List ℕ) → text ≢ attribute_line p (codes "attribute") a ++ more

@@ -5,9 +5,9 @@ use Rattle.std.specs.Str.{bytes_eq}
 use Rattle.toml.specs.Data.{Data, Items, no_items, item, Members, get_member}
 use Rattle.mls_lattice.specs.declared.fault.PolicyFault.{PolicyFault}
 use Rattle.mls_lattice.specs.Labels.{below}
-use Rattle.mls_lattice.specs.Policy.{Name, Tables, Named, labels_of}
+use Rattle.mls_lattice.specs.Policy.{Name, Policy, Named, labels_of}
 use Rattle.mls_lattice.specs.declared.version.Version.{Version}
-use Rattle.mls_lattice.specs.Reading.{◌>>=◌, GivesUnless, wanted, text_at, version_at, table_at, name_at, tables_at, optional, items_len, at_most, some_of}
+use Rattle.mls_lattice.specs.Reading.{◌>>=◌, GivesUnless, wanted, text_at, version_at, table_at, name_at, tables_at, optional, items_len, bounded, some_of}
 use Rattle.mls_scheme.specs.declared.fault.SchemeFault.{SchemeFault}
 use Rattle.mls_scheme.specs.declared.fault.SchemeFault.TheVariants.{Repeated, UnknownName, EmptyInterval, Memory, NoKey, KeyIntervals}
 use Rattle.mls_scheme.specs.declared.value.Kind.{Kind}
@@ -38,23 +38,23 @@ name_field key fields = lift (wanted key fields >>= name_at)
 abbrev pub text_field : Name → Members → Result Name SchemeFault
 text_field key fields = lift (wanted key fields >>= text_at)
 
-abbrev pub kind_in : Name → Result Kind SchemeFault
-kind_in word = if bytes_eq word (codes "int") then Ok Int else (if bytes_eq word (codes "text") then Ok Text else Err UnknownName)
+abbrev pub kind_named : Name → Result Kind SchemeFault
+kind_named word = if bytes_eq word (codes "int") then Ok Int else (if bytes_eq word (codes "text") then Ok Text else Err UnknownName)
 
 -- the number of the label of a name
-abbrev pub label_in : List Named → Name → Result ℕ SchemeFault
-label_in labels name = ok_or (position (λ l. bytes_eq l.name name) labels) UnknownName
+abbrev pub label_named : List Named → Name → Result ℕ SchemeFault
+label_named labels name = ok_or (position (λ l. bytes_eq l.name name) labels) UnknownName
 
 abbrev pub label_field : List Named → Name → Members → Result ℕ SchemeFault
-label_field labels key fields = name_field key fields >>= label_in labels
+label_field labels key fields = name_field key fields >>= label_named labels
 
 -- ---- attributes
 
 -- the kind and the interval, which isn't empty
-unfoldable pub column_at : Tables → Members → Result Column SchemeFault
+unfoldable pub column_at : Policy → Members → Result Column SchemeFault
 column_at p fields = do
   word ← text_field (codes "kind") fields
-  kind ← kind_in word
+  kind ← kind_named word
   low ← label_field p.labels (codes "low") fields
   high ← label_field p.labels (codes "high") fields
   if below (labels_of p) low high then Ok (record { kind = kind; low = low; high = high }) else Err EmptyInterval
@@ -66,7 +66,7 @@ abbrev pub new_name : Bool → Result (Unit {0}) SchemeFault
 new_name taken = if taken then Err Repeated else Ok tt
 
 -- an attribute with a name that those before don't have
-unfoldable pub attribute_at : Tables → List Attribute → Data → Result Attribute SchemeFault
+unfoldable pub attribute_at : Policy → List Attribute → Data → Result Attribute SchemeFault
 attribute_at p before d = do
   fields ← lift (table_at d)
   name ← name_field (codes "name") fields
@@ -80,11 +80,11 @@ has_key_interval [] c = true
 has_key_interval (k ∷ ks) c = nat_eq k.low c.low && nat_eq k.high c.high
 
 -- a key attribute after those before
-unfoldable pub key_at : Tables → List Attribute → Data → Result Attribute SchemeFault
+unfoldable pub key_at : Policy → List Attribute → Data → Result Attribute SchemeFault
 key_at p before d = attribute_at p before d >>= λ a. if has_key_interval before (column_of a) then Ok a else Err KeyIntervals
 
 -- an attribute outside the key, after the key and those before
-unfoldable pub other_at : Tables → List Attribute → List Attribute → Data → Result Attribute SchemeFault
+unfoldable pub other_at : Policy → List Attribute → List Attribute → Data → Result Attribute SchemeFault
 other_at p keys before d = attribute_at p (keys ++ before) d
 
 -- ---- relations
@@ -93,17 +93,17 @@ other_at p keys before d = attribute_at p (keys ++ before) d
 unfoldable pub key_items : Members → Result Items SchemeFault
 key_items fields = do
   ds ← lift (optional tables_at (get_member (codes "key") fields))
-  if items_len ds == 0 then Err NoKey else lift (at_most 4 ds)
+  if items_len ds == 0 then Err NoKey else lift (bounded 4 ds)
 
 -- up to 15 tables
 unfoldable pub other_items : Members → Result Items SchemeFault
-other_items fields = lift (optional tables_at (get_member (codes "attribute") fields) >>= at_most 15)
+other_items fields = lift (optional tables_at (get_member (codes "attribute") fields) >>= bounded 15)
 
 abbrev pub has_relation : Schemes → Name → Bool
 has_relation schemes name = list_any (λ s. bytes_eq s.name name) schemes
 
 -- the key attributes, and those outside the key
-unfoldable pub attributes_at : Tables → Members → Result (List Attribute × List Attribute) SchemeFault
+unfoldable pub attributes_at : Policy → Members → Result (List Attribute × List Attribute) SchemeFault
 attributes_at p fields = do
   key_tables ← key_items fields
   keys ← gather (key_at p) [] key_tables
@@ -112,7 +112,7 @@ attributes_at p fields = do
   Ok (keys, others)
 
 -- a relation with a name that those before don't have
-unfoldable pub scheme_at : Tables → Schemes → Data → Result Scheme SchemeFault
+unfoldable pub scheme_at : Policy → Schemes → Data → Result Scheme SchemeFault
 scheme_at p before d = do
   fields ← lift (table_at d)
   name ← name_field (codes "name") fields
@@ -125,7 +125,7 @@ unfoldable pub relation_items : Members → Result Items SchemeFault
 relation_items document = lift (wanted (codes "relation") document >>= tables_at >>= some_of 16)
 
 -- all that a document says
-unfoldable pub schemes_at : Tables → Members → Result (Version × Schemes) SchemeFault
+unfoldable pub schemes_at : Policy → Members → Result (Version × Schemes) SchemeFault
 schemes_at p document = do
   version ← lift (version_at document)
   tables ← relation_items document

@@ -2,12 +2,12 @@
 ghost use Rattle.std.specs.Prelude.{◌<◌, IfOk, length};
 ghost use Rattle.toml.specs.View.{view, items_view, table_view};
 ghost use Rattle.mls_lattice.specs.Reading.{table_at};
-ghost use Rattle.mls_scheme.specs.Reading.{Gives, lift, name_field, text_field, kind_in, label_in, label_field, key_items, other_items, relation_items};
+ghost use Rattle.mls_scheme.specs.Reading.{Gives, lift, name_field, text_field, kind_named, label_named, label_field, key_items, other_items, relation_items};
 
 use crate::fault::SchemeFault;
 use crate::value::Kind;
 use mls_lattice::document::{
-    at_most, name_of, optional_tables, some_of, table_of, tables_of, text_of, wanted,
+    bounded, name_of, optional_tables, some_of, table_of, tables_of, text_of, wanted,
 };
 use mls_lattice::{LabelNo, Policy, Trail};
 use toml::{Table, Value};
@@ -36,8 +36,8 @@ pub(crate) fn text_field<'a>(fields: &'a Table, key: &str) -> Result<&'a str, Sc
 }
 
 /// The kind of a word.
-pub(crate) fn kind_in(word: &str) -> Result<Kind, SchemeFault>
-    ensures { Gives (λ k. k) result (kind_in word.now) }
+pub(crate) fn kind_named(word: &str) -> Result<Kind, SchemeFault>
+    ensures { Gives (λ k. k) result (kind_named word.now) }
 {
     match word {
         "int" => Ok(Kind::Int),
@@ -47,8 +47,8 @@ pub(crate) fn kind_in(word: &str) -> Result<Kind, SchemeFault>
 }
 
 /// The label of a name.
-fn label_in(policy: &Policy, name: &str) -> Result<LabelNo, SchemeFault>
-    ensures reads { Gives (λ n. n) result (label_in policy.now.labels name.now) }
+fn label_named(policy: &Policy, name: &str) -> Result<LabelNo, SchemeFault>
+    ensures reads { Gives (λ n. n) result (label_named policy.now.labels name.now) }
     ensures within { IfOk result (λ n. n < length policy.now.labels) }
 {
     match policy.label(name) {
@@ -66,7 +66,7 @@ pub(crate) fn label_field(
     ensures reads { Gives (λ n. n) result (label_field policy.now.labels key.now (table_view fields.now)) }
     ensures within { IfOk result (λ n. n < length policy.now.labels) }
 {
-    label_in(policy, name_field(fields, key)?)
+    label_named(policy, name_field(fields, key)?)
 }
 
 const MAX_KEYS: usize = 4;
@@ -84,7 +84,7 @@ pub(crate) fn key_items<'a>(fields: &'a Table, at: &mut Trail) -> Result<&'a [Va
     if items.is_empty() {
         return Err(SchemeFault::NoKey);
     }
-    Ok(at_most(items, MAX_KEYS)?)
+    Ok(bounded(items, MAX_KEYS)?)
 }
 
 /// The tables of the attributes outside the key.
@@ -93,7 +93,7 @@ pub(crate) fn other_items<'a>(fields: &'a Table, at: &mut Trail) -> Result<&'a [
     ensures { Gives (λ items. items_view items.now) result (other_items (table_view fields.now)) }
 {
     let items = optional_tables(fields, at.field(1, "attribute"))?;
-    Ok(at_most(items, MAX_OTHERS)?)
+    Ok(bounded(items, MAX_OTHERS)?)
 }
 
 /// The tables of the relations.

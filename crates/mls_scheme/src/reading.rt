@@ -7,7 +7,8 @@ ghost use Rattle.mls_scheme.specs.Reading.{Gives, column_at, attribute_at, has_a
 use crate::attributes::{Attributes, Column};
 use crate::fault::SchemeFault;
 use crate::fields::{
-    fields_of, key_items, kind_in, label_field, name_field, other_items, relation_items, text_field,
+    fields_of, key_items, kind_named, label_field, name_field, other_items, relation_items,
+    text_field,
 };
 use crate::file::SchemesFile;
 use crate::scheme::{Scheme, Schemes};
@@ -20,7 +21,7 @@ use toml::{Table, Value};
 fn column_of(policy: &Policy, fields: &Table, at: &mut Trail) -> Result<Column, SchemeFault>
     ensures { Gives (λ c. c) result (column_at policy.now (table_view fields.now)) }
 {
-    let kind = kind_in(text_field(fields, at.field(2, "kind"))?)?;
+    let kind = kind_named(text_field(fields, at.field(2, "kind"))?)?;
     let low = label_field(policy, fields, at.field(2, "low"))?;
     let high = label_field(policy, fields, at.field(2, "high"))?;
     if policy.dominates(high, low) {
@@ -39,7 +40,7 @@ fn is_taken(keys: &Attributes, others: &Attributes, name: &str) -> bool
 }
 
 #[tactic(auto, unfolding(crate::specs::Reading::attribute_at))]
-fn attribute_in(
+fn read_attribute(
     alloc: Global,
     policy: &Policy,
     keys: &Attributes,
@@ -71,7 +72,7 @@ fn has_key_interval(keys: &Attributes, column: Column) -> bool
 }
 
 #[tactic(auto, unfolding(crate::specs::Reading::key_at))]
-fn key_in(
+fn read_key_attribute(
     alloc: Global,
     policy: &Policy,
     keys: &Attributes,
@@ -82,7 +83,7 @@ fn key_in(
     ensures fresh { IfOk result (λ a. has_attribute keys.now (string_bytes a.0) ≡ false) }
 {
     let none = Attributes::new(alloc);
-    let attribute = attribute_in(alloc, policy, &none, keys, value, at)?;
+    let attribute = read_attribute(alloc, policy, &none, keys, value, at)?;
     at.back(1);
     if has_key_interval(keys, attribute.1) {
         Ok(attribute)
@@ -92,7 +93,7 @@ fn key_in(
 }
 
 #[tactic(auto, using(crate::proofs::AttributeLemmas::name_steps), unfolding(crate::specs::Reading::other_at))]
-fn other_in(
+fn read_other_attribute(
     alloc: Global,
     policy: &Policy,
     keys: &Attributes,
@@ -103,12 +104,12 @@ fn other_in(
     ensures reads { Gives attribute_of result (other_at policy.now keys.now others.now (view value.now)) }
     ensures fresh { IfOk result (λ a. has_attribute others.now (string_bytes a.0) ≡ false) }
 {
-    attribute_in(alloc, policy, keys, others, value, at)
+    read_attribute(alloc, policy, keys, others, value, at)
 }
 
 /// The key attributes.
 #[tactic(auto, using(crate::proofs::SchemeSteps::gather_steps))]
-fn keys_in(
+fn read_key_attributes(
     alloc: Global,
     policy: &Policy,
     items: &[Value],
@@ -119,7 +120,7 @@ fn keys_in(
     let mut keys = Attributes::new(alloc);
     for value in items {
         at.next(1);
-        let attribute = key_in(alloc, policy, &keys, value, at)?;
+        let attribute = read_key_attribute(alloc, policy, &keys, value, at)?;
         keys.push(attribute)?;
     }
     Ok(keys)
@@ -127,7 +128,7 @@ fn keys_in(
 
 /// The attributes outside the key.
 #[tactic(auto, using(crate::proofs::SchemeSteps::gather_steps))]
-fn others_in(
+fn read_other_attributes(
     alloc: Global,
     policy: &Policy,
     keys: &Attributes,
@@ -139,7 +140,7 @@ fn others_in(
     let mut others = Attributes::new(alloc);
     for value in items {
         at.next(1);
-        let attribute = other_in(alloc, policy, keys, &others, value, at)?;
+        let attribute = read_other_attribute(alloc, policy, keys, &others, value, at)?;
         others.push(attribute)?;
     }
     Ok(others)
@@ -153,7 +154,7 @@ fn has_relation(relations: &[Scheme], name: &str) -> bool
 
 /// The key attributes, and those outside the key.
 #[tactic(auto, unfolding(crate::specs::Reading::attributes_at))]
-fn attributes_in(
+fn read_attributes(
     alloc: Global,
     policy: &Policy,
     fields: &Table,
@@ -162,14 +163,14 @@ fn attributes_in(
     ensures { Gives (λ a. a) result (attributes_at policy.now (table_view fields.now)) }
 {
     let items = key_items(fields, at)?;
-    let keys = keys_in(alloc, policy, items, at)?;
+    let keys = read_key_attributes(alloc, policy, items, at)?;
     let items = other_items(fields, at)?;
-    let others = others_in(alloc, policy, &keys, items, at)?;
+    let others = read_other_attributes(alloc, policy, &keys, items, at)?;
     Ok((keys, others))
 }
 
 #[tactic(auto, unfolding(crate::specs::Reading::scheme_at))]
-fn scheme_in(
+fn read_scheme(
     alloc: Global,
     policy: &Policy,
     before: &[Scheme],
@@ -183,13 +184,13 @@ fn scheme_in(
     if has_relation(before, name) {
         return Err(SchemeFault::Repeated);
     }
-    let (keys, others) = attributes_in(alloc, policy, fields, at)?;
+    let (keys, others) = read_attributes(alloc, policy, fields, at)?;
     let name = Str::copy_of(alloc, name)?;
     Ok(Scheme::new(name, keys, others))
 }
 
 #[tactic(auto, using(crate::proofs::SchemeSteps::gather_steps))]
-fn relations_in(
+fn read_relations(
     alloc: Global,
     policy: &Policy,
     items: &[Value],
@@ -200,7 +201,7 @@ fn relations_in(
     let mut relations = Vec::new(alloc);
     for value in items {
         at.next(0);
-        let scheme = scheme_in(alloc, policy, &relations, value, at)?;
+        let scheme = read_scheme(alloc, policy, &relations, value, at)?;
         relations.push(scheme)?;
     }
     Ok(relations)
@@ -217,7 +218,7 @@ pub(crate) fn schemes_of(
 {
     let version = version_of(document, at)?;
     let items = relation_items(document, at)?;
-    let relations = relations_in(alloc, policy, items, at)?;
+    let relations = read_relations(alloc, policy, items, at)?;
     Ok(SchemesFile {
         version,
         schemes: Schemes::new(relations),

@@ -8,7 +8,7 @@ use Rattle.std.proofs.lemmas.List.{append-nil, map-append, length-map}
 use Rattle.std.proofs.Recursive.{every_back}
 use Rattle.std.proofs.lemmas.Map.Keys.{IsDistinct-head, IsDistinct-tail}
 use Rattle.mls_lattice.specs.Name.{is_name}
-use Rattle.mls_lattice.specs.Policy.{Name, Tables, IsPolicy}
+use Rattle.mls_lattice.specs.Policy.{Name, Policy, IsPolicy}
 use Rattle.mls_lattice.specs.Reading.{◌>>=◌}
 use Rattle.mls_lattice.proofs.NamedLemmas.{label_again as label_place}
 use Rattle.mls_scheme.specs.declared.value.Value.{Value}
@@ -22,7 +22,7 @@ use Rattle.mls_tokens.specs.declared.token.Token.{Token}
 use Rattle.mls_tokens.specs.declared.token.Token.TheVariants.{Sign}
 use Rattle.mls_tokens.specs.declared.token.Placed.{Placed}
 use Rattle.mls_tokens.specs.declared.sign.Sign.TheVariants.{LeftParen, RightParen, Comma, Equals}
-use Rattle.mls_tokens.specs.Scanning.{Left, tokens_in}
+use Rattle.mls_tokens.specs.Scanning.{Left, without_places}
 use Rattle.mls_tokens.specs.Passing.{left, is_sign, taken, pass}
 use Rattle.mls_tokens.proofs.NextLemmas.{Gets, gets_more, done, gets_done, next_is, NotNext, not_taken, took_sign, sign_gets, name_gets}
 use Rattle.mls_script.specs.declared.lists.Listed.{Listed}
@@ -32,12 +32,12 @@ use Rattle.mls_tokens.specs.Text.{separated}
 use Rattle.mls_lattice.specs.Canon.{label_name}
 use Rattle.mls_script.specs.Tokens.{relation_name, value_token, list_tokens, set_tokens}
 use Rattle.mls_script.specs.ReadQuery.{known_or, label_named}
-use Rattle.mls_script.specs.Reading.{relation_named, value_in, valued, PlacedValue, pass_value, after_item, items_from, none_listed, push_value, list_behind, pass_list, misfit, place_at, set_at, push_set, pass_setting, pass_sets}
+use Rattle.mls_script.specs.Reading.{relation_named, value_of_token, valued, PlacedValue, pass_value, after_item, items_from, none_listed, push_value, list_behind, pass_list, misfit, place_at, set_at, push_set, pass_setting, pass_sets}
 use Rattle.mls_script.proofs.FoundLemmas.{pushed}
 
 -- ---- one name, one number
 
-pub label_again : (policy : Tables) → IsPolicy policy → (n at : ℕ) → n < length policy.labels → label_named policy (label_name policy.labels n, at) ≡ Ok n
+pub label_again : (policy : Policy) → IsPolicy policy → (n at : ℕ) → n < length policy.labels → label_named policy (label_name policy.labels n, at) ≡ Ok n
 label_again policy valid n at within = ap (known_or at) (label_place policy valid n within)
 
 pub relation_again : (schemes : Schemes) → AreSchemes schemes → (n at : ℕ) → n < length schemes → relation_named schemes (relation_name schemes n, at) ≡ Ok n
@@ -45,18 +45,18 @@ relation_again schemes valid n at within = ap (known_or at) (relation_place sche
 
 -- ---- values
 
-value_again : (v : Option Value) → value_in (value_token v) ≡ Some v
+value_again : (v : Option Value) → value_of_token (value_token v) ≡ Some v
 value_again None = refl
 value_again (Some (values.Int n)) = refl
 value_again (Some (values.Text s)) = refl
 
-value_first : (v : Option Value) (us : List Token) (ps : List Placed) (stop : TokenFault) → tokens_in ps ≡ value_token v ∷ us → Gets (pass_value (left ps stop)) (left ps stop) (λ x. x.0 ≡ v) us
+value_first : (v : Option Value) (us : List Token) (ps : List Placed) (stop : TokenFault) → without_places ps ≡ value_token v ∷ us → Gets (pass_value (left ps stop)) (left ps stop) (λ x. x.0 ≡ v) us
 value_first v us [] stop e = absurd cc
 value_first v us (p ∷ ps) stop e =
     let h = next_is p ps (value_token v) us e in
-    record { value = (v, p.at); rest = left ps stop; is = ap (λ t. valued p.at (left ps stop) (value_in t)) h.0 ∙ ap (valued p.at (left ps stop)) (value_again v); holds = refl; tokens = h.1; stop = refl }
+    record { value = (v, p.at); rest = left ps stop; is = ap (λ t. valued p.at (left ps stop) (value_of_token t)) h.0 ∙ ap (valued p.at (left ps stop)) (value_again v); holds = refl; tokens = h.1; stop = refl }
 
-pub value_read : (v : Option Value) (us : List Token) (l : Left) → tokens_in l.placed ≡ value_token v ∷ us → Gets (pass_value l) l (λ x. x.0 ≡ v) us
+pub value_read : (v : Option Value) (us : List Token) (l : Left) → without_places l.placed ≡ value_token v ∷ us → Gets (pass_value l) l (λ x. x.0 ≡ v) us
 value_read v us l e = value_first v us l.placed l.stop e
 
 -- ---- items with a comma between each two
@@ -66,20 +66,20 @@ commas_length toks [] = omega arith
 commas_length toks (y ∷ ys) = let h = commas_length toks ys in omega (arith, length-append (toks y) (flat_map (λ z. Sign Comma ∷ toks z) ys), h)
 
 module _ {X A Y : Type 0} (item : Left → Result (X × Left) TokenFault) (push : A → X → A) (toks : Y → List Token) (Is : Y → X → Type 0) (Good : Y → Type 0)
-    (again : (y : Y) (us : List Token) (l : Left) → Good y → tokens_in l.placed ≡ toks y ++ us → Gets (item l) l (Is y) us) where
+    (again : (y : Y) (us : List Token) (l : Left) → Good y → without_places l.placed ≡ toks y ++ us → Gets (item l) l (Is y) us) where
   pub record ItemsRead (n : ℕ) (acc : A) (l : Left) (ys : List Y) (us : List Token) : Type 0 where
     pub values : List X
     pub rest : Left
     pub is : items_from item push n acc l ≡ Ok (pushed push acc values, rest)
     pub alike : AllZip Is ys values
-    pub tokens : tokens_in rest.placed ≡ us
+    pub tokens : without_places rest.placed ≡ us
     pub stop : rest.stop ≡ l.stop
 
   abbrev onward : ℕ → A → Result (X × Left) TokenFault → Result (A × Left) TokenFault
   onward n acc r = r >>= λ x. after_item (λ a r. items_from item push n a r) (push acc x.0) x.1 (taken (is_sign Comma) x.1)
 
   items_read : (ys : List Y) (n : ℕ) (acc : A) (l : Left) (y : Y) (us : List Token) → length ys ≤ n → Good y → AllByRecursion Good ys → NotNext (is_sign Comma) us
-      → tokens_in l.placed ≡ separated toks (y ∷ ys) ++ us → ItemsRead (suc n) acc l (y ∷ ys) us
+      → without_places l.placed ≡ separated toks (y ∷ ys) ++ us → ItemsRead (suc n) acc l (y ∷ ys) us
   items_read [] n acc l y us enough good all end e =
       let first = again y us l good (e ∙ append_assoc (toks y) [] us) in
       record {
@@ -105,7 +105,7 @@ module _ {X A Y : Type 0} (item : Left → Result (X × Left) TokenFault) (push 
       }
 
   pub all_read : (ys : List Y) (acc : A) (l : Left) (y : Y) (us : List Token) → Good y → AllByRecursion Good ys → NotNext (is_sign Comma) us
-      → tokens_in l.placed ≡ separated toks (y ∷ ys) ++ us → ItemsRead (suc (length l.placed)) acc l (y ∷ ys) us
+      → without_places l.placed ≡ separated toks (y ∷ ys) ++ us → ItemsRead (suc (length l.placed)) acc l (y ∷ ys) us
   all_read ys acc l y us good all end e =
       items_read ys (length l.placed) acc l y us
       (omega (arith, commas_length toks ys, sym (length-map l.placed (λ (p : Placed). p.token)) ∙ ap length e, length-append (toks y ++ flat_map (λ z. Sign Comma ∷ toks z) ys) us, length-append (toks y) (flat_map (λ z. Sign Comma ∷ toks z) ys)))
@@ -128,7 +128,7 @@ all_good : {Y : Type 0} (ys : List Y) → AllByRecursion (λ (y : Y). ⊤) ys
 all_good [] = tt
 all_good (y ∷ ys) = (tt, all_good ys)
 
-behind_read : (vs : List (Option Value)) (us : List Token) (l : Left) → tokens_in l.placed ≡ separated (λ v. value_token v ∷ []) vs ++ Sign RightParen ∷ us → Gets (list_behind l (taken (is_sign RightParen) l)) l (λ x. x.values ≡ vs) us
+behind_read : (vs : List (Option Value)) (us : List Token) (l : Left) → without_places l.placed ≡ separated (λ v. value_token v ∷ []) vs ++ Sign RightParen ∷ us → Gets (list_behind l (taken (is_sign RightParen) l)) l (λ x. x.values ≡ vs) us
 behind_read [] us l e =
     let end = took_sign RightParen us l e in
     record { value = record none_listed { end = end.at }; rest = end.rest; is = ap (list_behind l) end.is; holds = refl; tokens = end.tokens; stop = end.stop }
@@ -147,7 +147,7 @@ behind_read (v ∷ vs) us l e =
       stop = end.stop ∙ items.stop;
     }
 
-pub list_read : (vs : List (Option Value)) (us : List Token) (l : Left) → tokens_in l.placed ≡ list_tokens vs ++ us → Gets (pass_list l) l (λ x. x.values ≡ vs) us
+pub list_read : (vs : List (Option Value)) (us : List Token) (l : Left) → without_places l.placed ≡ list_tokens vs ++ us → Gets (pass_list l) l (λ x. x.values ≡ vs) us
 unfolding pass_list
 list_read vs us l e =
     gets_more (λ x. list_behind x.1 (taken (is_sign RightParen) x.1))
@@ -165,7 +165,7 @@ kinds_again (a ∷ as') (v ∷ vs) places end h = rw h.0 (kinds_again as' vs (dr
 abbrev IsSetting : Scheme → ℕ × Option Value → Setting → Type 0
 IsSetting scheme y s = (s.name ≡ (other_of scheme y.0).name) × (s.value ≡ y.1)
 
-pub setting_read : (scheme : Scheme) (y : ℕ × Option Value) (us : List Token) (l : Left) → is_name (other_of scheme y.0).name ≡ true → tokens_in l.placed ≡ set_tokens scheme y ++ us → Gets (pass_setting l) l (IsSetting scheme y) us
+pub setting_read : (scheme : Scheme) (y : ℕ × Option Value) (us : List Token) (l : Left) → is_name (other_of scheme y.0).name ≡ true → without_places l.placed ≡ set_tokens scheme y ++ us → Gets (pass_setting l) l (IsSetting scheme y) us
 unfolding pass_setting
 setting_read scheme y us l named e =
     gets_more (λ n. pass (is_sign Equals) n.1 >>= λ q. pass_value q.1 >>= λ v. done (record { name = n.0.0; name_at = n.0.1; value = v.0.0; value_at = v.0.1 }) v.1)
@@ -208,7 +208,7 @@ names_good : (scheme : Scheme) → IsScheme scheme → (ys : Sets) → AllByRecu
 names_good scheme valid [] h = tt
 names_good scheme valid (y ∷ ys) h = (other_is_name scheme valid y.0 h.0, names_good scheme valid ys h.1)
 
-pub sets_read : (scheme : Scheme) → IsScheme scheme → (sets : Sets) (us : List Token) (l : Left) → SetsFit scheme sets → NotNext (is_sign Comma) us → tokens_in l.placed ≡ separated (set_tokens scheme) sets ++ us
+pub sets_read : (scheme : Scheme) → IsScheme scheme → (sets : Sets) (us : List Token) (l : Left) → SetsFit scheme sets → NotNext (is_sign Comma) us → without_places l.placed ≡ separated (set_tokens scheme) sets ++ us
     → Gets (pass_sets (Some scheme) l) l (λ x. x ≡ Ok sets) us
 unfolding pass_sets
 sets_read scheme valid [] us l fit end e = absurd (let some = fit.some in omega arith)

@@ -16,18 +16,18 @@ use Rattle.mls_tokens.specs.declared.token.Token.{Token}
 use Rattle.mls_tokens.specs.declared.token.Token.TheVariants.{Word, Int, Text, Sign}
 use Rattle.mls_tokens.specs.declared.token.Placed.{Placed}
 use Rattle.mls_tokens.specs.declared.sign.Sign.TheVariants.{LeftParen, RightParen, Comma, Equals}
-use Rattle.mls_tokens.specs.Scanning.{Left, tokens_in}
+use Rattle.mls_tokens.specs.Scanning.{Left, without_places}
 use Rattle.mls_tokens.specs.Passing.{left, is_sign, taken, pass, pass_name}
 use Rattle.mls_tokens.proofs.PassedLemmas.{Passed, passed_more, sign_taken, sign_found, name_found}
 use Rattle.mls_script.specs.declared.lists.Listed.{Listed}
 use Rattle.mls_script.specs.declared.lists.Setting.{Setting}
 use Rattle.mls_tokens.specs.Text.{separated}
 use Rattle.mls_script.specs.Tokens.{value_token, list_tokens}
-use Rattle.mls_script.specs.Reading.{value_in, valued, PlacedValue, pass_value_of, pass_value, after_item, items_from, items_at, none_listed, push_value, values_at, list_behind, pass_list, pass_setting}
+use Rattle.mls_script.specs.Reading.{value_of_token, valued, PlacedValue, pass_value_of, pass_value, after_item, items_from, items_at, none_listed, push_value, values_at, list_behind, pass_list, pass_setting}
 
 -- ---- values
 
-value_is : (t : Token) (v : Option Value) → value_in t ≡ Some v → t ≡ value_token v
+value_is : (t : Token) (v : Option Value) → value_of_token t ≡ Some v → t ≡ value_token v
 value_is (Word w) v e =
     elim (cases_Bool (bytes_eq w (codes "null"))) [
       | inl null ↦ let same : None ≡ v = let h = rw null at e in cc in ap (λ (x : Name). Word x) ((bytes_eq-Decides w (codes "null")).0 null) ∙ ap value_token same
@@ -40,15 +40,15 @@ value_is (Sign s) v e = absurd cc
 abbrev ValueFound : Left → PlacedValue × Left → Type 0
 ValueFound l x = Passed (value_token x.0.0 ∷ []) l x.1
 
-value_first : (t : Token) (ps : List Placed) (stop : TokenFault) (at : ℕ) (o : Option (Option Value)) (x : PlacedValue × Left) → value_in t ≡ o → valued at (left ps stop) o ≡ Ok x → ValueFound (left (record { token = t; at = at } ∷ ps) stop) x
+value_first : (t : Token) (ps : List Placed) (stop : TokenFault) (at : ℕ) (o : Option (Option Value)) (x : PlacedValue × Left) → value_of_token t ≡ o → valued at (left ps stop) o ≡ Ok x → ValueFound (left (record { token = t; at = at } ∷ ps) stop) x
 value_first t ps stop at None x is e = absurd cc
 value_first t ps stop at (Some v) x is e =
     subst (λ y. ValueFound (left (record { token = t; at = at } ∷ ps) stop) y) (same_ok (valued at (left ps stop) (Some v)) ((v, at), left ps stop) x refl e)
-    (record { tokens = ap (λ y. y ∷ tokens_in ps) (value_is t v is); stop = refl })
+    (record { tokens = ap (λ y. y ∷ without_places ps) (value_is t v is); stop = refl })
 
 value_of_found : (ps : List Placed) (stop : TokenFault) (x : PlacedValue × Left) → pass_value_of ps stop ≡ Ok x → ValueFound (left ps stop) x
 value_of_found [] stop x e = absurd cc
-value_of_found (p ∷ ps) stop x e = value_first p.token ps stop p.at (value_in p.token) x refl e
+value_of_found (p ∷ ps) stop x e = value_first p.token ps stop p.at (value_of_token p.token) x refl e
 
 pub value_found : (l : Left) (x : PlacedValue × Left) → pass_value l ≡ Ok x → ValueFound l x
 value_found l x e = value_of_found l.placed l.stop x e

@@ -5,7 +5,7 @@ use Rattle.std.specs.List.{flat_map, filter_map, AllByRecursion}
 use Rattle.std.proofs.lemmas.Bool.{cases_Bool, eqb-true, lt-ltb}
 use Rattle.std.proofs.lemmas.List.{append-nil}
 use Rattle.std.proofs.lemmas.List.Elements.{filter_map-append}
-use Rattle.mls_lattice.specs.Policy.{Tables}
+use Rattle.mls_lattice.specs.Policy.{Policy}
 use Rattle.mls_lattice.specs.Reading.{◌>>=◌}
 use Rattle.mls_lattice.proofs.ReadingLemmas.{ok_is, bind_ok, same_ok}
 use Rattle.mls_scheme.specs.Scheme.{Schemes}
@@ -13,14 +13,15 @@ use Rattle.mls_tokens.specs.declared.fault.TokenCause.TheVariants as causes
 use Rattle.mls_tokens.specs.declared.fault.TokenFault.{TokenFault}
 use Rattle.mls_tokens.specs.declared.token.Token.{Token}
 use Rattle.mls_tokens.specs.declared.token.Token.TheVariants.{Word}
-use Rattle.mls_tokens.specs.Scanning.{Left, tokens_in, tokens_at}
-use Rattle.mls_tokens.specs.Passing.{is_word, taken, is_over, pass_end}
+use Rattle.mls_tokens.specs.Scanning.{Left, without_places, tokens_at}
+use Rattle.mls_tokens.specs.Passing.{is_word, taken, has_ended, pass_end}
 use Rattle.mls_tokens.proofs.TokensLemmas.{tokens_exact}
 use Rattle.mls_tokens.proofs.PassedLemmas.{Passed, passed_none, passed_more, word_taken, over_is}
 use Rattle.mls_queries.specs.declared.query.Query.{Query}
 use Rattle.mls_script.specs.declared.event.Event.{Event}
 use Rattle.mls_script.specs.declared.event.Command.TheVariants as commands
 use Rattle.mls_script.specs.declared.fault.ScriptCause.TheVariants.{Unterminated}
+use Rattle.mls_parser.proofs.PassedLemmas.{split}
 use Rattle.mls_script.specs.declared.fault.LineFault.{LineFault}
 use Rattle.mls_script.specs.declared.fault.ScriptFault.{ScriptFault}
 use Rattle.mls_script.specs.declared.draft.Draft.{Draft}
@@ -32,7 +33,7 @@ use Rattle.mls_script.specs.Grammar.{verbs, verb_word, parts_of, blank, no_query
 use Rattle.mls_script.specs.Tokens.{parts_tokens, event_tokens}
 use Rattle.mls_script.specs.QueryTokens.{TellsTail}
 use Rattle.mls_script.specs.ReadQuery.{form_of, query_at, tail_at}
-use Rattle.mls_script.specs.Reading.{Looked, parts_at, verb_or, verb_among, relation_in, event_from, command_at, sentence_at, told_at, event_in, line_at, in_script, lines_at, split_lines, script_at, IsRead}
+use Rattle.mls_script.specs.Reading.{Looked, parts_at, verb_or, verb_among, drafted_relation, event_from, command_at, sentence_at, told_at, event_in, line_at, in_script, lines_at, split_lines, script_at, IsRead}
 use Rattle.mls_script.specs.Script.{Line, Tells, IsLineOf, ReadsScript}
 use Rattle.mls_script.proofs.KindLemmas.{IsToken, all_tokens, list_kinds}
 use Rattle.mls_script.proofs.QueryFound.{told, form_found, of_text, query_found}
@@ -51,7 +52,7 @@ verb_found (v ∷ vs) l x e = behind (taken (is_word (verb_word v)) l) refl e (v
         let done : Result (Verb × Left) TokenFault = Ok (v, y.1) in
         subst (λ (z : Verb × Left). Passed (Word (verb_word z.0) ∷ []) l z.1) (same_ok done (v, y.1) x refl h) (word_taken (verb_word v) l y is)
 
-module _ (policy : Tables) (schemes : Schemes) where
+module _ (policy : Policy) (schemes : Schemes) where
   -- ---- an event
 
   parts_rise : (v : Verb) → Rising 2 (parts_of v)
@@ -70,11 +71,11 @@ module _ (policy : Tables) (schemes : Schemes) where
   record TailFound (v : Verb) (d : Draft) (q : Query) (l r : Left) : Type 0 where
     tokens : List Token
     passed : Passed tokens l r
-    tells : TellsTail policy schemes (command_of v d q) tokens
-    fits : (l0 : Left) (ts : List Token) → Passed ts l0 l → AllByRecursion IsToken (tokens_in l0.placed) → AllByRecursion (PartFits policy schemes d) (parts_of v)
-        → AllByRecursion IsToken (parts_tokens policy schemes d (parts_of v)) → CommandFits policy schemes (command_of v d q)
+    tells : AllByRecursion IsToken tokens → TellsTail policy schemes (command_of v d q) tokens
+    fits : AllByRecursion IsToken tokens → AllByRecursion (PartFits policy schemes d) (parts_of v) → AllByRecursion IsToken (parts_tokens policy schemes d (parts_of v))
+        → CommandFits policy schemes (command_of v d q)
 
-  in_relation : (d : Draft) → d.rel < length schemes → relation_in schemes (Ok d) ≡ Some d.rel
+  in_relation : (d : Draft) → d.rel < length schemes → drafted_relation schemes (Ok d) ≡ Some d.rel
   in_relation d within = rw (lt-ltb d.rel (length schemes) within) refl
 
   no_tail : (v : Verb) (d : Draft) (q : Query) (l : Left) (y : Result Query LineFault × Left)
@@ -84,22 +85,22 @@ module _ (policy : Tables) (schemes : Schemes) where
   no_tail v d q l y none fits e was =
       let pair = ok_is (Ok no_query, l) y e in
       subst (TailFound v d q l) (ap (λ (z : Result Query LineFault × Left). z.1) pair)
-      (record { tokens = []; passed = passed_none l; tells = none q; fits = λ l0 ts p all h tokens. fits q h tokens })
+      (record { tokens = []; passed = passed_none l; tells = λ all. none q; fits = λ all h tokens. fits q h tokens })
 
   a_query : (v : Verb) (counts : Bool) (d : Draft) (q : Query) (l : Left) (y : Result Query LineFault × Left) → command_of v d q ≡ commands.View d.rel d.label q counts
       → (AllByRecursion (PartFits policy schemes d) (parts_of v) → (d.rel < length schemes) × (d.label < length policy.labels)) → d.rel < length schemes
-      → query_at policy schemes counts (relation_in schemes (Ok d)) l ≡ Ok y → y.0 ≡ Ok q → TailFound v d q l y.1
+      → query_at policy schemes counts (drafted_relation schemes (Ok d)) l ≡ Ok y → y.0 ≡ Ok q → TailFound v d q l y.1
   a_query v counts d q l y same known within e was =
       let found = query_found policy schemes d.rel counts l y q (ap (λ o. query_at policy schemes counts o l) (sym (in_relation d within)) ∙ e) was in
       record {
         tokens = found.tokens;
         passed = found.passed;
-        tells = subst (λ c. TellsTail policy schemes c found.tokens) (sym same) found.tells;
-        fits = λ l0 ts p all h tokens. subst (CommandFits policy schemes) (sym same) ((known h).0, (known h).1, found.fits (of_text ts l0 l p all).1);
+        tells = λ all. subst (λ c. TellsTail policy schemes c found.tokens) (sym same) (found.tells all);
+        fits = λ all h tokens. subst (CommandFits policy schemes) (sym same) ((known h).0, (known h).1, found.fits all);
       }
 
   tail_found : (v : Verb) (d : Draft) (q : Query) (l : Left) (y : Result Query LineFault × Left) → AllByRecursion (PartFits policy schemes d) (parts_of v)
-      → tail_at policy schemes v (relation_in schemes (Ok d)) l ≡ Ok y → y.0 ≡ Ok q → TailFound v d q l y.1
+      → tail_at policy schemes v (drafted_relation schemes (Ok d)) l ≡ Ok y → y.0 ≡ Ok q → TailFound v d q l y.1
   tail_found Open d q l y fits e was = no_tail Open d q l y (λ p. refl) (λ p h tokens. h.0) e was
   tail_found Close d q l y fits e was = no_tail Close d q l y (λ p. refl) (λ p h tokens. tt) e was
   tail_found Audit d q l y fits e was = no_tail Audit d q l y (λ p. refl) (λ p h tokens. tt) e was
@@ -127,8 +128,8 @@ module _ (policy : Tables) (schemes : Schemes) where
   -- an event that was read, from tokens of a text
   pub record EventFound (e : Event) (l r : Left) : Type 0 where
     pub tail : List Token
-    pub query : TellsTail policy schemes e.command tail
-    pub fits : AllByRecursion IsToken (tokens_in l.placed) → EventFits policy schemes e
+    pub query : AllByRecursion IsToken tail → TellsTail policy schemes e.command tail
+    pub fits : AllByRecursion IsToken (without_places l.placed) → EventFits policy schemes e
     pub passed : Passed (event_tokens policy schemes e ++ tail) l r
 
   front_tokens : (d f : Draft) → upto 2 d ≡ upto 2 f → parts_tokens policy schemes d (parts.Level ∷ parts.Session ∷ []) ≡ parts_tokens policy schemes f (parts.Level ∷ parts.Session ∷ [])
@@ -154,19 +155,19 @@ module _ (policy : Tables) (schemes : Schemes) where
         fits = λ all. record {
           level = fits.0;
           session = fits.1.0;
-          command = tail.fits l (heads ++ Word (verb_word v) ∷ behind) whole all more.fits (of_text behind n k more.passed (of_text (heads ++ Word (verb_word v) ∷ []) l n to_parts all).1).0;
+          command = tail.fits (of_text tail.tokens k r tail.passed (of_text (heads ++ Word (verb_word v) ∷ behind) l k whole all).1).0 more.fits (of_text behind n k more.passed (of_text (heads ++ Word (verb_word v) ∷ []) l n to_parts all).1).0;
         };
         passed = subst (λ ts. Passed (ts ++ tail.tokens) l r) (sym (tokens_kept v d q)) (passed_more (heads ++ Word (verb_word v) ∷ behind) tail.tokens l k r whole tail.passed);
       }
 
-  end_found : (l : Left) (u : Unit {0}) → pass_end l ≡ Ok u → is_over l ≡ true
+  end_found : (l : Left) (u : Unit {0}) → pass_end l ≡ Ok u → has_ended l ≡ true
   end_found l u e =
-      elim (cases_Bool (is_over l)) [
+      elim (cases_Bool (has_ended l)) [
         | inl over ↦ over
         | inr more ↦ absurd (let h = rw more at e in cc)
       ]
 
-  ended_at : {X : Type 0} (l : Left) (x : X) (y : X) → (form_of (pass_end l) >>= λ _. let r : Result X LineFault = Ok x in r) ≡ Ok y → (is_over l ≡ true) × (x ≡ y)
+  ended_at : {X : Type 0} (l : Left) (x : X) (y : X) → (form_of (pass_end l) >>= λ _. let r : Result X LineFault = Ok x in r) ≡ Ok y → (has_ended l ≡ true) × (x ≡ y)
   ended_at {X = X} l x y h =
       let over = bind_ok (form_of (pass_end l)) (λ _. let r : Result X LineFault = Ok x in r) y h in
       (end_found l over.0 (form_found (pass_end l) over.0 over.1), ok_is {E = LineFault} x y over.2)
@@ -174,7 +175,7 @@ module _ (policy : Tables) (schemes : Schemes) where
   -- what a verb, its parts and what stands behind them say
   behind_parts : (v : Verb) (l m n k r : Left) (front looked : Looked) (asked : Result Query LineFault) (e : Event)
       → ((f : Draft) → front ≡ Ok f → PartsFound policy schemes 0 (parts.Level ∷ parts.Session ∷ []) (Ok blank) f l m) → Passed (Word (verb_word v) ∷ []) m n
-      → parts_at policy schemes (parts_of v) front n ≡ Ok (looked, k) → tail_at policy schemes v (relation_in schemes looked) k ≡ Ok (asked, r) → event_from v looked asked ≡ Ok e → EventFound e l r
+      → parts_at policy schemes (parts_of v) front n ≡ Ok (looked, k) → tail_at policy schemes v (drafted_relation schemes looked) k ≡ Ok (asked, r) → event_from v looked asked ≡ Ok e → EventFound e l r
   behind_parts v l m n k r front (Err f) asked e start word parts tail from = absurd cc
   behind_parts v l m n k r front (Ok d) (Err f) e start word parts tail from = absurd cc
   behind_parts v l m n k r front (Ok d) (Ok q) e start word parts tail from =
@@ -187,20 +188,20 @@ module _ (policy : Tables) (schemes : Schemes) where
       → command_at policy schemes front m ≡ Ok x → x.0 ≡ Ok e → EventFound e l x.1
   unfolding command_at
   command_found l m front x e start h was =
-      let v = bind_ok (form_of (verb_among verbs m)) (λ v. form_of (parts_at policy schemes (parts_of v.0) front v.1) >>= λ x. tail_at policy schemes v.0 (relation_in schemes x.0) x.1 >>= λ q. Ok (event_from v.0 x.0 q.0, q.1)) x h in
-      let y = bind_ok (form_of (parts_at policy schemes (parts_of v.0.0) front v.0.1)) (λ x. tail_at policy schemes v.0.0 (relation_in schemes x.0) x.1 >>= λ q. Ok (event_from v.0.0 x.0 q.0, q.1)) x v.2 in
-      let t = bind_ok (tail_at policy schemes v.0.0 (relation_in schemes y.0.0) y.0.1) (λ q. Ok (event_from v.0.0 y.0.0 q.0, q.1)) x y.2 in
+      let v = bind_ok (form_of (verb_among verbs m)) (λ v. form_of (parts_at policy schemes (parts_of v.0) front v.1) >>= λ x. tail_at policy schemes v.0 (drafted_relation schemes x.0) x.1 >>= λ q. Ok (event_from v.0 x.0 q.0, q.1)) x h in
+      let y = bind_ok (form_of (parts_at policy schemes (parts_of v.0.0) front v.0.1)) (λ x. tail_at policy schemes v.0.0 (drafted_relation schemes x.0) x.1 >>= λ q. Ok (event_from v.0.0 x.0 q.0, q.1)) x v.2 in
+      let t = bind_ok (tail_at policy schemes v.0.0 (drafted_relation schemes y.0.0) y.0.1) (λ q. Ok (event_from v.0.0 y.0.0 q.0, q.1)) x y.2 in
       told (λ z r. EventFound z l r) (event_from v.0.0 y.0.0 t.0.0) t.0.1 x e t.2 was
       (behind_parts v.0.0 l m v.0.1 y.0.1 t.0.1 front y.0.0 t.0.0 e start (verb_found verbs m v.0 (form_found (verb_among verbs m) v.0 v.1)) (form_found (parts_at policy schemes (parts_of v.0.0) front v.0.1) y.0 y.1) t.1)
 
   record SentenceFound (e : Event) (l : Left) : Type 0 where
     tail : List Token
-    query : TellsTail policy schemes e.command tail
-    fits : AllByRecursion IsToken (tokens_in l.placed) → EventFits policy schemes e
-    tokens : tokens_in l.placed ≡ event_tokens policy schemes e ++ tail
+    query : AllByRecursion IsToken tail → TellsTail policy schemes e.command tail
+    fits : AllByRecursion IsToken (without_places l.placed) → EventFits policy schemes e
+    tokens : without_places l.placed ≡ event_tokens policy schemes e ++ tail
     stop : l.stop.cause ≡ causes.Expected
 
-  at_end : (e : Event) (l r : Left) → EventFound e l r → is_over r ≡ true → SentenceFound e l
+  at_end : (e : Event) (l r : Left) → EventFound e l r → has_ended r ≡ true → SentenceFound e l
   at_end e l r found over =
       let end = over_is r.placed r.stop over in
       record {
@@ -227,7 +228,7 @@ module _ (policy : Tables) (schemes : Schemes) where
 
   told_found : (line : List ℕ) (told : Option (Result Event LineFault)) (o : Option Event) → told_at policy schemes (tokens_at line) ≡ Ok told → event_in told ≡ Ok o → Tells policy schemes line o
   told_found line told o e is =
-      elim (cases_Bool (is_over (tokens_at line))) [
+      elim (cases_Bool (has_ended (tokens_at line))) [
         | inl over ↦
             let none : None ≡ told = let h = rw over at e in cc in
             let blank_line : None ≡ o = let h : event_in None ≡ Ok o = ap event_in none ∙ is in cc in
@@ -240,8 +241,9 @@ module _ (policy : Tables) (schemes : Schemes) where
             let found = sentence_found (tokens_at line) event.0 (r.1 ∙ ap (λ z. Ok z) event.1) in
             let told_event : Some event.0 ≡ o = let h = event.2 in cc in
             let tokens = (tokens_exact line (event_tokens policy schemes event.0 ++ found.tail)).0 (found.tokens, found.stop) in
-            let all = subst (AllByRecursion IsToken) (sym found.tokens) (all_tokens (event_tokens policy schemes event.0 ++ found.tail) line tokens) in
-            subst (Tells policy schemes line) told_event (record { fits = found.fits all; tail = found.tail; tokens = tokens; query = found.query })
+            let own = all_tokens (event_tokens policy schemes event.0 ++ found.tail) line tokens in
+            let all = subst (AllByRecursion IsToken) (sym found.tokens) own in
+            subst (Tells policy schemes line) told_event (record { fits = found.fits all; tail = found.tail; tokens = tokens; query = found.query (split (event_tokens policy schemes event.0) found.tail own).1 })
       ]
 
   pub line_found : (line : List ℕ) (ended : Bool) (o : Option Event) → line_at policy schemes line ended ≡ Ok o → (ended ≡ true) × Tells policy schemes line o
@@ -306,7 +308,7 @@ script_found_in : {X : Type 0} (number : ℕ) (r : Result X LineFault) (x : X) �
 script_found_in number (Ok y) x e = ap (λ z. Ok z) (same_ok (in_script number (Ok y)) y x refl e)
 script_found_in number (Err f) x e = absurd cc
 
-module _ (policy : Tables) (schemes : Schemes) where
+module _ (policy : Policy) (schemes : Schemes) where
   record LinesFound (lines : List (List ℕ × Bool)) (events es : List Event) : Type 0 where
     told : List Line
     text : flat_map joined lines ≡ flat_map (λ line. line.text ++ 10 ∷ []) told

@@ -12,7 +12,7 @@ use Rattle.std.proofs.lemmas.List.Quantifiers.{position-Some}
 use Rattle.std.proofs.lemmas.Map.Keys.{IsDistinct-push}
 use Rattle.std.proofs.lemmas.Slice.Eq.{bytes_eq-Decides}
 use Rattle.mls_lattice.specs.Name.{is_name}
-use Rattle.mls_lattice.specs.Policy.{Name, Tables}
+use Rattle.mls_lattice.specs.Policy.{Name, Policy}
 use Rattle.mls_lattice.specs.Reading.{◌>>=◌}
 use Rattle.mls_lattice.proofs.NamedLemmas.{label_found}
 use Rattle.mls_lattice.proofs.ReadingLemmas.{bind_ok, same_ok}
@@ -256,7 +256,7 @@ narrowed j k d le = λ i. record {
 fewer : (j k : ℕ) (d e : Draft) → j ≤ k → upto k d ≡ upto k e → upto j d ≡ upto j e
 fewer j k d e le same = sym (narrowed j k d le) ∙ ap (upto j) same ∙ narrowed j k e le
 
-module _ (policy : Tables) (schemes : Schemes) where
+module _ (policy : Policy) (schemes : Schemes) where
   -- what holds of what a part says
   abbrev pub PartFits : Draft → Part → Type 0
   PartFits d Level = d.level < length policy.labels

@@ -5,10 +5,10 @@ use Rattle.std.specs.Str.{bytes_eq}
 use Rattle.std.proofs.lemmas.Bool.{cases_Bool}
 use Rattle.std.proofs.lemmas.List.{append-nil}
 use Rattle.mls_lattice.specs.Canon.{label_name}
-use Rattle.mls_lattice.specs.Policy.{Name, Tables, IsPolicy}
+use Rattle.mls_lattice.specs.Policy.{Name, Policy, IsPolicy}
 use Rattle.mls_lattice.specs.Reading.{◌>>=◌}
 use Rattle.mls_lattice.proofs.NamedLemmas.{label_is_name}
-use Rattle.mls_scheme.specs.Scheme.{Schemes}
+use Rattle.mls_scheme.specs.Scheme.{Schemes, AreSchemes}
 use Rattle.mls_tokens.specs.declared.fault.TokenFault.{TokenFault}
 use Rattle.mls_tokens.specs.declared.token.Token.{Token}
 use Rattle.mls_tokens.specs.declared.token.Token.TheVariants.{Word, Int, Sign as Sign_token}
@@ -16,12 +16,11 @@ use Rattle.mls_tokens.specs.declared.token.Placed.{Placed}
 use Rattle.mls_tokens.specs.declared.sign.Sign.{Sign}
 use Rattle.mls_tokens.specs.declared.sign.Sign.TheVariants.{Comma}
 use Rattle.mls_tokens.specs.Sign.{sign_text}
-use Rattle.mls_tokens.specs.Scanning.{Left, tokens_in}
+use Rattle.mls_tokens.specs.Scanning.{Left, without_places}
 use Rattle.mls_tokens.specs.Passing.{left, is_word, is_sign, taken, pass_name}
 use Rattle.mls_tokens.proofs.NextLemmas.{Gets, gets_more, done, gets_done, gets_is, next_is, took, took_word, NotNext, not_taken, name_gets}
 use Rattle.mls_translang.specs.Tree as core
-use Rattle.mls_syntax.proofs.ConditionAgain.{conditions_are_read}
-use Rattle.mls_parser.proofs.ConditionLemmas.{places_change_no_condition}
+use Rattle.mls_parser.proofs.ConditionAgain.{conditions_are_read}
 use Rattle.mls_queries.specs.declared.query.Comparison.{Comparison}
 use Rattle.mls_queries.specs.declared.query.Comparison.TheVariants as compared
 use Rattle.mls_queries.specs.declared.query.ClassTest.{ClassTest}
@@ -29,7 +28,7 @@ use Rattle.mls_queries.specs.declared.query.Query.{Query}
 use Rattle.mls_script.specs.declared.fault.LineFault.{LineFault}
 use Rattle.mls_script.specs.Event.{QueryFits}
 use Rattle.mls_script.specs.QueryTokens.{comparison_sign, highest_tokens, class_tokens, first_tokens, TellsTest, TellsQuery}
-use Rattle.mls_script.specs.ReadQuery.{form_of, label_named, highest_behind, highest_at, comparisons, comparison_or, comparison_among, class_test, class_behind, class_at, number_in, numbered, pass_number, count_or, first_behind, first_at, syntax_of, test_of, query_from, resolved, where_behind, where_at, query_at}
+use Rattle.mls_script.specs.ReadQuery.{form_of, label_named, highest_behind, highest_at, comparisons, comparison_or, comparison_among, class_test, class_behind, class_at, number_in, numbered, pass_number, count_or, first_behind, first_at, read_of, test_of, query_from, where_behind, where_at, query_at}
 use Rattle.mls_script.proofs.AgainLemmas.{label_again}
 
 pub form_again : {X : Type 0} {r : Result (X × Left) TokenFault} {l : Left} {P : X → Type 0} {us : List Token} → Gets r l P us → Gets (form_of r) l P us
@@ -50,7 +49,7 @@ known_comparison compared.AtMost = refl
 known_comparison compared.Greater = refl
 known_comparison compared.AtLeast = refl
 
-comparison_read : (cs : List Comparison) (s : Sign) (c : Comparison) (us : List Token) (l : Left) → tokens_in l.placed ≡ Sign_token s ∷ us → first_with cs s ≡ Some c
+comparison_read : (cs : List Comparison) (s : Sign) (c : Comparison) (us : List Token) (l : Left) → without_places l.placed ≡ Sign_token s ∷ us → first_with cs s ≡ Some c
     → Gets (comparison_among cs l) l (λ x. x ≡ c) us
 comparison_read [] s c us l e first = absurd cc
 comparison_read (d ∷ ds) s c us l e first =
@@ -71,9 +70,9 @@ comparison_read (d ∷ ds) s c us l e first =
           }
     ]
 
-module _ (policy : Tables) (is_policy : IsPolicy policy) where
+module _ (policy : Policy) (is_policy : IsPolicy policy) where
   class_read : (o : Option ClassTest) (us : List Token) (l : Left) → IfSome o (λ c. c.label < length policy.labels) → NotNext (is_word (codes "class")) us
-      → tokens_in l.placed ≡ class_tokens policy o ++ us → Gets (class_at policy l) l (λ x. x ≡ Ok o) us
+      → without_places l.placed ≡ class_tokens policy o ++ us → Gets (class_at policy l) l (λ x. x ≡ Ok o) us
   unfolding class_at
   class_read None us l fits off e =
       gets_is (class_behind policy l (taken (is_word (codes "class")) l)) (done (Ok None) l) l (λ x. x ≡ Ok None) us (ap (class_behind policy l) (not_taken (is_word (codes "class")) us l off e))
@@ -91,16 +90,16 @@ module _ (policy : Tables) (is_policy : IsPolicy policy) where
 
 -- ---- the first
 
-number_first : (n : ℤ) (us : List Token) (ps : List Placed) (stop : TokenFault) → tokens_in ps ≡ Int n ∷ us → Gets (pass_number (left ps stop)) (left ps stop) (λ x. x.0 ≡ n) us
+number_first : (n : ℤ) (us : List Token) (ps : List Placed) (stop : TokenFault) → without_places ps ≡ Int n ∷ us → Gets (pass_number (left ps stop)) (left ps stop) (λ x. x.0 ≡ n) us
 number_first n us [] stop e = absurd cc
 number_first n us (p ∷ ps) stop e =
     let h = next_is p ps (Int n) us e in
     record { value = (n, p.at); rest = left ps stop; is = ap (λ t. numbered p.at (left ps stop) (number_in t)) h.0; holds = refl; tokens = h.1; stop = refl }
 
-number_read : (n : ℤ) (us : List Token) (l : Left) → tokens_in l.placed ≡ Int n ∷ us → Gets (pass_number l) l (λ x. x.0 ≡ n) us
+number_read : (n : ℤ) (us : List Token) (l : Left) → without_places l.placed ≡ Int n ∷ us → Gets (pass_number l) l (λ x. x.0 ≡ n) us
 number_read n us l e = number_first n us l.placed l.stop e
 
-first_read : (counts : Bool) (o : Option ℕ) (us : List Token) (l : Left) → (counts ≡ true → o ≡ None) → NotNext (is_word (codes "first")) us → tokens_in l.placed ≡ first_tokens o ++ us
+first_read : (counts : Bool) (o : Option ℕ) (us : List Token) (l : Left) → (counts ≡ true → o ≡ None) → NotNext (is_word (codes "first")) us → without_places l.placed ≡ first_tokens o ++ us
     → Gets (first_at counts l) l (λ x. x ≡ Ok o) us
 unfolding first_at
 first_read true None us l whole off e = gets_done (Ok None) l (λ x. x ≡ Ok None) us refl e
@@ -117,22 +116,22 @@ first_read false (Some n) us l whole off e =
 
 -- ---- the condition
 
-module _ (policy : Tables) (schemes : Schemes) (rel : ℕ) where
-  where_read : (t : Option core.Expr) (ts : List Token) (l : Left) → TellsTest policy schemes rel t ts → tokens_in l.placed ≡ ts → Gets (where_at policy schemes (Some rel) l) l (λ x. x ≡ Ok t) []
+module _ (policy : Policy) (schemes : Schemes) (rel : ℕ) where
+  where_read : IsPolicy policy → AreSchemes schemes → rel < length schemes → (t : Option core.Expr) (ts : List Token) (l : Left) → TellsTest policy schemes rel t ts → without_places l.placed ≡ ts
+      → Gets (where_at policy schemes (Some rel) l) l (λ x. x ≡ Ok t) []
   unfolding where_at
-  where_read None ts l tells e =
+  where_read is_policy valid within None ts l tells e =
       gets_is (where_behind policy schemes (Some rel) l (taken (is_word (codes "where")) l)) (done (Ok None) l) l (λ x. x ≡ Ok None) []
       (ap (where_behind policy schemes (Some rel) l) (not_taken (is_word (codes "where")) [] l tt (e ∙ tells)))
       (gets_done (Ok None) l (λ x. x ≡ Ok None) [] refl (e ∙ tells))
-  where_read (Some test) ts l tells e =
+  where_read is_policy valid within (Some test) ts l tells e =
       let word = took_word (codes "where") tells.condition l (e ∙ tells.tokens) in
-      let read = conditions_are_read word.rest tells.written tells.condition [] tells.spells tt (word.tokens ∙ sym (append-nil tells.condition)) in
-      let same = places_change_no_condition policy schemes rel tells.written read.value test (sym read.same) tells.is in
+      let read = conditions_are_read policy schemes is_policy valid rel word.rest test tells.condition [] within tells.tells tt (word.tokens ∙ sym (append-nil tells.condition)) in
       record {
-        value = resolved policy schemes (Some rel) read.value;
+        value = Ok (Some test);
         rest = read.rest;
-        is = ap (where_behind policy schemes (Some rel) l) word.is ∙ ap (λ r. syntax_of r >>= λ c. Ok (resolved policy schemes (Some rel) c.0, c.1)) read.is;
-        holds = ap test_of same;
+        is = ap (where_behind policy schemes (Some rel) l) word.is ∙ ap (λ r. read_of r >>= λ c. Ok (test_of true c.0, c.1)) read.is;
+        holds = refl;
         tokens = read.tokens;
         stop = read.stop ∙ word.stop;
       }
@@ -182,10 +181,10 @@ module _ (policy : Tables) (schemes : Schemes) (rel : ℕ) where
   record HighestRead (highest : Bool) (l : Left) (us : List Token) : Type 0 where
     rest : Left
     is : highest_at l ≡ (highest, rest)
-    tokens : tokens_in rest.placed ≡ us
+    tokens : without_places rest.placed ≡ us
     stop : rest.stop ≡ l.stop
 
-  highest_read : (highest : Bool) (us : List Token) (l : Left) → NotNext (is_word (codes "highest")) us → tokens_in l.placed ≡ highest_tokens highest ++ us → HighestRead highest l us
+  highest_read : (highest : Bool) (us : List Token) (l : Left) → NotNext (is_word (codes "highest")) us → without_places l.placed ≡ highest_tokens highest ++ us → HighestRead highest l us
   highest_read true us l off e =
       let word = took_word (codes "highest") us l e in
       record { rest = word.rest; is = ap (highest_behind l) word.is; tokens = word.tokens; stop = word.stop }
@@ -196,10 +195,10 @@ module _ (policy : Tables) (schemes : Schemes) (rel : ℕ) where
   behind_at counts h =
       form_of (class_at policy h.1) >>= λ c. form_of (first_at counts c.1) >>= λ f. where_at policy schemes (Some rel) f.1 >>= λ t. done (query_from h.0 c.0 f.0 t.0) t.1
 
-  pub query_read : IsPolicy policy → (counts : Bool) (q : Query) (ts : List Token) (l : Left) → QueryFits policy schemes rel q counts → TellsQuery policy schemes rel q ts → tokens_in l.placed ≡ ts
+  pub query_read : IsPolicy policy → AreSchemes schemes → rel < length schemes → (counts : Bool) (q : Query) (ts : List Token) (l : Left) → QueryFits policy schemes rel q counts → TellsQuery policy schemes rel q ts → without_places l.placed ≡ ts
       → Gets (query_at policy schemes counts (Some rel) l) l (λ x. x ≡ Ok q) []
   unfolding query_at
-  query_read is_policy counts q ts l fits tells e =
+  query_read is_policy valid within counts q ts l fits tells e =
       let behind_first = tells.behind in
       let behind_class = first_tokens q.first ++ behind_first in
       let behind = class_tokens policy q.class ++ behind_class in
@@ -211,7 +210,7 @@ module _ (policy : Tables) (schemes : Schemes) (rel : ℕ) where
       (form_again (class_read policy is_policy q.class behind_class h.rest fits.class (first_next q.first behind_first (where_next (codes "class") q.test behind_first refl tells.test)) h.tokens))
       (λ c m same t. gets_more (λ f. where_at policy schemes (Some rel) f.1 >>= λ t. done (query_from q.highest c f.0 t.0) t.1)
       (form_again (first_read counts q.first behind_first m fits.whole (where_next (codes "first") q.test behind_first refl tells.test) t))
-      (λ f m2 same2 t2. gets_more (λ t. done (query_from q.highest c f t.0) t.1) (where_read q.test behind_first m2 tells.test t2)
+      (λ f m2 same2 t2. gets_more (λ t. done (query_from q.highest c f t.0) t.1) (where_read is_policy valid within q.test behind_first m2 tells.test t2)
       (λ test m3 same3 t3. gets_done (query_from q.highest c f test) m3 (λ x. x ≡ Ok q) []
       (ap (λ x. query_from q.highest x f test) same ∙ ap (λ x. query_from q.highest (Ok q.class) x test) same2 ∙ ap (λ x. query_from q.highest (Ok q.class) (Ok q.first) x) same3) t3))) in
       record {

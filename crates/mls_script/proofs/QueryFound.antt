@@ -1,7 +1,7 @@
 -- What a query says is what was read, and fits.
 use Rattle.std.proofs.Common.{◌≡◌, ℕ, ◌<◌, Bool, true, false, ℤ, pos, negsuc, List, [], ◌∷◌, ◌++◌, length, Option, Some, None, Result, Ok, Err, refl, sym, ap, ◌∙◌, subst}
 use Rattle.std.specs.Prelude.{codes, IfSome}
-use Rattle.mls_lattice.specs.Policy.{Name, Tables}
+use Rattle.mls_lattice.specs.Policy.{Name, Policy}
 use Rattle.mls_lattice.specs.Reading.{◌>>=◌}
 use Rattle.mls_lattice.proofs.NamedLemmas.{label_found}
 use Rattle.mls_lattice.proofs.ReadingLemmas.{ok_is, bind_ok}
@@ -10,26 +10,23 @@ use Rattle.mls_tokens.specs.declared.fault.TokenFault.{TokenFault}
 use Rattle.mls_tokens.specs.declared.token.Token.{Token}
 use Rattle.mls_tokens.specs.declared.token.Token.TheVariants.{Word, Int, Text, Sign}
 use Rattle.mls_tokens.specs.declared.token.Placed.{Placed}
-use Rattle.mls_tokens.specs.Scanning.{Left, tokens_in}
+use Rattle.mls_tokens.specs.Scanning.{Left, without_places}
 use Rattle.mls_tokens.specs.Passing.{left, is_word, is_sign, taken, pass_name}
 use Rattle.mls_tokens.proofs.PassedLemmas.{Passed, passed_none, passed_more, word_taken, sign_taken, name_found}
 use Rattle.mls_translang.specs.Tree as core
-use Rattle.mls_syntax.specs.declared.fault.SyntaxFault.{SyntaxFault}
-use Rattle.mls_syntax.specs.ExprTree.{Expr}
-use Rattle.mls_syntax.specs.Condition.{AreOfText}
-use Rattle.mls_syntax.specs.ReadCondition.{condition_at}
-use Rattle.mls_syntax.proofs.ConditionLemmas.{spelled_kept, literals_kept}
-use Rattle.mls_syntax.proofs.LimitLemmas.{split}
 use Rattle.mls_parser.specs.declared.fault.PlacedFault.{PlacedFault}
-use Rattle.mls_parser.specs.Conditions.{condition_in, IsConditionOf}
-use Rattle.mls_parser.proofs.ConditionLemmas.{is_fit}
+use Rattle.mls_parser.specs.Condition.{AreOfText, IsConditionOf}
+use Rattle.mls_parser.specs.ReadCondition.{condition_at}
+use Rattle.mls_parser.proofs.ConditionFound.{condition_found}
+use Rattle.mls_parser.proofs.ConditionLemmas.{told_of_row}
+use Rattle.mls_parser.proofs.PassedLemmas.{split}
 use Rattle.mls_queries.specs.declared.query.Comparison.{Comparison}
 use Rattle.mls_queries.specs.declared.query.ClassTest.{ClassTest}
 use Rattle.mls_queries.specs.declared.query.Query.{Query}
 use Rattle.mls_script.specs.declared.fault.LineFault.{LineFault}
 use Rattle.mls_script.specs.Event.{QueryFits}
 use Rattle.mls_script.specs.QueryTokens.{comparison_sign, highest_tokens, class_tokens, first_tokens, TellsTest, TellsQuery}
-use Rattle.mls_script.specs.ReadQuery.{form_of, known_or, label_named, highest_behind, highest_at, comparisons, comparison_or, comparison_among, class_test, class_behind, class_at, number_in, numbered, pass_number_of, pass_number, count_or, first_behind, first_at, syntax_of, test_of, query_from, resolved, where_behind, where_at, query_at}
+use Rattle.mls_script.specs.ReadQuery.{form_of, known_or, label_named, highest_behind, highest_at, comparisons, comparison_or, comparison_among, class_test, class_behind, class_at, number_in, numbered, pass_number_of, pass_number, count_or, first_behind, first_at, read_of, test_of, query_from, where_behind, where_at, query_at}
 
 -- what a part says, and what is left, where both are known
 pub told : {X E : Type 0} (P : X → Left → Type 0) (found : Result X LineFault) (l : Left) (y : Result X LineFault × Left) (x : X)
@@ -47,8 +44,8 @@ known_found at None n e = absurd cc
 known_found at (Some m) n e = ap (λ (x : ℕ). Some x) (ok_is m n e)
 
 -- the tokens that are left are of a text, where those before were
-pub of_text : (ts : List Token) (l r : Left) → Passed ts l r → AreOfText (tokens_in l.placed) → AreOfText ts × AreOfText (tokens_in r.placed)
-of_text ts l r h all = split ts (tokens_in r.placed) (subst AreOfText h.tokens all)
+pub of_text : (ts : List Token) (l r : Left) → Passed ts l r → AreOfText (without_places l.placed) → AreOfText ts × AreOfText (without_places r.placed)
+of_text ts l r h all = split ts (without_places r.placed) (subst AreOfText h.tokens all)
 
 -- ---- the highest
 
@@ -74,7 +71,7 @@ comparison_found (c ∷ cs) l x e = behind (taken (is_sign (comparison_sign c)) 
     behind (Some y) is h more =
         subst (λ (z : Comparison × Left). Passed (Sign (comparison_sign z.0) ∷ []) l z.1) (ok_is {E = TokenFault} (c, y.1) x h) (sign_taken (comparison_sign c) l y is)
 
-module _ (policy : Tables) where
+module _ (policy : Policy) where
   record ClassFound (l : Left) (c : Option ClassTest) (r : Left) : Type 0 where
     passed : Passed (class_tokens policy c) l r
     within : IfSome c (λ c. c.label < length policy.labels)
@@ -124,7 +121,7 @@ number_first : (t : Token) (ps : List Placed) (stop : TokenFault) (at : ℕ) (o 
 number_first t ps stop at None x is e = absurd cc
 number_first t ps stop at (Some n) x is e =
     subst (λ y. NumberFound (left (record { token = t; at = at } ∷ ps) stop) y) (ok_is {E = TokenFault} ((n, at), left ps stop) x e)
-    (record { tokens = ap (λ y. y ∷ tokens_in ps) (number_is t n is); stop = refl })
+    (record { tokens = ap (λ y. y ∷ without_places ps) (number_is t n is); stop = refl })
 
 number_of_found : (ps : List Placed) (stop : TokenFault) (x : (ℤ × ℕ) × Left) → pass_number_of ps stop ≡ Ok x → NumberFound (left ps stop) x
 number_of_found [] stop x e = absurd cc
@@ -162,34 +159,34 @@ first_found false l y f e was = behind (taken (is_word (codes "first")) l) refl 
 
 -- ---- the condition
 
-syntax_found : {X : Type 0} (r : Result X SyntaxFault) (x : X) → syntax_of r ≡ Ok x → r ≡ Ok x
-syntax_found (Ok y) x e = ap (λ z. Ok z) (ok_is y x e)
-syntax_found (Err f) x e = absurd cc
+read_found : {X : Type 0} (r : Result X PlacedFault) (x : X) → read_of r ≡ Ok x → r ≡ Ok x
+read_found (Ok y) x e = ap (λ z. Ok z) (ok_is y x e)
+read_found (Err f) x e = absurd cc
 
-test_found : (r : Result core.Expr PlacedFault) (t : Option core.Expr) → test_of r ≡ Ok t → (e : core.Expr) × (r ≡ Ok e) × (Some e ≡ t)
+test_found : (r : Result core.Expr PlacedFault) (t : Option core.Expr) → test_of true r ≡ Ok t → (e : core.Expr) × (r ≡ Ok e) × (Some e ≡ t)
 test_found (Ok e) t h = (e, refl, ok_is {E = LineFault} (Some e) t h)
 test_found (Err f) t h = absurd cc
 
-module _ (policy : Tables) (schemes : Schemes) (rel : ℕ) where
+module _ (policy : Policy) (schemes : Schemes) (rel : ℕ) where
+  -- tokens were passed; and where they are those of a text, they tell the test, which fits
   record TestFound (l : Left) (t : Option core.Expr) (r : Left) : Type 0 where
     tokens : List Token
     passed : Passed tokens l r
-    tells : TellsTest policy schemes rel t tokens
-    fits : AreOfText (tokens_in l.placed) → IfSome t (IsConditionOf schemes rel)
+    tells : AreOfText tokens → TellsTest policy schemes rel t tokens
+    fits : AreOfText tokens → IfSome t (IsConditionOf schemes rel)
 
-  one_test : (l m r : Left) (at : ℕ) (written : Expr) (t : Option core.Expr) → taken (is_word (codes "where")) l ≡ Some (at, m) → condition_at m ≡ Ok (written, r)
-      → resolved policy schemes (Some rel) written ≡ Ok t → TestFound l t r
-  one_test l m r at written t is read e =
+  one_test : (l m r : Left) (at : ℕ) (read : Result core.Expr PlacedFault) (t : Option core.Expr) → taken (is_word (codes "where")) l ≡ Some (at, m) → condition_at policy schemes rel m ≡ Ok (read, r)
+      → test_of true read ≡ Ok t → TestFound l t r
+  one_test l m r at read t is reads e =
       let word = word_taken (codes "where") l (at, m) is in
-      let found = spelled_kept m r (Ok written) read in
-      let test = test_found (condition_in policy schemes rel written) t e in
-      let tokens = Word (codes "where") ∷ found.tokens in
-      let passed : Passed tokens l r = passed_more (Word (codes "where") ∷ []) found.tokens l m r word (record { tokens = found.passed; stop = found.stop }) in
+      let found = condition_found policy schemes rel m (read, r) reads in
+      let test = test_found read t e in
+      let told = found.told test.0 test.1 in
       subst (λ (x : Option core.Expr). TestFound l x r) test.2 (record {
-        tokens = tokens;
-        passed = passed;
-        tells = record { written = written; condition = found.tokens; tokens = refl; spells = found.spells; is = test.1 };
-        fits = λ all. is_fit policy schemes rel written (Ok test.0) test.1 (literals_kept m r (Ok written) read (of_text (Word (codes "where") ∷ []) l m word all).1);
+        tokens = Word (codes "where") ∷ found.tokens;
+        passed = passed_more (Word (codes "where") ∷ []) found.tokens l m r word found.passed;
+        tells = λ all. record { condition = found.tokens; tokens = refl; tells = told all.1 };
+        fits = λ all. told_of_row schemes rel policy test.0 found.tokens (told all.1);
       })
 
   where_found : (l : Left) (y : Result (Option core.Expr) LineFault × Left) (t : Option core.Expr) → where_at policy schemes (Some rel) l ≡ Ok y → y.0 ≡ Ok t → TestFound l t y.1
@@ -199,19 +196,19 @@ module _ (policy : Tables) (schemes : Schemes) (rel : ℕ) where
       behind : (o : Option (ℕ × Left)) → taken (is_word (codes "where")) l ≡ o → where_behind policy schemes (Some rel) l o ≡ Ok y → TestFound l t y.1
       behind None is h =
           told (TestFound l) (Ok None) l y t h was
-          (λ same. subst (λ (x : Option core.Expr). TestFound l x l) (ok_is {E = LineFault} None t same) (record { tokens = []; passed = passed_none l; tells = refl; fits = λ _. tt }))
+          (λ same. subst (λ (x : Option core.Expr). TestFound l x l) (ok_is {E = LineFault} None t same) (record { tokens = []; passed = passed_none l; tells = λ _. refl; fits = λ _. tt }))
       behind (Some x) is h =
-          let c = bind_ok (syntax_of (condition_at x.1)) (λ c. Ok (resolved policy schemes (Some rel) c.0, c.1)) y h in
-          told (TestFound l) (resolved policy schemes (Some rel) c.0.0) c.0.1 y t c.2 was
-          (λ same. one_test l x.1 c.0.1 x.0 c.0.0 t is (syntax_found (condition_at x.1) c.0 c.1) same)
+          let c = bind_ok (read_of (condition_at policy schemes rel x.1)) (λ c. Ok (test_of true c.0, c.1)) y h in
+          told (TestFound l) (test_of true c.0.0) c.0.1 y t c.2 was
+          (λ same. one_test l x.1 c.0.1 x.0 c.0.0 t is (read_found (condition_at policy schemes rel x.1) c.0 c.1) same)
 
   -- ---- a query
 
   pub record QueryFound (counts : Bool) (l : Left) (q : Query) (r : Left) : Type 0 where
     pub tokens : List Token
     pub passed : Passed tokens l r
-    pub tells : TellsQuery policy schemes rel q tokens
-    pub fits : AreOfText (tokens_in l.placed) → QueryFits policy schemes rel q counts
+    pub tells : AreOfText tokens → TellsQuery policy schemes rel q tokens
+    pub fits : AreOfText tokens → QueryFits policy schemes rel q counts
 
   record PartsSaid (highest : Bool) (class : Result (Option ClassTest) LineFault) (first : Result (Option ℕ) LineFault) (test : Result (Option core.Expr) LineFault) (q : Query) : Type 0 where
     highest_is : q.highest ≡ highest
@@ -243,16 +240,11 @@ module _ (policy : Tables) (schemes : Schemes) (rel : ℕ) where
       let test = where_found f.0.1 t.0 q.test t.1 said.test_is in
       let behind_class = passed_more (first_tokens q.first) test.tokens c.0.1 f.0.1 t.0.1 first.passed test.passed in
       let behind_highest = passed_more (class_tokens policy q.class) (first_tokens q.first ++ test.tokens) h.1 c.0.1 t.0.1 class.passed behind_class in
+      let own : AreOfText (highest_tokens q.highest ++ (class_tokens policy q.class ++ (first_tokens q.first ++ test.tokens))) → AreOfText test.tokens =
+      λ all. (split (first_tokens q.first) test.tokens (split (class_tokens policy q.class) (first_tokens q.first ++ test.tokens) (split (highest_tokens q.highest) (class_tokens policy q.class ++ (first_tokens q.first ++ test.tokens)) all).1).1).1 in
       record {
         tokens = highest_tokens q.highest ++ (class_tokens policy q.class ++ (first_tokens q.first ++ test.tokens));
         passed = passed_more (highest_tokens q.highest) (class_tokens policy q.class ++ (first_tokens q.first ++ test.tokens)) l h.1 t.0.1 highest behind_highest;
-        tells = record { behind = test.tokens; tokens = refl; test = test.tells };
-        fits = λ all. record {
-          class = class.within;
-          test = test.fits
-              (of_text (first_tokens q.first) c.0.1 f.0.1 first.passed
-              (of_text (class_tokens policy q.class) h.1 c.0.1 class.passed
-              (of_text (highest_tokens q.highest) l h.1 highest all).1).1).1;
-          whole = first.whole;
-        };
+        tells = λ all. record { behind = test.tokens; tokens = refl; test = test.tells (own all) };
+        fits = λ all. record { class = class.within; test = test.fits (own all); whole = first.whole };
       })

@@ -4,7 +4,7 @@ use Rattle.std.specs.Prelude.{IsFalse, option_to_list}
 use Rattle.std.specs.List.{AllByRecursion}
 use Rattle.std.proofs.lemmas.Bool.{ne_eqb}
 use Rattle.std.proofs.lemmas.List.{append-nil}
-use Rattle.mls_lattice.specs.Policy.{Tables}
+use Rattle.mls_lattice.specs.Policy.{Policy}
 use Rattle.mls_lattice.specs.Reading.{◌>>=◌}
 use Rattle.mls_scheme.specs.Scheme.{Schemes}
 use Rattle.mls_script.specs.declared.event.Event.{Event}
@@ -30,7 +30,7 @@ split_last (b ∷ bs) some one = rw (ne_eqb b 10 one.0) (split_some b [] bs one.
 
 -- ---- what is read
 
-module _ (policy : Tables) (schemes : Schemes) (bytes : List ℕ) where
+module _ (policy : Policy) (schemes : Schemes) (bytes : List ℕ) where
   -- the rest, read behind these events and lines, is the whole
   pub record ReadSoFar (number : ℕ) (events : List Event) (rest : List ℕ) : Type 0 where
     pub same : script_at policy schemes bytes ≡ lines_at policy schemes (number + 1) events (split_lines [] rest)

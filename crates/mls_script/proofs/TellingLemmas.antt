@@ -8,7 +8,7 @@ use Rattle.std.proofs.lemmas.List.{append-nil}
 use Rattle.std.proofs.lemmas.List.Elements.{filter_map-append}
 use Rattle.std.proofs.lemmas.Option.{slice_get-get_or}
 use Rattle.mls_lattice.specs.Name.{is_name}
-use Rattle.mls_lattice.specs.Policy.{Name, Tables, IsPolicy}
+use Rattle.mls_lattice.specs.Policy.{Name, Policy, IsPolicy}
 use Rattle.mls_lattice.specs.Reading.{◌>>=◌}
 use Rattle.mls_scheme.specs.declared.value.Value.{Value}
 use Rattle.mls_scheme.specs.Scheme.{Schemes, AreSchemes, scheme_of, no_scheme}
@@ -20,8 +20,8 @@ use Rattle.mls_tokens.specs.declared.fault.TokenFault.{TokenFault}
 use Rattle.mls_tokens.specs.declared.token.Token.{Token}
 use Rattle.mls_tokens.specs.declared.token.Token.TheVariants.{Word}
 use Rattle.mls_tokens.specs.declared.sign.Sign.TheVariants.{Comma}
-use Rattle.mls_tokens.specs.Scanning.{Left, tokens_in, tokens_at}
-use Rattle.mls_tokens.specs.Passing.{is_word, is_sign, is_over, pass_end}
+use Rattle.mls_tokens.specs.Scanning.{Left, without_places, tokens_at}
+use Rattle.mls_tokens.specs.Passing.{is_word, is_sign, has_ended, pass_end}
 use Rattle.mls_tokens.proofs.TokensLemmas.{tokens_exact}
 use Rattle.mls_tokens.proofs.NextLemmas.{Gets, gets_more, done, gets_done, gets_is, took, NotNext, not_taken, word_gets, name_gets, over_again, not_over}
 use Rattle.mls_script.specs.declared.event.Event.{Event}
@@ -43,7 +43,7 @@ use Rattle.mls_lattice.specs.Canon.{label_name}
 use Rattle.mls_script.specs.Tokens.{relation_name, list_tokens, set_tokens, word_tokens, said, part_tokens, parts_tokens, event_tokens}
 use Rattle.mls_script.specs.QueryTokens.{TellsTail}
 use Rattle.mls_script.specs.ReadQuery.{label_named, form_of, query_at, tail_at}
-use Rattle.mls_script.specs.Reading.{Looked, relation_named, pass_sets, fit_or, held, put_label, put_values, attributes_of, with_label, with_name, with_relation, with_sets, with_values, with_arguments, label_at, name_at, relation_at, list_at, arguments_at, sets_at, content_at, pass_word, part_at, parts_at, verb_or, verb_among, relation_in, event_from, command_at, sentence_at, told_at, event_in, line_at, in_script, lines_at, split_lines, script_at, IsRead}
+use Rattle.mls_script.specs.Reading.{Looked, relation_named, pass_sets, fit_or, held, put_label, put_values, attributes_of, with_label, with_name, with_relation, with_sets, with_values, with_arguments, label_at, name_at, relation_at, list_at, arguments_at, sets_at, content_at, pass_word, part_at, parts_at, verb_or, verb_among, drafted_relation, event_from, command_at, sentence_at, told_at, event_in, line_at, in_script, lines_at, split_lines, script_at, IsRead}
 use Rattle.mls_script.specs.Script.{Line, Tells, IsLineOf, ReadsScript, ScriptsAreOnce}
 use Rattle.mls_script.proofs.ScriptSteps.{split_ended}
 use Rattle.mls_script.proofs.PartLemmas.{PartFits}
@@ -70,22 +70,22 @@ abbrev filled : List Part → Draft → Draft → Draft
 filled [] d f = f
 filled (p ∷ ps) d f = filled ps d (put p d f)
 
-module _ (policy : Tables) (schemes : Schemes) (is_policy : IsPolicy policy) (are_schemes : AreSchemes schemes) where
+module _ (policy : Policy) (schemes : Schemes) (is_policy : IsPolicy policy) (are_schemes : AreSchemes schemes) where
   abbrev Reads : (Left → Result (Looked × Left) TokenFault) → Left → Draft → List Token → Type 0
   Reads f l d us = Gets (f l) l (λ looked. looked ≡ Ok d) us
 
-  label_read : (p : Part) (n : ℕ) (f : Draft) (us : List Token) (l : Left) → n < length policy.labels → tokens_in l.placed ≡ Word (label_name policy.labels n) ∷ us → Reads (label_at policy p (Ok f)) l (put_label p f n) us
+  label_read : (p : Part) (n : ℕ) (f : Draft) (us : List Token) (l : Left) → n < length policy.labels → without_places l.placed ≡ Word (label_name policy.labels n) ∷ us → Reads (label_at policy p (Ok f)) l (put_label p f n) us
   label_read p n f us l within e =
       gets_more (λ x. done (with_label p (Ok f) (label_named policy x.0)) x.1) (name_gets (label_name policy.labels n) us l (label_is_name policy is_policy n within) e)
       (λ x m same t. gets_done (with_label p (Ok f) (label_named policy x)) m (λ looked. looked ≡ Ok (put_label p f n)) us
       (ap (with_label p (Ok f)) (ap (λ (s : Name). label_named policy (s, x.1)) same ∙ label_again policy is_policy n x.1 within)) t)
 
-  name_part_read : (p : Part) (s : Name) (f : Draft) (us : List Token) (l : Left) → is_name s ≡ true → tokens_in l.placed ≡ Word s ∷ us → Gets (name_at p (Ok f) l) l (λ looked. looked ≡ with_name p (Ok f) s) us
+  name_part_read : (p : Part) (s : Name) (f : Draft) (us : List Token) (l : Left) → is_name s ≡ true → without_places l.placed ≡ Word s ∷ us → Gets (name_at p (Ok f) l) l (λ looked. looked ≡ with_name p (Ok f) s) us
   name_part_read p s f us l named e =
       gets_more (λ x. done (with_name p (Ok f) x.0.0) x.1) (name_gets s us l named e)
       (λ x m same t. gets_done (with_name p (Ok f) x.0) m (λ looked. looked ≡ with_name p (Ok f) s) us (ap (with_name p (Ok f)) same) t)
 
-  relation_read : (n : ℕ) (f : Draft) (us : List Token) (l : Left) → n < length schemes → tokens_in l.placed ≡ Word (relation_name schemes n) ∷ us → Reads (relation_at schemes (Ok f)) l (record f { rel = n }) us
+  relation_read : (n : ℕ) (f : Draft) (us : List Token) (l : Left) → n < length schemes → without_places l.placed ≡ Word (relation_name schemes n) ∷ us → Reads (relation_at schemes (Ok f)) l (record f { rel = n }) us
   relation_read n f us l within e =
       gets_more (λ x. done (with_relation (Ok f) (relation_named schemes x.0)) x.1) (name_gets (relation_name schemes n) us l ((scheme_is schemes are_schemes n within).named) e)
       (λ x m same t. gets_done (with_relation (Ok f) (relation_named schemes x)) m (λ looked. looked ≡ Ok (record f { rel = n })) us
@@ -97,19 +97,19 @@ module _ (policy : Tables) (schemes : Schemes) (is_policy : IsPolicy policy) (ar
       ∙ ap (fit_or l) (kinds_again (attributes_of p (scheme_of schemes rel)) l.values l.places l.end (subst (HaveKinds (attributes_of p (scheme_of schemes rel))) (sym same) kinds))
       ∙ ap (λ (x : List (Option Value)). Ok x) same
 
-  list_part_read : (p : Part) (vs : List (Option Value)) (f : Draft) (us : List Token) (l : Left) → f.rel < length schemes → HaveKinds (attributes_of p (scheme_of schemes f.rel)) vs → tokens_in l.placed ≡ list_tokens vs ++ us
+  list_part_read : (p : Part) (vs : List (Option Value)) (f : Draft) (us : List Token) (l : Left) → f.rel < length schemes → HaveKinds (attributes_of p (scheme_of schemes f.rel)) vs → without_places l.placed ≡ list_tokens vs ++ us
       → Reads (list_at schemes p (Ok f)) l (put_values p f vs) us
   list_part_read p vs f us l within kinds e =
       gets_more (λ x. done (with_values schemes p (Ok f) x.0) x.1) (list_read vs us l e)
       (λ x m same t. gets_done (with_values schemes p (Ok f) x) m (λ looked. looked ≡ Ok (put_values p f vs)) us
       (ap (λ r. r >>= λ vs. Ok (put_values p f vs)) (held_again p f.rel x vs within same kinds)) t)
 
-  arguments_read : (vs : List (Option Value)) (f : Draft) (us : List Token) (l : Left) → tokens_in l.placed ≡ list_tokens vs ++ us → Reads (arguments_at (Ok f)) l (record f { values = vs }) us
+  arguments_read : (vs : List (Option Value)) (f : Draft) (us : List Token) (l : Left) → without_places l.placed ≡ list_tokens vs ++ us → Reads (arguments_at (Ok f)) l (record f { values = vs }) us
   arguments_read vs f us l e =
       gets_more (λ x. done (with_arguments (Ok f) x.0.values) x.1) (list_read vs us l e)
       (λ x m same t. gets_done (with_arguments (Ok f) x.values) m (λ looked. looked ≡ Ok (record f { values = vs })) us (ap (with_arguments (Ok f)) same) t)
 
-  sets_part_read : (sets : Sets) (f : Draft) (us : List Token) (l : Left) → f.rel < length schemes → SetsFit (scheme_of schemes f.rel) sets → NotNext (is_sign Comma) us → tokens_in l.placed ≡ separated (set_tokens (scheme_of schemes f.rel)) sets ++ us
+  sets_part_read : (sets : Sets) (f : Draft) (us : List Token) (l : Left) → f.rel < length schemes → SetsFit (scheme_of schemes f.rel) sets → NotNext (is_sign Comma) us → without_places l.placed ≡ separated (set_tokens (scheme_of schemes f.rel)) sets ++ us
       → Reads (sets_at schemes (Ok f)) l (record f { sets = sets }) us
   sets_part_read sets f us l within fit end e =
       gets_is (sets_at schemes (Ok f) l) (pass_sets (Some (scheme_of schemes f.rel)) l >>= λ x. done (with_sets (Ok f) x.0) x.1) l (λ looked. looked ≡ Ok (record f { sets = sets })) us
@@ -138,7 +138,7 @@ module _ (policy : Tables) (schemes : Schemes) (is_policy : IsPolicy policy) (ar
   within_of : (d f : Draft) → (f.rel ≡ d.rel) × (d.rel < length schemes) → f.rel < length schemes
   within_of d f h = subst (λ n. n < length schemes) (sym h.0) h.1
 
-  content_read : (p : Part) (d f : Draft) (us : List Token) (l : Left) → Knows p d f → PartFits policy schemes d p → NotNext (is_sign Comma) us → tokens_in l.placed ≡ said policy schemes d p ++ us
+  content_read : (p : Part) (d f : Draft) (us : List Token) (l : Left) → Knows p d f → PartFits policy schemes d p → NotNext (is_sign Comma) us → without_places l.placed ≡ said policy schemes d p ++ us
       → Reads (content_at policy schemes p (Ok f)) l (put p d f) us
   unfolding content_at
   content_read Level d f us l known fits end e = label_read Level d.level f us l fits e
@@ -156,13 +156,13 @@ module _ (policy : Tables) (schemes : Schemes) (is_policy : IsPolicy policy) (ar
       (e ∙ ap (λ n. separated (set_tokens (scheme_of schemes n)) d.sets ++ us) (sym known.0))
 
   -- the word before a part is passed
-  word_read : (o : Option Name) (us : List Token) (l : Left) → tokens_in l.placed ≡ word_tokens o ++ us → (r : Left) × (pass_word o l ≡ Ok r) × (tokens_in r.placed ≡ us) × (r.stop ≡ l.stop)
+  word_read : (o : Option Name) (us : List Token) (l : Left) → without_places l.placed ≡ word_tokens o ++ us → (r : Left) × (pass_word o l ≡ Ok r) × (without_places r.placed ≡ us) × (r.stop ≡ l.stop)
   word_read None us l e = (l, refl, e, refl)
   word_read (Some w) us l e =
       let x = word_gets w us l e in
       (x.rest, ap (λ r. r >>= λ (x : ℕ × Left). Ok x.1) x.is, x.tokens, x.stop)
 
-  part_read : (p : Part) (d f : Draft) (us : List Token) (l : Left) → Knows p d f → PartFits policy schemes d p → NotNext (is_sign Comma) us → tokens_in l.placed ≡ part_tokens policy schemes d p ++ us
+  part_read : (p : Part) (d f : Draft) (us : List Token) (l : Left) → Knows p d f → PartFits policy schemes d p → NotNext (is_sign Comma) us → without_places l.placed ≡ part_tokens policy schemes d p ++ us
       → Reads (part_at policy schemes p (Ok f)) l (put p d f) us
   part_read p d f us l known fits end e =
       let word = word_read (part_word p) (said policy schemes d p ++ us) l (e ∙ append_assoc (word_tokens (part_word p)) (said policy schemes d p) us) in
@@ -195,7 +195,7 @@ module _ (policy : Tables) (schemes : Schemes) (is_policy : IsPolicy policy) (ar
   parts_no_comma (p ∷ ps) d us h = subst (NotNext (is_sign Comma)) (sym (append_assoc (part_tokens policy schemes d p) (parts_tokens policy schemes d ps) us)) (no_comma p d (parts_tokens policy schemes d ps ++ us))
 
   parts_read : (ps : List Part) (d f : Draft) (us : List Token) (l : Left) → KnowsAll ps d f → AllByRecursion (PartFits policy schemes d) ps → NotNext (is_sign Comma) us
-      → tokens_in l.placed ≡ parts_tokens policy schemes d ps ++ us → Reads (parts_at policy schemes ps (Ok f)) l (filled ps d f) us
+      → without_places l.placed ≡ parts_tokens policy schemes d ps ++ us → Reads (parts_at policy schemes ps (Ok f)) l (filled ps d f) us
   parts_read [] d f us l known fits end e = record { value = Ok f; rest = l; is = refl; holds = refl; tokens = e; stop = refl }
   parts_read (p ∷ ps) d f us l known fits end e =
       gets_more (λ x. parts_at policy schemes ps x.0 x.1)
@@ -222,7 +222,7 @@ known_verb v.Update = refl
 known_verb v.Delete = refl
 known_verb v.Call = refl
 
-verb_read : (xs : List Verb) (w : Name) (x : Verb) (us : List Token) (l : Left) → tokens_in l.placed ≡ Word w ∷ us → first_with xs w ≡ Some x → Gets (verb_among xs l) l (λ y. y ≡ x) us
+verb_read : (xs : List Verb) (w : Name) (x : Verb) (us : List Token) (l : Left) → without_places l.placed ≡ Word w ∷ us → first_with xs w ≡ Some x → Gets (verb_among xs l) l (λ y. y ≡ x) us
 verb_read [] w x us l e first = absurd cc
 verb_read (y ∷ ys) w x us l e first =
     elim (cases_Bool (bytes_eq w (verb_word y))) [
@@ -259,7 +259,7 @@ event_again level session (commands.Update rel key key_class from sets) = refl
 event_again level session (commands.Delete rel key key_class) = refl
 event_again level session (commands.Call tx args) = refl
 
-module _ (policy : Tables) (schemes : Schemes) where
+module _ (policy : Policy) (schemes : Schemes) where
   front_same : (level : ℕ) (session : Name) (c : Command) → parts_tokens policy schemes (draft_of (begun level session) c) (Level ∷ Session ∷ []) ≡ Word (label_name policy.labels level) ∷ Word session ∷ []
   front_same level session (commands.Open user) = refl
   front_same level session commands.Close = refl
@@ -297,17 +297,17 @@ module _ (policy : Tables) (schemes : Schemes) where
     parts_known b f (commands.Call tx args) h = (tt, (tt, tt))
 
     -- what stands behind the parts is the query, or nothing
-    tail_read : (b : Draft) (c : Command) (ts : List Token) (l : Left) → CommandFits policy schemes c → TellsTail policy schemes c ts → tokens_in l.placed ≡ ts
-        → Gets (tail_at policy schemes (verb_of c) (relation_in schemes (Ok (filled (parts_of (verb_of c)) (draft_of b c) b))) l) l (λ x. x ≡ Ok (query_of c)) []
+    tail_read : (b : Draft) (c : Command) (ts : List Token) (l : Left) → CommandFits policy schemes c → TellsTail policy schemes c ts → without_places l.placed ≡ ts
+        → Gets (tail_at policy schemes (verb_of c) (drafted_relation schemes (Ok (filled (parts_of (verb_of c)) (draft_of b c) b))) l) l (λ x. x ≡ Ok (query_of c)) []
     tail_read b (commands.Open user) ts l fits tells e = gets_done (Ok no_query) l (λ x. x ≡ Ok no_query) [] refl (e ∙ tells)
     tail_read b commands.Close ts l fits tells e = gets_done (Ok no_query) l (λ x. x ≡ Ok no_query) [] refl (e ∙ tells)
     tail_read b commands.Audit ts l fits tells e = gets_done (Ok no_query) l (λ x. x ≡ Ok no_query) [] refl (e ∙ tells)
     tail_read b (commands.View rel label query false) ts l fits tells e =
-        gets_is (query_at policy schemes false (relation_in schemes (Ok (record b { rel = rel; label = label }))) l) (query_at policy schemes false (Some rel) l) l (λ x. x ≡ Ok query) []
-        (rw (lt-ltb rel (length schemes) fits.0) refl) (query_read policy schemes rel is_policy false query ts l fits.2 tells e)
+        gets_is (query_at policy schemes false (drafted_relation schemes (Ok (record b { rel = rel; label = label }))) l) (query_at policy schemes false (Some rel) l) l (λ x. x ≡ Ok query) []
+        (rw (lt-ltb rel (length schemes) fits.0) refl) (query_read policy schemes rel is_policy are_schemes fits.0 false query ts l fits.2 tells e)
     tail_read b (commands.View rel label query true) ts l fits tells e =
-        gets_is (query_at policy schemes true (relation_in schemes (Ok (record b { rel = rel; label = label }))) l) (query_at policy schemes true (Some rel) l) l (λ x. x ≡ Ok query) []
-        (rw (lt-ltb rel (length schemes) fits.0) refl) (query_read policy schemes rel is_policy true query ts l fits.2 tells e)
+        gets_is (query_at policy schemes true (drafted_relation schemes (Ok (record b { rel = rel; label = label }))) l) (query_at policy schemes true (Some rel) l) l (λ x. x ≡ Ok query) []
+        (rw (lt-ltb rel (length schemes) fits.0) refl) (query_read policy schemes rel is_policy are_schemes fits.0 true query ts l fits.2 tells e)
     tail_read b (commands.Dump rel) ts l fits tells e = gets_done (Ok no_query) l (λ x. x ≡ Ok no_query) [] refl (e ∙ tells)
     tail_read b (commands.Insert rel key values) ts l fits tells e = gets_done (Ok no_query) l (λ x. x ≡ Ok no_query) [] refl (e ∙ tells)
     tail_read b (commands.Update rel key key_class from sets) ts l fits tells e = gets_done (Ok no_query) l (λ x. x ≡ Ok no_query) [] refl (e ∙ tells)
@@ -332,29 +332,29 @@ module _ (policy : Tables) (schemes : Schemes) where
     abbrev behind_heads : Event → List Token
     behind_heads e = Word (verb_word (verb_of e.command)) ∷ parts_tokens policy schemes (drafted e) (parts_of (verb_of e.command))
 
-    command_again : (e : Event) (ts : List Token) (l : Left) → EventFits policy schemes e → TellsTail policy schemes e.command ts → tokens_in l.placed ≡ behind_heads e ++ ts
+    command_again : (e : Event) (ts : List Token) (l : Left) → EventFits policy schemes e → TellsTail policy schemes e.command ts → without_places l.placed ≡ behind_heads e ++ ts
         → Gets (command_at policy schemes (Ok (begun e.level e.session)) l) l (λ x. x ≡ Ok e) []
     unfolding command_at
     command_again e ts l fits tells tokens =
         let b = begun e.level e.session in
         let d = draft_of b e.command in
         let x = verb_of e.command in
-        gets_more (λ v. form_of (parts_at policy schemes (parts_of v.0) (Ok b) v.1) >>= λ p. tail_at policy schemes v.0 (relation_in schemes p.0) p.1 >>= λ q. done (event_from v.0 p.0 q.0) q.1)
+        gets_more (λ v. form_of (parts_at policy schemes (parts_of v.0) (Ok b) v.1) >>= λ p. tail_at policy schemes v.0 (drafted_relation schemes p.0) p.1 >>= λ q. done (event_from v.0 p.0 q.0) q.1)
         (form_again (verb_read verbs (verb_word x) x (parts_tokens policy schemes d (parts_of x) ++ ts) l tokens (known_verb x)))
         (λ v m same t. gets_is _
-        (form_of (parts_at policy schemes (parts_of x) (Ok b) m) >>= λ p. tail_at policy schemes x (relation_in schemes p.0) p.1 >>= λ q. done (event_from x p.0 q.0) q.1) m (λ y. y ≡ Ok e) []
-        (ap (λ (w : Verb). form_of (parts_at policy schemes (parts_of w) (Ok b) m) >>= λ p. tail_at policy schemes w (relation_in schemes p.0) p.1 >>= λ q. done (event_from w p.0 q.0) q.1) same)
-        (gets_more (λ p. tail_at policy schemes x (relation_in schemes p.0) p.1 >>= λ q. done (event_from x p.0 q.0) q.1)
+        (form_of (parts_at policy schemes (parts_of x) (Ok b) m) >>= λ p. tail_at policy schemes x (drafted_relation schemes p.0) p.1 >>= λ q. done (event_from x p.0 q.0) q.1) m (λ y. y ≡ Ok e) []
+        (ap (λ (w : Verb). form_of (parts_at policy schemes (parts_of w) (Ok b) m) >>= λ p. tail_at policy schemes w (drafted_relation schemes p.0) p.1 >>= λ q. done (event_from w p.0 q.0) q.1) same)
+        (gets_more (λ p. tail_at policy schemes x (drafted_relation schemes p.0) p.1 >>= λ q. done (event_from x p.0 q.0) q.1)
         (form_again (parts_read policy schemes is_policy are_schemes (parts_of x) d b ts m (parts_known b b e.command fits.command) (parts_fit b e.command fits.command) (tail_no_comma e.command ts tells) t))
         (λ p m2 put t2. gets_is _
-        (tail_at policy schemes x (relation_in schemes (Ok (filled (parts_of x) d b))) m2 >>= λ q. done (event_from x (Ok (filled (parts_of x) d b)) q.0) q.1) m2 (λ y. y ≡ Ok e) []
-        (ap (λ (looked : Looked). tail_at policy schemes x (relation_in schemes looked) m2 >>= λ q. done (event_from x looked q.0) q.1) put)
+        (tail_at policy schemes x (drafted_relation schemes (Ok (filled (parts_of x) d b))) m2 >>= λ q. done (event_from x (Ok (filled (parts_of x) d b)) q.0) q.1) m2 (λ y. y ≡ Ok e) []
+        (ap (λ (looked : Looked). tail_at policy schemes x (drafted_relation schemes looked) m2 >>= λ q. done (event_from x looked q.0) q.1) put)
         (gets_more (λ q. done (event_from x (Ok (filled (parts_of x) d b)) q.0) q.1)
         (tail_read b e.command ts m2 fits.command tells t2)
         (λ q m3 asked t3. gets_done (event_from x (Ok (filled (parts_of x) d b)) q) m3 (λ y. y ≡ Ok e) []
         (ap (event_from x (Ok (filled (parts_of x) d b))) asked ∙ ap (λ (z : Event). Ok z) (event_again e.level e.session e.command)) t3)))))
 
-    sentence_again : (e : Event) (ts : List Token) (l : Left) → EventFits policy schemes e → TellsTail policy schemes e.command ts → tokens_in l.placed ≡ event_tokens policy schemes e ++ ts
+    sentence_again : (e : Event) (ts : List Token) (l : Left) → EventFits policy schemes e → TellsTail policy schemes e.command ts → without_places l.placed ≡ event_tokens policy schemes e ++ ts
         → l.stop.cause ≡ causes.Expected → sentence_at policy schemes l ≡ Ok (Ok e)
     unfolding sentence_at
     sentence_again e ts l fits tells tokens stop =
@@ -364,7 +364,7 @@ module _ (policy : Tables) (schemes : Schemes) where
         let front = form_again (parts_read policy schemes is_policy are_schemes (Level ∷ Session ∷ []) b blank behind l (tt, (tt, tt)) (fits.level, (fits.session, tt)) refl
         (tokens ∙ append_assoc (heads e) (behind_heads e) ts ∙ ap (λ ts. ts ++ behind) (front_same e.level e.session e.command))) in
         let command = command_again e ts front.rest fits tells front.tokens in
-        let over : is_over command.rest ≡ true = over_again command.rest.placed command.rest.stop command.tokens (ap (λ (s : TokenFault). s.cause) (command.stop ∙ front.stop) ∙ stop) in
+        let over : has_ended command.rest ≡ true = over_again command.rest.placed command.rest.stop command.tokens (ap (λ (s : TokenFault). s.cause) (command.stop ∙ front.stop) ∙ stop) in
         let end : pass_end command.rest ≡ Ok tt = rw over refl in
         ap (λ r. r >>= λ (front : Looked × Left). ended (command_at policy schemes front.0 front.1)) front.is
         ∙ ap (λ looked. ended (command_at policy schemes looked front.rest)) front.holds
@@ -376,13 +376,13 @@ module _ (policy : Tables) (schemes : Schemes) where
     unfolding line_at
     line_again line None h =
         let t = (tokens_exact line []).1 h in
-        let over : is_over (tokens_at line) ≡ true = over_again (tokens_at line).placed (tokens_at line).stop t.0 t.1 in
+        let over : has_ended (tokens_at line) ≡ true = over_again (tokens_at line).placed (tokens_at line).stop t.0 t.1 in
         let told : told_at policy schemes (tokens_at line) ≡ Ok None = rw over refl in
         ap (λ r. r >>= λ told. event_in told) told
     line_again line (Some e) h =
         let t = (tokens_exact line (event_tokens policy schemes e ++ h.tail)).1 h.tokens in
         let first = t.0 ∙ append_assoc (heads e) (behind_heads e) h.tail ∙ ap (λ ts. ts ++ (behind_heads e ++ h.tail)) (front_same e.level e.session e.command) in
-        let more : is_over (tokens_at line) ≡ false = not_over (tokens_at line).placed (tokens_at line).stop _ _ first in
+        let more : has_ended (tokens_at line) ≡ false = not_over (tokens_at line).placed (tokens_at line).stop _ _ first in
         let told : told_at policy schemes (tokens_at line) ≡ Ok (Some (Ok e)) = rw more (ap (λ r. r >>= λ x. Ok (Some x)) (sentence_again e h.tail (tokens_at line) h.fits h.query t.0 t.1)) in
         ap (λ r. r >>= λ told. event_in told) told
 

@@ -8,7 +8,7 @@ use Rattle.std.specs.Fmt.{signed_decimal}
 use Rattle.std.specs.Str.{all_ascii_digits}
 use Rattle.std.proofs.lemmas.Bool.{and_parts, leb-true, not-true, cases_Bool}
 use Rattle.mls_lattice.specs.Name.{is_name, is_name_byte}
-use Rattle.mls_lattice.specs.Policy.{Name, Tables, IsPolicy}
+use Rattle.mls_lattice.specs.Policy.{Name, Policy, IsPolicy}
 use Rattle.mls_lattice.specs.Canon.{label_name}
 use Rattle.mls_lattice.proofs.NamedLemmas.{label_is_name}
 use Rattle.mls_scheme.specs.declared.value.Value.{Value}
@@ -246,7 +246,7 @@ update_text k c f s =
     ∙ sym (append_assoc (k ++ codes " class " ++ c ++ codes " from ") f (codes " set " ++ s))
     ∙ sym (append_assoc (k ++ codes " class " ++ c ++ codes " from " ++ f) (codes " set ") s)
 
-module _ (policy : Tables) (schemes : Schemes) (is_policy : IsPolicy policy) (are_schemes : AreSchemes schemes) where
+module _ (policy : Policy) (schemes : Schemes) (is_policy : IsPolicy policy) (are_schemes : AreSchemes schemes) where
   label_written : (n : ℕ) → n < length policy.labels → IsWritten (Word (label_name policy.labels n) ∷ []) (label_name policy.labels n)
   label_written n within = name_written (label_name policy.labels n) (label_is_name policy is_policy n within)
 
@@ -365,7 +365,7 @@ module _ (policy : Tables) (schemes : Schemes) (is_policy : IsPolicy policy) (ar
   lines_events [] = refl
   lines_events (e ∷ es) = ap (λ x. e ∷ x) (lines_events es)
 
-pub lines_read : (policy : Tables) (schemes : Schemes) → IsPolicy policy → AreSchemes schemes → (es : List Event) → AllByRecursion (EventFits policy schemes) es
+pub lines_read : (policy : Policy) (schemes : Schemes) → IsPolicy policy → AreSchemes schemes → (es : List Event) → AllByRecursion (EventFits policy schemes) es
     → AllByRecursion (λ e. is_writable e ≡ true) es → ReadsScript policy schemes (lines_text policy schemes es) es
 lines_read policy schemes is_policy are_schemes es fits h = record {
   lines = map (line_of policy schemes is_policy are_schemes) es;

@@ -2,13 +2,13 @@
 use Rattle.std.specs.Prelude.{◌≡◌, ℕ, ◌<◌, Bool, true, nat_eq, List, map, length, Option, None, IfSome, ⊤}
 use Rattle.std.specs.List.{AllByRecursion, IsDistinct}
 use Rattle.mls_lattice.specs.Name.{is_name}
-use Rattle.mls_lattice.specs.Policy.{Tables}
+use Rattle.mls_lattice.specs.Policy.{Policy}
 use Rattle.mls_scheme.specs.declared.value.Kind.{Kind}
 use Rattle.mls_scheme.specs.declared.value.Value.{Value}
 use Rattle.mls_scheme.specs.Value.{fits_kind}
 use Rattle.mls_scheme.specs.Scheme.{Scheme, Schemes, scheme_of, other_of}
 use Rattle.mls_scheme.specs.Fits.{HaveKinds}
-use Rattle.mls_parser.specs.Conditions.{IsConditionOf}
+use Rattle.mls_parser.specs.Condition.{IsConditionOf}
 use Rattle.mls_queries.specs.declared.query.Query.{Query}
 use Rattle.mls_script.specs.declared.event.Event.{Event}
 use Rattle.mls_script.specs.declared.event.Command.{Command}
@@ -30,12 +30,12 @@ abbrev pub HasSomeKind : Option Value → Type 0
 HasSomeKind v = (k : Kind) × (fits_kind v k ≡ true)
 
 -- a query on the rows of a relation; where they are counted it asks for no first ones
-pub record QueryFits (policy : Tables) (schemes : Schemes) (rel : ℕ) (query : Query) (counts : Bool) : Type 0 where
+pub record QueryFits (policy : Policy) (schemes : Schemes) (rel : ℕ) (query : Query) (counts : Bool) : Type 0 where
   pub class : IfSome query.class (λ c. c.label < length policy.labels)
   pub test : IfSome query.test (IsConditionOf schemes rel)
   pub whole : counts ≡ true → query.first ≡ None
 
-abbrev pub CommandFits : Tables → Schemes → Command → Type 0
+abbrev pub CommandFits : Policy → Schemes → Command → Type 0
 CommandFits policy schemes (Open user) = is_name user ≡ true
 CommandFits policy schemes Close = ⊤
 CommandFits policy schemes Audit = ⊤
@@ -51,7 +51,7 @@ CommandFits policy schemes (Delete rel key key_class) =
     (rel < length schemes) × HaveKinds (scheme_of schemes rel).keys key × (key_class < length policy.labels)
 CommandFits policy schemes (Call tx args) = (is_name tx ≡ true) × AllByRecursion HasSomeKind args
 
-pub record EventFits (policy : Tables) (schemes : Schemes) (e : Event) : Type 0 where
+pub record EventFits (policy : Policy) (schemes : Schemes) (e : Event) : Type 0 where
   pub level : e.level < length policy.labels
   pub session : is_name e.session ≡ true
   pub command : CommandFits policy schemes e.command

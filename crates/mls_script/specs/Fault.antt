@@ -7,9 +7,6 @@ use Rattle.mls_script.specs.declared.fault.ScriptFault.{ScriptFault}
 use Rattle.mls_tokens.specs.declared.fault.TokenCause.{TokenCause}
 use Rattle.mls_tokens.specs.declared.fault.TokenCause.TheVariants as tokens
 use Rattle.mls_tokens.specs.declared.fault.TokenFault.{TokenFault}
-use Rattle.mls_syntax.specs.declared.fault.SyntaxCause.{SyntaxCause}
-use Rattle.mls_syntax.specs.declared.fault.SyntaxCause.TheVariants as syntax
-use Rattle.mls_syntax.specs.declared.fault.SyntaxFault.{SyntaxFault}
 use Rattle.mls_parser.specs.declared.fault.TextCause.{TextCause}
 use Rattle.mls_parser.specs.declared.fault.TextCause.TheVariants as texts
 use Rattle.mls_parser.specs.declared.fault.PlacedFault.{PlacedFault}
@@ -57,20 +54,16 @@ lifted f = line_fault f.at (lifted_cause f.cause)
 
 -- ---- faults of conditions
 
-abbrev pub form_cause : SyntaxCause → ScriptCause
-form_cause syntax.Token = Token
-form_cause syntax.Expected = Expected
-form_cause syntax.Depth = Depth
-form_cause syntax.TooLong = TooLong
-form_cause syntax.Memory = Memory
-
-abbrev pub of_form : SyntaxFault → LineFault
-of_form f = line_fault f.at (form_cause f.cause)
-
 abbrev pub condition_cause : TextCause → ScriptCause
+condition_cause texts.Token = Token
+condition_cause texts.Expected = Expected
 condition_cause texts.UnknownName = UnknownName
+condition_cause texts.Kind = Kind
+condition_cause texts.Repeated = Repeated
+condition_cause texts.Depth = Depth
+condition_cause texts.TooLong = TooLong
+condition_cause texts.LabelOrder = Kind
 condition_cause texts.Memory = Memory
-condition_cause _ = Kind
 
 abbrev pub of_condition : PlacedFault → LineFault
 of_condition f = line_fault f.at (condition_cause f.cause)

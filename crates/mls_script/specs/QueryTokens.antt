@@ -1,16 +1,14 @@
 -- The tokens of a query, which stand behind the label of a view.
-use Rattle.std.specs.Prelude.{◌≡◌, ℕ, pos, Bool, if◌then◌else◌, List, [], ◌∷◌, ◌++◌, codes, Option, Some, None, Ok}
+use Rattle.std.specs.Prelude.{◌≡◌, ℕ, pos, Bool, if◌then◌else◌, List, [], ◌∷◌, ◌++◌, codes, Option, Some, None}
 use Rattle.mls_lattice.specs.Canon.{label_name}
-use Rattle.mls_lattice.specs.Policy.{Tables}
+use Rattle.mls_lattice.specs.Policy.{Policy}
 use Rattle.mls_scheme.specs.Scheme.{Schemes}
 use Rattle.mls_tokens.specs.declared.token.Token.{Token}
 use Rattle.mls_tokens.specs.declared.token.Token.TheVariants.{Word, Int, Sign as Sign_token}
 use Rattle.mls_tokens.specs.declared.sign.Sign.{Sign}
 use Rattle.mls_tokens.specs.declared.sign.Sign.TheVariants as signs
 use Rattle.mls_translang.specs.Tree as core
-use Rattle.mls_syntax.specs.ExprTree.{Expr}
-use Rattle.mls_syntax.specs.Condition.{SpellsCondition}
-use Rattle.mls_parser.specs.Conditions.{condition_in}
+use Rattle.mls_parser.specs.Condition.{TellsCondition}
 use Rattle.mls_queries.specs.declared.query.Comparison.{Comparison}
 use Rattle.mls_queries.specs.declared.query.Comparison.TheVariants as compared
 use Rattle.mls_queries.specs.declared.query.ClassTest.{ClassTest}
@@ -29,7 +27,7 @@ comparison_sign compared.AtLeast = signs.AtLeast
 abbrev pub highest_tokens : Bool → List Token
 highest_tokens highest = if highest then Word (codes "highest") ∷ [] else []
 
-abbrev pub class_tokens : Tables → Option ClassTest → List Token
+abbrev pub class_tokens : Policy → Option ClassTest → List Token
 class_tokens policy None = []
 class_tokens policy (Some c) =
     Word (codes "class") ∷ Sign_token (comparison_sign c.comparison) ∷ Word (label_name policy.labels c.label) ∷ []
@@ -38,18 +36,16 @@ abbrev pub first_tokens : Option ℕ → List Token
 first_tokens None = []
 first_tokens (Some n) = Word (codes "first") ∷ Int (pos n) ∷ []
 
-module _ (policy : Tables) (schemes : Schemes) where
-  -- a condition on rows of a relation, behind its word: its parentheses and the places of its parts are free
-  pub record TellsCondition (rel : ℕ) (test : core.Expr) (ts : List Token) : Type 0 where
-    pub written : Expr
+module _ (policy : Policy) (schemes : Schemes) where
+  -- a condition on rows of a relation, behind its word: its parentheses are free
+  pub record TellsWhere (rel : ℕ) (test : core.Expr) (ts : List Token) : Type 0 where
     pub condition : List Token
     pub tokens : ts ≡ Word (codes "where") ∷ condition
-    pub spells : SpellsCondition written condition
-    pub is : condition_in policy schemes rel written ≡ Ok test
+    pub tells : TellsCondition policy schemes rel test condition
 
   abbrev pub TellsTest : ℕ → Option core.Expr → List Token → Type 0
   TellsTest rel None ts = ts ≡ []
-  TellsTest rel (Some test) ts = TellsCondition rel test ts
+  TellsTest rel (Some test) ts = TellsWhere rel test ts
 
   pub record TellsQuery (rel : ℕ) (q : Query) (ts : List Token) : Type 0 where
     pub behind : List Token

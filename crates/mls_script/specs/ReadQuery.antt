@@ -1,8 +1,9 @@
 -- What stands behind the label of a view, from the tokens that are left: on its form, and then on its names and kinds.
-use Rattle.std.specs.Prelude.{◌≡◌, ℕ, ℤ, pos, negsuc, Bool, true, false, if◌then◌else◌, List, [], ◌∷◌, codes, Option, Some, None, Result, Ok, Err}
+use Rattle.std.specs.Prelude.{◌≡◌, ℕ, ℤ, pos, negsuc, Bool, true, false, if◌then◌else◌, List, [], ◌∷◌, codes, Option, Some, None, is_some, Result, Ok, Err}
+use Rattle.std.specs.Option.{unwrap_or}
 use Rattle.std.specs.List.{position}
 use Rattle.std.specs.Str.{bytes_eq}
-use Rattle.mls_lattice.specs.Policy.{Tables}
+use Rattle.mls_lattice.specs.Policy.{Policy}
 use Rattle.mls_lattice.specs.Reading.{◌>>=◌, GivesUnless}
 use Rattle.mls_scheme.specs.Scheme.{Schemes}
 use Rattle.mls_tokens.specs.declared.fault.TokenCause.TheVariants as tokens
@@ -13,11 +14,8 @@ use Rattle.mls_tokens.specs.declared.token.Placed.{Placed}
 use Rattle.mls_tokens.specs.Scanning.{Left, fault_at}
 use Rattle.mls_tokens.specs.Passing.{left, refuse, refused, is_word, is_sign, taken, PlacedName, pass_name}
 use Rattle.mls_translang.specs.Tree as core
-use Rattle.mls_syntax.specs.declared.fault.SyntaxFault.{SyntaxFault}
-use Rattle.mls_syntax.specs.ExprTree.{Expr}
-use Rattle.mls_syntax.specs.ReadCondition.{condition_at}
 use Rattle.mls_parser.specs.declared.fault.PlacedFault.{PlacedFault}
-use Rattle.mls_parser.specs.Conditions.{condition_in}
+use Rattle.mls_parser.specs.ReadCondition.{condition_at}
 use Rattle.mls_queries.specs.declared.query.Comparison.{Comparison}
 use Rattle.mls_queries.specs.declared.query.Comparison.TheVariants.{Equal, Unequal, Less, AtMost, Greater, AtLeast}
 use Rattle.mls_queries.specs.declared.query.ClassTest.{ClassTest}
@@ -26,7 +24,7 @@ use Rattle.mls_script.specs.declared.fault.ScriptCause.TheVariants.{UnknownName,
 use Rattle.mls_script.specs.declared.fault.LineFault.{LineFault}
 use Rattle.mls_script.specs.declared.grammar.Verb.{Verb}
 use Rattle.mls_script.specs.declared.grammar.Verb.TheVariants as verb
-use Rattle.mls_script.specs.Fault.{line_fault, lifted, of_form, of_condition}
+use Rattle.mls_script.specs.Fault.{line_fault, lifted, of_condition}
 use Rattle.mls_script.specs.Grammar.{no_query}
 use Rattle.mls_script.specs.QueryTokens.{comparison_sign}
 
@@ -45,7 +43,7 @@ abbrev pub known_or : ℕ → Option ℕ → Result ℕ LineFault
 known_or at (Some n) = Ok n
 known_or at None = Err (line_fault at UnknownName)
 
-abbrev pub label_named : Tables → PlacedName → Result ℕ LineFault
+abbrev pub label_named : Policy → PlacedName → Result ℕ LineFault
 label_named policy name = known_or name.1 (position (λ l. bytes_eq l.name name.0) policy.labels)
 
 -- ---- the highest
@@ -75,12 +73,12 @@ comparison_among (c ∷ cs) l =
 abbrev pub class_test : Comparison → Result ℕ LineFault → Result (Option ClassTest) LineFault
 class_test c found = found >>= λ n. Ok (Some (record { comparison = c; label = n }))
 
-abbrev pub class_behind : Tables → Left → Option (ℕ × Left) → Result (Result (Option ClassTest) LineFault × Left) TokenFault
+abbrev pub class_behind : Policy → Left → Option (ℕ × Left) → Result (Result (Option ClassTest) LineFault × Left) TokenFault
 class_behind policy l None = Ok (Ok None, l)
 class_behind policy l (Some x) =
     comparison_among comparisons x.1 >>= λ c. pass_name c.1 >>= λ n. Ok (class_test c.0 (label_named policy n.0), n.1)
 
-unfoldable pub class_at : Tables → Left → Result (Result (Option ClassTest) LineFault × Left) TokenFault
+unfoldable pub class_at : Policy → Left → Result (Result (Option ClassTest) LineFault × Left) TokenFault
 class_at policy l = class_behind policy l (taken (is_word (codes "class")) l)
 
 -- ---- the first
@@ -118,28 +116,27 @@ first_at counts l = if counts then Ok (Ok None, l) else first_behind l (taken (i
 
 -- ---- the condition
 
-abbrev pub syntax_of : {X : Type 0} → Result X SyntaxFault → Result X LineFault
-syntax_of (Ok x) = Ok x
-syntax_of (Err e) = Err (of_form e)
+-- a fault of the form in its place
+abbrev pub read_of : {X : Type 0} → Result X PlacedFault → Result X LineFault
+read_of (Ok x) = Ok x
+read_of (Err e) = Err (of_condition e)
 
-abbrev pub test_of : Result core.Expr PlacedFault → Result (Option core.Expr) LineFault
-test_of (Ok e) = Ok (Some e)
-test_of (Err f) = Err (of_condition f)
+-- where the relation is not known, that is the first fault of the line
+abbrev pub test_of : Bool → Result core.Expr PlacedFault → Result (Option core.Expr) LineFault
+test_of false read = Ok None
+test_of true (Ok e) = Ok (Some e)
+test_of true (Err f) = Err (of_condition f)
 
 -- what a query says; its first fault is that of the part that stands first
 abbrev pub query_from : Bool → Result (Option ClassTest) LineFault → Result (Option ℕ) LineFault → Result (Option core.Expr) LineFault → Result Query LineFault
 query_from highest class first test =
     class >>= λ c. first >>= λ f. test >>= λ t. Ok (record { highest = highest; class = c; test = t; first = f })
 
-module _ (policy : Tables) (schemes : Schemes) where
-  -- where the relation is not known, that is the first fault of the line
-  abbrev pub resolved : Option ℕ → Expr → Result (Option core.Expr) LineFault
-  resolved None written = Ok None
-  resolved (Some rel) written = test_of (condition_in policy schemes rel written)
-
+module _ (policy : Policy) (schemes : Schemes) where
   abbrev pub where_behind : Option ℕ → Left → Option (ℕ × Left) → Result (Result (Option core.Expr) LineFault × Left) LineFault
   where_behind rel l None = Ok (Ok None, l)
-  where_behind rel l (Some x) = syntax_of (condition_at x.1) >>= λ c. Ok (resolved rel c.0, c.1)
+  where_behind rel l (Some x) =
+      read_of (condition_at policy schemes (unwrap_or rel 0) x.1) >>= λ c. Ok (test_of (is_some rel) c.0, c.1)
 
   unfoldable pub where_at : Option ℕ → Left → Result (Result (Option core.Expr) LineFault × Left) LineFault
   where_at rel l = where_behind rel l (taken (is_word (codes "where")) l)

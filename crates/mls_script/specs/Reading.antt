@@ -2,7 +2,7 @@
 use Rattle.std.specs.Prelude.{◌≡◌, ℕ, zero, suc, ◌+◌, Bool, true, false, ◌==◌, nat_eq, nat_lt, if◌then◌else◌, List, [], ◌∷◌, ◌++◌, map, length, drop, slice_index_or, codes, Option, Some, None, option_map, option_to_list, Result, Ok, Err}
 use Rattle.std.specs.List.{position, slice_get, list_any}
 use Rattle.std.specs.Str.{bytes_eq}
-use Rattle.mls_lattice.specs.Policy.{Name, Tables}
+use Rattle.mls_lattice.specs.Policy.{Name, Policy}
 use Rattle.mls_lattice.specs.Reading.{◌>>=◌, GivesUnless}
 use Rattle.mls_scheme.specs.declared.value.Value.{Value}
 use Rattle.mls_scheme.specs.declared.value.Value.TheVariants as values
@@ -15,7 +15,7 @@ use Rattle.mls_tokens.specs.declared.token.Token.TheVariants.{Word, Int, Text, S
 use Rattle.mls_tokens.specs.declared.token.Placed.{Placed}
 use Rattle.mls_tokens.specs.declared.sign.Sign.TheVariants.{LeftParen, RightParen, Comma, Equals}
 use Rattle.mls_tokens.specs.Scanning.{Left, fault_at, tokens_at}
-use Rattle.mls_tokens.specs.Passing.{left, refused, is_word, is_sign, taken, pass, PlacedName, pass_name, is_over, pass_end}
+use Rattle.mls_tokens.specs.Passing.{left, refused, is_word, is_sign, taken, pass, PlacedName, pass_name, has_ended, pass_end}
 use Rattle.mls_queries.specs.declared.query.Query.{Query}
 use Rattle.mls_script.specs.declared.event.Event.{Event}
 use Rattle.mls_script.specs.declared.fault.ScriptCause.TheVariants.{UnknownName, Kind, Repeated, Memory, Unterminated}
@@ -34,11 +34,11 @@ use Rattle.mls_script.specs.ReadQuery.{known_or, label_named, form_of, tail_at}
 
 -- ---- values
 
-abbrev pub value_in : Token → Option (Option Value)
-value_in (Word s) = if bytes_eq s (codes "null") then Some None else None
-value_in (Int n) = Some (Some (values.Int n))
-value_in (Text s) = Some (Some (values.Text s))
-value_in (Sign s) = None
+abbrev pub value_of_token : Token → Option (Option Value)
+value_of_token (Word s) = if bytes_eq s (codes "null") then Some None else None
+value_of_token (Int n) = Some (Some (values.Int n))
+value_of_token (Text s) = Some (Some (values.Text s))
+value_of_token (Sign s) = None
 
 -- a value, and its place
 abbrev pub PlacedValue : Type 0
@@ -50,7 +50,7 @@ valued at rest None = Err (fault_at at tokens.Expected)
 
 abbrev pub pass_value_of : List Placed → TokenFault → Result (PlacedValue × Left) TokenFault
 pass_value_of [] stop = Err stop
-pass_value_of (p ∷ ps) stop = valued p.at (left ps stop) (value_in p.token)
+pass_value_of (p ∷ ps) stop = valued p.at (left ps stop) (value_of_token p.token)
 
 abbrev pub pass_value : Left → Result (PlacedValue × Left) TokenFault
 pass_value l = pass_value_of l.placed l.stop
@@ -187,11 +187,11 @@ with_values schemes p looked l = looked >>= λ d. held (option_map (attributes_o
 abbrev pub with_arguments : Looked → List (Option Value) → Looked
 with_arguments looked vs = looked >>= λ d. Ok (record d { values = vs })
 
-abbrev pub scheme_in : Schemes → Looked → Option Scheme
-scheme_in schemes (Ok d) = slice_get schemes d.rel
-scheme_in schemes (Err e) = None
+abbrev pub drafted_scheme : Schemes → Looked → Option Scheme
+drafted_scheme schemes (Ok d) = slice_get schemes d.rel
+drafted_scheme schemes (Err e) = None
 
-abbrev pub label_at : Tables → Part → Looked → Left → Result (Looked × Left) TokenFault
+abbrev pub label_at : Policy → Part → Looked → Left → Result (Looked × Left) TokenFault
 label_at policy p looked l = pass_name l >>= λ n. Ok (with_label p looked (label_named policy n.0), n.1)
 
 abbrev pub name_at : Part → Looked → Left → Result (Looked × Left) TokenFault
@@ -207,7 +207,7 @@ abbrev pub arguments_at : Looked → Left → Result (Looked × Left) TokenFault
 arguments_at looked l = pass_list l >>= λ vs. Ok (with_arguments looked vs.0.values, vs.1)
 
 abbrev pub sets_at : Schemes → Looked → Left → Result (Looked × Left) TokenFault
-sets_at schemes looked l = pass_sets (scheme_in schemes looked) l >>= λ s. Ok (with_sets looked s.0, s.1)
+sets_at schemes looked l = pass_sets (drafted_scheme schemes looked) l >>= λ s. Ok (with_sets looked s.0, s.1)
 
 abbrev pub pass_word : Option Name → Left → Result Left TokenFault
 pass_word None l = Ok l
@@ -223,9 +223,9 @@ verb_among [] l = Err (refused l)
 verb_among (v ∷ vs) l = verb_or (λ r. verb_among vs r) l v (taken (is_word (verb_word v)) l)
 
 -- the number of the relation that the parts name, if there is one and they had no fault
-abbrev pub relation_in : Schemes → Looked → Option ℕ
-relation_in schemes (Ok d) = if nat_lt d.rel (length schemes) then Some d.rel else None
-relation_in schemes (Err e) = None
+abbrev pub drafted_relation : Schemes → Looked → Option ℕ
+drafted_relation schemes (Ok d) = if nat_lt d.rel (length schemes) then Some d.rel else None
+drafted_relation schemes (Err e) = None
 
 -- the event of a verb, if what its parts and its query say has no fault
 abbrev pub event_from : Verb → Looked → Result Query LineFault → Result Event LineFault
@@ -241,7 +241,7 @@ abbrev pub in_script : {X : Type 0} → ℕ → Result X LineFault → Result X 
 in_script number (Ok x) = Ok x
 in_script number (Err e) = Err (in_line number e)
 
-module _ (policy : Tables) (schemes : Schemes) where
+module _ (policy : Policy) (schemes : Schemes) where
   -- what a part says, behind its word
   unfoldable pub content_at : Part → Looked → Left → Result (Looked × Left) TokenFault
   content_at parts.Level looked l = label_at policy parts.Level looked l
@@ -268,7 +268,7 @@ module _ (policy : Tables) (schemes : Schemes) where
   unfoldable pub command_at : Looked → Left → Result (Result Event LineFault × Left) LineFault
   command_at looked l =
       form_of (verb_among verbs l) >>= λ v. form_of (parts_at (parts_of v.0) looked v.1)
-      >>= λ x. tail_at policy schemes v.0 (relation_in schemes x.0) x.1 >>= λ q. Ok (event_from v.0 x.0 q.0, q.1)
+      >>= λ x. tail_at policy schemes v.0 (drafted_relation schemes x.0) x.1 >>= λ q. Ok (event_from v.0 x.0 q.0, q.1)
 
   -- the event, or the first fault of its names and kinds
   unfoldable pub sentence_at : Left → Result (Result Event LineFault) LineFault
@@ -278,7 +278,7 @@ module _ (policy : Tables) (schemes : Schemes) where
 
   -- nothing, where the line is blank
   abbrev pub told_at : Left → Result (Option (Result Event LineFault)) LineFault
-  told_at l = if is_over l then Ok None else (sentence_at l >>= λ x. Ok (Some x))
+  told_at l = if has_ended l then Ok None else (sentence_at l >>= λ x. Ok (Some x))
 
   -- a line without its end is a fault between the two passes
   unfoldable pub line_at : List ℕ → Bool → Result (Option Event) LineFault
@@ -298,7 +298,7 @@ split_lines [] [] = []
 split_lines (f ∷ front) [] = (f ∷ front, false) ∷ []
 split_lines front (b ∷ bs) = if b == 10 then (front, true) ∷ split_lines [] bs else split_lines (front ++ b ∷ []) bs
 
-unfoldable pub script_at : Tables → Schemes → List ℕ → Result (List Event) ScriptFault
+unfoldable pub script_at : Policy → Schemes → List ℕ → Result (List Event) ScriptFault
 script_at policy schemes bytes = lines_at policy schemes 1 [] (split_lines [] bytes)
 
 -- What script returned is what reading gives, unless memory ran out.

@@ -1,7 +1,7 @@
 -- Scripts: what events a text tells, with no word of how it is read.
 use Rattle.std.specs.Prelude.{◌≡◌, ◌≢◌, ℕ, List, [], ◌∷◌, ◌++◌, Option, Some, None}
 use Rattle.std.specs.List.{AllByRecursion, flat_map, filter_map}
-use Rattle.mls_lattice.specs.Policy.{Tables, IsPolicy}
+use Rattle.mls_lattice.specs.Policy.{Policy, IsPolicy}
 use Rattle.mls_scheme.specs.Scheme.{Schemes, AreSchemes}
 use Rattle.mls_tokens.specs.declared.token.Token.{Token}
 use Rattle.mls_tokens.specs.Text.{AreTokens}
@@ -16,23 +16,23 @@ pub record Line : Type 0 where
   pub event : Option Event
 
 -- the tokens of the line are those of its event, and behind them those of its query
-pub record TellsEvent (policy : Tables) (schemes : Schemes) (text : List ℕ) (e : Event) : Type 0 where
+pub record TellsEvent (policy : Policy) (schemes : Schemes) (text : List ℕ) (e : Event) : Type 0 where
   pub fits : EventFits policy schemes e
   pub tail : List Token
   pub tokens : AreTokens (event_tokens policy schemes e ++ tail) text
   pub query : TellsTail policy schemes e.command tail
 
 -- the text tells this event, or none: a relation, since an expression can be written with other parentheses
-abbrev pub Tells : Tables → Schemes → List ℕ → Option Event → Type 0
+abbrev pub Tells : Policy → Schemes → List ℕ → Option Event → Type 0
 Tells policy schemes text None = AreTokens [] text
 Tells policy schemes text (Some e) = TellsEvent policy schemes text e
 
-pub record IsLineOf (policy : Tables) (schemes : Schemes) (line : Line) : Type 0 where
+pub record IsLineOf (policy : Policy) (schemes : Schemes) (line : Line) : Type 0 where
   pub one : AllByRecursion (λ b. b ≢ 10) line.text
   pub tells : Tells policy schemes line.text line.event
 
 -- the bytes are lines, each with its LF, which tell these events in order
-pub record ReadsScript (policy : Tables) (schemes : Schemes) (bytes : List ℕ) (events : List Event) : Type 0 where
+pub record ReadsScript (policy : Policy) (schemes : Schemes) (bytes : List ℕ) (events : List Event) : Type 0 where
   pub lines : List Line
   pub text : bytes ≡ flat_map (λ line. line.text ++ 10 ∷ []) lines
   pub told : events ≡ filter_map (λ line. line.event) lines
@@ -41,5 +41,5 @@ pub record ReadsScript (policy : Tables) (schemes : Schemes) (bytes : List ℕ) 
 -- a text tells the events of one list at most
 abbrev pub ScriptsAreOnce : Type 0
 ScriptsAreOnce =
-    (policy : Tables) (schemes : Schemes) → IsPolicy policy → AreSchemes schemes
+    (policy : Policy) (schemes : Schemes) → IsPolicy policy → AreSchemes schemes
     → (bytes : List ℕ) (es fs : List Event) → ReadsScript policy schemes bytes es → ReadsScript policy schemes bytes fs → es ≡ fs

@@ -3,7 +3,7 @@ use Rattle.std.specs.Prelude.{◌≡◌, ℕ, ◌<◌, nat_le, Bool, true, false
 use Rattle.std.specs.List.{flat_map, list_all, AllByRecursion}
 use Rattle.std.specs.Fmt.{signed_decimal}
 use Rattle.mls_lattice.specs.Canon.{label_name}
-use Rattle.mls_lattice.specs.Policy.{Tables, IsPolicy}
+use Rattle.mls_lattice.specs.Policy.{Policy, IsPolicy}
 use Rattle.mls_scheme.specs.declared.value.Value.{Value}
 use Rattle.mls_scheme.specs.declared.value.Value.TheVariants as values
 use Rattle.mls_scheme.specs.Scheme.{Scheme, Schemes, AreSchemes, scheme_of, other_of}
@@ -47,7 +47,7 @@ set_text scheme s = (other_of scheme s.0).name ++ codes " = " ++ cell_text s.1
 abbrev pub keyed : Schemes → List ℕ → ℕ → List (Option Value) → List ℕ
 keyed schemes verb rel key = verb ++ relation_name schemes rel ++ codes " key " ++ list_text key
 
-module _ (policy : Tables) (schemes : Schemes) where
+module _ (policy : Policy) (schemes : Schemes) where
   -- inserts and updates are written, and no other command
   abbrev pub command_text : Command → List ℕ
   command_text (Insert rel key values) = keyed schemes (codes "insert ") rel key ++ codes " values " ++ list_text values
@@ -104,7 +104,7 @@ is_writable e = is_writable_command e.command
 -- the lines of events that fit, and that a script can hold, tell these events, and are read as these
 abbrev pub LinesAreRead : Type 0
 LinesAreRead =
-    (policy : Tables) (schemes : Schemes) → IsPolicy policy → AreSchemes schemes
+    (policy : Policy) (schemes : Schemes) → IsPolicy policy → AreSchemes schemes
     → (events : List Event) → AllByRecursion (EventFits policy schemes) events
     → AllByRecursion (λ e. is_writable e ≡ true) events
     → ReadsScript policy schemes (lines_text policy schemes events) events

@@ -1,9 +1,8 @@
 //! Why a script is refused, and where.
 ghost use Rattle.std.specs.Prelude.{◌≡◌};
-ghost use Rattle.mls_script.specs.Fault.{code_of, word_of, lifted, of_form, of_condition, in_line};
+ghost use Rattle.mls_script.specs.Fault.{code_of, word_of, lifted, of_condition, in_line};
 
 use mls_parser::{PlacedFault, TextCause};
-use mls_syntax::{SyntaxCause, SyntaxFault};
 use mls_tokens::{TokenCause, TokenFault};
 use std::fmt;
 use thiserror::Error;
@@ -121,34 +120,20 @@ impl From<TokenFault> for LineFault {
     }
 }
 
-/// A fault of the form of a condition.
-impl From<SyntaxFault> for LineFault {
-    ghost from_gives = { λ f e. e ≡ of_form f };
-
-    fn from(fault: SyntaxFault) -> LineFault {
-        let cause = match fault.cause {
-            SyntaxCause::Token => ScriptCause::Token,
-            SyntaxCause::Expected => ScriptCause::Expected,
-            SyntaxCause::Depth => ScriptCause::Depth,
-            SyntaxCause::TooLong => ScriptCause::TooLong,
-            SyntaxCause::Memory => ScriptCause::Memory,
-        };
-        LineFault {
-            at: fault.at,
-            cause,
-        }
-    }
-}
-
-/// A fault of the names and kinds of a condition, which has none but these.
+/// A fault of a condition, which has none of labels.
 impl From<PlacedFault> for LineFault {
     ghost from_gives = { λ f e. e ≡ of_condition f };
 
     fn from(fault: PlacedFault) -> LineFault {
         let cause = match fault.cause {
+            TextCause::Token => ScriptCause::Token,
+            TextCause::Expected => ScriptCause::Expected,
             TextCause::UnknownName => ScriptCause::UnknownName,
+            TextCause::Kind | TextCause::LabelOrder => ScriptCause::Kind,
+            TextCause::Repeated => ScriptCause::Repeated,
+            TextCause::Depth => ScriptCause::Depth,
+            TextCause::TooLong => ScriptCause::TooLong,
             TextCause::Memory => ScriptCause::Memory,
-            _ => ScriptCause::Kind,
         };
         LineFault {
             at: fault.at,

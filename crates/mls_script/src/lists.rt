@@ -2,7 +2,7 @@
 ghost use Rattle.std.specs.Prelude.{◌≡◌, ◌<◌, length, IfOk, IfErr, option_map};
 ghost use Rattle.mls_tokens.specs.declared.fault.TokenCause.TheVariants.{Memory};
 ghost use Rattle.mls_tokens.specs.Scanning.{Reads};
-ghost use Rattle.mls_script.specs.Reading.{value_in, pass_value, none_listed, push_value, values_at, pass_list, pass_setting, push_set, pass_sets};
+ghost use Rattle.mls_script.specs.Reading.{value_of_token, pass_value, none_listed, push_value, values_at, pass_list, pass_setting, push_set, pass_sets};
 
 use crate::fault::LineFault;
 use crate::lookup::set_of;
@@ -32,8 +32,8 @@ pub(crate) struct Setting {
 }
 
 /// The value or null that a token is, if it is one.
-fn value_in(token: Token) -> Option<Option<Value>>
-    ensures { result ≡ value_in token }
+fn value_of_token(token: Token) -> Option<Option<Value>>
+    ensures { result ≡ value_of_token token }
 {
     match token {
         Token::Int(number) => Some(Some(Value::Int(number))),
@@ -57,7 +57,7 @@ fn value(tokens: &mut Tokens) -> Result<(Option<Value>, usize), TokenFault>
     let Some(first) = tokens.pop() else {
         return Err(tokens.stop());
     };
-    match value_in(first.token) {
+    match value_of_token(first.token) {
         Some(value) => Ok((value, first.at)),
         None => Err(TokenFault {
             at: first.at,

@@ -2,7 +2,7 @@
 ghost use Rattle.std.specs.Prelude.{◌≡◌, ◌<◌, length, nat_eq, map, option_map, slice_index_or, IfOk, IfSome};
 ghost use Rattle.std.specs.List.{list_any, slice_get};
 ghost use Rattle.mls_script.specs.ReadQuery.{label_named};
-ghost use Rattle.mls_script.specs.Reading.{misfit, held, Holds, attributes_of, relation_in, relation_named, place_at, set_at, set_in, with_arguments, with_label, with_name, with_relation, with_sets, with_values, scheme_in};
+ghost use Rattle.mls_script.specs.Reading.{misfit, held, Holds, attributes_of, drafted_relation, relation_named, place_at, set_at, set_in, with_arguments, with_label, with_name, with_relation, with_sets, with_values, drafted_scheme};
 
 use crate::draft::Draft;
 use crate::fault::{LineFault, ScriptCause};
@@ -53,8 +53,8 @@ fn scheme_at(schemes: &Schemes, rel: RelNo) -> Option<&Scheme>
 }
 
 /// The number of the relation that a draft names, if there was no fault before.
-pub(crate) fn relation_in(schemes: &Schemes, looked: &Looked) -> Option<RelNo>
-    ensures exact { result ≡ relation_in schemes.now looked.now }
+pub(crate) fn drafted_relation(schemes: &Schemes, looked: &Looked) -> Option<RelNo>
+    ensures exact { result ≡ drafted_relation schemes.now looked.now }
     ensures within { IfSome result (λ n. n < length schemes.now) }
 {
     match looked {
@@ -64,8 +64,8 @@ pub(crate) fn relation_in(schemes: &Schemes, looked: &Looked) -> Option<RelNo>
 }
 
 /// The scheme of the relation that a draft names, if there was no fault before.
-pub(crate) fn scheme_in<'a>(schemes: &'a Schemes, looked: &Looked) -> Option<&'a Scheme>
-    ensures { option_map (λ s. s.now) result ≡ scheme_in schemes.now looked.now }
+pub(crate) fn drafted_scheme<'a>(schemes: &'a Schemes, looked: &Looked) -> Option<&'a Scheme>
+    ensures { option_map (λ s. s.now) result ≡ drafted_scheme schemes.now looked.now }
 {
     match looked {
         Ok(draft) => scheme_at(schemes, draft.rel),

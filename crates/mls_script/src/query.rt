@@ -1,18 +1,18 @@
 //! What stands behind the label of a view: which of its rows are asked for. It is no part of the grammar: any
 //! part of a query may be missing, and an owned tree in the draft would make the proof of each part dearer.
 ghost use Rattle.std.specs.Prelude.{◌≡◌, ◌<◌, length, option_map, IfSome};
+ghost use Rattle.std.specs.Option.{unwrap_or};
 ghost use Rattle.mls_tokens.specs.Scanning.{Reads};
 ghost use Rattle.mls_script.specs.QueryTokens.{comparison_sign};
-ghost use Rattle.mls_script.specs.ReadQuery.{Gives, comparison_among, class_at, pass_number, count_or, first_at, resolved, where_at, query_from, query_at, tail_at};
+ghost use Rattle.mls_script.specs.ReadQuery.{Gives, comparison_among, class_at, pass_number, count_or, first_at, test_of, where_at, query_from, query_at, tail_at};
 
 use crate::fault::{LineFault, ScriptCause};
 use crate::grammar::Verb;
 use crate::lookup::label_named;
 use mls_lattice::Policy;
-use mls_parser::TextCause;
+use mls_parser::PlacedFault;
 use mls_queries::{ClassTest, Comparison, Query};
 use mls_scheme::{RelNo, Schemes};
-use mls_syntax::Expr as Syntax;
 use mls_tokens::{Sign, Token, TokenCause, TokenFault, Tokens};
 use mls_translang::Expr;
 use std::alloc::Global;
@@ -117,28 +117,34 @@ fn first(counts: bool, tokens: &mut Tokens) -> Result<Result<Option<usize>, Line
     Ok(count_or(at, number))
 }
 
-/// The condition on the rows of a relation that was written, if the relation is known.
-fn resolved(
-    alloc: Global,
-    policy: &Policy,
-    schemes: &Schemes,
-    rel: Option<RelNo>,
-    written: &Syntax,
-) -> Result<Result<Option<Expr>, LineFault>, LineFault>
+/// The relation, or the first.
+fn known_or_first(schemes: &Schemes, rel: Option<RelNo>) -> RelNo
     requires { IfSome rel (λ n. n < length schemes.now) }
-    ensures { Gives (λ t. t) result (Ok (resolved policy.now schemes.now rel written.now)) }
+    ensures exact { result ≡ unwrap_or rel 0 }
+    ensures within { result < length schemes.now }
 {
-    let Some(rel) = rel else {
-        return Ok(Ok(None));
-    };
-    match mls_parser::condition(alloc, policy, schemes, rel, written) {
-        Ok(test) => Ok(Ok(Some(test))),
-        Err(fault) if fault.cause == TextCause::Memory => Err(LineFault::from(fault)),
-        Err(fault) => Ok(Err(LineFault::from(fault))),
+    // there is some relation
+    let _count = schemes.count();
+    match rel {
+        Some(rel) => rel,
+        None => RelNo::new(0),
     }
 }
 
-/// Passes a condition if its word is next.
+/// The condition that was read, if the relation is known, or its fault.
+fn test_of(is_known: bool, read: Result<Expr, PlacedFault>) -> Result<Option<Expr>, LineFault>
+    ensures { result ≡ test_of is_known read }
+{
+    if !is_known {
+        return Ok(None);
+    }
+    match read {
+        Ok(test) => Ok(Some(test)),
+        Err(fault) => Err(LineFault::from(fault)),
+    }
+}
+
+/// Passes a condition if its word is next. Where the relation is not known, it is read as one on the first.
 #[tactic(auto, unfolding(crate::specs::ReadQuery::where_at))]
 fn condition(
     alloc: Global,
@@ -153,8 +159,10 @@ fn condition(
     if tokens.takes_word("where").is_none() {
         return Ok(Ok(None));
     }
-    let written = mls_syntax::condition(alloc, tokens)?;
-    resolved(alloc, policy, schemes, rel, &written)
+    let is_known = rel.is_some();
+    let rel = known_or_first(schemes, rel);
+    let read = mls_parser::condition(alloc, policy, schemes, rel, tokens)?;
+    Ok(test_of(is_known, read))
 }
 
 /// What a query says, or the fault of its part that stands first.

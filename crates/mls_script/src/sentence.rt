@@ -11,8 +11,8 @@ use crate::fault::LineFault;
 use crate::grammar::{Part, VERBS, Verb};
 use crate::lists::{list, new_sets};
 use crate::lookup::{
-    Looked, label_named, put_arguments, put_label, put_name, put_relation, put_sets, put_values,
-    relation_in, relation_named, scheme_in,
+    Looked, drafted_relation, drafted_scheme, label_named, put_arguments, put_label, put_name,
+    put_relation, put_sets, put_values, relation_named,
 };
 use crate::query::tail;
 use mls_lattice::Policy;
@@ -80,7 +80,7 @@ fn new_values(
 ) -> Result<(), TokenFault>
     ensures { Reads (λ _. (looked.new, tokens.new)) result (sets_at schemes.now looked.old tokens.old) }
 {
-    let found = new_sets(alloc, scheme_in(schemes, looked), tokens)?;
+    let found = new_sets(alloc, drafted_scheme(schemes, looked), tokens)?;
     put_sets(looked, found);
     Ok(())
 }
@@ -190,7 +190,7 @@ fn command(
 {
     let verb = verb_among(&VERBS, tokens)?;
     parts(alloc, policy, schemes, verb.parts(), looked, tokens)?;
-    let rel = relation_in(schemes, looked);
+    let rel = drafted_relation(schemes, looked);
     let asked = tail(alloc, policy, schemes, verb, rel, tokens)?;
     Ok((verb, asked))
 }
@@ -222,7 +222,7 @@ pub(crate) fn told(
 ) -> Result<Option<Result<Event, LineFault>>, LineFault>
     ensures { Gives (λ x. x) result (told_at policy.now schemes.now tokens.old) }
 {
-    if tokens.is_over() {
+    if tokens.has_ended() {
         return Ok(None);
     }
     Ok(Some(sentence(alloc, policy, schemes, tokens)?))

@@ -26,7 +26,7 @@ use Rattle.mls_sessions.specs.declared.engine.Engine.{Engine}
 use Rattle.mls_sessions.specs.declared.notice.Notice.{Notice}
 use Rattle.mls_sessions.specs.Cause.{cause_of}
 use Rattle.mls_sessions.specs.Sessions.{site_of}
-use Rattle.mls_sessions.specs.Engine.{site, world_of, IsReady, IsStep, IsKept}
+use Rattle.mls_sessions.specs.Engine.{site, world_of, IsEngineReady, IsEngineStep, IsKept}
 use Rattle.mls_sessions.specs.Run.{is_done, are_done, printed_to, world_after, IsWhole, IsStopped, IsPart, answer_text, IsAnswered, IsHalted}
 use Rattle.mls_sessions.proofs.StepLemmas.{entries_known}
 
@@ -43,7 +43,7 @@ module _ {B : Type 0} (state : B → State) (old new : Engine B) (audience : Aud
     world = h;
   }
 
-  module _ (r : Reply) (h : IsStep state old (step (site old) first event) new r) where
+  module _ (r : Reply) (h : IsEngineStep state old (step (site old) first event) new r) where
     pub halted_unprinted : (cause : RunCause) → IsHalted (site old) audience first event a a (world_of state new) cause true
     halted_unprinted cause = record {
       reply = record { part = []; rest = answer_text (site old) audience first event a a first; appends = Appends-nil a; whole = refl };
@@ -65,12 +65,12 @@ module _ {B : Type 0} (state : B → State) (old new : Engine B) (audience : Aud
       pub answered : Appends a b bytes → IsAnswered (site old) audience first event a b (world_of state new)
       answered p = record { bytes = subst (Appends a b) text_is p; world = h.world }
 
-pub stored_at : {B : Type 0} (state : B → State) (is_clean : B → Type 0) (e : Engine B) → IsReady state is_clean e → is_clean e.base → AreStored (site e) (world_of state e).db
+pub stored_at : {B : Type 0} (state : B → State) (is_clean : B → Type 0) (e : Engine B) → IsEngineReady state is_clean e → is_clean e.base → AreStored (site e) (world_of state e).db
 stored_at state is_clean e ready c rel = ((ready.sound c).content rel).stored
 
 -- a notice is noted
 module _ {B : Type 0} (state : B → State) (is_clean : B → Type 0) where
-  ready_noted : (e : Engine B) (notice : Option Notice) → IsReady state is_clean e → IsReady state is_clean (record e { notice = notice })
+  ready_noted : (e : Engine B) (notice : Option Notice) → IsEngineReady state is_clean e → IsEngineReady state is_clean (record e { notice = notice })
   ready_noted e notice ready = record {
     under = ready.under;
     distinct = ready.distinct;
@@ -87,7 +87,7 @@ module _ {B : Type 0} (state : B → State) (is_clean : B → Type 0) where
 
 -- over a sound base the reply can be printed
 module _ {B : Type 0} (state : B → State) (is_clean : B → Type 0) (old new : Engine B) (event : Event) (r : Reply) where
-  pub reply_known : IsStep state old (step (site old) (world_of state old) event) new r → new.rules ≡ old.rules → IsReady state is_clean old → is_clean old.base → EventFits (site old).policy (site old).schemes event
+  pub reply_known : IsEngineStep state old (step (site old) (world_of state old) event) new r → new.rules ≡ old.rules → IsEngineReady state is_clean old → is_clean old.base → EventFits (site old).policy (site old).schemes event
       → ReplyIsKnown (site new).policy r
   reply_known h kept ready c fits =
       subst (λ rules. ReplyIsKnown (site_of rules).policy r) (sym kept)
@@ -147,7 +147,7 @@ moved : (P : Site → World → Type 0) (p q : Site) (v w : World) → p ≡ q �
 moved P p q v w a b h = subst (λ x. P x w) a (subst (P p) b h)
 
 module _ {B : Type 0} (state : B → State) (is_clean : B → Type 0) (failures : B → ℕ) (audience : Audience) (es : List Event) (first : Engine B) (start : Option (List ℕ)) where
-  pub running_start : IsReady state is_clean first → Running state is_clean failures audience es first start 0 (record first { notice = None }) start
+  pub running_start : IsEngineReady state is_clean first → Running state is_clean failures audience es first start 0 (record first { notice = None }) start
   unfolding end_of run_lines are_done
   running_start ready = record {
     clean = λ c. c;

@@ -4,7 +4,7 @@ use Rattle.std.specs.Option.{IfSome}
 use Rattle.std.specs.List.{AllByRecursion, cons_option}
 use Rattle.std.proofs.lemmas.List.Elements.{filter_map-append}
 use Rattle.std.proofs.lemmas.Option.{none-some}
-use Rattle.mls_lattice.specs.Policy.{Name, Tables}
+use Rattle.mls_lattice.specs.Policy.{Name, Policy}
 use Rattle.mls_scheme.specs.declared.value.Kind.{Kind}
 use Rattle.mls_scheme.specs.declared.value.Value.{Value}
 use Rattle.mls_scheme.specs.Value.{fits_kind}
@@ -88,7 +88,7 @@ module _ (count : ℕ) where
   spelled_all [] h k = tt
   spelled_all (e ∷ es) h k = (record { entry = e; spelled = h.0; declared = k.0; is = refl }, spelled_all es h.1 k.1)
 
-pub items_known : (policy : Tables) (items : List Item) → AllByRecursion (IsItem policy) items → ItemsAreKnown policy items
+pub items_known : (policy : Policy) (items : List Item) → AllByRecursion (IsItem policy) items → ItemsAreKnown policy items
 items_known policy [] h = tt
 items_known policy (i ∷ items) h = (h.0.label, items_known policy items h.1)
 

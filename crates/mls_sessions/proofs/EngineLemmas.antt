@@ -33,7 +33,7 @@ use Rattle.mls_sessions.specs.Sessions.{IsSessionStep}
 use Rattle.mls_sessions.specs.Turns.{IsTurn, IsStepOver}
 use Rattle.mls_queries.specs.Views.{Kept, AreViews}
 use Rattle.mls_queries.proofs.WrittenLemmas.{kept_same}
-use Rattle.mls_sessions.specs.Engine.{site, world_of, IsReady, IsStep, IsKept, IsEngineTurn, Answers}
+use Rattle.mls_sessions.specs.Engine.{site, world_of, IsEngineReady, IsEngineStep, IsKept, IsEngineTurn, Answers}
 
 -- ---- the machine's step
 
@@ -103,7 +103,7 @@ not_served e h k = absurd (let both : faults.Memory ≡ faults.Store = sym h ∙
 memory_served : (e : BaseFault) → e ≡ faults.Memory → IsServed e
 memory_served e h = (λ k. (let both : faults.Memory ≡ faults.NotBegun = sym h ∙ k in cc), λ k. (let both : faults.Memory ≡ faults.Begun = sym h ∙ k in cc))
 
-module _ {B : Type 0} (state : B → State) (is_clean : B → Type 0) (failures : B → ℕ) (old : Engine B) (ready : IsReady state is_clean old)
+module _ {B : Type 0} (state : B → State) (is_clean : B → Type 0) (failures : B → ℕ) (old : Engine B) (ready : IsEngineReady state is_clean old)
     (event : Event) (fits : EventFits (site old).policy (site old).schemes event) where
   abbrev w : World
   w = world_of state old
@@ -137,7 +137,7 @@ module _ {B : Type 0} (state : B → State) (is_clean : B → Type 0) (failures 
     over_world : (r : Reply) → IsStepOver (site old) X (now old.base) (now b) r → world_of state new ≡ s.world
     over_world r h = h.world (sessions_of old.sessions.items) ∙ ap (λ (t : Step). t.world) (sym is)
 
-    over_done : (r : Result Reply BaseFault) → Over r → IfOk r (IsStep state old s new)
+    over_done : (r : Result Reply BaseFault) → Over r → IfOk r (IsEngineStep state old s new)
     over_done (Ok r) h = record { reply = h.reply (sessions_of old.sessions.items) ∙ ap (λ (t : Step). t.reply) (sym is); world = over_world r h }
     over_done (Err e) h = tt
 
@@ -216,7 +216,7 @@ module _ {B : Type 0} (state : B → State) (is_clean : B → Type 0) (failures 
       };
     }
 
-    opened_done : (r : Result Reply BaseFault) → s ≡ step_outside (site old) w event event.command → Opens r → IfOk r (IsStep state old s with_them)
+    opened_done : (r : Result Reply BaseFault) → s ≡ step_outside (site old) w event event.command → Opens r → IfOk r (IsEngineStep state old s with_them)
     opened_done (Ok r) is h = record {
       reply = h.reply w.db w.audit ∙ ap (λ (t : Step). t.reply) (sym is);
       world = h.world w.db w.audit ∙ ap (λ (t : Step). t.world) (sym is);

@@ -5,7 +5,7 @@ use Rattle.mls_filterview.specs.Content.{State}
 use Rattle.mls_sessions.specs.declared.cause.RunCause.TheVariants.{Store, Memory}
 use Rattle.mls_sessions.specs.declared.cause.RunFault.{RunFault}
 use Rattle.mls_sessions.specs.declared.engine.Engine.{Engine}
-use Rattle.mls_sessions.specs.Engine.{IsReady, Continues, Leaves}
+use Rattle.mls_sessions.specs.Engine.{IsEngineReady, Continues, Leaves}
 
 -- an error that is passed on
 pub carried : {A F : Type 0} (P : Result A F → Type 0) (r : Result A F) (f : F) → IsErrAnd r (λ e. e ≡ f) → P (Err f) → P r
@@ -27,7 +27,7 @@ module _ {B : Type 0} (state : B → State) (is_clean : B → Type 0) (failures 
   WentWell old now = let all : Result (Unit {0}) RunFault = Ok tt in Goes old now all
 
   -- nothing was done
-  pub goes_nowhere : {A : Type 0} (e : Engine B) → IsReady state is_clean e → (r : Result A RunFault) → IfErr r (λ f. f.cause ≡ Store → ⊥) → Goes e e r
+  pub goes_nowhere : {A : Type 0} (e : Engine B) → IsEngineReady state is_clean e → (r : Result A RunFault) → IfErr r (λ f. f.cause ≡ Store → ⊥) → Goes e e r
   goes_nowhere e ready (Ok a) h = record { clean = λ c. c; count = omega arith; kept = record { rules = refl; ready = ready }; store = λ c. tt }
   goes_nowhere e ready (Err f) h = record { clean = λ c. c; count = omega arith; kept = record { rules = refl; ready = ready }; store = λ c is. absurd (h is) }
 

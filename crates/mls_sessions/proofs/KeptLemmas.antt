@@ -1,6 +1,6 @@
 -- What is kept of views after what an event changes.
 use Rattle.std.proofs.Common.{◌≡◌, ℕ, ◌<◌, length, Result, Ok, Err, IfOk, OnOk, sym, ap, ◌∙◌, subst}
-use Rattle.mls_lattice.specs.Policy.{Tables, labels_of}
+use Rattle.mls_lattice.specs.Policy.{Policy, labels_of}
 use Rattle.mls_scheme.specs.Scheme.{Scheme}
 use Rattle.mls_filterview.specs.declared.base.BaseFault.{BaseFault}
 use Rattle.mls_filterview.specs.Content.{State}
@@ -26,7 +26,7 @@ module _ {B : Type 0} (is_clean : B → Type 0) (state : B → State) where
   denied_views site event user denial a c es (Err e) back done views = tt
 
   -- a write, and what is given up after it
-  pub written_views : (policy : Tables) (scheme : Scheme) (rel level : ℕ) (wr : Write) (a b c : B) (o : Outcome) (es new left : Kept) → c ≡ b → left ≡ new → AreLeftBy (labels_of policy) rel level (named level wr) o es new → (named level wr).key_class < length policy.labels
+  pub written_views : (policy : Policy) (scheme : Scheme) (rel level : ℕ) (wr : Write) (a b c : B) (o : Outcome) (es new left : Kept) → c ≡ b → left ≡ new → AreLeftBy (labels_of policy) rel level (named level wr) o es new → (named level wr).key_class < length policy.labels
       → (is_clean b → is_clean a) → (is_clean b → IsContent (labels_of policy) scheme ((state a).now.db rel)) → (is_clean b → IsWritten (labels_of policy) scheme rel level wr (state a) (state b) o)
       → AreViews policy is_clean state a es → AreViews policy is_clean state c left
   written_views policy scheme rel level wr a b c o es new left base kept is within back content written views =

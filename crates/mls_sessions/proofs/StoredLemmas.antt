@@ -4,7 +4,7 @@ use Rattle.std.specs.Prelude.{option_map, slice_get}
 use Rattle.std.specs.Option.{IfSome}
 use Rattle.std.proofs.lemmas.Option.{slice_get-get_or}
 use Rattle.mls_lattice.specs.declared.tables.User.{User}
-use Rattle.mls_lattice.specs.Policy.{Name, Tables}
+use Rattle.mls_lattice.specs.Policy.{Name, Policy}
 use Rattle.mls_translang.specs.Fits.{IsReadUnder}
 use Rattle.mls_machine.specs.declared.stored.Stored.{Stored}
 use Rattle.mls_machine.specs.Stored.{tx_of}
@@ -16,7 +16,7 @@ use Rattle.mls_machine.proofs.CalledLemmas.{found_holds}
 trusted_is : (a b : Option (ℕ × ℕ)) → Some a ≡ Some b → a ≡ b
 trusted_is a b e = cc
 
-pub trusted_found : (policy : Tables) (user : ℕ) (interval : Option (ℕ × ℕ)) → user < length policy.users → option_map (λ u. u.trusted) (slice_get policy.users user) ≡ Some interval
+pub trusted_found : (policy : Policy) (user : ℕ) (interval : Option (ℕ × ℕ)) → user < length policy.users → option_map (λ u. u.trusted) (slice_get policy.users user) ≡ Some interval
     → interval ≡ trusted_of policy user
 trusted_found policy user interval within row =
     trusted_is interval (trusted_of policy user) (sym row ∙ ap (option_map (λ (u : User). u.trusted)) (slice_get-get_or policy.users user no_user within))

@@ -1,7 +1,7 @@
 -- What a reader is shown of an audit list that is turned.
 use Rattle.std.proofs.Common.{◌≡◌, ℕ, true, false, cond, List, [], ◌∷◌, Some, refl, ap, sym}
 use Rattle.mls_lattice.specs.Labels.{below}
-use Rattle.mls_lattice.specs.Policy.{Tables, labels_of}
+use Rattle.mls_lattice.specs.Policy.{Policy, labels_of}
 use Rattle.mls_audit.specs.declared.entry.Entry.{Entry}
 use Rattle.mls_audit.specs.Entry.{label_of, visible}
 use Rattle.mls_machine.specs.Output.{Line, printed}
@@ -9,7 +9,7 @@ use Rattle.mls_machine.specs.Observation.{out}
 use Rattle.mls_machine.specs.Turning.{turn_line, turn_lines}
 use Rattle.mls_sessions.specs.Turning.{turned_text}
 
-module _ (p : Tables) (c : ℕ) where
+module _ (p : Policy) (c : ℕ) where
   seen_lines : (es : List Entry) → out (labels_of p) c (turn_lines p es) ≡ turn_lines p (visible (labels_of p) c es)
   seen_lines [] = refl
   seen_lines (e ∷ es) =

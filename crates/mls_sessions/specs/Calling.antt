@@ -2,7 +2,7 @@
 use Rattle.std.specs.Prelude.{◌≡◌, ℕ, ◌<◌, true, IfOk, OnOk, List, ◌++◌, length, map, Option, Result}
 use Rattle.std.specs.List.{AllByRecursion}
 use Rattle.mls_lattice.specs.Name.{is_name}
-use Rattle.mls_lattice.specs.Policy.{Tables, labels_of}
+use Rattle.mls_lattice.specs.Policy.{Policy, labels_of}
 use Rattle.mls_scheme.specs.declared.value.Value.{Value}
 use Rattle.mls_scheme.specs.Scheme.{Schemes}
 use Rattle.mls_filterview.specs.declared.base.BaseFault.{BaseFault}
@@ -23,7 +23,7 @@ with_entries s es = record s { now = record { db = s.now.db; audit = s.now.audit
 
 module _ {Self : Type 0} (state : Self → State) where
   -- a change is begun, and an entry can spell the user and the session of an event
-  pub record MayEnter (policy : Tables) (event : Event) (user : ℕ) (base : Self) : Type 0 where
+  pub record MayEnter (policy : Policy) (event : Event) (user : ℕ) (base : Self) : Type 0 where
     pub begun : (state base).begun ≡ true
     pub declared : user < length policy.users
     pub named : is_name event.session ≡ true
@@ -35,17 +35,17 @@ module _ {Self : Type 0} (state : Self → State) where
     pub spelled : OnOk result (AllByRecursion HasSpelling entries)
 
 -- a transaction was read under the policy and the schemes, and has as many arguments as parameters
-pub record MayRun (policy : Tables) (schemes : Schemes) (tx : Tx) (args : List (Option Value)) : Type 0 where
+pub record MayRun (policy : Policy) (schemes : Schemes) (tx : Tx) (args : List (Option Value)) : Type 0 where
   pub read : IsReadUnder policy schemes tx
   pub count : length args ≡ length tx.params
 
 -- what a transaction does with arguments, of which those of the wrong kind are null
-abbrev pub run_on : Tables → Schemes → Tx → List (Option Value) → State → Progress
+abbrev pub run_on : Policy → Schemes → Tx → List (Option Value) → State → Progress
 run_on policy schemes tx args s = run_tx (labels_of policy) schemes tx (fitted tx.params args) s.now.db
 
 -- it is run: what it gave has declared labels and kinds, and is what it means, as the database is that it left
 module _ {Self : Type 0} (is_clean : Self → Type 0) (state : Self → State)
-    (policy : Tables) (schemes : Schemes) (tx : Tx) (args : List (Option Value)) where
+    (policy : Policy) (schemes : Schemes) (tx : Tx) (args : List (Option Value)) where
   pub record HasRun (old new : Self) (result : Result Run BaseFault) : Type 0 where
     pub items : IfOk result (HasItems policy)
     pub done : is_clean new → let run = run_on policy schemes tx args (state old) in

@@ -27,7 +27,7 @@ module _ {B : Type 0} (state : B → State) where
   -- what an engine holds between events; over a clean base each view that it keeps is that of the content now
   -- (no invariant of its type: that needs a code for the value, and a stored transaction keeps a proof, which
   -- has none)
-  pub record IsReady (is_clean : B → Type 0) (e : Engine B) : Type 0 where
+  pub record IsEngineReady (is_clean : B → Type 0) (e : Engine B) : Type 0 where
     pub under : AreUnder (length (site e).policy.labels) (site e).schemes
     pub distinct : AreDistinct (site_labels (site e))
     pub read : AreRead (site e)
@@ -38,14 +38,14 @@ module _ {B : Type 0} (state : B → State) where
     pub views : AreViews (site e).policy is_clean state e.base e.views
 
   -- an event was answered, and the world left, as by a step of the machine
-  pub record IsStep (old : Engine B) (s : Step) (new : Engine B) (r : Reply) : Type 0 where
+  pub record IsEngineStep (old : Engine B) (s : Step) (new : Engine B) (r : Reply) : Type 0 where
     pub reply : r ≡ s.reply
     pub world : world_of new ≡ s.world
 
   -- an event leaves the engine ready, under the same rules
   pub record IsKept (is_clean : B → Type 0) (old new : Engine B) : Type 0 where
     pub rules : new.rules ≡ old.rules
-    pub ready : IsReady is_clean new
+    pub ready : IsEngineReady is_clean new
 
   module _ (is_clean : B → Type 0) (failures : B → ℕ) where
     -- an event of an engine, whatever it answers
@@ -56,7 +56,7 @@ module _ {B : Type 0} (state : B → State) where
     pub record Answers (old : Engine B) (event : Event) (new : Engine B) (result : Result Reply BaseFault) : Type 0 where
       pub turn : IsEngineTurn old new result
       pub kept : IsKept is_clean old new
-      pub done : is_clean new.base → IfOk result (IsStep old (step (site old) (world_of old) event) new)
+      pub done : is_clean new.base → IfOk result (IsEngineStep old (step (site old) (world_of old) event) new)
 
     -- events leave the engine ready; a store that is clean afterwards was clean before, and then `Store` stops them only
     -- where a call of it failed

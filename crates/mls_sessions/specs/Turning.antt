@@ -1,7 +1,7 @@
 -- An audit list that is turned over a base: its entries are written, and then it is empty.
 use Rattle.std.specs.Prelude.{◌≡◌, ◌≢◌, ℕ, ◌<◌, ◌≤◌, ◌⊎◌, true, false, IfErr, OnOk, OnErr, List, [], ◌++◌, length, Option}
 use Rattle.std.specs.Prelude.{Result, Ok, Err}
-use Rattle.mls_lattice.specs.Policy.{Tables, labels_of}
+use Rattle.mls_lattice.specs.Policy.{Policy, labels_of}
 use Rattle.mls_filterview.specs.Content.{Content, State, begun_change}
 use Rattle.mls_filterview.specs.declared.base.BaseFault.{BaseFault}
 use Rattle.mls_audit.specs.declared.entry.Entry.{Entry}
@@ -15,14 +15,14 @@ use Rattle.mls_sessions.specs.Turns.{IsTurn}
 use Rattle.mls_sessions.specs.World.{entries_in}
 
 -- what a reader is shown of entries, each behind the label that may see it; all, where there is no reader
-abbrev pub turned_text : Tables → Option ℕ → List Entry → List ℕ
+abbrev pub turned_text : Policy → Option ℕ → List Entry → List ℕ
 turned_text policy reader entries = printed (heard (labels_of policy) reader (turn_lines policy entries))
 
 -- of the audit list of a content
-abbrev pub list_text : Tables → Option ℕ → Content → List ℕ
+abbrev pub list_text : Policy → Option ℕ → Content → List ℕ
 list_text policy reader first = turned_text policy reader (entries_in (length policy.labels) first.audit)
 
-module _ (policy : Tables) (reader : Option ℕ) (Wrote : List ℕ → Type 0) (first left : Content) where
+module _ (policy : Policy) (reader : Option ℕ) (Wrote : List ℕ → Type 0) (first left : Content) where
   -- no entry is dropped; a first part is written where the writer refused, and else none or all
   pub record KeepsEntries (cause : RunCause) : Type 0 where
     pub part : List ℕ
@@ -53,7 +53,7 @@ module _ {Self : Type 0} (is_clean : Self → Type 0) (failures : Self → ℕ) 
     pub back : is_clean new → OnErr result ((state new).now ≡ (state old).kept)
 
   -- what a turning does to a base; a store that is clean behind it was clean before it
-  pub record HasTurned (policy : Tables) (reader : Option ℕ) (Wrote : List ℕ → Type 0) (old new : Self)
+  pub record HasTurned (policy : Policy) (reader : Option ℕ) (Wrote : List ℕ → Type 0) (old new : Self)
       (result : Result (Unit {0}) RunFault) : Type 0 where
     pub clean : is_clean new → is_clean old
     pub count : failures old ≤ failures new

@@ -15,7 +15,7 @@ use Rattle.mls_machine.specs.declared.reply.Reply.{Reply}
 use Rattle.mls_machine.specs.Site.{Site}
 use Rattle.mls_machine.specs.Machine.{Sessions, World, Step, denied, step_inside}
 use Rattle.mls_machine.specs.Observation.{AreRead}
-use Rattle.mls_replies.specs.Known.{HasKnownNumbers}
+use Rattle.mls_machine.specs.Known.{HasKnownNumbers}
 use Rattle.mls_sessions.specs.declared.change.Deed.{Deed}
 use Rattle.mls_sessions.specs.declared.change.Deed.TheVariants.{Deny, Write, Call}
 use Rattle.mls_sessions.specs.Denying.{denial_in}

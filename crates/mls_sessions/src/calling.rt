@@ -13,10 +13,10 @@ ghost use Rattle.mls_sessions.specs.Calling.{MayEnter, HasEntered, MayRun, HasRu
 ghost use Rattle.mls_sessions.specs.Turns.{MayDo, GoesOn, Finds, HasDone};
 
 use crate::change::Deed;
-use crate::{Rules, certified_named, fitted};
+use crate::{RunSite, certified_named, fitted};
 use mls_audit::{Entry, entry_bytes};
 use mls_certcheck::{Certified, Run};
-use mls_filterview::{Base, BaseFault, made};
+use mls_filterview::{Base, BaseFault, settle};
 use mls_lattice::{LabelNo, Str, UserNo};
 use mls_machine::Reply;
 use mls_queries::Views;
@@ -28,7 +28,7 @@ use std::alloc::AllocError;
 
 /// The bytes of the entry of a call.
 fn called_bytes(
-    rules: &Rules,
+    rules: &RunSite,
     event: &Event,
     user: UserNo,
     name: &str,
@@ -55,7 +55,7 @@ fn called_bytes(
 
 /// The bytes of the entry of a release.
 fn released_bytes(
-    rules: &Rules,
+    rules: &RunSite,
     event: &Event,
     user: UserNo,
     item: &(LabelNo, Option<Value>),
@@ -81,7 +81,7 @@ fn released_bytes(
 
 /// Enters a call in the audit list, inside a change.
 fn enter_call<B: Base>(
-    rules: &Rules,
+    rules: &RunSite,
     base: &mut B,
     event: &Event,
     user: UserNo,
@@ -93,13 +93,13 @@ fn enter_call<B: Base>(
     ensures entered { HasEntered B.state B.is_clean (Called event.now.level
         (user_name rules.now.policy.now.users user) event.now.session name.now ∷ []) base.old base.new result }
 {
-    let bytes = made(base, called_bytes(rules, event, user, name))?;
+    let bytes = settle(base, called_bytes(rules, event, user, name))?;
     base.audit_add(&bytes)
 }
 
 /// Enters a release in the audit list, inside a change.
 fn enter_release<B: Base>(
-    rules: &Rules,
+    rules: &RunSite,
     base: &mut B,
     event: &Event,
     user: UserNo,
@@ -111,13 +111,13 @@ fn enter_release<B: Base>(
     ensures entered { HasEntered B.state B.is_clean
         (release_entry (site_of rules.now) event.now user item.now ∷ []) base.old base.new result }
 {
-    let bytes = made(base, released_bytes(rules, event, user, item))?;
+    let bytes = settle(base, released_bytes(rules, event, user, item))?;
     base.audit_add(&bytes)
 }
 
 /// Enters releases in the audit list, inside a change.
 fn enter_releases<B: Base>(
-    rules: &Rules,
+    rules: &RunSite,
     base: &mut B,
     event: &Event,
     user: UserNo,
@@ -137,7 +137,7 @@ fn enter_releases<B: Base>(
 
 /// Enters a call and its releases in the audit list, inside a change.
 fn enter_run<B: Base>(
-    rules: &Rules,
+    rules: &RunSite,
     base: &mut B,
     event: &Event,
     user: UserNo,
@@ -157,7 +157,7 @@ fn enter_run<B: Base>(
 
 /// Runs a transaction on arguments, inside a change: those of the wrong kind are taken as null.
 fn run_certified<B: Base>(
-    rules: &Rules,
+    rules: &RunSite,
     base: &mut B,
     views: &mut Views,
     certified: &Certified,
@@ -170,7 +170,7 @@ fn run_certified<B: Base>(
         base.old base.new result }
     ensures views { OnOk result (AreViews rules.now.policy.now B.is_clean B.state base.new views.new) }
 {
-    let args = made(base, fitted(rules.alloc, certified.tx(), args))?;
+    let args = settle(base, fitted(rules.alloc, certified.tx(), args))?;
     evaluate_in(
         rules.alloc,
         base,
@@ -184,7 +184,7 @@ fn run_certified<B: Base>(
 
 /// Runs the transaction that an event calls, and enters the call and what it released, inside a change.
 pub(crate) fn call<B: Base>(
-    rules: &Rules,
+    rules: &RunSite,
     base: &mut B,
     views: &mut Views,
     event: &Event,

@@ -7,10 +7,10 @@ ghost use Rattle.mls_sessions.specs.Sessions.{site_of};
 ghost use Rattle.mls_sessions.specs.Turns.{MayDo, GoesOn, IsOver, Finds, HasDone};
 ghost use Rattle.mls_queries.specs.Views.{AreViews};
 
-use crate::Rules;
+use crate::RunSite;
 use crate::calling::call;
 use mls_audit::{Entry, entry_bytes};
-use mls_filterview::{Base, BaseFault, made};
+use mls_filterview::{Base, BaseFault, settle};
 use mls_lattice::{Str, UserNo};
 use mls_machine::{Denial, Reply};
 use mls_queries::Views;
@@ -31,7 +31,7 @@ pub(crate) enum Deed {
 
 /// The bytes of the entry of a denial.
 fn denial_bytes(
-    rules: &Rules,
+    rules: &RunSite,
     event: &Event,
     user: UserNo,
     denial: Denial,
@@ -55,7 +55,7 @@ fn denial_bytes(
 
 /// Enters a denial in the audit list, inside a change.
 fn enter<B: Base>(
-    rules: &Rules,
+    rules: &RunSite,
     base: &mut B,
     event: &Event,
     user: UserNo,
@@ -67,14 +67,14 @@ fn enter<B: Base>(
     ensures done { HasDone B.is_clean B.state (site_of rules.now) event.now (Deed.Deny user denial) base.old base.new
         result }
 {
-    let bytes = made(base, denial_bytes(rules, event, user, denial))?;
+    let bytes = settle(base, denial_bytes(rules, event, user, denial))?;
     base.audit_add(&bytes)?;
     Ok(Reply::Denied(denial))
 }
 
 /// Makes the write of an event at its level, inside a change, and notes it in the views that it may have changed.
 fn write<B: Base>(
-    rules: &Rules,
+    rules: &RunSite,
     base: &mut B,
     views: &mut Views,
     event: &Event,
@@ -85,7 +85,7 @@ fn write<B: Base>(
     ensures done { HasDone B.is_clean B.state (site_of rules.now) event.now Deed.Write base.old base.new result }
     ensures views { OnOk result (AreViews rules.now.policy.now B.is_clean B.state base.new views.new) }
 {
-    let Rules {
+    let RunSite {
         alloc,
         policy,
         schemes,
@@ -127,7 +127,7 @@ fn write<B: Base>(
 
 /// Does what an event changes, inside a change.
 fn act<B: Base>(
-    rules: &Rules,
+    rules: &RunSite,
     base: &mut B,
     views: &mut Views,
     event: &Event,
@@ -148,7 +148,7 @@ fn act<B: Base>(
 
 /// Does what an event changes, as one change of the base.
 fn carry_out<B: Base>(
-    rules: &Rules,
+    rules: &RunSite,
     base: &mut B,
     views: &mut Views,
     event: &Event,
@@ -168,7 +168,7 @@ fn carry_out<B: Base>(
 
 /// Does what an event changes, as one change of the base. After a fault no view is kept.
 pub(crate) fn change<B: Base>(
-    rules: &Rules,
+    rules: &RunSite,
     base: &mut B,
     views: &mut Views,
     event: &Event,

@@ -3,12 +3,12 @@ ghost use Rattle.std.specs.Prelude.{◌≡◌, ◌==◌, ◌<◌, bit_and, lengt
 ghost use Rattle.std.specs.List.{AllByRecursion, list_any};
 ghost use Rattle.mls_script.specs.Event.{CommandFits};
 ghost use Rattle.mls_machine.specs.Observation.{AreRead};
-ghost use Rattle.mls_machine.specs.Denying.{first_denial, clearance_of, exceed, lacks_on, lacks, access_denials};
+ghost use Rattle.mls_machine.specs.Denying.{first_denial, clearance_of, exceed, lacks_rights_on, lacks, access_denials};
 ghost use Rattle.mls_sessions.specs.Denying.{denial_in};
 ghost use Rattle.mls_sessions.specs.Sessions.{site_of};
 
 use crate::denying_calls::call_denial;
-use crate::rules::Rules;
+use crate::rules::RunSite;
 use bitflags::Flags;
 use mls_lattice::{LabelNo, Modes, Policy, UserNo};
 use mls_machine::Denial;
@@ -27,22 +27,22 @@ fn has_any(granted: Modes, modes: &[Modes]) -> bool
 }
 
 /// Whether the matrix grants a user none of the modes on what has a name.
-pub(crate) fn lacks_on(rules: &Rules, user: UserNo, object: &str, modes: &[Modes]) -> bool
-    ensures { result ≡ lacks_on (site_of rules.now) user object.now (map (λ m. m.0) modes.now) }
+pub(crate) fn lacks_rights_on(rules: &RunSite, user: UserNo, object: &str, modes: &[Modes]) -> bool
+    ensures { result ≡ lacks_rights_on (site_of rules.now) user object.now (map (λ m. m.0) modes.now) }
 {
     !has_any(rules.policy.modes(user, object), modes)
 }
 
 /// Whether the matrix grants a user none of the modes on a relation.
-fn lacks(rules: &Rules, user: UserNo, rel: RelNo, modes: &[Modes]) -> bool
+fn lacks(rules: &RunSite, user: UserNo, rel: RelNo, modes: &[Modes]) -> bool
     requires { rel < length rules.now.schemes.now }
     ensures { result ≡ lacks (site_of rules.now) user rel (map (λ m. m.0) modes.now) }
 {
-    lacks_on(rules, user, rules.schemes.scheme(rel).name(), modes)
+    lacks_rights_on(rules, user, rules.schemes.scheme(rel).name(), modes)
 }
 
 /// Whether one of the labels is not dominated by a limit.
-pub(crate) fn exceed(rules: &Rules, limit: LabelNo, labels: &[LabelNo]) -> bool
+pub(crate) fn exceed(rules: &RunSite, limit: LabelNo, labels: &[LabelNo]) -> bool
     requires limit { limit < length rules.now.policy.now.labels }
     requires labels { AllByRecursion (λ l. l < length rules.now.policy.now.labels) labels.now }
     ensures { result ≡ exceed (site_of rules.now) limit labels.now }
@@ -67,7 +67,7 @@ pub(crate) fn clearance(policy: &Policy, user: UserNo) -> LabelNo
 /// Why what needs one of the modes on a relation, and names labels, is denied, if it is.
 #[tactic(auto, unfolding(mls_machine::specs::Denying::first_denial))]
 fn access_denial(
-    rules: &Rules,
+    rules: &RunSite,
     level: LabelNo,
     user: UserNo,
     rel: RelNo,
@@ -94,7 +94,7 @@ fn access_denial(
 }
 
 /// Why a command is denied in an open session of a level and a user, if it is.
-pub fn denial_of(rules: &Rules, level: LabelNo, user: UserNo, command: &Command) -> Option<Denial>
+pub fn denial_of(rules: &RunSite, level: LabelNo, user: UserNo, command: &Command) -> Option<Denial>
     requires level { level < length rules.now.policy.now.labels }
     requires user { user < length rules.now.policy.now.users }
     requires read { AreRead (site_of rules.now) }

@@ -8,9 +8,9 @@ ghost use Rattle.mls_machine.specs.Observation.{AreRead};
 ghost use Rattle.mls_sessions.specs.Sessions.{site_of};
 
 use crate::arguments::are_wrong;
-use crate::denying::{clearance, exceed, lacks_on};
+use crate::denying::{clearance, exceed, lacks_rights_on};
 use crate::finding::stored_named;
-use crate::rules::Rules;
+use crate::rules::RunSite;
 use mls_lattice::{LabelNo, Modes, Policy, UserNo};
 use mls_machine::{Denial, Stored};
 use mls_scheme::Value;
@@ -26,7 +26,7 @@ fn trusted(policy: &Policy, user: UserNo) -> Option<(LabelNo, LabelNo)>
 }
 
 /// Whether a label lies between two others.
-fn is_between(rules: &Rules, low: LabelNo, high: LabelNo, label: LabelNo) -> bool
+fn is_between(rules: &RunSite, low: LabelNo, high: LabelNo, label: LabelNo) -> bool
     requires low { low < length rules.now.policy.now.labels }
     requires high { high < length rules.now.policy.now.labels }
     requires label { label < length rules.now.policy.now.labels }
@@ -37,7 +37,7 @@ fn is_between(rules: &Rules, low: LabelNo, high: LabelNo, label: LabelNo) -> boo
 }
 
 /// Whether one of the labels does not lie between two others.
-fn leave(rules: &Rules, low: LabelNo, high: LabelNo, labels: &[LabelNo]) -> bool
+fn leave(rules: &RunSite, low: LabelNo, high: LabelNo, labels: &[LabelNo]) -> bool
     requires low { low < length rules.now.policy.now.labels }
     requires high { high < length rules.now.policy.now.labels }
     requires labels { AllByRecursion (λ l. l < length rules.now.policy.now.labels) labels.now }
@@ -52,7 +52,7 @@ fn leave(rules: &Rules, low: LabelNo, high: LabelNo, labels: &[LabelNo]) -> bool
 }
 
 /// Whether a transaction reads above its lowest label and a user is not trusted with that.
-fn is_untrusted(rules: &Rules, user: UserNo, tx: &Tx) -> bool
+fn is_untrusted(rules: &RunSite, user: UserNo, tx: &Tx) -> bool
     requires user { user < length rules.now.policy.now.users }
     requires lo { tx.now.lo < length rules.now.policy.now.labels }
     requires hi { tx.now.hi < length rules.now.policy.now.labels }
@@ -72,7 +72,7 @@ fn is_untrusted(rules: &Rules, user: UserNo, tx: &Tx) -> bool
 /// Why a call of a transaction with a certificate is denied, if it is.
 #[tactic(auto, unfolding(mls_machine::specs::Denying::first_denial))]
 fn certified_denial(
-    rules: &Rules,
+    rules: &RunSite,
     level: LabelNo,
     user: UserNo,
     tx: &Tx,
@@ -83,7 +83,7 @@ fn certified_denial(
     requires hi { tx.now.hi < length rules.now.policy.now.labels }
     ensures { result ≡ first_denial (call_denials (site_of rules.now) level user tx.now args.now) }
 {
-    if lacks_on(rules, user, tx.name(), &[Modes::EXECUTE]) {
+    if lacks_rights_on(rules, user, tx.name(), &[Modes::EXECUTE]) {
         return Some(Denial::Ds);
     }
     if exceed(rules, clearance(rules.policy, user), &[tx.hi()]) {
@@ -103,7 +103,7 @@ fn certified_denial(
 
 /// Why a call of what is stored by a name is denied, if it is.
 pub(crate) fn call_denial(
-    rules: &Rules,
+    rules: &RunSite,
     level: LabelNo,
     user: UserNo,
     name: &str,

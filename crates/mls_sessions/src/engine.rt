@@ -6,13 +6,13 @@ ghost use Rattle.mls_machine.specs.Machine.{no_sessions};
 ghost use Rattle.mls_machine.specs.Observation.{AreRead, AreCertified};
 ghost use Rattle.mls_sessions.specs.Sessions.{sessions_of};
 ghost use Rattle.mls_sessions.specs.World.{world_at, IsSound};
-ghost use Rattle.mls_sessions.specs.Engine.{site, world_of, IsReady, Answers};
-ghost use Rattle.mls_replies.specs.Known.{HasKnownNumbers};
+ghost use Rattle.mls_sessions.specs.Engine.{site, world_of, IsEngineReady, Answers};
+ghost use Rattle.mls_machine.specs.Known.{HasKnownNumbers};
 
 use crate::change::{Deed, change};
 use crate::looking::{audit, dump, look};
 use crate::notice::Notice;
-use crate::{Rules, Session, close, denial_of, open, user_of};
+use crate::{RunSite, Session, close, denial_of, open, user_of};
 use mls_filterview::{Base, BaseFault};
 use mls_lattice::{Items, LabelNo, Policy, UserNo};
 use mls_machine::{Reply, Stored};
@@ -23,7 +23,7 @@ use std::alloc::Global;
 
 /// Sessions over a base, under a policy and its schemes. It keeps the views that were asked for last.
 pub struct Engine<'a, B: Base> {
-    pub(crate) rules: Rules<'a>,
+    pub(crate) rules: RunSite<'a>,
     base: B,
     sessions: Vec<Session>,
     views: Views,
@@ -52,11 +52,11 @@ impl<'a, B: Base> Engine<'a, B> {
         ensures world { world_of B.state result
             ≡ world_at (record { policy = policy.now; schemes = schemes.now; stored = stored }) no_sessions
             (B.state base).now }
-        ensures ready { IsReady B.state B.is_clean result }
+        ensures ready { IsEngineReady B.state B.is_clean result }
     {
         // That the labels of a policy are distinct.
         let _count = policy.label_count();
-        let rules = Rules {
+        let rules = RunSite {
             alloc,
             policy,
             schemes,
@@ -101,7 +101,7 @@ impl<'a, B: Base> Engine<'a, B> {
 
     /// Answers an event whose session is not open. It asks nothing of the base.
     fn outside(&mut self, event: &Event) -> Result<Reply, BaseFault>
-        requires ready { IsReady B.state B.is_clean self.old }
+        requires ready { IsEngineReady B.state B.is_clean self.old }
         requires fits { EventFits (site self.old).policy (site self.old).schemes event.now }
         requires closed { sessions_of self.old.sessions.items event.now.level event.now.session ≡ None }
         ensures answers { Answers B.state B.is_clean B.failures self.old event.now self.new result }
@@ -112,7 +112,7 @@ impl<'a, B: Base> Engine<'a, B> {
 
     /// Answers an event of the open session of a user.
     fn inside(&mut self, event: &Event, user: UserNo) -> Result<Reply, BaseFault>
-        requires ready { IsReady B.state B.is_clean self.old }
+        requires ready { IsEngineReady B.state B.is_clean self.old }
         requires fits { EventFits (site self.old).policy (site self.old).schemes event.now }
         requires held { sessions_of self.old.sessions.items event.now.level event.now.session ≡ Some user }
         ensures answers { Answers B.state B.is_clean B.failures self.old event.now self.new result }
@@ -159,7 +159,7 @@ impl<'a, B: Base> Engine<'a, B> {
     /// `Store` comes where the store fails, `Memory` where a growth is refused; content, sessions and the audit list are
     /// then as they were before the event.
     pub fn step(&mut self, event: &Event) -> Result<Reply, BaseFault>
-        requires ready { IsReady B.state B.is_clean self.old }
+        requires ready { IsEngineReady B.state B.is_clean self.old }
         requires fits { EventFits (site self.old).policy (site self.old).schemes event.now }
         ensures answers { Answers B.state B.is_clean B.failures self.old event.now self.new result }
         ensures known { IfOk result (HasKnownNumbers (site self.old).policy) }

@@ -26,7 +26,7 @@ pub use mls_certcheck::Run;
 pub use mls_machine::{Denial, Reply, Stored};
 pub use mls_script::{Command, Event, ScriptCause, ScriptFault};
 pub use notice::Notice;
-pub use rules::Rules;
+pub use rules::RunSite;
 pub use running::{run, run_to};
 pub use session::{Session, close, open, user_of};
 pub use turning::turn;

@@ -10,9 +10,9 @@ ghost use Rattle.mls_sessions.specs.World.{declared, entries_in, IsSound};
 ghost use Rattle.mls_sessions.specs.Turns.{Finds, HasLooked};
 ghost use Rattle.mls_queries.specs.Views.{AreViews};
 
-use crate::Rules;
+use crate::RunSite;
 use mls_audit::{Entry, EntryFault, entry_of, visible};
-use mls_filterview::{Base, BaseFault, low_tuples, made};
+use mls_filterview::{Base, BaseFault, low_tuples, settle};
 use mls_lattice::{Items, LabelNo, Policy};
 use mls_machine::Reply;
 use mls_queries::{Query, Views, find};
@@ -21,7 +21,7 @@ use std::alloc::{AllocError, Global};
 
 /// Answers a view by what its query finds.
 pub(crate) fn look<B: Base>(
-    rules: &Rules,
+    rules: &RunSite,
     base: &mut B,
     views: &mut Views,
     rel: RelNo,
@@ -50,7 +50,7 @@ pub(crate) fn look<B: Base>(
 
 /// Answers a dump by the tuples whose classes a session's level dominates.
 pub(crate) fn dump<B: Base>(
-    rules: &Rules,
+    rules: &RunSite,
     base: &mut B,
     rel: RelNo,
     level: LabelNo,
@@ -120,7 +120,7 @@ pub(crate) fn seen_of(
 
 /// Answers an audit of a session's level.
 pub(crate) fn audit<B: Base>(
-    rules: &Rules,
+    rules: &RunSite,
     base: &mut B,
     level: LabelNo,
 ) -> Result<Reply, BaseFault>
@@ -130,6 +130,6 @@ pub(crate) fn audit<B: Base>(
         (λ w. listed (site_of rules.now) w level) base.old base.new result }
 {
     let strings = base.audit_all()?;
-    let entries = made(base, seen_of(rules.alloc, rules.policy, &strings, level))?;
+    let entries = settle(base, seen_of(rules.alloc, rules.policy, &strings, level))?;
     Ok(Reply::Entries(Items::from(entries)))
 }

@@ -25,7 +25,7 @@ fn notice_of(reply: &Reply) -> Option<Notice>
 }
 
 /// Why the last event that was not done was not, from what is known of the events before one with this reply.
-pub(crate) fn notice_with(earlier: Option<Notice>, reply: &Reply) -> Option<Notice>
+pub(crate) fn next_notice(earlier: Option<Notice>, reply: &Reply) -> Option<Notice>
     ensures { is_some result ≡ (is_some earlier || not (is_done reply.now)) }
 {
     match notice_of(reply) {

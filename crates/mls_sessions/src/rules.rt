@@ -6,7 +6,7 @@ use std::alloc::Global;
 
 /// A policy, the schemes of its relations, the stored transactions, and where memory comes from.
 #[derive(Drop)]
-pub struct Rules<'a> {
+pub struct RunSite<'a> {
     pub alloc: Global,
     pub policy: &'a Policy,
     pub schemes: &'a Schemes,

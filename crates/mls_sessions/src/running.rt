@@ -7,25 +7,24 @@ ghost use Rattle.mls_machine.specs.Output.{ReplyIsKnown};
 ghost use Rattle.mls_machine.specs.Observation.{EventsFit, PassesOnlyReleasesDown, reply_shows, everyone};
 ghost use Rattle.mls_machine.specs.Laws.{KeepsIntegrity};
 ghost use Rattle.mls_sessions.specs.Sessions.{site_of};
-ghost use Rattle.mls_replies.specs.Known.{HasKnownNumbers};
-ghost use Rattle.mls_sessions.specs.Engine.{site, world_of, IsReady, Continues};
+ghost use Rattle.mls_machine.specs.Known.{HasKnownNumbers};
+ghost use Rattle.mls_sessions.specs.Engine.{site, world_of, IsEngineReady, Continues};
 ghost use Rattle.mls_sessions.specs.Run.{is_done, are_done, IsWhole, IsStopped, IsFaultOf, IsAnswered, IsHalted};
 
-use crate::Rules;
+use crate::RunSite;
 use crate::cause::{RunCause, RunFault, cause_of, fault_at};
 use crate::engine::Engine;
-use crate::notice::notice_with;
+use crate::notice::next_notice;
 use crate::writing::write_whole;
 use mls_filterview::Base;
-use mls_machine::{Audience, Form, Reply};
-use mls_replies::{is_known, shown_to};
+use mls_machine::{Audience, Form, Reply, is_known, shown_to};
 use mls_script::Event;
 use std::io::Write;
 
 /// The lines of the reply to an event that the audience is shown. `Store` is the cause where a class is not declared, as
 /// may be over a store that gives other content than was written.
 fn text_of(
-    rules: &Rules,
+    rules: &RunSite,
     event: &Event,
     reply: &Reply,
     audience: &Audience,
@@ -62,7 +61,7 @@ fn answer<B: Base, W: Write>(
     audience: &Audience,
     out: &mut W,
 ) -> Result<(), RunFault>
-    requires ready { IsReady B.state B.is_clean engine.old }
+    requires ready { IsEngineReady B.state B.is_clean engine.old }
     requires fits { EventFits (site engine.old).policy (site engine.old).schemes event.now }
     requires reader { IfSome audience.now.reader (λ c. c < length (site engine.old).policy.labels) }
     ensures continues { Continues B.state B.is_clean B.failures engine.old engine.new result }
@@ -82,7 +81,7 @@ fn answer<B: Base, W: Write>(
         Ok(reply) => reply,
         Err(fault) => return Err(fault_at(number, cause_of(fault), false)),
     };
-    engine.notice = notice_with(earlier, &reply);
+    engine.notice = next_notice(earlier, &reply);
     let bytes = match text_of(&engine.rules, event, &reply, audience) {
         Ok(bytes) => bytes,
         Err(cause) => return Err(fault_at(number, cause, true)),
@@ -108,7 +107,7 @@ pub fn run_to<B: Base, W: Write>(
     audience: Audience,
     out: &mut W,
 ) -> Result<(), RunFault>
-    requires ready { IsReady B.state B.is_clean engine.old }
+    requires ready { IsEngineReady B.state B.is_clean engine.old }
     requires fits { EventsFit (site engine.old) events.now }
     requires reader { IfSome audience.reader (λ c. c < length (site engine.old).policy.labels) }
     ensures continues { Continues B.state B.is_clean B.failures engine.old engine.new result }
@@ -143,7 +142,7 @@ pub fn run<B: Base, W: Write>(
     events: &[Event],
     out: &mut W,
 ) -> Result<(), RunFault>
-    requires ready { IsReady B.state B.is_clean engine.old }
+    requires ready { IsEngineReady B.state B.is_clean engine.old }
     requires fits { EventsFit (site engine.old) events.now }
     ensures continues { Continues B.state B.is_clean B.failures engine.old engine.new result }
     ensures ok { B.is_clean engine.new.base → OnOk result (IsWhole (site engine.old) everyone

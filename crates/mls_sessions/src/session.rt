@@ -6,7 +6,7 @@ ghost use Rattle.mls_machine.specs.Output.{ReplyIsKnown};
 ghost use Rattle.mls_sessions.specs.Sessions.{site_of, sessions_of, AreForUsers, IsSessionStep};
 
 use crate::denying::clearance;
-use crate::rules::Rules;
+use crate::rules::RunSite;
 use mls_filterview::BaseFault;
 use mls_lattice::{LabelNo, Policy, Str, UserNo};
 use mls_machine::{Denial, Reply};
@@ -41,7 +41,7 @@ fn known_user(policy: &Policy, name: &str) -> Option<UserNo>
 }
 
 /// Answers an event whose session is not open: opens it, where the command is to open it and is not denied.
-pub fn open(rules: &Rules, sessions: &mut Vec<Session>, event: &Event) -> Result<Reply, BaseFault>
+pub fn open(rules: &RunSite, sessions: &mut Vec<Session>, event: &Event) -> Result<Reply, BaseFault>
     requires level { event.now.level < length rules.now.policy.now.labels }
     requires closed { sessions_of sessions.old.items event.now.level event.now.session ≡ None }
     ensures done { IfOk result (IsSessionStep (λ w. step_outside (site_of rules.now) w event.now event.now.command)

@@ -8,9 +8,9 @@ ghost use Rattle.mls_sessions.specs.World.{entries_in};
 use crate::cause::{RunCause, RunFault, cause_of, fault_at};
 use crate::looking::{entries_of, seen_of};
 use crate::writing::write_whole;
-use mls_filterview::{Base, BaseFault, abandon, made};
+use mls_filterview::{Base, BaseFault, abandon, settle};
 use mls_lattice::{Items, LabelNo, Policy};
-use mls_replies::turn_bytes;
+use mls_machine::turn_bytes;
 use std::alloc::{AllocError, Global};
 use std::io::Write;
 
@@ -52,7 +52,7 @@ fn begin<B: Base>(
 {
     base.begin()?;
     let strings = base.audit_all()?;
-    made(base, turned_text(alloc, policy, &strings, reader))
+    settle(base, turned_text(alloc, policy, &strings, reader))
 }
 
 /// Empties the list, and keeps the change.

@@ -22,7 +22,7 @@ use Rattle.mls_statements.specs.declared.rows.OwnCell.{OwnCell}
 use Rattle.mls_statements.specs.declared.rows.AuditRow.{AuditRow}
 use Rattle.mls_statements.specs.Schema.{schema, node, cell, audit, meta}
 use Rattle.mls_statements.specs.Rows.{node_of, is_node_row, node_values, cell_of, is_cell_row, cell_values, cell_beside, class_values, own_values, audit_of, is_audit_row, audit_values, meta_of, is_meta_row, first_meta}
-use Rattle.mls_statements.specs.Statements.{IsReady, IsNext, Changes, AddsNode, AddsCell, AddsCells, AddsEntry, AddsMeta}
+use Rattle.mls_statements.specs.Statements.{IsSchemaReady, IsNext, Changes, AddsNode, AddsCell, AddsCells, AddsEntry, AddsMeta}
 use Rattle.mls_statements.proofs.Texts.{add_node, add_node_is, node_terms, add_cell, add_cell_is, cell_terms, AddsOwn, own_terms, add_entry, add_entry_is, audit_terms, add_meta, add_meta_is, meta_terms}
 use Rattle.mls_statements.proofs.PlainWrites.{adds}
 use Rattle.mls_statements.proofs.SchemaLemmas.{at_rest}
@@ -96,7 +96,7 @@ own_rows n before (c ∷ cs) =
 
 -- ---- each table
 
-module _ (old new : State) (ready : IsReady old.now) where
+module _ (old new : State) (ready : IsSchemaReady old.now) where
   -- the source of the one row that a statement adds to a table
   abbrev Puts : Table → Row → Type 0
   Puts table source = (new.now.schema ≡ schema ready.0.others) × Applies (schema ready.0.others) Enforced old.now.trees (edit_of old.now.trees table [] Chosen 0 (source ∷ [])) new.now.trees × IsNext old new

@@ -12,7 +12,7 @@ use Rattle.mls_statements.specs.declared.rows.CellRow.{CellRow}
 use Rattle.mls_statements.specs.declared.rows.OwnCell.{OwnCell}
 use Rattle.mls_statements.specs.declared.rows.MetaRow.{MetaRow}
 use Rattle.mls_statements.specs.Rows.{Tables, tables_of, first_meta, cell_beside, class_values, own_values}
-use Rattle.mls_statements.specs.Statements.{IsReady, Changes, IsWithin, GoesOn, AddsNode, AddsNodes, AddsCell, AddsCells, AddsMeta, ClearsStore, Rewrites}
+use Rattle.mls_statements.specs.Statements.{IsSchemaReady, Changes, IsWithin, GoesOn, AddsNode, AddsNodes, AddsCell, AddsCells, AddsMeta, ClearsStore, Rewrites}
 
 -- a statement that is done in a change
 pub goes : {Rows : Tables → Tables → Type 0} (old new : State) → IsWithin old → Changes Rows old new → GoesOn Rows old new
@@ -81,7 +81,7 @@ nothing_yet s = (λ clean. clean, λ clean within. record { within = within; row
 
 module _ {Before Now : Tables → Tables → Type 0} (first old new : State) (before : IsSoFar Before first old) (clean : HasCleanDisk new → HasCleanDisk old) where
   -- one statement more is done
-  pub on : {After : Tables → Tables → Type 0} → ((a b c : Tables) → Before a b → Now b c → After a c) → (HasCleanDisk new → IsReady old.now → Changes Now old new) → IsSoFar After first new
+  pub on : {After : Tables → Tables → Type 0} → ((a b c : Tables) → Before a b → Now b c → After a c) → (HasCleanDisk new → IsSchemaReady old.now → Changes Now old new) → IsSoFar After first new
   on both did = (
     λ now. before.0 (clean now),
     λ now within. let till = before.1 (clean now) within in then_goes first old new both till (goes old new till.within (did now till.within.ready)),
@@ -110,7 +110,7 @@ module _ (ns : List NodeRow) (cs : List CellRow) (version : ℕ) (lattice scheme
 
   module _ {A : Type 0} (old new : State) where
     -- cleared, described and filled
-    pub replaced : (cleared described filled : State) (r : Result A Error) → GoesOn ClearsStore old cleared → (IsReady cleared.now → Changes (AddsMeta first) cleared described)
+    pub replaced : (cleared described filled : State) (r : Result A Error) → GoesOn ClearsStore old cleared → (IsSchemaReady cleared.now → Changes (AddsMeta first) cleared described)
         → (IsWithin described → GoesOn (AddsNodes ns) described filled) → (IsWithin filled → OnOk r (GoesOn (AddsCells cs) filled new)) → OnOk r (GoesOn Rewritten old new)
     replaced cleared described filled (Err e) clears meta nodes cells = tt
     replaced cleared described filled (Ok a) clears meta nodes cells =

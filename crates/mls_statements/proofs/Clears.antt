@@ -16,7 +16,7 @@ use Rattle.sqlite_rules.specs.Edit.{Applies, edit_of}
 use Rattle.sqlite_rules.specs.Calls.{ids_of}
 use Rattle.mls_statements.specs.Schema.{schema, node, cell, audit, meta}
 use Rattle.mls_statements.specs.Rows.{node_of, is_node_row, cell_of, is_cell_row, audit_of, is_audit_row, meta_of, is_meta_row, tables_of}
-use Rattle.mls_statements.specs.Statements.{IsReady, IsNext, AreRows, Changes, ClearsNodes, ClearsCells, ClearsEntries, ClearsMeta}
+use Rattle.mls_statements.specs.Statements.{IsSchemaReady, IsNext, AreRows, Changes, ClearsNodes, ClearsCells, ClearsEntries, ClearsMeta}
 use Rattle.mls_statements.proofs.Texts.{every, clear_nodes, clear_nodes_is, clear_cells, clear_cells_is, clear_entries, clear_entries_is, clear_meta, clear_meta_is}
 use Rattle.mls_statements.proofs.PlainWrites.{drops}
 use Rattle.mls_statements.proofs.QueryAnswers.{passes, answered}
@@ -28,7 +28,7 @@ none_left : {X : Type 0} (xs : List X) → filter (λ x. not true) xs ≡ []
 none_left [] = refl
 none_left (x ∷ xs) = none_left xs
 
-module _ (old new : State) (ready : IsReady old.now) where
+module _ (old new : State) (ready : IsSchemaReady old.now) where
   -- the rows that a statement shows are taken out of their table
   abbrev TakesOut : Table → Row → Type 0
   TakesOut table params =

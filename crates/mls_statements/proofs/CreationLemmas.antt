@@ -6,10 +6,10 @@ use Rattle.sqlite.specs.declared.error.Error.{Error}
 use Rattle.sqlite.proofs.Callers.{one_permutation}
 use Rattle.mls_statements.specs.Schema.{IsMade, no_others, schema}
 use Rattle.mls_statements.specs.Rows.{Tables, tables_of, no_rows, first_meta, described}
-use Rattle.mls_statements.specs.Statements.{IsReady, Changes, AddsMeta, IsNewStore}
+use Rattle.mls_statements.specs.Statements.{IsSchemaReady, Changes, AddsMeta, IsNewStore}
 
 -- tables without a row are ready
-pub made_ready : (db : Database) → IsMade (schema no_others) db → IsReady db × (tables_of db.trees ≡ no_rows)
+pub made_ready : (db : Database) → IsMade (schema no_others) db → IsSchemaReady db × (tables_of db.trees ≡ no_rows)
 made_ready db made =
     let nodes : db.trees 0 ≡ [] = made.1.0 in
     let cells : db.trees 2 ≡ [] = made.1.1.0 in
@@ -28,7 +28,7 @@ module _ (made added end : State) (version : ℕ) (lattice schemes : List ℕ) (
         settled = record {
           is_open = commits.0.is_open;
           mode = commits.0.mode;
-          ready = subst IsReady (sym commits.0.now_is) adds.ready;
+          ready = subst IsSchemaReady (sym commits.0.now_is) adds.ready;
           settled = commits.0.now_is ∙ sym commits.0.committed_is;
         };
         rows = ap (λ (db : Database). tables_of db.trees) commits.0.now_is ∙ all;

@@ -24,7 +24,7 @@ use Rattle.sqlite_rules.proofs.TableLemmas.{int_is}
 use Rattle.mls_statements.specs.declared.rows.CellRow.{CellRow}
 use Rattle.mls_statements.specs.Schema.{schema, node, cell}
 use Rattle.mls_statements.specs.Rows.{node_of, is_node_row, is_node, cell_of, is_cell_row, is_cell_in, class_values, cell_values, tables_of, blob_in}
-use Rattle.mls_statements.specs.Statements.{IsReady, IsNext, Changes, DropsNode, DropsCells, SetsCell, IsOne, has_key_of}
+use Rattle.mls_statements.specs.Statements.{IsSchemaReady, IsNext, Changes, DropsNode, DropsCells, SetsCell, IsOne, has_key_of}
 use Rattle.mls_statements.proofs.Texts.{by_class, by_cell, set_terms, drop_node, drop_node_is, drop_cells, drop_cells_is, set_cell, set_cell_is}
 use Rattle.mls_statements.proofs.PlainWrites.{drops, sets}
 use Rattle.mls_statements.proofs.QueryAnswers.{rows_by, passes, answered}
@@ -41,7 +41,7 @@ node_id r h = (node_parts r h).id
 cell_id : (r : Row) → is_cell_row r ≡ true → is_int (rowid r) ≡ true
 cell_id r h = (cell_parts r h).id
 
-module _ (old new : State) (ready : IsReady old.now) where
+module _ (old new : State) (ready : IsSchemaReady old.now) where
   -- the rows that a statement shows are taken out of their table, and parts of them put in
   abbrev Moves : Table → ℕ → (List Row → List Row) → Query → Row → Type 0
   Moves table from put q params =
@@ -135,7 +135,7 @@ shown_row x rows shown r found same =
 abbrev whole : List Row → List Row
 whole rows = rows
 
-module _ (old new : State) (ready : IsReady old.now) where
+module _ (old new : State) (ready : IsSchemaReady old.now) where
   cell_set : (x was : CellRow) → IsOne (has_key_of x) (tables_of old.now.trees).cells was → Moves old new ready cell 1 whole (rows_by 2 by_cell set_terms) (cell_values x) → Changes (SetsCell x) old new
   cell_set x was one did =
       let found = found_row x was (old.now.trees 2) ready.1.1.0.1 one in

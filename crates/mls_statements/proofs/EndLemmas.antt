@@ -17,6 +17,7 @@ use Rattle.sqlite.specs.Effect.{Database}
 use Rattle.mls_statements.specs.Adopting.{HasRead}
 use Rattle.mls_statements.specs.Schema.{HasTables}
 use Rattle.mls_statements.specs.Statements.{IsNext, IsEnded, Begins}
+use Rattle.mls_statements.specs.Store.{HasEnded}
 use Rattle.mls_statements.proofs.Texts.{begin_is, commit_is, rollback_is, rollback_whole, IsWhole}
 
 -- a statement that answers an error did nothing, or undid the transaction
@@ -49,6 +50,15 @@ keeps old new (inr undone) = record { was_open = undone.was_open; committed = λ
 pub ended_keeps : (old new : State) (r : Result ℕ Error) → OnErr r (IsEnded old new) → OnErr r (KeepsCommit old new)
 ended_keeps old new (Ok count) h = tt
 ended_keeps old new (Err e) h = keeps old new h
+
+-- so it is where the transaction is ended then
+pub kept_ended : (old mid new : State) → KeepsCommit old mid → HasEnded mid new → HasEnded old new
+kept_ended old mid new kept end = record {
+  mode = end.mode;
+  was_open = λ here. kept.was_open (end.was_open here);
+  now = λ here. end.now here ∙ kept.committed (end.was_open here);
+  committed = λ here. end.committed here ∙ kept.committed (end.was_open here);
+}
 
 -- so it is of a query that does not begin
 pub refused_keeps : (old new : State) (sql : List ℕ) (params : Row) (e : Error) → FailsToQuery sql params old new e → KeepsCommit old new

@@ -15,12 +15,12 @@ use Rattle.sqlite.specs.Collation.TheVariants.{Binary}
 use Rattle.sqlite.proofs.Callers.{reads_as}
 use Rattle.mls_statements.specs.Schema.{Others, HasTables, schema}
 use Rattle.mls_statements.specs.Rows.{tables_of, audit_columns, meta_columns, is_node_at, is_node_among, is_node, node_values, node_of, is_node_row, is_cell_at, is_cell_among, is_cell_in, class_values, cell_values, cell_of, is_cell_row}
-use Rattle.mls_statements.specs.Statements.{IsReady}
+use Rattle.mls_statements.specs.Statements.{IsSchemaReady}
 use Rattle.mls_statements.proofs.EditParts.{alone}
 use Rattle.mls_statements.proofs.QueryAnswers.{rows_sorted, passes, answered}
 use Rattle.mls_statements.proofs.TableRows.{answers}
 use Rattle.mls_statements.proofs.ValueTests.{node_at_label, node_among_labels, node_in_class, node_shows, cell_at_label, cell_among_labels, cell_in_class, cell_shows}
-use Rattle.mls_statements.proofs.Texts.{Asks, by_label, by_labels, by_class, node_names, node_shown, nodes_at, nodes_at_is, nodes_among, nodes_among_is, nodes_of, nodes_of_is, cell_names, cell_shown, cells_at, cells_at_is, cells_among, cells_among_is, cells_of, cells_of_is, audit_names, audit_shown, meta_names, all_entries, all_entries_is, all_meta, all_meta_is}
+use Rattle.mls_statements.proofs.Texts.{Asks, by_label, by_labels, by_class, node_names, node_shown, nodes_of_class, nodes_of_class_is, nodes_among, nodes_among_is, nodes_of_key, nodes_of_key_is, cell_names, cell_shown, cells_of_class, cells_of_class_is, cells_among, cells_among_is, cells_of_tuple, cells_of_tuple_is, audit_names, audit_shown, meta_names, all_entries, all_entries_is, all_meta, all_meta_is}
 
 abbrev Found : Type 0
 Found = Result (Vec Row Global) Error
@@ -31,14 +31,14 @@ module _ (old new : State) (o : Others) (sql : List ℕ) (params : Row) (tree : 
   pub found : (rows : List Row) → Shown sql params old new rows → IsPermutation (map (λ r. eval_all project (params ∷ r ∷ [])) (filter (passes terms params) (old.now.trees tree))) rows
   found rows h = answered tree terms project order old.now.trees params rows plain ((reads_as sql params old new (schema o) has _ asks.0 asks.1 asks.2 rows h).answer Null)
 
-module _ (old new : State) (ready : IsReady old.now) where
-  pub finds_nodes_at : (rel label : ℕ) (r : Found) → IfOk r (λ rows. Shown nodes_at (Int (pos rel) ∷ Int (pos label) ∷ []) old new rows.items)
+module _ (old new : State) (ready : IsSchemaReady old.now) where
+  pub finds_nodes_of_class : (rel label : ℕ) (r : Found) → IfOk r (λ rows. Shown nodes_of_class (Int (pos rel) ∷ Int (pos label) ∷ []) old new rows.items)
       → IfOk r (λ rows. IsPermutation (map node_values (filter (is_node_at rel label) (tables_of old.now.trees).nodes)) rows.items)
-  finds_nodes_at rel label (Err e) h = tt
-  finds_nodes_at rel label (Ok rows) h =
+  finds_nodes_of_class rel label (Err e) h = tt
+  finds_nodes_of_class rel label (Ok rows) h =
       let params = Int (pos rel) ∷ Int (pos label) ∷ [] in
       answers is_node_row node_of (passes by_label params) (is_node_at rel label) _ node_values (node_at_label rel label) (node_shows params) (old.now.trees 0) rows.items ready.1.0.1
-      (found old new ready.0.others nodes_at params 0 by_label node_shown node_names [] (nodes_at_is ready.0.others) refl ready.0.is rows.items h)
+      (found old new ready.0.others nodes_of_class params 0 by_label node_shown node_names [] (nodes_of_class_is ready.0.others) refl ready.0.is rows.items h)
 
   pub finds_nodes_among : (rel labels : ℕ) (within : labels < 2 ^ 64) (r : Found) → IfOk r (λ rows. Shown nodes_among (Int (pos rel) ∷ Int (cast_signed w64 labels) ∷ []) old new rows.items)
       → IfOk r (λ rows. IsPermutation (map node_values (filter (is_node_among rel labels) (tables_of old.now.trees).nodes)) rows.items)
@@ -48,21 +48,21 @@ module _ (old new : State) (ready : IsReady old.now) where
       answers is_node_row node_of (passes by_labels params) (is_node_among rel labels) _ node_values (node_among_labels rel labels within) (node_shows params) (old.now.trees 0) rows.items ready.1.0.1
       (found old new ready.0.others nodes_among params 0 by_labels node_shown node_names [] (nodes_among_is ready.0.others) refl ready.0.is rows.items h)
 
-  pub finds_nodes_of : (rel : ℕ) (ent : List ℕ) (kclass label : ℕ) (r : Found) → IfOk r (λ rows. Shown nodes_of (class_values rel ent kclass label) old new rows.items)
+  pub finds_nodes_of_key : (rel : ℕ) (ent : List ℕ) (kclass label : ℕ) (r : Found) → IfOk r (λ rows. Shown nodes_of_key (class_values rel ent kclass label) old new rows.items)
       → IfOk r (λ rows. IsPermutation (map node_values (filter (is_node rel ent kclass label) (tables_of old.now.trees).nodes)) rows.items)
-  finds_nodes_of rel ent kclass label (Err e) h = tt
-  finds_nodes_of rel ent kclass label (Ok rows) h =
+  finds_nodes_of_key rel ent kclass label (Err e) h = tt
+  finds_nodes_of_key rel ent kclass label (Ok rows) h =
       let params = class_values rel ent kclass label in
       answers is_node_row node_of (passes by_class params) (is_node rel ent kclass label) _ node_values (node_in_class rel ent kclass label) (node_shows params) (old.now.trees 0) rows.items ready.1.0.1
-      (found old new ready.0.others nodes_of params 0 by_class node_shown node_names [] (nodes_of_is ready.0.others) refl ready.0.is rows.items h)
+      (found old new ready.0.others nodes_of_key params 0 by_class node_shown node_names [] (nodes_of_key_is ready.0.others) refl ready.0.is rows.items h)
 
-  pub finds_cells_at : (rel label : ℕ) (r : Found) → IfOk r (λ rows. Shown cells_at (Int (pos rel) ∷ Int (pos label) ∷ []) old new rows.items)
+  pub finds_cells_of_class : (rel label : ℕ) (r : Found) → IfOk r (λ rows. Shown cells_of_class (Int (pos rel) ∷ Int (pos label) ∷ []) old new rows.items)
       → IfOk r (λ rows. IsPermutation (map cell_values (filter (is_cell_at rel label) (tables_of old.now.trees).cells)) rows.items)
-  finds_cells_at rel label (Err e) h = tt
-  finds_cells_at rel label (Ok rows) h =
+  finds_cells_of_class rel label (Err e) h = tt
+  finds_cells_of_class rel label (Ok rows) h =
       let params = Int (pos rel) ∷ Int (pos label) ∷ [] in
       answers is_cell_row cell_of (passes by_label params) (is_cell_at rel label) _ cell_values (cell_at_label rel label) (cell_shows params) (old.now.trees 2) rows.items ready.1.1.0.1
-      (found old new ready.0.others cells_at params 2 by_label cell_shown cell_names [] (cells_at_is ready.0.others) refl ready.0.is rows.items h)
+      (found old new ready.0.others cells_of_class params 2 by_label cell_shown cell_names [] (cells_of_class_is ready.0.others) refl ready.0.is rows.items h)
 
   pub finds_cells_among : (rel labels : ℕ) (within : labels < 2 ^ 64) (r : Found) → IfOk r (λ rows. Shown cells_among (Int (pos rel) ∷ Int (cast_signed w64 labels) ∷ []) old new rows.items)
       → IfOk r (λ rows. IsPermutation (map cell_values (filter (is_cell_among rel labels) (tables_of old.now.trees).cells)) rows.items)
@@ -72,13 +72,13 @@ module _ (old new : State) (ready : IsReady old.now) where
       answers is_cell_row cell_of (passes by_labels params) (is_cell_among rel labels) _ cell_values (cell_among_labels rel labels within) (cell_shows params) (old.now.trees 2) rows.items ready.1.1.0.1
       (found old new ready.0.others cells_among params 2 by_labels cell_shown cell_names [] (cells_among_is ready.0.others) refl ready.0.is rows.items h)
 
-  pub finds_cells_of : (rel : ℕ) (ent : List ℕ) (kclass label : ℕ) (r : Found) → IfOk r (λ rows. Shown cells_of (class_values rel ent kclass label) old new rows.items)
+  pub finds_cells_of_tuple : (rel : ℕ) (ent : List ℕ) (kclass label : ℕ) (r : Found) → IfOk r (λ rows. Shown cells_of_tuple (class_values rel ent kclass label) old new rows.items)
       → IfOk r (λ rows. IsPermutation (map cell_values (filter (is_cell_in rel ent kclass label) (tables_of old.now.trees).cells)) rows.items)
-  finds_cells_of rel ent kclass label (Err e) h = tt
-  finds_cells_of rel ent kclass label (Ok rows) h =
+  finds_cells_of_tuple rel ent kclass label (Err e) h = tt
+  finds_cells_of_tuple rel ent kclass label (Ok rows) h =
       let params = class_values rel ent kclass label in
       answers is_cell_row cell_of (passes by_class params) (is_cell_in rel ent kclass label) _ cell_values (cell_in_class rel ent kclass label) (cell_shows params) (old.now.trees 2) rows.items ready.1.1.0.1
-      (found old new ready.0.others cells_of params 2 by_class cell_shown cell_names [] (cells_of_is ready.0.others) refl ready.0.is rows.items h)
+      (found old new ready.0.others cells_of_tuple params 2 by_class cell_shown cell_names [] (cells_of_tuple_is ready.0.others) refl ready.0.is rows.items h)
 
 -- ---- whole tables, where only the schema is known
 

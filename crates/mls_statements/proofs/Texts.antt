@@ -227,12 +227,12 @@ by_label = same 1 0 ∷ same 4 1 ∷ []
 abbrev pub by_labels : List Term
 by_labels = same 1 0 ∷ op2 (Bits bit.And) (col 0 1) (op2 (Bits bit.Shl) (lit (Int (pos 1))) (col 1 4)) ∷ []
 
-abbrev pub nodes_at : List ℕ
-nodes_at = codes "SELECT rel, ent, kclass, label, pattern FROM node WHERE rel = ?1 AND label = ?2"
+abbrev pub nodes_of_class : List ℕ
+nodes_of_class = codes "SELECT rel, ent, kclass, label, pattern FROM node WHERE rel = ?1 AND label = ?2"
 
-pub nodes_at_is : (o : Others) → Asks (schema o) nodes_at (Select (alone (rows_by 0 by_label node_shown)) node_names)
+pub nodes_of_class_is : (o : Others) → Asks (schema o) nodes_of_class (Select (alone (rows_by 0 by_label node_shown)) node_names)
 unfolding understood everything
-nodes_at_is o = (refl, (refl, refl), refl)
+nodes_of_class_is o = (refl, (refl, refl), refl)
 
 abbrev pub nodes_among : List ℕ
 nodes_among = codes "SELECT rel, ent, kclass, label, pattern FROM node WHERE rel = ?1 AND ?2 & (1 << label)"
@@ -241,12 +241,12 @@ pub nodes_among_is : (o : Others) → Asks (schema o) nodes_among (Select (alone
 unfolding understood everything
 nodes_among_is o = (refl, (refl, refl), refl)
 
-abbrev pub nodes_of : List ℕ
-nodes_of = codes "SELECT rel, ent, kclass, label, pattern FROM node WHERE rel = ?1 AND ent = ?2 AND kclass = ?3 AND label = ?4"
+abbrev pub nodes_of_key : List ℕ
+nodes_of_key = codes "SELECT rel, ent, kclass, label, pattern FROM node WHERE rel = ?1 AND ent = ?2 AND kclass = ?3 AND label = ?4"
 
-pub nodes_of_is : (o : Others) → Asks (schema o) nodes_of (Select (alone (rows_by 0 by_class node_shown)) node_names)
+pub nodes_of_key_is : (o : Others) → Asks (schema o) nodes_of_key (Select (alone (rows_by 0 by_class node_shown)) node_names)
 unfolding understood everything
-nodes_of_is o = (refl, (refl, refl), refl)
+nodes_of_key_is o = (refl, (refl, refl), refl)
 
 abbrev pub cell_names : List (List ℕ)
 cell_names = codes "rel" ∷ codes "ent" ∷ codes "kclass" ∷ codes "label" ∷ codes "attr" ∷ codes "value" ∷ []
@@ -254,12 +254,12 @@ cell_names = codes "rel" ∷ codes "ent" ∷ codes "kclass" ∷ codes "label" �
 abbrev pub cell_shown : List Term
 cell_shown = col 1 1 ∷ col 1 2 ∷ col 1 3 ∷ col 1 4 ∷ col 1 5 ∷ col 1 6 ∷ []
 
-abbrev pub cells_at : List ℕ
-cells_at = codes "SELECT rel, ent, kclass, label, attr, value FROM cell WHERE rel = ?1 AND label = ?2"
+abbrev pub cells_of_class : List ℕ
+cells_of_class = codes "SELECT rel, ent, kclass, label, attr, value FROM cell WHERE rel = ?1 AND label = ?2"
 
-pub cells_at_is : (o : Others) → Asks (schema o) cells_at (Select (alone (rows_by 2 by_label cell_shown)) cell_names)
+pub cells_of_class_is : (o : Others) → Asks (schema o) cells_of_class (Select (alone (rows_by 2 by_label cell_shown)) cell_names)
 unfolding understood everything
-cells_at_is o = (refl, (refl, refl), refl)
+cells_of_class_is o = (refl, (refl, refl), refl)
 
 abbrev pub cells_among : List ℕ
 cells_among = codes "SELECT rel, ent, kclass, label, attr, value FROM cell WHERE rel = ?1 AND ?2 & (1 << label)"
@@ -268,12 +268,12 @@ pub cells_among_is : (o : Others) → Asks (schema o) cells_among (Select (alone
 unfolding understood everything
 cells_among_is o = (refl, (refl, refl), refl)
 
-abbrev pub cells_of : List ℕ
-cells_of = codes "SELECT rel, ent, kclass, label, attr, value FROM cell WHERE rel = ?1 AND ent = ?2 AND kclass = ?3 AND label = ?4"
+abbrev pub cells_of_tuple : List ℕ
+cells_of_tuple = codes "SELECT rel, ent, kclass, label, attr, value FROM cell WHERE rel = ?1 AND ent = ?2 AND kclass = ?3 AND label = ?4"
 
-pub cells_of_is : (o : Others) → Asks (schema o) cells_of (Select (alone (rows_by 2 by_class cell_shown)) cell_names)
+pub cells_of_tuple_is : (o : Others) → Asks (schema o) cells_of_tuple (Select (alone (rows_by 2 by_class cell_shown)) cell_names)
 unfolding understood everything
-cells_of_is o = (refl, (refl, refl), refl)
+cells_of_tuple_is o = (refl, (refl, refl), refl)
 
 abbrev pub audit_names : List (List ℕ)
 audit_names = codes "number" ∷ codes "bytes" ∷ []

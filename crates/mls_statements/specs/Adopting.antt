@@ -1,5 +1,5 @@
 -- Which tables are adopted, and what is read of them.
-use Rattle.std.specs.Prelude.{◌≡◌, ◌≢◌, ◌⊎◌, ℕ, ◌^◌, ◌<◌, ℤ, pos, true, false, int_lt, List, [], ◌∷◌, ◌++◌, Bool, map, IsTrue, IsUtf8, IsPermutation}
+use Rattle.std.specs.Prelude.{◌≡◌, ◌≢◌, ◌⊎◌, ℕ, ◌^◌, ◌<◌, ℤ, pos, true, false, int_lt, List, [], ◌∷◌, ◌++◌, Bool, map, IsTrue, IsUtf8, IsPermutation, Result, IfErr, OnOk, OnErr}
 use Rattle.std.specs.List.{AllByRecursion}
 use Rattle.sqlite_value.specs.declared.value.Value.{Value}
 use Rattle.sqlite_value.specs.declared.value.Value.TheVariants.{Int, Text, Blob}
@@ -11,7 +11,7 @@ use Rattle.sqlite.specs.declared.error.ErrorCode.TheVariants.{OutOfMemory}
 use Rattle.sqlite.specs.declared.error.Error.{Error}
 use Rattle.sqlite.specs.declared.error.Error.TheVariants.{SqliteFailure}
 use Rattle.sqlite.specs.Effect.{Database}
-use Rattle.sqlite.specs.State.{State, Shown, Begins}
+use Rattle.sqlite.specs.State.{State, Shown, Begins, HasCleanDisk}
 use Rattle.mls_statements.specs.declared.rows.MetaRow.{MetaRow}
 use Rattle.mls_statements.specs.declared.adopting.AllRows.{AllRows}
 use Rattle.mls_statements.specs.declared.adopting.AdoptFault.{AdoptFault}
@@ -123,8 +123,23 @@ pub record HasRead (old new : State) : Type 0 where
   pub same : new.now ≡ old.now
   pub committed : new.committed ≡ old.now
 
+-- every row is read in a transaction that changed nothing
+pub record IsReadOut (old new : State) (rows : AllRows) : Type 0 where
+  pub have : HaveRows old.now
+  pub all : AreAll (tables_of old.now.trees) rows
+  pub read : HasRead old new
+
 -- the tables were read in one transaction, which is committed
 pub record IsAdopted (old new : State) (rows : AllRows) : Type 0 where
   pub settled : HasSettled new
   pub same : new.now ≡ old.now
   pub all : AreAll (tables_of old.now.trees) rows
+
+-- a call that reads the tables of a connection which is open: what an error leaves, and that rows are called bad only of a
+-- database that does not read
+pub record IsReading {X : Type 0} (Left : State → State → Type 0) (Reads : Database → Type 0) (old new : State) (result : Result X AdoptFault) : Type 0 where
+  pub clean : HasCleanDisk new → HasCleanDisk old
+  pub schema : OnOk result (HasTables old.now.schema)
+  pub was_open : HasCleanDisk new → OnOk result (IsTrue old.is_open)
+  pub left : HasCleanDisk new → OnErr result (Left old new)
+  pub bad : HasCleanDisk new → IfErr result (Blames (Reads old.now))

@@ -22,8 +22,8 @@ abbrev pub AreRows : (Row → Bool) → List Row → Type 0
 AreRows is_row rows = IsApart rows × AllByRecursion (λ r. is_row r ≡ true) rows
 
 -- the database has the four tables, and their rows are what they should be
-abbrev pub IsReady : Database → Type 0
-IsReady db =
+abbrev pub IsSchemaReady : Database → Type 0
+IsSchemaReady db =
     HasTables db.schema
     × (AreRows is_node_row (db.trees 0) × (AreRows is_cell_row (db.trees 2) × (AreRows is_audit_row (db.trees 4) × AreRows is_meta_row (db.trees 5))))
 
@@ -96,7 +96,7 @@ pub record IsNext (old new : State) : Type 0 where
 
 -- a statement that is done on the four tables
 pub record Changes (Rows : Tables → Tables → Type 0) (old new : State) : Type 0 where
-  pub ready : IsReady new.now
+  pub ready : IsSchemaReady new.now
   pub rows : Rows (tables_of old.now.trees) (tables_of new.now.trees)
   pub next : IsNext old new
 
@@ -113,7 +113,7 @@ pub record Begins (old new : State) : Type 0 where
 pub record IsWithin (s : State) : Type 0 where
   pub is_open : IsTrue s.is_open
   pub mode : s.in_transaction ≡ true
-  pub ready : IsReady s.now
+  pub ready : IsSchemaReady s.now
 
 -- statements that are done in a change, which goes on
 pub record GoesOn (Rows : Tables → Tables → Type 0) (old new : State) : Type 0 where
@@ -125,7 +125,7 @@ pub record GoesOn (Rows : Tables → Tables → Type 0) (old new : State) : Type
 pub record HasSettled (s : State) : Type 0 where
   pub is_open : IsTrue s.is_open
   pub mode : s.in_transaction ≡ false
-  pub ready : IsReady s.now
+  pub ready : IsSchemaReady s.now
   pub settled : s.now ≡ s.committed
 
 -- a store that was made, and is committed

@@ -1,12 +1,15 @@
 -- What a store of the four tables shows, and what its calls do to it.
-use Rattle.std.specs.Prelude.{◌≡◌, ◌⊎◌, ℕ, ◌<◌, ◌≤◌, Bool, false, if◌then◌else◌, IsTrue, IfErr, Result}
+use Rattle.std.specs.Prelude.{◌≡◌, ◌⊎◌, ◌↔◌, ℕ, ◌<◌, ◌≤◌, Bool, false, if◌then◌else◌, IsTrue, IfErr, Result}
 use Rattle.sqlite_disk.specs.Disk.{MoreFaults}
 use Rattle.sqlite_trees.specs.View.{doubt}
 use Rattle.sqlite.specs.State.{State, HasCleanDisk}
+use Rattle.sqlite.specs.declared.error.Error.{Error}
+use Rattle.sqlite.specs.declared.error.Error.TheVariants.{SqliteFailure}
+use Rattle.sqlite.specs.declared.error.ErrorCode.TheVariants.{OutOfMemory}
 use Rattle.mls_statements.specs.declared.store.StoreFault.{StoreFault}
-use Rattle.mls_statements.specs.declared.store.StoreFault.TheVariants.{Store}
+use Rattle.mls_statements.specs.declared.store.StoreFault.TheVariants.{Store, Memory}
 use Rattle.mls_statements.specs.Rows.{Tables, tables_of}
-use Rattle.mls_statements.specs.Statements.{IsReady}
+use Rattle.mls_statements.specs.Statements.{IsSchemaReady}
 
 -- the rows now and as of the last commit, whether a change is begun, whether the disk has so far given back what was
 -- written to it, how many calls of the store have failed, whether the connection is open, and how many times the disk has
@@ -24,7 +27,7 @@ abbrev pub IsClean : TableState → Type 0
 IsClean s = doubt s.is_clean ≡ 0
 
 -- what a fault leaves: no change is begun, and the rows are those of the last commit
-pub record IsFault (fault : StoreFault) (old new : TableState) : Type 0 where
+pub record IsStoreFault (fault : StoreFault) (old new : TableState) : Type 0 where
   pub store : fault ≡ Store → old.failures < new.failures
   pub mode : new.begun ≡ false
   pub rows : IsClean new → (new.now ≡ old.kept) × (new.kept ≡ old.kept)
@@ -34,10 +37,10 @@ abbrev pub HasFailed : TableState → TableState → Type 0
 HasFailed old new = MoreFaults old.faults new.faults ⊎ (old.is_open ≡ false)
 
 -- what every call keeps
-pub record IsCall {A : Type 0} (old new : TableState) (result : Result A StoreFault) : Type 0 where
+pub record IsStoreCall {A : Type 0} (old new : TableState) (result : Result A StoreFault) : Type 0 where
   pub clean : IsClean new → IsClean old
   pub count : old.failures ≤ new.failures
-  pub fault : IfErr result (λ e. IsFault e old new)
+  pub fault : IfErr result (λ e. IsStoreFault e old new)
 
 -- the rows are changed, and those of the last commit are not
 abbrev pub Writes : (Tables → Tables → Type 0) → TableState → TableState → Type 0
@@ -62,11 +65,11 @@ table_state s begun failures last = record {
 
 -- Inside a change the connection is open. An open one shows the four tables, and `last` is what it committed last, which is
 -- remembered for when it is shut.
-pub record IsSound (s : State) (begun : Bool) (last : Tables) : Type 0 where
+pub record MatchesConnection (s : State) (begun : Bool) (last : Tables) : Type 0 where
   pub is_open : HasCleanDisk s → IsTrue begun → IsTrue s.is_open
   pub mode : HasCleanDisk s → IsTrue s.is_open → s.in_transaction ≡ begun
-  pub now : HasCleanDisk s → IsTrue s.is_open → IsReady s.now
-  pub committed : HasCleanDisk s → IsTrue s.is_open → IsReady s.committed
+  pub now : HasCleanDisk s → IsTrue s.is_open → IsSchemaReady s.now
+  pub committed : HasCleanDisk s → IsTrue s.is_open → IsSchemaReady s.committed
   pub last_is : HasCleanDisk s → IsTrue s.is_open → last ≡ tables_of s.committed.trees
   pub settled : HasCleanDisk s → IsTrue s.is_open → begun ≡ false → s.now ≡ s.committed
 
@@ -76,3 +79,12 @@ pub record HasEnded (old new : State) : Type 0 where
   pub was_open : IsTrue new.is_open → IsTrue old.is_open
   pub now : IsTrue new.is_open → new.now ≡ old.committed
   pub committed : IsTrue new.is_open → new.committed ≡ old.committed
+
+-- the change is ended after a call that failed, and the failure is counted: how many failures there were and are, and why it failed
+pub record HasFallen (old new : State) (before after : ℕ) (error : Error) (fault : StoreFault) : Type 0 where
+  pub clean : HasCleanDisk new → HasCleanDisk old
+  pub ended : HasCleanDisk new → HasEnded old new
+  pub cause : fault ≡ Memory ↔ error ≡ SqliteFailure OutOfMemory
+  pub faults : old.faults ≤ new.faults
+  pub count : before ≤ after
+  pub store : fault ≡ Store → before < after

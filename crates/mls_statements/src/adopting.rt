@@ -8,7 +8,7 @@ ghost use Rattle.mls_statements.specs.Rows.{tables_of, is_meta_row};
 ghost use Rattle.mls_statements.specs.Schema.{HasTables};
 ghost use Rattle.mls_statements.specs.Statements.{AreRows};
 ghost use Rattle.mls_statements.specs.Store.{HasEnded};
-ghost use Rattle.mls_statements.specs.Adopting.{Blames, AreRead, HaveRows, HasReadRows, IsReadDescription, HasDescription, IsDescribed, HasRead, AreAll, IsAdopted};
+ghost use Rattle.mls_statements.specs.Adopting.{Blames, AreRead, HaveRows, HasReadRows, IsReadDescription, HasDescription, IsDescribed, HasRead, AreAll, IsAdopted, IsReading, IsReadOut};
 
 use crate::rows::{AuditRow, CellRow, MetaRow, NodeRow};
 use crate::statements::schema::has_tables;
@@ -83,12 +83,9 @@ fn read_rows<S: Alter>(conn: &mut Connection<S>, alloc: Global) -> Result<AllRow
 
 /// The same, in one transaction.
 fn read_at_once<S: Alter>(conn: &mut Connection<S>, alloc: Global) -> Result<AllRows, AdoptFault>
-    ensures open { HasCleanDisk (state S.Store conn.new) → OnOk result (IsTrue (state S.Store conn.old).is_open) }
+    ensures was_open { HasCleanDisk (state S.Store conn.new) → OnOk result (IsTrue (state S.Store conn.old).is_open) }
     ensures rows { HasCleanDisk (state S.Store conn.new) → HasTables (state S.Store conn.old).now.schema
-        → IfOk result (λ rows. HaveRows (state S.Store conn.old).now
-        × AreAll (tables_of (state S.Store conn.old).now.trees) rows) }
-    ensures read { HasCleanDisk (state S.Store conn.new) → HasTables (state S.Store conn.old).now.schema
-        → OnOk result (HasRead (state S.Store conn.old) (state S.Store conn.new)) }
+        → IfOk result (IsReadOut (state S.Store conn.old) (state S.Store conn.new)) }
     ensures err { HasCleanDisk (state S.Store conn.new) → HasTables (state S.Store conn.old).now.schema
         → OnErr result (KeepsCommit (state S.Store conn.old) (state S.Store conn.new)) }
     ensures bad { HasCleanDisk (state S.Store conn.new) → HasTables (state S.Store conn.old).now.schema
@@ -103,18 +100,9 @@ fn read_at_once<S: Alter>(conn: &mut Connection<S>, alloc: Global) -> Result<All
 
 /// The same, in any database.
 fn read_database<S: Alter>(conn: &mut Connection<S>, alloc: Global) -> Result<AllRows, AdoptFault>
-    ensures schema { OnOk result (HasTables (state S.Store conn.old).now.schema) }
-    ensures open { HasCleanDisk (state S.Store conn.new) → OnOk result (IsTrue (state S.Store conn.old).is_open) }
     ensures rows { HasCleanDisk (state S.Store conn.new)
-        → IfOk result (λ rows. HaveRows (state S.Store conn.old).now
-        × AreAll (tables_of (state S.Store conn.old).now.trees) rows) }
-    ensures read { HasCleanDisk (state S.Store conn.new)
-        → OnOk result (HasRead (state S.Store conn.old) (state S.Store conn.new)) }
-    ensures err { HasCleanDisk (state S.Store conn.new)
-        → OnErr result (KeepsCommit (state S.Store conn.old) (state S.Store conn.new)) }
-    ensures bad { HasCleanDisk (state S.Store conn.new)
-        → IfErr result (Blames (HasReadRows (state S.Store conn.old).now)) }
-    ensures clean { HasCleanDisk (state S.Store conn.new) → HasCleanDisk (state S.Store conn.old) }
+        → IfOk result (IsReadOut (state S.Store conn.old) (state S.Store conn.new)) }
+    ensures reading { IsReading KeepsCommit HasReadRows (state S.Store conn.old) (state S.Store conn.new) result }
 {
     if !has_tables(conn) {
         return Err(AdoptFault::BadRows);
@@ -128,15 +116,9 @@ fn read_database<S: Alter>(conn: &mut Connection<S>, alloc: Global) -> Result<Al
 pub fn read_store<S: Alter>(conn: &mut Connection<S>, alloc: Global) -> Result<AllRows, AdoptFault>
     requires described { HasCleanDisk (state S.Store conn.old)
         → AreRows is_meta_row ((state S.Store conn.old).now.trees 5) }
-    ensures schema { OnOk result (HasTables (state S.Store conn.old).now.schema) }
-    ensures open { HasCleanDisk (state S.Store conn.new) → OnOk result (IsTrue (state S.Store conn.old).is_open) }
     ensures adopted { HasCleanDisk (state S.Store conn.new)
         → IfOk result (IsAdopted (state S.Store conn.old) (state S.Store conn.new)) }
-    ensures ended { HasCleanDisk (state S.Store conn.new)
-        → OnErr result (HasEnded (state S.Store conn.old) (state S.Store conn.new)) }
-    ensures bad { HasCleanDisk (state S.Store conn.new)
-        → IfErr result (Blames (HasReadRows (state S.Store conn.old).now)) }
-    ensures clean { HasCleanDisk (state S.Store conn.new) → HasCleanDisk (state S.Store conn.old) }
+    ensures reading { IsReading HasEnded HasReadRows (state S.Store conn.old) (state S.Store conn.new) result }
 {
     match read_database(conn, alloc) {
         Ok(rows) => Ok(rows),
@@ -152,11 +134,10 @@ fn describe_at_once<S: Alter>(
     conn: &mut Connection<S>,
     alloc: Global,
 ) -> Result<MetaRow, AdoptFault>
-    ensures open { HasCleanDisk (state S.Store conn.new) → OnOk result (IsTrue (state S.Store conn.old).is_open) }
+    ensures was_open { HasCleanDisk (state S.Store conn.new) → OnOk result (IsTrue (state S.Store conn.old).is_open) }
     ensures described { HasCleanDisk (state S.Store conn.new) → HasTables (state S.Store conn.old).now.schema
-        → IfOk result (λ m. IsDescribed m (state S.Store conn.old).now) }
-    ensures read { HasCleanDisk (state S.Store conn.new) → HasTables (state S.Store conn.old).now.schema
-        → OnOk result (HasRead (state S.Store conn.old) (state S.Store conn.new)) }
+        → IfOk result (λ m. IsDescribed m (state S.Store conn.old).now
+        × HasRead (state S.Store conn.old) (state S.Store conn.new)) }
     ensures err { HasCleanDisk (state S.Store conn.new) → HasTables (state S.Store conn.old).now.schema
         → OnErr result (KeepsCommit (state S.Store conn.old) (state S.Store conn.new)) }
     ensures bad { HasCleanDisk (state S.Store conn.new) → HasTables (state S.Store conn.old).now.schema
@@ -174,17 +155,10 @@ fn describe_database<S: Alter>(
     conn: &mut Connection<S>,
     alloc: Global,
 ) -> Result<MetaRow, AdoptFault>
-    ensures schema { OnOk result (HasTables (state S.Store conn.old).now.schema) }
-    ensures open { HasCleanDisk (state S.Store conn.new) → OnOk result (IsTrue (state S.Store conn.old).is_open) }
     ensures described { HasCleanDisk (state S.Store conn.new)
-        → IfOk result (λ m. IsDescribed m (state S.Store conn.old).now) }
-    ensures read { HasCleanDisk (state S.Store conn.new)
-        → OnOk result (HasRead (state S.Store conn.old) (state S.Store conn.new)) }
-    ensures err { HasCleanDisk (state S.Store conn.new)
-        → OnErr result (KeepsCommit (state S.Store conn.old) (state S.Store conn.new)) }
-    ensures bad { HasCleanDisk (state S.Store conn.new)
-        → IfErr result (Blames (HasDescription (state S.Store conn.old).now)) }
-    ensures clean { HasCleanDisk (state S.Store conn.new) → HasCleanDisk (state S.Store conn.old) }
+        → IfOk result (λ m. IsDescribed m (state S.Store conn.old).now
+        × HasRead (state S.Store conn.old) (state S.Store conn.new)) }
+    ensures reading { IsReading KeepsCommit HasDescription (state S.Store conn.old) (state S.Store conn.new) result }
 {
     if !has_tables(conn) {
         return Err(AdoptFault::BadRows);
@@ -199,17 +173,11 @@ pub fn read_description<S: Alter>(
     conn: &mut Connection<S>,
     alloc: Global,
 ) -> Result<MetaRow, AdoptFault>
-    ensures schema { OnOk result (HasTables (state S.Store conn.old).now.schema) }
-    ensures open { HasCleanDisk (state S.Store conn.new) → OnOk result (IsTrue (state S.Store conn.old).is_open) }
     ensures described { HasCleanDisk (state S.Store conn.new)
         → IfOk result (λ m. IsDescribed m (state S.Store conn.old).now) }
     ensures read { HasCleanDisk (state S.Store conn.new)
         → OnOk result (HasRead (state S.Store conn.old) (state S.Store conn.new)) }
-    ensures ended { HasCleanDisk (state S.Store conn.new)
-        → OnErr result (HasEnded (state S.Store conn.old) (state S.Store conn.new)) }
-    ensures bad { HasCleanDisk (state S.Store conn.new)
-        → IfErr result (Blames (HasDescription (state S.Store conn.old).now)) }
-    ensures clean { HasCleanDisk (state S.Store conn.new) → HasCleanDisk (state S.Store conn.old) }
+    ensures reading { IsReading HasEnded HasDescription (state S.Store conn.old) (state S.Store conn.new) result }
 {
     match describe_database(conn, alloc) {
         Ok(row) => Ok(row),

@@ -6,21 +6,21 @@ ghost use Rattle.mls_statements.specs.Rows.{Tables, no_rows};
 use std::marker::{Model, PhantomData};
 
 #[derive(Drop)]
-pub struct Remembered {
+pub struct GhostRows {
     marker: PhantomData<u8>,
     pub ghost rows: { Tables },
 }
 
-impl Model for Remembered {
+impl Model for GhostRows {
     ghost also_owns = { λ _. ftrue };
 }
 
-impl Remembered {
+impl GhostRows {
     /// No rows are remembered.
-    pub fn new() -> Remembered
+    pub fn new() -> GhostRows
         ensures { result.rows ≡ no_rows }
     {
-        Remembered {
+        GhostRows {
             marker: PhantomData,
         }
     }

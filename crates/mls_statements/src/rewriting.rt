@@ -7,7 +7,7 @@ ghost use Rattle.mls_statements.specs.Store.{HasEnded};
 
 use crate::rows::{CellRow, NodeRow};
 use crate::statements::{cell, change, meta, node};
-use crate::store::{Failures, StoreFault, fall};
+use crate::store::{GhostCount, StoreFault, abandon_unless_ended};
 use sqlite::{Alter, Connection, Error};
 
 /// Drops every node, every cell and the row that describes the store, in a change.
@@ -87,6 +87,6 @@ pub fn rewrite_store<S: Alter>(
 {
     match replace_at_once(conn, nodes, cells, version, lattice, schemes) {
         Ok(_) => Ok(()),
-        Err(error) => Err(fall(conn, &mut Failures::new(), error)),
+        Err(error) => Err(abandon_unless_ended(conn, &mut GhostCount::new(), error)),
     }
 }

@@ -8,10 +8,10 @@ ghost use Rattle.sqlite.specs.declared.error.ErrorCode.TheVariants.{OutOfMemory}
 ghost use Rattle.mls_statements.specs.declared.rows.CellRow.{CellRow as SpecCell};
 ghost use Rattle.mls_statements.specs.Rows.{Tables, tables_of, described, is_node_at, is_node_among, is_node, is_cell_at, is_cell_among, is_cell_in, cell_beside};
 ghost use Rattle.mls_statements.specs.Schema.{no_schema};
-ghost use Rattle.mls_statements.specs.Statements.{IsReady, AddsNode, DropsNode, AddsCells, SetsCell, DropsCells, AddsEntry, ClearsEntries, IsOne, has_key_of, HasSettled};
-ghost use Rattle.mls_statements.specs.Store.{IsClean, IsFault, IsCall, HasFailed, Writes, IsSame, HasEnded};
+ghost use Rattle.mls_statements.specs.Statements.{IsSchemaReady, AddsNode, DropsNode, AddsCells, SetsCell, DropsCells, AddsEntry, ClearsEntries, IsOne, has_key_of, HasSettled};
+ghost use Rattle.mls_statements.specs.Store.{IsClean, IsStoreFault, IsStoreCall, HasFailed, Writes, IsSame, HasEnded, HasFallen};
 
-use crate::remembered::Remembered;
+use crate::remembered::GhostRows;
 use crate::rows::{AuditRow, CellRow, NodeRow, OwnCell};
 use crate::statements::{audit, cell, change, creation, node};
 use mls_lattice::Items;
@@ -30,20 +30,20 @@ pub enum StoreFault {
 
 /// How many calls failed, as a number that only clauses read.
 #[derive(Drop)]
-pub(crate) struct Failures {
+pub(crate) struct GhostCount {
     marker: PhantomData<u8>,
     ghost count: { ℕ },
 }
 
-impl Model for Failures {
+impl Model for GhostCount {
     ghost also_owns = { λ _. ftrue };
 }
 
-impl Failures {
-    pub(crate) fn new() -> Failures
+impl GhostCount {
+    pub(crate) fn new() -> GhostCount
         ensures { result.count ≡ 0 }
     {
-        Failures {
+        GhostCount {
             marker: PhantomData,
         }
     }
@@ -64,23 +64,23 @@ pub struct TableStore<S: Alter> {
     conn: Connection<S>,
     alloc: Global,
     begun: bool,
-    failures: Failures,
-    last: Remembered,
+    failures: GhostCount,
+    last: GhostRows,
 }
 
 impl<S: Alter> Model for TableStore<S> {
     ghost use Rattle.sqlite.specs.Held.{state};
-    ghost use Rattle.mls_statements.specs.Store.{TableState, table_state, IsSound};
+    ghost use Rattle.mls_statements.specs.Store.{TableState, table_state, MatchesConnection};
 
     ghost Value = { TableState };
 
     ghost view = { λ t. table_state (state S.Store t.conn) t.begun t.failures.count t.last.rows };
 
-    ghost invariant = { λ t. IsSound (state S.Store t.conn) t.begun t.last.rows };
+    ghost invariant = { λ t. MatchesConnection (state S.Store t.conn) t.begun t.last.rows };
 }
 
 /// Notes the rows that the connection committed, which only clauses read.
-fn remember<S: Alter>(last: &mut Remembered, _conn: &Connection<S>)
+fn remember<S: Alter>(last: &mut GhostRows, _conn: &Connection<S>)
     ghost rows: { Tables }
     ensures { last.new.rows ≡ rows }
 {
@@ -88,7 +88,7 @@ fn remember<S: Alter>(last: &mut Remembered, _conn: &Connection<S>)
 }
 
 /// One more call failed, for another cause than want of memory.
-fn rise(count: &mut Failures, _error: Error)
+fn rise(count: &mut GhostCount, _error: Error)
     requires { _error ≢ SqliteFailure OutOfMemory }
     ensures { count.new.count ≡ count.old.count + 1 }
 {
@@ -96,7 +96,7 @@ fn rise(count: &mut Failures, _error: Error)
 }
 
 /// Notes why a call failed.
-fn blame(count: &mut Failures, error: Error) -> StoreFault
+fn count_failure(count: &mut GhostCount, error: Error) -> StoreFault
     ensures cause { result ≡ StoreFault.Memory ↔ error ≡ SqliteFailure OutOfMemory }
     ensures store { result ≡ StoreFault.Store → count.new.count ≡ count.old.count + 1 }
     ensures memory { result ≢ StoreFault.Store → count.new.count ≡ count.old.count }
@@ -111,42 +111,34 @@ fn blame(count: &mut Failures, error: Error) -> StoreFault
 }
 
 /// Ends the change after a failed call, if it has not ended, and says why the call failed.
-pub(crate) fn fall<S: Alter>(
+pub(crate) fn abandon_unless_ended<S: Alter>(
     conn: &mut Connection<S>,
-    failures: &mut Failures,
+    failures: &mut GhostCount,
     error: Error,
 ) -> StoreFault
-    ensures clean { HasCleanDisk (state S.Store conn.new) → HasCleanDisk (state S.Store conn.old) }
-    ensures ended { HasCleanDisk (state S.Store conn.new) → HasEnded (state S.Store conn.old) (state S.Store conn.new) }
-    ensures cause { result ≡ StoreFault.Memory ↔ error ≡ SqliteFailure OutOfMemory }
-    ensures faults { (state S.Store conn.old).faults ≤ (state S.Store conn.new).faults }
-    ensures count { failures.old.count ≤ failures.new.count }
-    ensures store { result ≡ StoreFault.Store → failures.old.count < failures.new.count }
+    ensures { HasFallen (state S.Store conn.old) (state S.Store conn.new) failures.old.count failures.new.count
+        error result }
 {
-    let fault = blame(failures, error);
+    let fault = count_failure(failures, error);
     if let Err(other) = change::end(conn) {
-        blame(failures, other);
+        count_failure(failures, other);
     }
     fault
 }
 
 /// Ends the change after a failed call, so that none is begun, and says why the call failed.
-fn fail<S: Alter>(
+fn abandon_after<S: Alter>(
     conn: &mut Connection<S>,
     begun: &mut bool,
-    failures: &mut Failures,
+    failures: &mut GhostCount,
     error: Error,
 ) -> StoreFault
-    ensures clean { HasCleanDisk (state S.Store conn.new) → HasCleanDisk (state S.Store conn.old) }
-    ensures ended { HasCleanDisk (state S.Store conn.new) → HasEnded (state S.Store conn.old) (state S.Store conn.new) }
+    ensures fallen { HasFallen (state S.Store conn.old) (state S.Store conn.new) failures.old.count failures.new.count
+        error result }
     ensures mode { begun.new ≡ false }
-    ensures cause { result ≡ StoreFault.Memory ↔ error ≡ SqliteFailure OutOfMemory }
-    ensures faults { (state S.Store conn.old).faults ≤ (state S.Store conn.new).faults }
-    ensures count { failures.old.count ≤ failures.new.count }
-    ensures store { result ≡ StoreFault.Store → failures.old.count < failures.new.count }
 {
     *begun = false;
-    fall(conn, failures, error)
+    abandon_unless_ended(conn, failures, error)
 }
 
 impl<S: Alter> TableStore<S> {
@@ -169,7 +161,10 @@ impl<S: Alter> TableStore<S> {
     {
         match creation::create_store(&mut conn, version, lattice, schemes) {
             Ok(_) => Ok(TableStore::over(alloc, conn)),
-            Err(error) => Err((fall(&mut conn, &mut Failures::new(), error), conn)),
+            Err(error) => Err((
+                abandon_unless_ended(&mut conn, &mut GhostCount::new(), error),
+                conn,
+            )),
         }
     }
 
@@ -181,13 +176,13 @@ impl<S: Alter> TableStore<S> {
         ensures mode { result.begun ≡ false }
         ensures clean { IsClean result → HasCleanDisk (state S.Store conn) }
     {
-        let mut last = Remembered::new();
+        let mut last = GhostRows::new();
         remember(&mut last, &conn);
         TableStore {
             conn,
             alloc,
             begun: false,
-            failures: Failures::new(),
+            failures: GhostCount::new(),
             last,
         }
     }
@@ -199,7 +194,7 @@ impl<S: Alter> TableStore<S> {
         ensures mode { HasCleanDisk (state S.Store result) → IsTrue (state S.Store result).is_open
             → (state S.Store result).in_transaction ≡ false }
         ensures rows { HasCleanDisk (state S.Store result) → IsTrue (state S.Store result).is_open
-            → IsReady (state S.Store result).now × (tables_of (state S.Store result).now.trees ≡ self.now) }
+            → IsSchemaReady (state S.Store result).now × (tables_of (state S.Store result).now.trees ≡ self.now) }
     {
         let TableStore {
             conn,
@@ -214,12 +209,12 @@ impl<S: Alter> TableStore<S> {
     /// Ends the change, if one is begun: the rows are those of the last commit.
     pub fn abandon(&mut self)
         ensures clean { IsClean self.new → IsClean self.old }
-        ensures fault { IsFault StoreFault.Memory self.old self.new }
+        ensures fault { IsStoreFault StoreFault.Memory self.old self.new }
         ensures count { self.old.failures ≤ self.new.failures }
     {
         self.begun = false;
         if let Err(other) = change::end(&mut self.conn) {
-            blame(&mut self.failures, other);
+            count_failure(&mut self.failures, other);
         }
     }
 
@@ -229,7 +224,7 @@ impl<S: Alter> TableStore<S> {
     pub fn condemn(&mut self)
         requires { IsClean self.old → ⊥ }
         ensures clean { IsClean self.new → ⊥ }
-        ensures fault { IsFault StoreFault.Store self.old self.new }
+        ensures fault { IsStoreFault StoreFault.Store self.old self.new }
     {
         rise(
             &mut self.failures,
@@ -250,7 +245,7 @@ impl<S: Alter> TableStore<S> {
     /// is not said.
     pub fn begin(&mut self) -> Result<(), StoreFault>
         requires begun { self.old.begun ≡ false }
-        ensures call { IsCall self.old self.new result }
+        ensures call { IsStoreCall self.old self.new result }
         ensures cause { IsClean self.new → IfErr result (λ e. e ≡ StoreFault.Store → HasFailed self.old self.new) }
         ensures mode { OnOk result (self.new.begun ≡ true) }
         ensures done { IsClean self.new → OnOk result ((self.new.now ≡ self.old.now) × (self.new.kept ≡ self.old.now)) }
@@ -260,14 +255,19 @@ impl<S: Alter> TableStore<S> {
                 self.begun = true;
                 Ok(())
             }
-            Err(error) => Err(fail(&mut self.conn, &mut self.begun, &mut self.failures, error)),
+            Err(error) => Err(abandon_after(
+                &mut self.conn,
+                &mut self.begun,
+                &mut self.failures,
+                error,
+            )),
         }
     }
 
     /// Keeps what the change did, and ends it.
     pub fn commit(&mut self) -> Result<(), StoreFault>
         requires begun { self.old.begun ≡ true }
-        ensures call { IsCall self.old self.new result }
+        ensures call { IsStoreCall self.old self.new result }
         ensures cause { IsClean self.new → IfErr result (λ e. e ≡ StoreFault.Store → HasFailed self.old self.new) }
         ensures mode { OnOk result (self.new.begun ≡ false) }
         ensures done { IsClean self.new → OnOk result ((self.new.now ≡ self.old.now) × (self.new.kept ≡ self.old.now)) }
@@ -278,14 +278,19 @@ impl<S: Alter> TableStore<S> {
                 remember(&mut self.last, &self.conn);
                 Ok(())
             }
-            Err(error) => Err(fail(&mut self.conn, &mut self.begun, &mut self.failures, error)),
+            Err(error) => Err(abandon_after(
+                &mut self.conn,
+                &mut self.begun,
+                &mut self.failures,
+                error,
+            )),
         }
     }
 
     /// Goes back to the last commit, and ends the change.
     pub fn rollback(&mut self) -> Result<(), StoreFault>
         requires begun { self.old.begun ≡ true }
-        ensures call { IsCall self.old self.new result }
+        ensures call { IsStoreCall self.old self.new result }
         ensures cause { IsClean self.new → IfErr result (λ e. e ≡ StoreFault.Store → HasFailed self.old self.new) }
         ensures mode { OnOk result (self.new.begun ≡ false) }
         ensures done { IsClean self.new → OnOk result ((self.new.now ≡ self.old.kept)
@@ -294,20 +299,25 @@ impl<S: Alter> TableStore<S> {
         self.begun = false;
         match change::end(&mut self.conn) {
             Ok(()) => Ok(()),
-            Err(error) => Err(fall(&mut self.conn, &mut self.failures, error)),
+            Err(error) => Err(abandon_unless_ended(&mut self.conn, &mut self.failures, error)),
         }
     }
 
     /// Adds a node.
     pub fn add_node(&mut self, node: &NodeRow) -> Result<(), StoreFault>
         requires begun { self.old.begun ≡ true }
-        ensures call { IsCall self.old self.new result }
+        ensures call { IsStoreCall self.old self.new result }
         ensures mode { OnOk result (self.new.begun ≡ true) }
         ensures done { IsClean self.new → OnOk result (Writes (AddsNode node.now) self.old self.new) }
     {
         match node::add_node(&mut self.conn, node) {
             Ok(_) => Ok(()),
-            Err(error) => Err(fail(&mut self.conn, &mut self.begun, &mut self.failures, error)),
+            Err(error) => Err(abandon_after(
+                &mut self.conn,
+                &mut self.begun,
+                &mut self.failures,
+                error,
+            )),
         }
     }
 
@@ -320,33 +330,43 @@ impl<S: Alter> TableStore<S> {
         label: u32,
     ) -> Result<(), StoreFault>
         requires begun { self.old.begun ≡ true }
-        ensures call { IsCall self.old self.new result }
+        ensures call { IsStoreCall self.old self.new result }
         ensures mode { OnOk result (self.new.begun ≡ true) }
         ensures done { IsClean self.new → OnOk result (Writes (DropsNode rel ent.now kclass label) self.old self.new) }
     {
         match node::drop_node(&mut self.conn, rel, ent, kclass, label) {
             Ok(_) => Ok(()),
-            Err(error) => Err(fail(&mut self.conn, &mut self.begun, &mut self.failures, error)),
+            Err(error) => Err(abandon_after(
+                &mut self.conn,
+                &mut self.begun,
+                &mut self.failures,
+                error,
+            )),
         }
     }
 
     /// The nodes of one class.
-    pub fn nodes_at(&mut self, rel: u32, label: u32) -> Result<Vec<NodeRow>, StoreFault>
-        ensures call { IsCall self.old self.new result }
+    pub fn nodes_of_class(&mut self, rel: u32, label: u32) -> Result<Vec<NodeRow>, StoreFault>
+        ensures call { IsStoreCall self.old self.new result }
         ensures mode { OnOk result (self.new.begun ≡ self.old.begun) }
         ensures found { IsClean self.new → IfOk result
             (λ rows. IsPermutation (filter (is_node_at rel label) self.old.now.nodes) rows.items) }
         ensures same { IsClean self.new → OnOk result (IsSame self.old self.new) }
     {
-        match node::read_nodes_at(&mut self.conn, self.alloc, rel, label) {
+        match node::read_nodes_of_class(&mut self.conn, self.alloc, rel, label) {
             Ok(rows) => Ok(rows),
-            Err(error) => Err(fail(&mut self.conn, &mut self.begun, &mut self.failures, error)),
+            Err(error) => Err(abandon_after(
+                &mut self.conn,
+                &mut self.begun,
+                &mut self.failures,
+                error,
+            )),
         }
     }
 
     /// The nodes of the labels whose bits are set, in one scan of the table.
     pub fn nodes_among(&mut self, rel: u32, labels: u64) -> Result<Vec<NodeRow>, StoreFault>
-        ensures call { IsCall self.old self.new result }
+        ensures call { IsStoreCall self.old self.new result }
         ensures mode { OnOk result (self.new.begun ≡ self.old.begun) }
         ensures found { IsClean self.new → IfOk result
             (λ rows. IsPermutation (filter (is_node_among rel labels) self.old.now.nodes) rows.items) }
@@ -354,62 +374,82 @@ impl<S: Alter> TableStore<S> {
     {
         match node::read_nodes_among(&mut self.conn, self.alloc, rel, labels) {
             Ok(rows) => Ok(rows),
-            Err(error) => Err(fail(&mut self.conn, &mut self.begun, &mut self.failures, error)),
+            Err(error) => Err(abandon_after(
+                &mut self.conn,
+                &mut self.begun,
+                &mut self.failures,
+                error,
+            )),
         }
     }
 
     /// The node at a key, where there is one.
-    pub fn nodes_of(
+    pub fn nodes_of_key(
         &mut self,
         rel: u32,
         ent: &[u8],
         kclass: u32,
         label: u32,
     ) -> Result<Vec<NodeRow>, StoreFault>
-        ensures call { IsCall self.old self.new result }
+        ensures call { IsStoreCall self.old self.new result }
         ensures mode { OnOk result (self.new.begun ≡ self.old.begun) }
         ensures found { IsClean self.new → IfOk result
             (λ rows. IsPermutation (filter (is_node rel ent.now kclass label) self.old.now.nodes) rows.items) }
         ensures same { IsClean self.new → OnOk result (IsSame self.old self.new) }
     {
-        match node::read_nodes_of(&mut self.conn, self.alloc, rel, ent, kclass, label) {
+        match node::read_nodes_of_key(&mut self.conn, self.alloc, rel, ent, kclass, label) {
             Ok(rows) => Ok(rows),
-            Err(error) => Err(fail(&mut self.conn, &mut self.begun, &mut self.failures, error)),
+            Err(error) => Err(abandon_after(
+                &mut self.conn,
+                &mut self.begun,
+                &mut self.failures,
+                error,
+            )),
         }
     }
 
     /// The pattern of the node at a key, where there is one.
-    pub fn patterns_of(
+    pub fn patterns_of_key(
         &mut self,
         rel: u32,
         ent: &[u8],
         kclass: u32,
         label: u32,
     ) -> Result<Vec<Items<u8>>, StoreFault>
-        ensures call { IsCall self.old self.new result }
+        ensures call { IsStoreCall self.old self.new result }
         ensures mode { OnOk result (self.new.begun ≡ self.old.begun) }
         ensures found { IsClean self.new → IfOk result
             (λ patterns. IsPermutation (map (λ n. n.pattern)
             (filter (is_node rel ent.now kclass label) self.old.now.nodes)) patterns.items) }
         ensures same { IsClean self.new → OnOk result (IsSame self.old self.new) }
     {
-        match node::read_patterns_of(&mut self.conn, self.alloc, rel, ent, kclass, label) {
+        match node::read_patterns_of_key(&mut self.conn, self.alloc, rel, ent, kclass, label) {
             Ok(patterns) => Ok(patterns),
-            Err(error) => Err(fail(&mut self.conn, &mut self.begun, &mut self.failures, error)),
+            Err(error) => Err(abandon_after(
+                &mut self.conn,
+                &mut self.begun,
+                &mut self.failures,
+                error,
+            )),
         }
     }
 
     /// Adds the cells of a tuple's own class beside its node.
     pub fn add_cells(&mut self, node: &NodeRow, cells: &[OwnCell]) -> Result<(), StoreFault>
         requires begun { self.old.begun ≡ true }
-        ensures call { IsCall self.old self.new result }
+        ensures call { IsStoreCall self.old self.new result }
         ensures mode { OnOk result (self.new.begun ≡ true) }
         ensures done { IsClean self.new → OnOk result
             (Writes (AddsCells (map (cell_beside node.now) cells.now)) self.old self.new) }
     {
         match cell::add_own(&mut self.conn, self.alloc, node, cells) {
             Ok(()) => Ok(()),
-            Err(error) => Err(fail(&mut self.conn, &mut self.begun, &mut self.failures, error)),
+            Err(error) => Err(abandon_after(
+                &mut self.conn,
+                &mut self.begun,
+                &mut self.failures,
+                error,
+            )),
         }
     }
 
@@ -417,13 +457,18 @@ impl<S: Alter> TableStore<S> {
     pub fn set_cell(&mut self, cell: &CellRow) -> Result<(), StoreFault>
         requires begun { self.old.begun ≡ true }
         requires there { IsClean self.old → (was : SpecCell) × IsOne (has_key_of cell.now) self.old.now.cells was }
-        ensures call { IsCall self.old self.new result }
+        ensures call { IsStoreCall self.old self.new result }
         ensures mode { OnOk result (self.new.begun ≡ true) }
         ensures done { IsClean self.new → OnOk result (Writes (SetsCell cell.now) self.old self.new) }
     {
         match cell::set_cell(&mut self.conn, cell) {
             Ok(_) => Ok(()),
-            Err(error) => Err(fail(&mut self.conn, &mut self.begun, &mut self.failures, error)),
+            Err(error) => Err(abandon_after(
+                &mut self.conn,
+                &mut self.begun,
+                &mut self.failures,
+                error,
+            )),
         }
     }
 
@@ -436,33 +481,43 @@ impl<S: Alter> TableStore<S> {
         label: u32,
     ) -> Result<(), StoreFault>
         requires begun { self.old.begun ≡ true }
-        ensures call { IsCall self.old self.new result }
+        ensures call { IsStoreCall self.old self.new result }
         ensures mode { OnOk result (self.new.begun ≡ true) }
         ensures done { IsClean self.new → OnOk result (Writes (DropsCells rel ent.now kclass label) self.old self.new) }
     {
         match cell::drop_cells(&mut self.conn, rel, ent, kclass, label) {
             Ok(_) => Ok(()),
-            Err(error) => Err(fail(&mut self.conn, &mut self.begun, &mut self.failures, error)),
+            Err(error) => Err(abandon_after(
+                &mut self.conn,
+                &mut self.begun,
+                &mut self.failures,
+                error,
+            )),
         }
     }
 
     /// The cells of one class.
-    pub fn cells_at(&mut self, rel: u32, label: u32) -> Result<Vec<CellRow>, StoreFault>
-        ensures call { IsCall self.old self.new result }
+    pub fn cells_of_class(&mut self, rel: u32, label: u32) -> Result<Vec<CellRow>, StoreFault>
+        ensures call { IsStoreCall self.old self.new result }
         ensures mode { OnOk result (self.new.begun ≡ self.old.begun) }
         ensures found { IsClean self.new → IfOk result
             (λ rows. IsPermutation (filter (is_cell_at rel label) self.old.now.cells) rows.items) }
         ensures same { IsClean self.new → OnOk result (IsSame self.old self.new) }
     {
-        match cell::read_cells_at(&mut self.conn, self.alloc, rel, label) {
+        match cell::read_cells_of_class(&mut self.conn, self.alloc, rel, label) {
             Ok(rows) => Ok(rows),
-            Err(error) => Err(fail(&mut self.conn, &mut self.begun, &mut self.failures, error)),
+            Err(error) => Err(abandon_after(
+                &mut self.conn,
+                &mut self.begun,
+                &mut self.failures,
+                error,
+            )),
         }
     }
 
     /// The cells of the labels whose bits are set, in one scan of the table.
     pub fn cells_among(&mut self, rel: u32, labels: u64) -> Result<Vec<CellRow>, StoreFault>
-        ensures call { IsCall self.old self.new result }
+        ensures call { IsStoreCall self.old self.new result }
         ensures mode { OnOk result (self.new.begun ≡ self.old.begun) }
         ensures found { IsClean self.new → IfOk result
             (λ rows. IsPermutation (filter (is_cell_among rel labels) self.old.now.cells) rows.items) }
@@ -470,27 +525,37 @@ impl<S: Alter> TableStore<S> {
     {
         match cell::read_cells_among(&mut self.conn, self.alloc, rel, labels) {
             Ok(rows) => Ok(rows),
-            Err(error) => Err(fail(&mut self.conn, &mut self.begun, &mut self.failures, error)),
+            Err(error) => Err(abandon_after(
+                &mut self.conn,
+                &mut self.begun,
+                &mut self.failures,
+                error,
+            )),
         }
     }
 
     /// The cells of one tuple's own class.
-    pub fn cells_of(
+    pub fn cells_of_tuple(
         &mut self,
         rel: u32,
         ent: &[u8],
         kclass: u32,
         label: u32,
     ) -> Result<Vec<CellRow>, StoreFault>
-        ensures call { IsCall self.old self.new result }
+        ensures call { IsStoreCall self.old self.new result }
         ensures mode { OnOk result (self.new.begun ≡ self.old.begun) }
         ensures found { IsClean self.new → IfOk result
             (λ rows. IsPermutation (filter (is_cell_in rel ent.now kclass label) self.old.now.cells) rows.items) }
         ensures same { IsClean self.new → OnOk result (IsSame self.old self.new) }
     {
-        match cell::read_cells_of(&mut self.conn, self.alloc, rel, ent, kclass, label) {
+        match cell::read_cells_of_tuple(&mut self.conn, self.alloc, rel, ent, kclass, label) {
             Ok(rows) => Ok(rows),
-            Err(error) => Err(fail(&mut self.conn, &mut self.begun, &mut self.failures, error)),
+            Err(error) => Err(abandon_after(
+                &mut self.conn,
+                &mut self.begun,
+                &mut self.failures,
+                error,
+            )),
         }
     }
 
@@ -498,40 +563,55 @@ impl<S: Alter> TableStore<S> {
     /// ones.
     pub fn add_entry(&mut self, entry: &AuditRow) -> Result<(), StoreFault>
         requires begun { self.old.begun ≡ true }
-        ensures call { IsCall self.old self.new result }
+        ensures call { IsStoreCall self.old self.new result }
         ensures mode { OnOk result (self.new.begun ≡ true) }
         ensures done { IsClean self.new → OnOk result (Writes (AddsEntry entry.now) self.old self.new) }
     {
         match audit::add_entry(&mut self.conn, entry) {
             Ok(_) => Ok(()),
-            Err(error) => Err(fail(&mut self.conn, &mut self.begun, &mut self.failures, error)),
+            Err(error) => Err(abandon_after(
+                &mut self.conn,
+                &mut self.begun,
+                &mut self.failures,
+                error,
+            )),
         }
     }
 
     /// Drops every entry.
     pub fn clear_entries(&mut self) -> Result<(), StoreFault>
         requires begun { self.old.begun ≡ true }
-        ensures call { IsCall self.old self.new result }
+        ensures call { IsStoreCall self.old self.new result }
         ensures mode { OnOk result (self.new.begun ≡ true) }
         ensures done { IsClean self.new → OnOk result (Writes ClearsEntries self.old self.new) }
     {
         match audit::clear_entries(&mut self.conn) {
             Ok(_) => Ok(()),
-            Err(error) => Err(fail(&mut self.conn, &mut self.begun, &mut self.failures, error)),
+            Err(error) => Err(abandon_after(
+                &mut self.conn,
+                &mut self.begun,
+                &mut self.failures,
+                error,
+            )),
         }
     }
 
     /// Every entry, in any order. A base orders them and tests their numbers, which it knows over a clean
     /// store.
     pub fn entries(&mut self) -> Result<Vec<AuditRow>, StoreFault>
-        ensures call { IsCall self.old self.new result }
+        ensures call { IsStoreCall self.old self.new result }
         ensures mode { OnOk result (self.new.begun ≡ self.old.begun) }
         ensures found { IsClean self.new → IfOk result (λ rows. IsPermutation self.old.now.audit rows.items) }
         ensures same { IsClean self.new → OnOk result (IsSame self.old self.new) }
     {
         match audit::read_entries(&mut self.conn, self.alloc) {
             Ok(rows) => Ok(rows),
-            Err(error) => Err(fail(&mut self.conn, &mut self.begun, &mut self.failures, error)),
+            Err(error) => Err(abandon_after(
+                &mut self.conn,
+                &mut self.begun,
+                &mut self.failures,
+                error,
+            )),
         }
     }
 }

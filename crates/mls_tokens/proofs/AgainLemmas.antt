@@ -17,7 +17,7 @@ use Rattle.mls_tokens.specs.declared.sign.Sign.{Sign}
 use Rattle.mls_tokens.specs.Sign.{sign_text, sign_goes_on}
 use Rattle.mls_tokens.specs.Writing.{is_control, is_escaped, quoted_byte, quoted}
 use Rattle.mls_tokens.specs.Text.{is_blank, IsWord, IsDigits, IsInt, IsText, Spells, goes_on}
-use Rattle.mls_tokens.specs.Scanning.{word_at, int_in, int_len, int_at, starts_int, text_at, utf8_of, quoted_at, token_at}
+use Rattle.mls_tokens.specs.Scanning.{leading_word, int_value, int_length, leading_int, starts_int, text_at, utf8_of, leading_quoted, leading_token}
 use Rattle.mls_tokens.proofs.RunLemmas.{AllAre, run_len}
 use Rattle.mls_tokens.proofs.SignLemmas.{sign_again, are_sign_bytes, sign_bytes}
 use Rattle.mls_tokens.proofs.GapLemmas.{begins_gap}
@@ -27,8 +27,8 @@ digits_all : (ds : List ℕ) → all_ascii_digits ds ≡ true → AllAre is_asci
 digits_all [] h = tt
 digits_all (d ∷ ds) h = let p = and_parts (is_ascii_digit d) (all_ascii_digits ds) h in (p.0, digits_all ds p.1)
 
-word_again : (text rest : List ℕ) → IsWord text → is_name_byte (slice_index rest 0) ≡ false → word_at (text ++ rest) ≡ Ok (text, rest)
-unfolding word_at
+word_again : (text rest : List ℕ) → IsWord text → is_name_byte (slice_index rest 0) ≡ false → leading_word (text ++ rest) ≡ Ok (text, rest)
+unfolding leading_word
 word_again text rest h ends = rw (run_len is_name_byte text rest h.bytes ends, le-ltb 32 (length text) h.short, take_at text rest (length text) refl, drop_at text rest (length text) refl) refl
 
 -- ---- numbers
@@ -45,8 +45,8 @@ digits_front : (text : List ℕ) → IsDigits text → is_ascii_digit (slice_ind
 digits_front [] h = absurd (let some = h.some in omega arith)
 digits_front (b ∷ bs) h = (and_parts (is_ascii_digit b) (all_ascii_digits bs) h.digits).0
 
-int_in_again : (text : List ℕ) (z : ℤ) → IsInt text z → int_in text ≡ Ok z
-unfolding int_in
+int_in_again : (text : List ℕ) (z : ℤ) → IsInt text z → int_value text ≡ Ok z
+unfolding int_value
 int_in_again text z (fits, inl (digits, is)) =
     let n = digits_value 10 text in
     let f : FitsSigned w64 (pos n) = subst (λ (x : ℤ). FitsSigned w64 x) is fits in
@@ -54,18 +54,18 @@ int_in_again text z (fits, inl (digits, is)) =
 int_in_again text z (fits, inr (ds, parts, digits, is)) =
     let n = digits_value 10 ds in
     let f : FitsSigned w64 (neg_ℤ (pos n)) = subst (λ (x : ℤ). FitsSigned w64 x) is fits in
-    ap int_in parts ∙ rw (le-leb n (2 ^ 63) (neg_fits n f)) (ap (λ (x : ℤ). Ok x) (sym is))
+    ap int_value parts ∙ rw (le-leb n (2 ^ 63) (neg_fits n f)) (ap (λ (x : ℤ). Ok x) (sym is))
 
-int_len_again : (text rest : List ℕ) (z : ℤ) → IsInt text z → is_ascii_digit (slice_index rest 0) ≡ false → int_len (text ++ rest) ≡ length text
-unfolding int_len
+int_len_again : (text rest : List ℕ) (z : ℤ) → IsInt text z → is_ascii_digit (slice_index rest 0) ≡ false → int_length (text ++ rest) ≡ length text
+unfolding int_length
 int_len_again [] rest z (fits, inl (digits, is)) ends = absurd (let some = digits.some in omega arith)
 int_len_again (b ∷ bs) rest z (fits, inl (digits, is)) ends =
     rw (no_minus b (digits_front (b ∷ bs) digits)) (run_len is_ascii_digit (b ∷ bs) rest (digits_all (b ∷ bs) digits.digits) ends)
 int_len_again text rest z (fits, inr (ds, parts, digits, is)) ends =
     rw parts (rw (run_len is_ascii_digit ds rest (digits_all ds digits.digits) ends) (one-add (length ds)))
 
-int_again : (text rest : List ℕ) (z : ℤ) → IsInt text z → is_ascii_digit (slice_index rest 0) ≡ false → int_at (text ++ rest) ≡ Ok (z, rest)
-unfolding int_at
+int_again : (text rest : List ℕ) (z : ℤ) → IsInt text z → is_ascii_digit (slice_index rest 0) ≡ false → leading_int (text ++ rest) ≡ Ok (z, rest)
+unfolding leading_int
 int_again text rest z h ends = rw (int_len_again text rest z h ends, take_at text rest (length text) refl, drop_at text rest (length text) refl, int_in_again text z h) refl
 
 slice_index-front : (xs ys : List ℕ) → 0 < length xs → slice_index (xs ++ ys) 0 ≡ slice_index xs 0
@@ -98,24 +98,24 @@ text_again (b ∷ bs) front rest h =
           rw (off, h.0, p.0, p.1, h.0) (text_again bs (front ++ b ∷ []) rest h.1 ∙ ap (λ (x : List ℕ). Ok (x, rest)) (append_assoc front (b ∷ []) bs))
     ]
 
-quoted_again : (s rest : List ℕ) → IsText s → quoted_at (flat_map quoted_byte s ++ 34 ∷ rest) ≡ Ok (s, rest)
-unfolding quoted_at utf8_of
+quoted_again : (s rest : List ℕ) → IsText s → leading_quoted (flat_map quoted_byte s ++ 34 ∷ rest) ≡ Ok (s, rest)
+unfolding leading_quoted utf8_of
 quoted_again s rest h = rw (text_again s [] rest h.no_control, is_utf8-from_IsUtf8 s h.utf8, le-ltb 1024 (length s) h.short) refl
 
 -- ---- any of them
 
-token_word : (text rest : List ℕ) → IsWord text → is_name_byte (slice_index rest 0) ≡ false → token_at (text ++ rest) ≡ Ok (Word text, rest)
-unfolding token_at
+token_word : (text rest : List ℕ) → IsWord text → is_name_byte (slice_index rest 0) ≡ false → leading_token (text ++ rest) ≡ Ok (Word text, rest)
+unfolding leading_token
 token_word text rest h ends = rw (slice_index-front text rest (word_some text h), h.letter, word_again text rest h ends) refl
 
-token_int : (text rest : List ℕ) (z : ℤ) → IsInt text z → is_ascii_digit (slice_index rest 0) ≡ false → token_at (text ++ rest) ≡ Ok (Int z, rest)
-unfolding token_at
+token_int : (text rest : List ℕ) (z : ℤ) → IsInt text z → is_ascii_digit (slice_index rest 0) ≡ false → leading_token (text ++ rest) ≡ Ok (Int z, rest)
+unfolding leading_token
 token_int text rest z h ends =
     let starts = starts_again text rest z h in
     rw ((starts_front (slice_index (text ++ rest) 0) (slice_index (text ++ rest) 1) starts).0, starts, int_again text rest z h ends) refl
 
-token_text : (s rest : List ℕ) → IsText s → token_at (quoted s ++ rest) ≡ Ok (Text s, rest)
-unfolding token_at
+token_text : (s rest : List ℕ) → IsText s → leading_token (quoted s ++ rest) ≡ Ok (Text s, rest)
+unfolding leading_token
 token_text s rest h = rw (append_assoc (flat_map quoted_byte s) (34 ∷ []) rest, quoted_again s rest h) refl
 
 record IsPlain (b c : ℕ) : Type 0 where
@@ -130,13 +130,13 @@ plain_bytes b c h = record { no_letter = grind (arith, nat_tests); no_number = g
 plain_sign : (s : Sign) (rest : List ℕ) → sign_goes_on s (slice_index rest 0) ≡ false → IsPlain (slice_index (sign_text s ++ rest) 0) (slice_index (sign_text s ++ rest) 1)
 plain_sign s rest ends = plain_bytes _ _ (sign_bytes s rest ends)
 
-token_sign : (s : Sign) (rest : List ℕ) → sign_goes_on s (slice_index rest 0) ≡ false → token_at (sign_text s ++ rest) ≡ Ok (Sign_token s, rest)
-unfolding token_at
+token_sign : (s : Sign) (rest : List ℕ) → sign_goes_on s (slice_index rest 0) ≡ false → leading_token (sign_text s ++ rest) ≡ Ok (Sign_token s, rest)
+unfolding leading_token
 token_sign s rest ends =
     let plain = plain_sign s rest ends in
     rw (plain.no_letter, plain.no_number, plain.no_quote, sign_again s rest ends) refl
 
-pub token_again : (text rest : List ℕ) (t : Token) → Spells t text → goes_on t (slice_index rest 0) ≡ false → token_at (text ++ rest) ≡ Ok (t, rest)
+pub token_again : (text rest : List ℕ) (t : Token) → Spells t text → goes_on t (slice_index rest 0) ≡ false → leading_token (text ++ rest) ≡ Ok (t, rest)
 token_again text rest (Word s) (same, h) ends = rw same (token_word s rest h ends)
 token_again text rest (Int z) h ends = token_int text rest z h ends
 token_again text rest (Text s) (same, h) ends = rw same (token_text s rest h)

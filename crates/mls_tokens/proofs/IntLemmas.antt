@@ -10,7 +10,7 @@ use Rattle.std.proofs.lemmas.Bool.{cases_Bool, eqb-true, lt-ltb, le-leb, leb-tru
 use Rattle.std.proofs.lemmas.Bool.Decides.{nat_tests}
 use Rattle.std.proofs.lemmas.Str.Parse.{IsNumeralModel, numerals_by_value, tells_all_ascii_digits, parse_signed_minus, parse_signed_plain, not_in_digits}
 use Rattle.mls_tokens.specs.declared.fault.TokenCause.TheVariants.{Token as BadToken}
-use Rattle.mls_tokens.specs.Scanning.{int_in, IsIntText, starts_int, int_len}
+use Rattle.mls_tokens.specs.Scanning.{int_value, IsIntText, starts_int, int_length}
 use Rattle.std.proofs.lemmas.Str.Ascii.{IsAscii-cons}
 use Rattle.mls_tokens.proofs.RunLemmas.{digits_ascii}
 
@@ -22,8 +22,8 @@ unsigned : (text : List ℕ) (c : ℕ) → (IsInRange 48 57 c → ⊥) → 0 < l
 unsigned text c out some digits = not_in_digits own text c digits out 0 some
 
 -- what `parse` answers to such a text
-pub int_parsed : {E : Type 0} (text : List ℕ) (r : Result ℤ E) → IsIntText text → ParsesSigned w64 10 text r → MatchResult r (λ n. int_in text ≡ Ok n) (λ _. int_in text ≡ Err BadToken)
-unfolding int_in
+pub int_parsed : {E : Type 0} (text : List ℕ) (r : Result ℤ E) → IsIntText text → ParsesSigned w64 10 text r → MatchResult r (λ n. int_value text ≡ Ok n) (λ _. int_value text ≡ Err BadToken)
+unfolding int_value
 int_parsed {E} text (Ok n) is parsed =
     elim (cases_Bool (slice_index text 0 == 45)) [
       | inl minus ↦
@@ -59,8 +59,8 @@ digits_run (b ∷ bs) =
       | inr other ↦ rw other refl
     ]
 
-pub int_ascii : (bytes : List ℕ) → IsAscii (take (int_len bytes) bytes)
-unfolding int_len
+pub int_ascii : (bytes : List ℕ) → IsAscii (take (int_length bytes) bytes)
+unfolding int_length
 int_ascii [] = λ i. omega arith
 int_ascii (b ∷ bs) =
     elim (cases_Bool (b == 45)) [
@@ -73,8 +73,8 @@ some_digit : (bs : List ℕ) → is_ascii_digit (slice_index bs 0) ≡ true → 
 some_digit [] h = absurd cc
 some_digit (b ∷ bs) h = rw (h, one-add (prefix_len is_ascii_digit bs)) (omega arith)
 
-pub int_text : (bytes : List ℕ) → IsTrue (starts_int bytes) → IsIntText (take (int_len bytes) bytes)
-unfolding int_len
+pub int_text : (bytes : List ℕ) → IsTrue (starts_int bytes) → IsIntText (take (int_length bytes) bytes)
+unfolding int_length
 int_text [] h = absurd cc
 int_text (b ∷ bs) h =
     elim (cases_Bool (b == 45)) [

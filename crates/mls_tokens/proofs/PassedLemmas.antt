@@ -13,27 +13,27 @@ use Rattle.mls_tokens.specs.declared.token.Token.TheVariants.{Word, Int, Text, S
 use Rattle.mls_tokens.specs.declared.token.Placed.{Placed}
 use Rattle.mls_tokens.specs.declared.sign.Sign.{Sign}
 use Rattle.mls_tokens.specs.declared.sign.Sign.TheVariants.{Becomes, Differs, AtMost, AtLeast, LeftParen, RightParen, LeftBrace, RightBrace, Comma, Semicolon, Colon, Dot, Equals, Less, Greater, Plus, Minus, Times}
-use Rattle.mls_tokens.specs.Sign.{sign_text, sign_goes_on, sign_at}
-use Rattle.mls_tokens.specs.Scanning.{Left, tokens_in}
-use Rattle.mls_tokens.specs.Passing.{left, is_word, is_sign, take_first, taken, or_refused, pass, PlacedName, name_in, named_first, pass_name_of, pass_name, is_expected, over_with}
+use Rattle.mls_tokens.specs.Sign.{sign_text, sign_goes_on, leading_sign}
+use Rattle.mls_tokens.specs.Scanning.{Left, without_places}
+use Rattle.mls_tokens.specs.Passing.{left, is_word, is_sign, take_first, taken, or_refused, pass, PlacedName, name_of_token, named_first, pass_name_of, pass_name, is_expected, over_with}
 use Rattle.mls_tokens.proofs.SignLemmas.{sign_again}
 
 -- ---- tokens
 
 pub record Passed (ts : List Token) (l r : Left) : Type 0 where
-  pub tokens : tokens_in l.placed ≡ ts ++ tokens_in r.placed
+  pub tokens : without_places l.placed ≡ ts ++ without_places r.placed
   pub stop : r.stop ≡ l.stop
 
 pub passed_none : (l : Left) → Passed [] l l
 passed_none l = record { tokens = refl; stop = refl }
 
 pub passed_more : (ts us : List Token) (l m r : Left) → Passed ts l m → Passed us m r → Passed (ts ++ us) l r
-passed_more ts us l m r a b = record { tokens = a.tokens ∙ ap (λ x. ts ++ x) b.tokens ∙ sym (append_assoc ts us (tokens_in r.placed)); stop = b.stop ∙ a.stop }
+passed_more ts us l m r a b = record { tokens = a.tokens ∙ ap (λ x. ts ++ x) b.tokens ∙ sym (append_assoc ts us (without_places r.placed)); stop = b.stop ∙ a.stop }
 
 -- some tokens more are left before than behind
 pub passed_shorter : (ts : List Token) (l r : Left) → Passed ts l r → length l.placed ≡ length ts + length r.placed
 passed_shorter ts l r h =
-    sym (length-map l.placed (λ p. p.token)) ∙ ap length h.tokens ∙ length-append ts (tokens_in r.placed) ∙ ap (λ n. length ts + n) (length-map r.placed (λ p. p.token))
+    sym (length-map l.placed (λ p. p.token)) ∙ ap length h.tokens ∙ length-append ts (without_places r.placed) ∙ ap (λ n. length ts + n) (length-map r.placed (λ p. p.token))
 
 -- ---- signs are written apart
 
@@ -62,7 +62,7 @@ signs_is x y o p q = cc
 
 sign_once : (s t : Sign) → sign_text s ≡ sign_text t → s ≡ t
 sign_once s t same =
-    ap (λ (x : Sign × List ℕ). x.0) (signs_is (s, []) (t, []) (sign_at (sign_text s ++ [])) (sign_again s [] (ends_at_end s)) (ap (λ (x : List ℕ). sign_at (x ++ [])) same ∙ sign_again t [] (ends_at_end t)))
+    ap (λ (x : Sign × List ℕ). x.0) (signs_is (s, []) (t, []) (leading_sign (sign_text s ++ [])) (sign_again s [] (ends_at_end s)) (ap (λ (x : List ℕ). leading_sign (x ++ [])) same ∙ sign_again t [] (ends_at_end t)))
 
 -- ---- words and signs
 
@@ -122,7 +122,7 @@ sign_found s l x e = sign_taken s l x (or_found (taken (is_sign s) l) l x e)
 
 -- ---- names
 
-named_is : (t : Token) (s : List ℕ) → name_in t ≡ Some s → (t ≡ Word s) × (is_name s ≡ true)
+named_is : (t : Token) (s : List ℕ) → name_of_token t ≡ Some s → (t ≡ Word s) × (is_name s ≡ true)
 named_is (Word w) s e =
     elim (cases_Bool (is_name w)) [
       | inl named ↦ let same : w ≡ s = let h = rw named at e in cc in (ap (λ (x : List ℕ). Word x) same, ap is_name (sym same) ∙ named)
@@ -140,16 +140,16 @@ pub record NameFound (ts : List ℕ → List Token) (l : Left) (x : PlacedName �
 abbrev pub alone : List ℕ → List Token
 alone s = Word s ∷ []
 
-name_first : (t : Token) (ps : List Placed) (stop : TokenFault) (at : ℕ) (o : Option (List ℕ)) (x : PlacedName × Left) → name_in t ≡ o → named_first at (left ps stop) o ≡ Ok x → NameFound alone (left (record { token = t; at = at } ∷ ps) stop) x
+name_first : (t : Token) (ps : List Placed) (stop : TokenFault) (at : ℕ) (o : Option (List ℕ)) (x : PlacedName × Left) → name_of_token t ≡ o → named_first at (left ps stop) o ≡ Ok x → NameFound alone (left (record { token = t; at = at } ∷ ps) stop) x
 name_first t ps stop at None x is e = absurd cc
 name_first t ps stop at (Some s) x is e =
     let h = named_is t s is in
     subst (λ y. NameFound alone (left (record { token = t; at = at } ∷ ps) stop) y) (ok_is ((s, at), left ps stop) x e)
-    (record { name = h.1; passed = record { tokens = ap (λ y. y ∷ tokens_in ps) h.0; stop = refl } })
+    (record { name = h.1; passed = record { tokens = ap (λ y. y ∷ without_places ps) h.0; stop = refl } })
 
 name_of_found : (ps : List Placed) (stop : TokenFault) (x : PlacedName × Left) → pass_name_of ps stop ≡ Ok x → NameFound alone (left ps stop) x
 name_of_found [] stop x e = absurd cc
-name_of_found (p ∷ ps) stop x e = name_first p.token ps stop p.at (name_in p.token) x refl e
+name_of_found (p ∷ ps) stop x e = name_first p.token ps stop p.at (name_of_token p.token) x refl e
 
 pub name_found : (l : Left) (x : PlacedName × Left) → pass_name l ≡ Ok x → NameFound alone l x
 name_found l x e = name_of_found l.placed l.stop x e
@@ -162,6 +162,6 @@ expected_is causes.Expected e = refl
 expected_is causes.TooLong e = absurd cc
 expected_is causes.Memory e = absurd cc
 
-pub over_is : (ps : List Placed) (stop : TokenFault) → over_with ps stop ≡ true → (tokens_in ps ≡ []) × (stop.cause ≡ causes.Expected)
+pub over_is : (ps : List Placed) (stop : TokenFault) → over_with ps stop ≡ true → (without_places ps ≡ []) × (stop.cause ≡ causes.Expected)
 over_is [] stop e = (refl, expected_is stop.cause e)
 over_is (p ∷ ps) stop e = absurd cc

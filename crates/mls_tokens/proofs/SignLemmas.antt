@@ -11,7 +11,7 @@ use Rattle.mls_tokens.specs.declared.sign.Sign.{Sign}
 use Rattle.mls_tokens.specs.declared.sign.Sign.TheVariants.{Becomes, Differs, AtMost, AtLeast, LeftParen, RightParen, LeftBrace, RightBrace, Comma, Semicolon, Colon, Dot, Equals, Less, Greater, Plus, Minus, Times}
 use Rattle.mls_tokens.specs.Text.{is_blank}
 use Rattle.mls_tokens.specs.Scanning.{starts_int}
-use Rattle.mls_tokens.specs.Sign.{sign_text, sign_goes_on, signs, first_sign, sign_at}
+use Rattle.mls_tokens.specs.Sign.{sign_text, sign_goes_on, signs, first_sign, leading_sign}
 
 -- ---- what is found
 
@@ -28,7 +28,7 @@ first_parts (t ∷ ss) bytes s rest e =
       | inr other ↦ first_parts ss bytes s rest (rw other at e)
     ]
 
-pub sign_parts : (bytes : List ℕ) (s : Sign) (rest : List ℕ) → sign_at bytes ≡ Some (s, rest) → bytes ≡ sign_text s ++ rest
+pub sign_parts : (bytes : List ℕ) (s : Sign) (rest : List ℕ) → leading_sign bytes ≡ Some (s, rest) → bytes ≡ sign_text s ++ rest
 sign_parts = first_parts signs
 
 -- a sign that stands before the one that is found is not there
@@ -62,7 +62,7 @@ behind_greater [] h = refl
 behind_greater (c ∷ cs) h = and_true (nat_eq 61 c) h
 
 -- and what follows it does not go on with it
-pub sign_ends : (bytes : List ℕ) (s : Sign) (rest : List ℕ) → sign_at bytes ≡ Some (s, rest) → starts_int bytes ≡ false → sign_goes_on s (slice_index rest 0) ≡ false
+pub sign_ends : (bytes : List ℕ) (s : Sign) (rest : List ℕ) → leading_sign bytes ≡ Some (s, rest) → starts_int bytes ≡ false → sign_goes_on s (slice_index rest 0) ≡ false
 sign_ends bytes Becomes rest e plain = refl
 sign_ends bytes Differs rest e plain = refl
 sign_ends bytes AtMost rest e plain = refl
@@ -99,7 +99,7 @@ sign_ends bytes Times rest e plain = refl
 
 -- ---- what stands there is found
 
-pub sign_again : (s : Sign) (rest : List ℕ) → sign_goes_on s (slice_index rest 0) ≡ false → sign_at (sign_text s ++ rest) ≡ Some (s, rest)
+pub sign_again : (s : Sign) (rest : List ℕ) → sign_goes_on s (slice_index rest 0) ≡ false → leading_sign (sign_text s ++ rest) ≡ Some (s, rest)
 sign_again Becomes rest ends = refl
 sign_again Differs rest ends = refl
 sign_again AtMost rest ends = refl

@@ -17,10 +17,10 @@ use Rattle.mls_tokens.specs.declared.fault.TokenCause.TheVariants.{Token as BadT
 use Rattle.mls_tokens.specs.declared.token.Token.{Token}
 use Rattle.mls_tokens.specs.declared.token.Token.TheVariants.{Word, Int, Text, Sign as Sign_token}
 use Rattle.mls_tokens.specs.declared.sign.Sign.{Sign}
-use Rattle.mls_tokens.specs.Sign.{sign_text, sign_at}
+use Rattle.mls_tokens.specs.Sign.{sign_text, leading_sign}
 use Rattle.mls_tokens.specs.Writing.{is_control, is_escaped, quoted_byte, quoted}
 use Rattle.mls_tokens.specs.Text.{IsWord, IsInt, Spells, goes_on}
-use Rattle.mls_tokens.specs.Scanning.{Gives, Found, found, IsIntText, word_at, int_in, int_len, int_at, starts_int, text_at, utf8_of, quoted_at, sign_found, token_at}
+use Rattle.mls_tokens.specs.Scanning.{Gives, Found, found, IsIntText, leading_word, int_value, int_length, leading_int, starts_int, text_at, utf8_of, leading_quoted, sign_found, leading_token}
 use Rattle.mls_lattice.proofs.ReadingLemmas.{ok_is, bind_ok, guard_ok, pass_ok}
 use Rattle.mls_tokens.proofs.RunLemmas.{run_all, run_stops}
 use Rattle.mls_tokens.proofs.IntLemmas.{int_text}
@@ -48,8 +48,8 @@ first_of_run : (bs : List ℕ) → is_ascii_alphabetic (slice_index bs 0) ≡ tr
 first_of_run [] h = h
 first_of_run (b ∷ bs) h = rw (letter_is_name b h, one-add (prefix_len is_name_byte bs)) h
 
-word_found : (bs s rest : List ℕ) → is_ascii_alphabetic (slice_index bs 0) ≡ true → word_at bs ≡ Ok (s, rest) → First bs (Word s) rest
-unfolding word_at
+word_found : (bs s rest : List ℕ) → is_ascii_alphabetic (slice_index bs 0) ≡ true → leading_word bs ≡ Ok (s, rest) → First bs (Word s) rest
+unfolding leading_word
 word_found bs s rest letter e =
     let short = guard_ok (nat_lt 32 (prefix_len is_name_byte bs)) _ _ (s, rest) e in
     let n = prefix_len is_name_byte bs in
@@ -76,8 +76,8 @@ minus_front : (text : List ℕ) → slice_index text 0 ≡ 45 → text ≡ 45 �
 minus_front [] h = absurd (omega arith)
 minus_front (b ∷ bs) h = ap (λ (x : ℕ). x ∷ bs) h
 
-int_in_found : (text : List ℕ) (z : ℤ) → IsIntText text → int_in text ≡ Ok z → IsInt text z
-unfolding int_in
+int_in_found : (text : List ℕ) (z : ℤ) → IsIntText text → int_value text ≡ Ok z → IsInt text z
+unfolding int_value
 int_in_found text z is e =
     elim (cases_Bool (slice_index text 0 == 45)) [
       | inl minus ↦
@@ -96,8 +96,8 @@ int_in_found text z is e =
           (rw (← same) (fits_pos n (ltb-true _ _ fits.0)), inl (record { some = some; digits = digits }, sym same))
     ]
 
-int_stops : (bs : List ℕ) → is_ascii_digit (slice_index (drop (int_len bs) bs) 0) ≡ false
-unfolding int_len
+int_stops : (bs : List ℕ) → is_ascii_digit (slice_index (drop (int_length bs) bs) 0) ≡ false
+unfolding int_length
 int_stops [] = refl
 int_stops (b ∷ bs) =
     elim (cases_Bool (b == 45)) [
@@ -105,11 +105,11 @@ int_stops (b ∷ bs) =
       | inr plain ↦ rw plain (run_stops is_ascii_digit refl (b ∷ bs))
     ]
 
-int_found : (bs : List ℕ) (z : ℤ) (rest : List ℕ) → starts_int bs ≡ true → int_at bs ≡ Ok (z, rest) → First bs (Int z) rest
-unfolding int_at
+int_found : (bs : List ℕ) (z : ℤ) (rest : List ℕ) → starts_int bs ≡ true → leading_int bs ≡ Ok (z, rest) → First bs (Int z) rest
+unfolding leading_int
 int_found bs z rest starts e =
-    let n = int_len bs in
-    let b = bind_ok (int_in (take n bs)) (λ z. Ok (z, drop n bs)) (z, rest) e in
+    let n = int_length bs in
+    let b = bind_ok (int_value (take n bs)) (λ z. Ok (z, drop n bs)) (z, rest) e in
     let pair : (b.0, drop n bs) ≡ (z, rest) = ok_is _ _ b.2 in
     subst (λ (p : ℤ × List ℕ). First bs (Int p.0) p.1) pair (record {
       text = take n bs;
@@ -180,8 +180,8 @@ first_text bs s rest q utf8 few = record {
   ends = refl;
 }
 
-quoted_found : (bs s rest : List ℕ) → quoted_at bs ≡ Ok (s, rest) → First (34 ∷ bs) (Text s) rest
-unfolding quoted_at utf8_of
+quoted_found : (bs s rest : List ℕ) → leading_quoted bs ≡ Ok (s, rest) → First (34 ∷ bs) (Text s) rest
+unfolding leading_quoted utf8_of
 quoted_found bs s rest e =
     let read = bind_ok (text_at false [] bs) (λ x. utf8_of x.0 >>= λ text. cond (nat_lt 1024 (length text)) (Err TooLong) (Ok (text, x.1))) (s, rest) e in
     let text = bind_ok (utf8_of read.0.0) (λ text. cond (nat_lt 1024 (length text)) (Err TooLong) (Ok (text, read.0.1))) (s, rest) read.2 in
@@ -207,23 +207,23 @@ quote_front : (bs : List ℕ) → (slice_index bs 0 == 34) ≡ true → bs ≡ 3
 quote_front [] h = absurd cc
 quote_front (c ∷ bs) h = ap (λ (x : ℕ). x ∷ bs) (eqb-true c 34 h)
 
-first_of_sign : (bs : List ℕ) (o : Option (Sign × List ℕ)) (t : Token) (rest : List ℕ) → sign_at bs ≡ o → starts_int bs ≡ false → sign_found o ≡ Ok (t, rest) → First bs t rest
+first_of_sign : (bs : List ℕ) (o : Option (Sign × List ℕ)) (t : Token) (rest : List ℕ) → leading_sign bs ≡ o → starts_int bs ≡ false → sign_found o ≡ Ok (t, rest) → First bs t rest
 first_of_sign bs None t rest is plain e = absurd cc
 first_of_sign bs (Some x) t rest is plain e =
     let pair : (Sign_token x.0, x.1) ≡ (t, rest) = ok_is _ _ e in
     subst (λ (p : Found). First bs p.0 p.1) pair (record { text = sign_text x.0; parts = sign_parts bs x.0 x.1 is; spells = refl; ends = sign_ends bs x.0 x.1 is plain })
 
-pub token_found : (bs : List ℕ) (t : Token) (rest : List ℕ) → token_at bs ≡ Ok (t, rest) → First bs t rest
-unfolding token_at
+pub token_found : (bs : List ℕ) (t : Token) (rest : List ℕ) → leading_token bs ≡ Ok (t, rest) → First bs t rest
+unfolding leading_token
 token_found bs t rest e =
     elim (chosen (is_ascii_alphabetic (slice_index bs 0)) _ _ _ e) [
-      | inl word ↦ bound bs Word (word_at bs) t rest (λ s after h. word_found bs s after word.0 h) word.1
+      | inl word ↦ bound bs Word (leading_word bs) t rest (λ s after h. word_found bs s after word.0 h) word.1
       | inr e ↦ elim (chosen (starts_int bs) _ _ _ e.1) [
-        | inl number ↦ bound bs Int (int_at bs) t rest (λ z after h. int_found bs z after number.0 h) number.1
+        | inl number ↦ bound bs Int (leading_int bs) t rest (λ z after h. int_found bs z after number.0 h) number.1
         | inr plain ↦ elim (chosen (slice_index bs 0 == 34) _ _ _ plain.1) [
           | inl quote ↦
-              subst (λ (x : List ℕ). First x t rest) (sym (quote_front bs quote.0)) (bound (34 ∷ drop 1 bs) Text (quoted_at (drop 1 bs)) t rest (λ s after h. quoted_found (drop 1 bs) s after h) quote.1)
-          | inr sign ↦ first_of_sign bs (sign_at bs) t rest refl plain.0 sign.1
+              subst (λ (x : List ℕ). First x t rest) (sym (quote_front bs quote.0)) (bound (34 ∷ drop 1 bs) Text (leading_quoted (drop 1 bs)) t rest (λ s after h. quoted_found (drop 1 bs) s after h) quote.1)
+          | inr sign ↦ first_of_sign bs (leading_sign bs) t rest refl plain.0 sign.1
         ]
       ]
     ]
@@ -244,12 +244,12 @@ spells_some text (Int z) h = int_some text z h
 spells_some text (Text s) (same, h) = rw same (omega arith)
 spells_some text (Sign_token s) same = rw same (sign_some s)
 
-pub token_shorter : (bs : List ℕ) (t : Token) (rest : List ℕ) → token_at bs ≡ Ok (t, rest) → length rest < length bs
+pub token_shorter : (bs : List ℕ) (t : Token) (rest : List ℕ) → leading_token bs ≡ Ok (t, rest) → length rest < length bs
 token_shorter bs t rest e =
     let f = token_found bs t rest e in
     let some = spells_some f.text t f.spells in
     omega (arith, ap length f.parts, length-append f.text rest)
 
-pub scan_shorter : (bs : List ℕ) (r : Result (Token × Bor (List ℕ)) TokenCause) → Gives (λ x. (x.0, x.1.now)) r (token_at bs) → IfOk r (λ x. length x.1.now < length bs)
+pub scan_shorter : (bs : List ℕ) (r : Result (Token × Bor (List ℕ)) TokenCause) → Gives (λ x. (x.0, x.1.now)) r (leading_token bs) → IfOk r (λ x. length x.1.now < length bs)
 scan_shorter bs (Ok x) given = token_shorter bs x.0 x.1.now given
 scan_shorter bs (Err e) given = tt

@@ -15,13 +15,13 @@ use Rattle.mls_tokens.specs.declared.token.Token.{Token}
 use Rattle.mls_tokens.specs.declared.token.Token.TheVariants.{Word, Int, Text}
 use Rattle.mls_tokens.specs.declared.sign.Sign.{Sign}
 use Rattle.mls_tokens.specs.Writing.{is_control, is_escaped}
-use Rattle.mls_tokens.specs.Sign.{sign_at}
+use Rattle.mls_tokens.specs.Sign.{leading_sign}
 use Rattle.mls_tokens.specs.Text.{Begins, IsOver, AreTokens, TextsAreOnce}
 use Rattle.mls_tokens.specs.declared.token.Placed.{Placed}
 use Rattle.mls_tokens.proofs.GapLemmas.{gap_found, over_found, front_again, front_over}
 use Rattle.mls_tokens.proofs.TokenLemmas.{token_found, spells_some}
 use Rattle.mls_tokens.proofs.AgainLemmas.{token_again, no_gap}
-use Rattle.mls_tokens.specs.Scanning.{TokensAreExact, Found, found, sign_found, word_at, int_in, digits_of, int_len, int_at, starts_int, text_at, utf8_of, quoted_at, token_at, front_at, fault_at, placed_at, behind, tokens_in, Left, with_front, next_at, next_then, tokens_from, tokens_at}
+use Rattle.mls_tokens.specs.Scanning.{TokensAreExact, Found, found, sign_found, leading_word, int_value, digits_of, int_length, leading_int, starts_int, text_at, utf8_of, leading_quoted, leading_token, after_gap, fault_at, placed_at, behind, without_places, Left, with_front, next_placed, next_then, tokens_from, tokens_at}
 
 -- what is left to scan, behind the tokens that were scanned, is the whole
 pub record ScannedSoFar (text : List ℕ) (placed : List Placed) (rest : List ℕ) : Type 0 where
@@ -34,7 +34,7 @@ unfolding tokens_at
 scanned_none text = record { most = length text; enough = omega arith; same = refl }
 
 module _ (text : List ℕ) (placed : List Placed) (rest : List ℕ) (h : ScannedSoFar text placed rest) where
-  pub scanned_more : (p : Placed) (after : List ℕ) → next_at (length text) rest ≡ Ok (p, after) → length after < length rest → ScannedSoFar text (placed ++ p ∷ []) after
+  pub scanned_more : (p : Placed) (after : List ℕ) → next_placed (length text) rest ≡ Ok (p, after) → length after < length rest → ScannedSoFar text (placed ++ p ∷ []) after
   scanned_more p after e less = more h.most h.enough h.same
     where
       more : (most : ℕ) → length rest ≤ most → tokens_at text ≡ with_front placed (tokens_from (suc most) (length text) rest) → ScannedSoFar text (placed ++ p ∷ []) after
@@ -46,7 +46,7 @@ module _ (text : List ℕ) (placed : List Placed) (rest : List ℕ) (h : Scanned
             ∙ ap (λ ps. record { placed = ps; stop = (tokens_from (suc most) (length text) after).stop }) (sym (append_assoc placed (p ∷ []) (tokens_from (suc most) (length text) after).placed));
       }
 
-  pub scanned_end : (stop : TokenFault) → next_at (length text) rest ≡ Err stop → record { placed = placed; stop = stop } ≡ tokens_at text
+  pub scanned_end : (stop : TokenFault) → next_placed (length text) rest ≡ Err stop → record { placed = placed; stop = stop } ≡ tokens_at text
   scanned_end stop e =
       sym (h.same ∙ ap (λ r. with_front placed (next_then (λ x. tokens_from h.most (length text) x) r)) e ∙ ap (λ ps. record { placed = ps; stop = stop }) (append-nil placed))
 
@@ -65,15 +65,15 @@ never_if : {A : Type 0} (b : Bool) (r s : Result A TokenCause) → Never r → N
 never_if true r s h k = h
 never_if false r s h k = k
 
-word_never : (bytes : List ℕ) → Never (word_at bytes)
-unfolding word_at
+word_never : (bytes : List ℕ) → Never (leading_word bytes)
+unfolding leading_word
 word_never bytes = never_if (nat_lt 32 (prefix_len is_name_byte bytes)) _ _ (λ e. absurd cc) (λ e. absurd cc)
 
-int_never : (bytes : List ℕ) → Never (int_at bytes)
-unfolding int_at int_in
-int_never bytes = never_bind (int_in (take (int_len bytes) bytes)) _ (in_never (take (int_len bytes) bytes)) (λ n e. absurd cc)
+int_never : (bytes : List ℕ) → Never (leading_int bytes)
+unfolding leading_int int_value
+int_never bytes = never_bind (int_value (take (int_length bytes) bytes)) _ (in_never (take (int_length bytes) bytes)) (λ n e. absurd cc)
   where
-    in_never : (text : List ℕ) → Never (int_in text)
+    in_never : (text : List ℕ) → Never (int_value text)
     in_never text =
         never_if (slice_index text 0 == 45) _ _
         (never_if (nat_le (digits_value 10 (digits_of text)) (2 ^ 63)) _ _ (λ e. absurd cc) (λ e. absurd cc))
@@ -86,8 +86,8 @@ text_never false (b ∷ bs) front =
     never_if (b == 34) _ _ (λ e. absurd cc)
     (never_if (b == 92) _ _ (text_never true bs front) (never_if (is_control b) _ _ (λ e. absurd cc) (text_never false bs (front ++ b ∷ []))))
 
-quoted_never : (bytes : List ℕ) → Never (quoted_at bytes)
-unfolding quoted_at utf8_of
+quoted_never : (bytes : List ℕ) → Never (leading_quoted bytes)
+unfolding leading_quoted utf8_of
 quoted_never bytes =
     never_bind (text_at false [] bytes) _ (text_never false bytes []) (λ x.
     never_bind (utf8_of x.0) _ (never_if (is_utf8 x.0) _ _ (λ e. absurd cc) (λ e. absurd cc)) (λ text.
@@ -100,12 +100,12 @@ sign_never : (o : Option (Sign × List ℕ)) → Never (sign_found o)
 sign_never None e = absurd cc
 sign_never (Some x) e = absurd cc
 
-token_never : (bytes : List ℕ) → Never (token_at bytes)
-unfolding token_at
+token_never : (bytes : List ℕ) → Never (leading_token bytes)
+unfolding leading_token
 token_never bytes =
-    never_if (is_ascii_alphabetic (slice_index bytes 0)) _ _ (found_never Word (word_at bytes) (word_never bytes))
-    (never_if (starts_int bytes) _ _ (found_never Int (int_at bytes) (int_never bytes))
-    (never_if (slice_index bytes 0 == 34) _ _ (found_never Text (quoted_at (drop 1 bytes)) (quoted_never (drop 1 bytes))) (sign_never (sign_at bytes))))
+    never_if (is_ascii_alphabetic (slice_index bytes 0)) _ _ (found_never Word (leading_word bytes) (word_never bytes))
+    (never_if (starts_int bytes) _ _ (found_never Int (leading_int bytes) (int_never bytes))
+    (never_if (slice_index bytes 0 == 34) _ _ (found_never Text (leading_quoted (drop 1 bytes)) (quoted_never (drop 1 bytes))) (sign_never (leading_sign bytes))))
 
 -- ---- the next token
 
@@ -126,50 +126,50 @@ abbrev Tells : List ℕ → Result (Placed × List ℕ) TokenFault → Type 0
 Tells bytes (Ok x) = Begins bytes x.0.token x.1
 Tells bytes (Err stop) = stop.cause ≡ Expected → IsOver bytes
 
-tells_token : (bytes front : List ℕ) (b : ℕ) (at : ℕ) → front_at false bytes ≡ Ok (b ∷ front) → (r : Result Found TokenCause) → token_at (b ∷ front) ≡ r → Tells bytes (placed_at at r)
+tells_token : (bytes front : List ℕ) (b : ℕ) (at : ℕ) → after_gap false bytes ≡ Ok (b ∷ front) → (r : Result Found TokenCause) → leading_token (b ∷ front) ≡ r → Tells bytes (placed_at at r)
 tells_token bytes front b at e (Ok x) h =
     let gap = gap_found bytes b front e in
     let f = token_found (b ∷ front) x.0 x.1 h in
     record { gap = gap.0; text = f.text; parts = gap.1 ∙ ap (λ (y : List ℕ). gap.0 ++ y) f.parts; is_gap = gap.2; spells = f.spells; ends = f.ends }
 tells_token bytes front b at e (Err c) h = λ same. absurd (token_never (b ∷ front) (h ∙ ap (λ (x : TokenCause). Err x) same))
 
-tells_front : (len : ℕ) (bytes : List ℕ) (r : Result (List ℕ) ℕ) → front_at false bytes ≡ r → Tells bytes (behind len r)
+tells_front : (len : ℕ) (bytes : List ℕ) (r : Result (List ℕ) ℕ) → after_gap false bytes ≡ r → Tells bytes (behind len r)
 tells_front len bytes (Ok []) e = λ _. over_found bytes e
-tells_front len bytes (Ok (b ∷ front)) e = rw (ne_eqb (length (b ∷ front)) 0 (λ k. omega arith)) (tells_token bytes front b (len - length (b ∷ front) + 1) e (token_at (b ∷ front)) refl)
+tells_front len bytes (Ok (b ∷ front)) e = rw (ne_eqb (length (b ∷ front)) 0 (λ k. omega arith)) (tells_token bytes front b (len - length (b ∷ front) + 1) e (leading_token (b ∷ front)) refl)
 tells_front len bytes (Err left) e = λ same. absurd (let f : BadToken ≡ Expected = same in cc)
 
-next_tells : (len : ℕ) (bytes : List ℕ) → Tells bytes (next_at len bytes)
-unfolding next_at
-next_tells len bytes = tells_front len bytes (front_at false bytes) refl
+next_tells : (len : ℕ) (bytes : List ℕ) → Tells bytes (next_placed len bytes)
+unfolding next_placed
+next_tells len bytes = tells_front len bytes (after_gap false bytes) refl
 
 begins_shorter : (bytes : List ℕ) (t : Token) (rest : List ℕ) → Begins bytes t rest → length rest < length bytes
 begins_shorter bytes t rest h =
     let some = spells_some h.text t h.spells in
     omega (arith, ap length h.parts, length-append h.gap (h.text ++ rest), length-append h.text rest)
 
-next_again : (len : ℕ) (bytes : List ℕ) (t : Token) (rest : List ℕ) → Begins bytes t rest → (at : ℕ) × (next_at len bytes ≡ Ok (record { token = t; at = at }, rest))
-unfolding next_at
+next_again : (len : ℕ) (bytes : List ℕ) (t : Token) (rest : List ℕ) → Begins bytes t rest → (at : ℕ) × (next_placed len bytes ≡ Ok (record { token = t; at = at }, rest))
+unfolding next_placed
 next_again len bytes t rest h =
     let front = h.text ++ rest in
     let some = spells_some h.text t h.spells in
     let whole : length front ≢ 0 = λ e. omega (arith, length-append h.text rest) in (
       len - length front + 1,
-      ap (λ x. behind len (front_at false x)) h.parts ∙ ap (behind len) (front_again h.gap front h.is_gap (no_gap h.text rest t h.spells h.ends))
+      ap (λ x. behind len (after_gap false x)) h.parts ∙ ap (behind len) (front_again h.gap front h.is_gap (no_gap h.text rest t h.spells h.ends))
           ∙ rw (ne_eqb (length front) 0 whole) (ap (placed_at (len - length front + 1)) (token_again h.text rest t h.spells h.ends)),
     )
 
-next_over : (len : ℕ) (bytes : List ℕ) → IsOver bytes → next_at len bytes ≡ Err (fault_at (len + 1) Expected)
-unfolding next_at
+next_over : (len : ℕ) (bytes : List ℕ) → IsOver bytes → next_placed len bytes ≡ Err (fault_at (len + 1) Expected)
+unfolding next_placed
 next_over len bytes h = ap (behind len) (front_over bytes h)
 
 -- ---- all tokens
 
 -- scanning comes to the end
 abbrev IsScanned : List Token → Left → Type 0
-IsScanned ts l = (tokens_in l.placed ≡ ts) × (l.stop.cause ≡ Expected)
+IsScanned ts l = (without_places l.placed ≡ ts) × (l.stop.cause ≡ Expected)
 
 abbrev SaysTokens : List ℕ → Left → Type 0
-SaysTokens bytes l = l.stop.cause ≡ Expected → AreTokens (tokens_in l.placed) bytes
+SaysTokens bytes l = l.stop.cause ≡ Expected → AreTokens (without_places l.placed) bytes
 
 then_rest : (n len : ℕ) (bytes : List ℕ) (r : Result (Placed × List ℕ) TokenFault) → ((rest : List ℕ) → length rest < length bytes → SaysTokens rest (tokens_from n len rest)) → Tells bytes r
     → SaysTokens bytes (next_then (λ rest. tokens_from n len rest) r)
@@ -178,7 +178,7 @@ then_rest n len bytes (Err stop) more over = over
 
 scanned : (n len : ℕ) (bytes : List ℕ) → length bytes < n → SaysTokens bytes (tokens_from n len bytes)
 scanned zero len bytes less = absurd (omega arith)
-scanned (suc n) len bytes less = then_rest n len bytes (next_at len bytes) (λ rest s. scanned n len rest (omega arith)) (next_tells len bytes)
+scanned (suc n) len bytes less = then_rest n len bytes (next_placed len bytes) (λ rest s. scanned n len rest (omega arith)) (next_tells len bytes)
 
 scanned_again : (ts : List Token) (n len : ℕ) (bytes : List ℕ) → length bytes < n → AreTokens ts bytes → IsScanned ts (tokens_from n len bytes)
 scanned_again ts zero len bytes less h = absurd (omega arith)

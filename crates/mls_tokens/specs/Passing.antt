@@ -66,11 +66,11 @@ pass test l = or_refused (taken test l) l
 abbrev pub PlacedName : Type 0
 PlacedName = List ℕ × ℕ
 
-abbrev pub name_in : Token → Option (List ℕ)
-name_in (Word s) = if is_name s then Some s else None
-name_in (Int n) = None
-name_in (Text s) = None
-name_in (Sign_token s) = None
+abbrev pub name_of_token : Token → Option (List ℕ)
+name_of_token (Word s) = if is_name s then Some s else None
+name_of_token (Int n) = None
+name_of_token (Text s) = None
+name_of_token (Sign_token s) = None
 
 abbrev pub named_first : ℕ → Left → Option (List ℕ) → Result (PlacedName × Left) TokenFault
 named_first at rest (Some s) = Ok ((s, at), rest)
@@ -78,7 +78,7 @@ named_first at rest None = Err (fault_at at Expected)
 
 abbrev pub pass_name_of : List Placed → TokenFault → Result (PlacedName × Left) TokenFault
 pass_name_of [] stop = Err (refuse [] stop)
-pass_name_of (p ∷ ps) stop = named_first p.at (left ps stop) (name_in p.token)
+pass_name_of (p ∷ ps) stop = named_first p.at (left ps stop) (name_of_token p.token)
 
 abbrev pub pass_name : Left → Result (PlacedName × Left) TokenFault
 pass_name l = pass_name_of l.placed l.stop
@@ -95,8 +95,8 @@ abbrev pub over_with : List Placed → TokenFault → Bool
 over_with [] stop = is_expected stop.cause
 over_with (p ∷ ps) stop = false
 
-abbrev pub is_over : Left → Bool
-is_over l = over_with l.placed l.stop
+abbrev pub has_ended : Left → Bool
+has_ended l = over_with l.placed l.stop
 
 abbrev pub pass_end : Left → Result (Unit {0}) TokenFault
-pass_end l = if is_over l then Ok tt else Err (refused l)
+pass_end l = if has_ended l then Ok tt else Err (refused l)

@@ -15,7 +15,7 @@ use Rattle.mls_tokens.specs.declared.token.Token.TheVariants.{Word, Int, Text, S
 use Rattle.mls_tokens.specs.declared.token.Placed.{Placed}
 use Rattle.mls_tokens.specs.declared.sign.Sign.{Sign}
 use Rattle.mls_tokens.specs.Writing.{is_control, is_escaped}
-use Rattle.mls_tokens.specs.Sign.{sign_at}
+use Rattle.mls_tokens.specs.Sign.{leading_sign}
 use Rattle.mls_tokens.specs.Text.{is_blank, is_no_feed, AreTokens}
 
 -- What a function returned, seen by view, is what scanning gives, unless memory ran out.
@@ -31,8 +31,8 @@ abbrev pub Shows : {X Y E : Type 0} → (X → Y) → Result X E → Result Y E 
 Shows view (Ok x) scan = scan ≡ Ok (view x)
 Shows view (Err e) scan = scan ≡ Err e
 
-unfoldable pub word_at : List ℕ → Result (List ℕ × List ℕ) TokenCause
-word_at bytes =
+unfoldable pub leading_word : List ℕ → Result (List ℕ × List ℕ) TokenCause
+leading_word bytes =
     let n = prefix_len is_name_byte bytes in
     if nat_lt 32 n then Err BadToken else Ok (take n bytes, drop n bytes)
 
@@ -43,8 +43,8 @@ abbrev pub digits_of : List ℕ → List ℕ
 digits_of text = if slice_index text 0 == 45 then drop 1 text else text
 
 -- the number that digits, or a minus and digits, stand for
-unfoldable pub int_in : List ℕ → Result ℤ TokenCause
-int_in text =
+unfoldable pub int_value : List ℕ → Result ℤ TokenCause
+int_value text =
     let n = digits_value 10 (digits_of text) in
     if slice_index text 0 == 45 then (if nat_le n (2 ^ 63) then Ok (neg_ℤ (pos n)) else Err BadToken) else (if nat_lt n (2 ^ 63) then Ok (pos n) else Err BadToken)
 
@@ -57,11 +57,11 @@ pub record IsIntText (text : List ℕ) : Type 0 where
 abbrev pub starts_int : List ℕ → Bool
 starts_int bytes = is_ascii_digit (slice_index bytes 0) || (slice_index bytes 0 == 45 && is_ascii_digit (slice_index bytes 1))
 
-unfoldable pub int_len : List ℕ → ℕ
-int_len bytes = if slice_index bytes 0 == 45 then 1 + prefix_len is_ascii_digit (drop 1 bytes) else prefix_len is_ascii_digit bytes
+unfoldable pub int_length : List ℕ → ℕ
+int_length bytes = if slice_index bytes 0 == 45 then 1 + prefix_len is_ascii_digit (drop 1 bytes) else prefix_len is_ascii_digit bytes
 
-unfoldable pub int_at : List ℕ → Result (ℤ × List ℕ) TokenCause
-int_at bytes = int_in (take (int_len bytes) bytes) >>= λ n. Ok (n, drop (int_len bytes) bytes)
+unfoldable pub leading_int : List ℕ → Result (ℤ × List ℕ) TokenCause
+leading_int bytes = int_value (take (int_length bytes) bytes) >>= λ n. Ok (n, drop (int_length bytes) bytes)
 
 -- ---- texts
 
@@ -77,8 +77,8 @@ text_at escaped front (b ∷ bs) =
 unfoldable pub utf8_of : List ℕ → Result (List ℕ) TokenCause
 utf8_of bytes = if is_utf8 bytes then Ok bytes else Err BadToken
 
-unfoldable pub quoted_at : List ℕ → Result (List ℕ × List ℕ) TokenCause
-quoted_at bytes = do
+unfoldable pub leading_quoted : List ℕ → Result (List ℕ × List ℕ) TokenCause
+leading_quoted bytes = do
   x ← text_at false [] bytes
   text ← utf8_of x.0
   if nat_lt 1024 (length text) then Err TooLong else Ok (text, x.1)
@@ -97,34 +97,34 @@ sign_found None = Err BadToken
 sign_found (Some x) = Ok (Sign_token x.0, x.1)
 
 -- the token at the front of bytes
-unfoldable pub token_at : List ℕ → Result Found TokenCause
-token_at bytes =
-    if is_ascii_alphabetic (slice_index bytes 0) then (word_at bytes >>= λ x. found Word x)
-    else (if starts_int bytes then (int_at bytes >>= λ x. found Int x)
-    else (if slice_index bytes 0 == 34 then (quoted_at (drop 1 bytes) >>= λ x. found Text x)
-    else sign_found (sign_at bytes)))
+unfoldable pub leading_token : List ℕ → Result Found TokenCause
+leading_token bytes =
+    if is_ascii_alphabetic (slice_index bytes 0) then (leading_word bytes >>= λ x. found Word x)
+    else (if starts_int bytes then (leading_int bytes >>= λ x. found Int x)
+    else (if slice_index bytes 0 == 34 then (leading_quoted (drop 1 bytes) >>= λ x. found Text x)
+    else sign_found (leading_sign bytes)))
 
 -- ---- between tokens
 
 -- a comment, up to its LF
-abbrev pub comment_in : List ℕ → List ℕ
-comment_in bytes = take (prefix_len is_no_feed bytes) bytes
+abbrev pub after_comment : List ℕ → List ℕ
+after_comment bytes = take (prefix_len is_no_feed bytes) bytes
 
 -- how many bytes are left from the first of a comment that is not UTF-8
 unfoldable pub comment_fault : List ℕ → Option ℕ
-comment_fault bytes = if is_utf8 (comment_in bytes) then None else Some (length bytes - utf8_valid_len (comment_in bytes))
+comment_fault bytes = if is_utf8 (after_comment bytes) then None else Some (length bytes - utf8_valid_len (after_comment bytes))
 
 abbrev pub unless : {X : Type 0} → Option ℕ → Result X ℕ → Result X ℕ
 unless None next = next
 unless (Some left) next = Err left
 
 -- what stands behind blanks and comments; or how many bytes are left from the first of a comment that is not UTF-8
-abbrev pub front_at : Bool → List ℕ → Result (List ℕ) ℕ
-front_at inside [] = Ok []
-front_at inside (b ∷ bs) =
-    if inside then front_at (is_no_feed b) bs
-    else (if b == 35 then unless (comment_fault bs) (front_at true bs)
-    else (if is_blank b then front_at false bs else Ok (b ∷ bs)))
+abbrev pub after_gap : Bool → List ℕ → Result (List ℕ) ℕ
+after_gap inside [] = Ok []
+after_gap inside (b ∷ bs) =
+    if inside then after_gap (is_no_feed b) bs
+    else (if b == 35 then unless (comment_fault bs) (after_gap true bs)
+    else (if is_blank b then after_gap false bs else Ok (b ∷ bs)))
 
 -- ---- all tokens
 
@@ -145,15 +145,15 @@ placed_at at (Err cause) = Err (fault_at at cause)
 
 -- the token at the front of the last bytes of len, if there are any
 abbrev pub token_or_end : ℕ → List ℕ → Result (Placed × List ℕ) TokenFault
-token_or_end len front = if length front == 0 then Err (fault_at (len + 1) Expected) else placed_at (len - length front + 1) (token_at front)
+token_or_end len front = if length front == 0 then Err (fault_at (len + 1) Expected) else placed_at (len - length front + 1) (leading_token front)
 
 abbrev pub behind : ℕ → Result (List ℕ) ℕ → Result (Placed × List ℕ) TokenFault
 behind len (Ok front) = token_or_end len front
 behind len (Err left) = Err (fault_at (len - left + 1) BadToken)
 
 -- the next token of the last bytes of len, and what follows it
-unfoldable pub next_at : ℕ → List ℕ → Result (Placed × List ℕ) TokenFault
-next_at len bytes = behind len (front_at false bytes)
+unfoldable pub next_placed : ℕ → List ℕ → Result (Placed × List ℕ) TokenFault
+next_placed len bytes = behind len (after_gap false bytes)
 
 abbrev pub next_then : (List ℕ → Left) → Result (Placed × List ℕ) TokenFault → Left
 next_then more (Ok x) = with_front (x.0 ∷ []) (more x.1)
@@ -162,16 +162,16 @@ next_then more (Err stop) = record { placed = []; stop = stop }
 -- the tokens of the last bytes of len, n of them at most
 abbrev pub tokens_from : ℕ → ℕ → List ℕ → Left
 tokens_from zero len bytes = record { placed = []; stop = fault_at (len + 1) Expected }
-tokens_from (suc n) len bytes = next_then (λ rest. tokens_from n len rest) (next_at len bytes)
+tokens_from (suc n) len bytes = next_then (λ rest. tokens_from n len rest) (next_placed len bytes)
 
 -- as many as there are bytes, and the end
 unfoldable pub tokens_at : List ℕ → Left
 tokens_at bytes = tokens_from (suc (length bytes)) (length bytes) bytes
 
-abbrev pub tokens_in : List Placed → List Token
-tokens_in = map (λ p. p.token)
+abbrev pub without_places : List Placed → List Token
+without_places = map (λ p. p.token)
 
 -- scanning comes to the end with these tokens exactly where the text is these tokens
 abbrev pub TokensAreExact : Type 0
 TokensAreExact =
-    (bytes : List ℕ) (ts : List Token) → ((tokens_in (tokens_at bytes).placed ≡ ts) × ((tokens_at bytes).stop.cause ≡ Expected)) ↔ AreTokens ts bytes
+    (bytes : List ℕ) (ts : List Token) → ((without_places (tokens_at bytes).placed ≡ ts) × ((tokens_at bytes).stop.cause ≡ Expected)) ↔ AreTokens ts bytes

@@ -59,5 +59,5 @@ abbrev pub first_sign : List Sign → List ℕ → Option (Sign × List ℕ)
 first_sign [] bytes = None
 first_sign (s ∷ ss) bytes = if starts_with nat_eq bytes (sign_text s) then Some (s, drop (length (sign_text s)) bytes) else first_sign ss bytes
 
-abbrev pub sign_at : List ℕ → Option (Sign × List ℕ)
-sign_at = first_sign signs
+abbrev pub leading_sign : List ℕ → Option (Sign × List ℕ)
+leading_sign = first_sign signs

@@ -2,7 +2,7 @@
 ghost use Rattle.std.specs.Prelude.{◌≡◌, ◌≤◌, length, false, IfOk, IfErr, IfSome};
 ghost use Rattle.std.specs.List.{prefix_len};
 ghost use Rattle.mls_tokens.specs.Text.{is_blank, is_no_feed};
-ghost use Rattle.mls_tokens.specs.Scanning.{Shows, comment_fault, front_at};
+ghost use Rattle.mls_tokens.specs.Scanning.{Shows, comment_fault, after_gap};
 
 fn is_blank(byte: u8) -> bool
     ensures { result ≡ is_blank byte }
@@ -10,7 +10,7 @@ fn is_blank(byte: u8) -> bool
     byte == b' ' || byte == b'\t' || byte == b'\n' || byte == b'\r'
 }
 
-fn comment_len(bytes: &[u8]) -> usize
+fn comment_length(bytes: &[u8]) -> usize
     ensures run { result ≡ prefix_len is_no_feed bytes.now }
     ensures within { result ≤ length bytes.now }
 {
@@ -23,7 +23,7 @@ fn comment_fault(bytes: &[u8]) -> Option<usize>
     ensures exact { result ≡ comment_fault bytes.now }
     ensures within { IfSome result (λ left. left ≤ length bytes.now) }
 {
-    let comment = &bytes[..comment_len(bytes)];
+    let comment = &bytes[..comment_length(bytes)];
     match std::str::from_utf8(comment) {
         Ok(_) => None,
         Err(e) => Some(bytes.len().saturating_sub(e.valid_up_to())),
@@ -31,8 +31,8 @@ fn comment_fault(bytes: &[u8]) -> Option<usize>
 }
 
 /// What stands behind blanks and comments; or how many bytes are left from the first of a comment that is not UTF-8.
-pub(crate) fn front_of(bytes: &[u8]) -> Result<&[u8], usize>
-    ensures exact { Shows (λ rest. rest.now) result (front_at false bytes.now) }
+pub(crate) fn after_gap(bytes: &[u8]) -> Result<&[u8], usize>
+    ensures exact { Shows (λ rest. rest.now) result (after_gap false bytes.now) }
     ensures shorter { IfOk result (λ rest. length rest.now ≤ length bytes.now) }
     ensures within { IfErr result (λ left. left ≤ length bytes.now) }
 {

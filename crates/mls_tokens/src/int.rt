@@ -1,13 +1,15 @@
-//! Numbers at the front of bytes: how far one goes, and what it is.
+//! The number that a text begins with: whether there is one, how many bytes it takes, what its value is, and what follows it.
+//! A number is decimal digits, with a minus before them or none, and fits 64 bits with a sign.
 ghost use Rattle.std.specs.Prelude.{◌≡◌, ◌≤◌, length, IsTrue};
-ghost use Rattle.mls_tokens.specs.Scanning.{Gives, int_in, IsIntText, int_len, starts_int, int_at};
+ghost use Rattle.mls_tokens.specs.Scanning.{Gives, int_value, IsIntText, int_length, starts_int, leading_int};
 
 use crate::fault::TokenCause;
 use mls_lattice::{ascii_text, digits_len};
 
-fn int_in(text: &str) -> Result<i64, TokenCause>
+/// The value of a text that is a number and nothing else; one out of range is refused.
+fn int_value(text: &str) -> Result<i64, TokenCause>
     requires { IsIntText text.now }
-    ensures { Gives (λ n. n) result (int_in text.now) }
+    ensures { Gives (λ n. n) result (int_value text.now) }
 {
     match text.parse::<i64>() {
         Ok(number) => Ok(number),
@@ -15,9 +17,10 @@ fn int_in(text: &str) -> Result<i64, TokenCause>
     }
 }
 
-#[tactic(auto, unfolding(crate::specs::Scanning::int_len))]
-fn int_len(bytes: &[u8]) -> usize
-    ensures run { result ≡ int_len bytes.now }
+/// How many bytes the number at the front takes, its minus among them.
+#[tactic(auto, unfolding(crate::specs::Scanning::int_length))]
+fn int_length(bytes: &[u8]) -> usize
+    ensures run { result ≡ int_length bytes.now }
     ensures within { result ≤ length bytes.now }
 {
     match bytes {
@@ -26,18 +29,18 @@ fn int_len(bytes: &[u8]) -> usize
     }
 }
 
-/// The number at the front of bytes, and what follows it.
-#[tactic(auto, using(crate::proofs::IntLemmas::int_runs), unfolding(crate::specs::Scanning::int_at))]
-pub(crate) fn int_of(bytes: &[u8]) -> Result<(i64, &[u8]), TokenCause>
+/// The value of the number at the front, and the bytes that follow it.
+#[tactic(auto, using(crate::proofs::IntLemmas::int_runs), unfolding(crate::specs::Scanning::leading_int))]
+pub(crate) fn leading_int(bytes: &[u8]) -> Result<(i64, &[u8]), TokenCause>
     requires { IsTrue (starts_int bytes.now) }
-    ensures { Gives (λ x. (x.0, x.1.now)) result (int_at bytes.now) }
+    ensures { Gives (λ x. (x.0, x.1.now)) result (leading_int bytes.now) }
 {
-    let (text, rest) = bytes.split_at(int_len(bytes));
-    let number = int_in(ascii_text(text))?;
+    let (text, rest) = bytes.split_at(int_length(bytes));
+    let number = int_value(ascii_text(text))?;
     Ok((number, rest))
 }
 
-/// Whether a number begins here: a minus directly before a digit belongs to the number.
+/// Whether the bytes begin with a number: with a digit, or with a minus directly before one.
 pub(crate) fn starts_int(bytes: &[u8]) -> bool
     ensures { result ≡ starts_int bytes.now }
 {

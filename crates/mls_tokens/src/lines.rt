@@ -9,7 +9,7 @@ use std::alloc::Global;
 use std::io::Write;
 
 /// A line, or so many bytes of it as a line may have.
-fn part_from<S: Source>(alloc: Global, input: &mut S) -> Result<Part, TypingFault>
+fn read_part<S: Source>(alloc: Global, input: &mut S) -> Result<Part, TypingFault>
     ensures part { IfOk result (IsPart (S.remaining input.old) (S.remaining input.new)) }
     ensures lost { OnErr result (IsTaken (S.remaining input.old) (S.remaining input.new)) }
     ensures cause { IfErr result (IsCause (S.fails input.new)) }
@@ -30,7 +30,7 @@ fn part_from<S: Source>(alloc: Global, input: &mut S) -> Result<Part, TypingFaul
 }
 
 /// Takes the rest of a line. The answer is whether the end came first.
-fn skip_from<S: Source>(input: &mut S) -> Result<bool, TypingFault>
+fn skip_line<S: Source>(input: &mut S) -> Result<bool, TypingFault>
     ensures skipped { IfOk result (IsSkipped (S.remaining input.old) (S.remaining input.new)) }
     ensures lost { OnErr result (IsTaken (S.remaining input.old) (S.remaining input.new)) }
     ensures cause { IfErr result (IsCause (S.fails input.new)) }
@@ -47,16 +47,16 @@ fn skip_from<S: Source>(input: &mut S) -> Result<bool, TypingFault>
 }
 
 /// The next line, and whether the end came behind it.
-fn typed_from<S: Source>(alloc: Global, input: &mut S) -> Result<(Typed, bool), TypingFault>
+fn read_typed<S: Source>(alloc: Global, input: &mut S) -> Result<(Typed, bool), TypingFault>
     ensures typed { IfOk result (λ t. IsTyped (λ _. []) (S.remaining input.old)
         (left_of t.1 (S.remaining input.new)) None None t.0) }
     ensures lost { OnErr result (IsTaken (S.remaining input.old) (S.remaining input.new)) }
     ensures cause { IfErr result (IsCause (S.fails input.new)) }
 {
-    match part_from(alloc, input)? {
+    match read_part(alloc, input)? {
         Part::Line(line) => Ok((Typed::Line(line), false)),
         Part::Last(line) => Ok((Typed::Line(line), true)),
-        Part::Full => Ok((Typed::TooLong, skip_from(input)?)),
+        Part::Full => Ok((Typed::TooLong, skip_line(input)?)),
     }
 }
 
@@ -93,7 +93,7 @@ impl<S: Source + Drop> TypedLines for LinesOf<S> {
         if self.is_over {
             return Ok(Typed::Line(Vec::new(alloc)));
         }
-        let (typed, is_over) = typed_from(alloc, &mut self.input)?;
+        let (typed, is_over) = read_typed(alloc, &mut self.input)?;
         self.is_over = is_over;
         Ok(typed)
     }

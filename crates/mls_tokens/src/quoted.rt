@@ -1,6 +1,6 @@
 //! Texts between quotes.
 ghost use Rattle.std.specs.Prelude.{◌≡◌, [], false};
-ghost use Rattle.mls_tokens.specs.Scanning.{Gives, text_at, utf8_of, quoted_at};
+ghost use Rattle.mls_tokens.specs.Scanning.{Gives, text_at, utf8_of, leading_quoted};
 
 use crate::fault::TokenCause;
 use crate::writing::{is_control, is_escaped};
@@ -48,9 +48,9 @@ fn utf8_of(bytes: &[u8]) -> Result<&str, TokenCause>
 }
 
 /// The text up to its closing quote, and what follows it.
-#[tactic(auto, unfolding(crate::specs::Scanning::quoted_at))]
-pub(crate) fn quoted_of(alloc: Global, bytes: &[u8]) -> Result<(Str, &[u8]), TokenCause>
-    ensures { Gives (λ x. (x.0, x.1.now)) result (quoted_at bytes.now) }
+#[tactic(auto, unfolding(crate::specs::Scanning::leading_quoted))]
+pub(crate) fn leading_quoted(alloc: Global, bytes: &[u8]) -> Result<(Str, &[u8]), TokenCause>
+    ensures { Gives (λ x. (x.0, x.1.now)) result (leading_quoted bytes.now) }
 {
     let (text, rest) = text_of(alloc, bytes)?;
     let text = utf8_of(&text)?;

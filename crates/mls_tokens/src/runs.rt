@@ -5,7 +5,7 @@ ghost use Rattle.mls_lattice.specs.Name.{is_name_byte};
 
 use mls_lattice::is_name_byte;
 
-pub(crate) fn word_len(bytes: &[u8]) -> usize
+pub(crate) fn word_length(bytes: &[u8]) -> usize
     ensures run { result ≡ prefix_len is_name_byte bytes.now }
     ensures within { result ≤ length bytes.now }
 {

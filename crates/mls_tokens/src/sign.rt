@@ -1,6 +1,6 @@
 //! Signs: how each is written, and which stands at the front of bytes.
 ghost use Rattle.std.specs.Prelude.{◌≡◌, option_map};
-ghost use Rattle.mls_tokens.specs.Sign.{sign_text, first_sign, sign_at};
+ghost use Rattle.mls_tokens.specs.Sign.{sign_text, first_sign, leading_sign};
 
 /// A sign of one byte or of two.
 #[derive(Clone, Copy, PartialEq, Eq)]
@@ -107,8 +107,8 @@ fn first_sign<'a>(signs: &[Sign], bytes: &'a [u8]) -> Option<(Sign, &'a [u8])>
 }
 
 /// The longest sign at the front of bytes, and what follows it.
-pub(crate) fn sign_of(bytes: &[u8]) -> Option<(Sign, &[u8])>
-    ensures { option_map (λ x. (x.0, x.1.now)) result ≡ sign_at bytes.now }
+pub(crate) fn leading_sign(bytes: &[u8]) -> Option<(Sign, &[u8])>
+    ensures { option_map (λ x. (x.0, x.1.now)) result ≡ leading_sign bytes.now }
 {
     first_sign(&SIGNS, bytes)
 }

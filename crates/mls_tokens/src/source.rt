@@ -33,7 +33,7 @@ fn fault_of(error: &Error) -> TypingFault {
 }
 
 /// One read, tried again where a signal interrupts it.
-fn byte_from<R: Read>(input: &mut R) -> Result<Option<u8>, TypingFault>
+fn read_byte<R: Read>(input: &mut R) -> Result<Option<u8>, TypingFault>
     ensures byte { IfOk result (IsByte (R.remaining input.old) (R.remaining input.new)) }
     ensures lost { OnErr result (Consumes (R.remaining input.old) (R.remaining input.new) []) }
 {
@@ -77,7 +77,7 @@ impl<R: Read + Drop> Source for AnyReader<R> {
     ghost fails = { λ s. s.has_failed ≡ true };
 
     fn next_byte(&mut self) -> Result<Option<u8>, TypingFault> {
-        let byte = byte_from(&mut self.reader);
+        let byte = read_byte(&mut self.reader);
         if byte.is_err() {
             self.has_failed = true;
         }

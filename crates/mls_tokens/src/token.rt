@@ -1,6 +1,6 @@
 //! Tokens, and tokens with their places.
 ghost use Rattle.std.specs.Prelude.{◌≡◌};
-ghost use Rattle.mls_tokens.specs.Passing.{is_word, is_sign, name_in};
+ghost use Rattle.mls_tokens.specs.Passing.{is_word, is_sign, name_of_token};
 
 use crate::sign::Sign;
 use mls_lattice::{Str, is_name};
@@ -46,7 +46,7 @@ impl Token {
 
     /// The name that this is, if it is one and no reserved word.
     pub fn into_name(self) -> Option<Str>
-        ensures { result ≡ name_in self }
+        ensures { result ≡ name_of_token self }
     {
         match self {
             Token::Word(text) => {

@@ -1,12 +1,12 @@
 //! The tokens of a whole text, read one after another.
 ghost use Rattle.std.specs.Prelude.{◌≡◌, ◌<◌, ◌^◌, [], ◌∷◌, length, option_map, IfOk, IfErr, IfSome, IsNone};
 ghost use Rattle.mls_tokens.specs.declared.fault.TokenCause.TheVariants.{Memory};
-ghost use Rattle.mls_tokens.specs.Scanning.{Reads, next_at, tokens_at};
-ghost use Rattle.mls_tokens.specs.Passing.{left, refused, is_word, is_sign, taken, pass, pass_name, is_over, pass_end};
+ghost use Rattle.mls_tokens.specs.Scanning.{Reads, next_placed, tokens_at};
+ghost use Rattle.mls_tokens.specs.Passing.{left, refused, is_word, is_sign, taken, pass, pass_name, has_ended, pass_end};
 
 use crate::fault::{TokenCause, TokenFault};
-use crate::gap::front_of;
-use crate::scanner::token_of;
+use crate::gap::after_gap;
+use crate::scanner::leading_token;
 use crate::sign::Sign;
 use crate::token::Placed;
 use mls_lattice::Str;
@@ -30,13 +30,13 @@ impl Model for Tokens {
 }
 
 /// The next token of the last bytes of a text, and what follows it; or where the text is over or none stands.
-#[tactic(auto, unfolding(crate::specs::Scanning::next_at))]
-fn next_of(alloc: Global, len: usize, bytes: &[u8]) -> Result<(Placed, &[u8]), TokenFault>
+#[tactic(auto, unfolding(crate::specs::Scanning::next_placed))]
+fn next_placed(alloc: Global, len: usize, bytes: &[u8]) -> Result<(Placed, &[u8]), TokenFault>
     requires { len < 2 ^ 63 }
-    ensures exact { Reads (λ x. (x.0, x.1.now)) result (next_at len bytes.now) }
+    ensures exact { Reads (λ x. (x.0, x.1.now)) result (next_placed len bytes.now) }
     ensures shorter { IfOk result (λ x. length x.1.now < length bytes.now) }
 {
-    let front = match front_of(bytes) {
+    let front = match after_gap(bytes) {
         Ok(front) => front,
         Err(left) => {
             return Err(TokenFault {
@@ -52,7 +52,7 @@ fn next_of(alloc: Global, len: usize, bytes: &[u8]) -> Result<(Placed, &[u8]), T
         });
     }
     let at = len.saturating_sub(front.len()) + 1;
-    match token_of(alloc, front) {
+    match leading_token(alloc, front) {
         Ok((token, after)) => Ok((Placed { token, at }, after)),
         Err(cause) => Err(TokenFault { at, cause }),
     }
@@ -68,7 +68,7 @@ impl Tokens {
         let mut placed = VecDeque::new(alloc);
         let mut rest = text;
         loop {
-            match next_of(alloc, text.len(), rest) {
+            match next_placed(alloc, text.len(), rest) {
                 Ok((token, after)) => {
                     placed.push_back(token)?;
                     rest = after;
@@ -173,8 +173,8 @@ impl Tokens {
     }
 
     /// Whether the text is over.
-    pub fn is_over(&self) -> bool
-        ensures { result ≡ is_over self.now }
+    pub fn has_ended(&self) -> bool
+        ensures { result ≡ has_ended self.now }
     {
         self.placed.is_empty() && self.stop.cause == TokenCause::Expected
     }
@@ -183,7 +183,7 @@ impl Tokens {
     pub fn end(&self) -> Result<(), TokenFault>
         ensures { Reads (λ _. tt) result (pass_end self.now) }
     {
-        if self.is_over() {
+        if self.has_ended() {
             Ok(())
         } else {
             Err(self.refused())

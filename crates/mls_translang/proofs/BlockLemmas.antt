@@ -2,7 +2,7 @@
 use Rattle.std.proofs.Common.{◌≡◌, ℕ, ◌+◌, ◌<◌, ◌≤◌, ◌==◌, List, [], ◌∷◌, ◌++◌, codes, length, get_or, drop, refl, sym, ap, ◌∙◌, append_assoc, subst, arith}
 use Rattle.std.proofs.lemmas.List.{append-nil, drop_more}
 use Rattle.std.proofs.lemmas.Bool.{ne_eqb}
-use Rattle.mls_lattice.specs.Policy.{Tables}
+use Rattle.mls_lattice.specs.Policy.{Policy}
 use Rattle.mls_scheme.specs.Scheme.{Schemes}
 use Rattle.mls_tokens.specs.declared.token.Token.{Token}
 use Rattle.mls_tokens.specs.declared.token.Token.TheVariants.{Word}
@@ -28,7 +28,7 @@ own_more s (stmt.Delete rel key key_class w outcome) rest h = ((h.0, tt), h.1)
 own_more s (stmt.Release e to into) rest h = ((h.0, tt), h.1)
 own_more s (stmt.Emit e label) rest h = ((h.0, tt), h.1)
 
-module _ (policy : Tables) (schemes : Schemes) (hi : ℕ) (s : Scope) where
+module _ (policy : Policy) (schemes : Schemes) (hi : ℕ) (s : Scope) where
   pub fits_more : (x : Stmt) (rest : List Stmt) → BlockFits policy schemes hi s (block_of (x ∷ rest)) → BlockFits policy schemes hi s (block_of (x ∷ [])) × BlockFits policy schemes hi s (block_of rest)
   fits_more (stmt.Assign v e) rest h = ((h.0, tt), h.1)
   fits_more (stmt.If guard one other) rest h = ((h.0, h.1, h.2, tt), h.3)
@@ -91,7 +91,7 @@ module _ (xs : List Stmt) (i : ℕ) (x : Stmt) (is : x ≡ get_or xs i x) (withi
   pub own_step : (s : Scope) → BlockIsOwn s (block_of (drop i xs)) → BlockIsOwn s (block_of (x ∷ [])) × BlockIsOwn s (block_of (drop (i + 1) xs))
   own_step s h = own_more s x (drop (i + 1) xs) (subst (λ l. BlockIsOwn s (block_of l)) (sym here) h)
 
-  pub fits_step : (policy : Tables) (schemes : Schemes) (hi : ℕ) (s : Scope) → BlockFits policy schemes hi s (block_of (drop i xs))
+  pub fits_step : (policy : Policy) (schemes : Schemes) (hi : ℕ) (s : Scope) → BlockFits policy schemes hi s (block_of (drop i xs))
       → BlockFits policy schemes hi s (block_of (x ∷ [])) × BlockFits policy schemes hi s (block_of (drop (i + 1) xs))
   fits_step policy schemes hi s h = fits_more policy schemes hi s x (drop (i + 1) xs) (subst (λ l. BlockFits policy schemes hi s (block_of l)) (sym here) h)
 

@@ -3,7 +3,7 @@ use Rattle.std.proofs.Common.{◌≡◌, ℕ, true, List, [], ◌∷◌, ◌++�
 use Rattle.std.proofs.Recursive.{every_front, every_back}
 use Rattle.std.specs.List.{AllByRecursion, flat_map}
 use Rattle.mls_lattice.specs.Name.{is_name}
-use Rattle.mls_lattice.specs.Policy.{Name, AreNames, Tables, IsPolicy}
+use Rattle.mls_lattice.specs.Policy.{Name, AreNames, Policy, IsPolicy}
 use Rattle.mls_scheme.specs.declared.value.Kind.{Kind}
 use Rattle.mls_scheme.specs.declared.value.Kind.TheVariants as kinds
 use Rattle.mls_scheme.specs.Scheme.{Schemes, AreSchemes, scheme_of}
@@ -23,7 +23,7 @@ use Rattle.mls_translang.proofs.ReadsBackLemmas.{layouts_are_tokens}
 
 -- ---- a transaction
 
-module _ (policy : Tables) (schemes : Schemes) (tx : Tx) (of_policy : IsPolicy policy) (of_schemes : AreSchemes schemes) (is : IsTx tx) (read : IsReadUnder policy schemes tx) where
+module _ (policy : Policy) (schemes : Schemes) (tx : Tx) (of_policy : IsPolicy policy) (of_schemes : AreSchemes schemes) (is : IsTx tx) (read : IsReadUnder policy schemes tx) where
   abbrev p : Place
   p = outermost policy schemes tx
 

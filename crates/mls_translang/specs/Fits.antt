@@ -3,7 +3,7 @@ use Rattle.std.specs.Prelude.{◌≡◌, ℕ, ◌+◌, ◌<◌, ◌≤◌, true,
 use Rattle.std.specs.List.{AllByRecursion, IsDistinct, list_any}
 use Rattle.std.specs.Str.{bytes_eq}
 use Rattle.mls_lattice.specs.Labels.{below}
-use Rattle.mls_lattice.specs.Policy.{Tables, labels_of}
+use Rattle.mls_lattice.specs.Policy.{Policy, labels_of}
 use Rattle.mls_scheme.specs.Scheme.{Attribute, Scheme, Schemes, scheme_of}
 use Rattle.mls_translang.specs.Tree.{Expr, Field, No, Op, Writing, Inserting, Updating, Deleting, Stmt, Assign, Write_at, Release, Emit, Block, End, Do, If, For}
 use Rattle.mls_translang.specs.Scope.{Scope, in_loop, row_at}
@@ -11,7 +11,7 @@ use Rattle.mls_translang.specs.Tx.{Tx, scope_of}
 use Rattle.mls_translang.specs.Kinds.{BlockKinds}
 
 -- a number of a declared label
-abbrev pub IsLabel : Tables → ℕ → Type 0
+abbrev pub IsLabel : Policy → ℕ → Type 0
 IsLabel policy label = label < length policy.labels
 
 -- ---- attributes of rows, the key first
@@ -42,7 +42,7 @@ module _ (schemes : Schemes) where
 
 -- ---- statements, under a ceiling
 
-module _ (policy : Tables) (schemes : Schemes) (hi : ℕ) where
+module _ (policy : Policy) (schemes : Schemes) (hi : ℕ) where
   abbrev pub WritingFits : Scope → Scheme → Writing → Type 0
   WritingFits s scheme (Inserting key values) = ListFits schemes s scheme.keys key × ListFits schemes s scheme.others values
   WritingFits s scheme (Updating key key_class from sets) =
@@ -64,7 +64,7 @@ module _ (policy : Tables) (schemes : Schemes) (hi : ℕ) where
 -- ---- transactions
 
 -- read under both: the one condition on a transaction
-pub record IsReadUnder (policy : Tables) (schemes : Schemes) (tx : Tx) : Type 0 where
+pub record IsReadUnder (policy : Policy) (schemes : Schemes) (tx : Tx) : Type 0 where
   pub lo : IsLabel policy tx.lo
   pub hi : IsLabel policy tx.hi
   pub interval : below (labels_of policy) tx.lo tx.hi ≡ true
@@ -74,7 +74,7 @@ pub record IsReadUnder (policy : Tables) (schemes : Schemes) (tx : Tx) : Type 0 
   pub kinds : BlockKinds schemes (scope_of tx) tx.body
 
 -- transactions of one text: no two have one name
-pub record AreReadUnder (policy : Tables) (schemes : Schemes) (txs : List Tx) : Type 0 where
+pub record AreReadUnder (policy : Policy) (schemes : Schemes) (txs : List Tx) : Type 0 where
   pub few : length txs ≤ 64
   pub each : AllByRecursion (IsReadUnder policy schemes) txs
   pub apart : IsDistinct bytes_eq (map (λ tx. tx.name) txs)

@@ -3,7 +3,7 @@ use Rattle.std.specs.Prelude.{List}
 use Rattle.std.specs.List.{AllByRecursion}
 use Rattle.mls_tokens.specs.declared.token.Token.{Token}
 use Rattle.mls_tokens.specs.Text.{Spells, AreTokens}
-use Rattle.mls_lattice.specs.Policy.{Tables, IsPolicy}
+use Rattle.mls_lattice.specs.Policy.{Policy, IsPolicy}
 use Rattle.mls_scheme.specs.Scheme.{Schemes, AreSchemes}
 use Rattle.mls_translang.specs.Layout.{spelled, layout}
 use Rattle.mls_translang.specs.Tx.{Tx, IsTx}
@@ -21,5 +21,5 @@ LayoutsAreTokens = (ts : List Token) → AllByRecursion IsSpelled ts → AreToke
 -- the printed text of a transaction is the tokens of its tree
 abbrev pub PrintsAreTokens : Type 0
 PrintsAreTokens =
-    (policy : Tables) (schemes : Schemes) (tx : Tx) → IsPolicy policy → AreSchemes schemes → IsTx tx → IsReadUnder policy schemes tx
+    (policy : Policy) (schemes : Schemes) (tx : Tx) → IsPolicy policy → AreSchemes schemes → IsTx tx → IsReadUnder policy schemes tx
     → AreTokens (tokens_of policy schemes tx) (printed policy schemes tx)

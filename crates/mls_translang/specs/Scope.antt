@@ -5,14 +5,14 @@ use Rattle.std.specs.Str.{bytes_eq}
 use Rattle.mls_lattice.specs.Name.{is_name}
 use Rattle.mls_lattice.specs.Policy.{Name}
 use Rattle.mls_scheme.specs.declared.value.Kind.{Kind}
-use Rattle.mls_translang.specs.declared.row.Row.{Row}
+use Rattle.mls_translang.specs.declared.row.LoopRow.{LoopRow}
 use Rattle.mls_translang.specs.declared.tx.Parameter.{Parameter}
 
 -- parameters and variables by number; the rows of the loops around by depth, the innermost first
 pub record Scope : Type 0 where
   pub params : List (Name × Parameter)
   pub vars : List (Name × Kind)
-  pub rows : List Row
+  pub rows : List LoopRow
 
 -- inside a loop
 abbrev pub in_loop : Scope → Name → ℕ → Scope
@@ -32,9 +32,9 @@ kind_of_var s i = option_map (λ v. v.1) (slice_get s.vars i)
 abbrev pub kind_of_param : Scope → ℕ → Option Kind
 kind_of_param s i = option_map (λ p. p.1.kind) (slice_get s.params i)
 
-abbrev pub no_row : Row
+abbrev pub no_row : LoopRow
 no_row = record { name = []; relation = 0 }
 
 -- the row at a depth
-abbrev pub row_at : Scope → ℕ → Row
+abbrev pub row_at : Scope → ℕ → LoopRow
 row_at s depth = slice_index_or s.rows depth no_row

@@ -1,7 +1,7 @@
 -- Which transactions a text tells, with no word of how it is read.
 use Rattle.std.specs.Prelude.{◌≡◌, ℕ, Bool, true, List, [], ◌∷◌, ◌++◌, codes, ◌⊎◌}
 use Rattle.std.specs.List.{AllByRecursion, flat_map}
-use Rattle.mls_lattice.specs.Policy.{Tables, IsPolicy}
+use Rattle.mls_lattice.specs.Policy.{Policy, IsPolicy}
 use Rattle.mls_scheme.specs.Scheme.{Schemes, AreSchemes}
 use Rattle.mls_tokens.specs.declared.token.Token.{Token}
 use Rattle.mls_tokens.specs.declared.token.Token.TheVariants.{Word}
@@ -29,14 +29,14 @@ TellsTx p tx ts =
     (b : List Token) × (ts ≡ heading_tokens p tx.name tx.lo tx.hi ++ (params_tokens p tx.params ++ braced (flat_map var_tokens tx.vars ++ b)))
     × TellsBlock p tx.body b
 
-abbrev pub TellsEach : Tables → Schemes → List Tx → List Token → Type 0
+abbrev pub TellsEach : Policy → Schemes → List Tx → List Token → Type 0
 TellsEach policy schemes [] ts = ts ≡ []
 TellsEach policy schemes (tx ∷ txs) ts =
     (a r : List Token) × (ts ≡ a ++ r) × TellsTx (outermost policy schemes tx) tx a × TellsEach policy schemes txs r
 
 -- the text tells these transactions, which are read under both; only whether an empty other block is written is
 -- left open
-pub record Tells (policy : Tables) (schemes : Schemes) (bytes : List ℕ) (txs : List Tx) : Type 0 where
+pub record Tells (policy : Policy) (schemes : Schemes) (bytes : List ℕ) (txs : List Tx) : Type 0 where
   pub tokens : List Token
   pub text : AreTokens tokens bytes
   pub told : TellsEach policy schemes txs tokens
@@ -46,5 +46,5 @@ pub record Tells (policy : Tables) (schemes : Schemes) (bytes : List ℕ) (txs :
 -- the printed text of a transaction tells it
 abbrev pub PrintsAreTold : Type 0
 PrintsAreTold =
-    (policy : Tables) (schemes : Schemes) (tx : Tx) → IsPolicy policy → AreSchemes schemes → IsTx tx → IsReadUnder policy schemes tx
+    (policy : Policy) (schemes : Schemes) (tx : Tx) → IsPolicy policy → AreSchemes schemes → IsTx tx → IsReadUnder policy schemes tx
     → Tells policy schemes (printed policy schemes tx) (tx ∷ [])

@@ -2,7 +2,7 @@
 use Rattle.std.specs.Prelude.{ℕ, List, [], ◌∷◌, ◌++◌, codes, Option, None, Some, option_map, slice_get, if◌then◌else◌}
 use Rattle.std.specs.Option.{unwrap_or}
 use Rattle.std.specs.List.{flat_map}
-use Rattle.mls_lattice.specs.Policy.{Name, Tables}
+use Rattle.mls_lattice.specs.Policy.{Name, Policy}
 use Rattle.mls_lattice.specs.Canon.{label_name}
 use Rattle.mls_scheme.specs.declared.value.Value.{Value}
 use Rattle.mls_scheme.specs.declared.value.Value.TheVariants as values
@@ -15,7 +15,7 @@ use Rattle.mls_tokens.specs.declared.token.Token.TheVariants.{Word, Int, Text, S
 use Rattle.mls_tokens.specs.declared.sign.Sign.TheVariants as sign
 use Rattle.mls_translang.specs.declared.operator.Operator.{Operator}
 use Rattle.mls_translang.specs.declared.operator.Operator.TheVariants as operators
-use Rattle.mls_translang.specs.declared.row.Row.{Row}
+use Rattle.mls_translang.specs.declared.row.LoopRow.{LoopRow}
 use Rattle.mls_translang.specs.declared.tx.Parameter.{Parameter}
 use Rattle.mls_translang.specs.Tree.{Expr, Known, Null, Var, Param, Field, No, Op, Writing, Inserting, Updating, Deleting, Stmt, Assign, Write_at, Release, Emit, Block, End, Do, If, For, is_end}
 use Rattle.mls_translang.specs.Scope.{Scope, in_loop, row_at}
@@ -31,7 +31,7 @@ name_at xs i = unwrap_or (option_map (λ x. x.0) (slice_get xs i)) []
 
 -- what a text is written under, its ceiling, and the names at its place
 pub record Place : Type 0 where
-  pub policy : Tables
+  pub policy : Policy
   pub schemes : Schemes
   pub hi : ℕ
   pub scope : Scope
@@ -39,7 +39,7 @@ pub record Place : Type 0 where
 abbrev pub at_row : Place → Name → ℕ → Place
 at_row p row rel = record p { scope = in_loop p.scope row rel }
 
-abbrev pub with_rows : Place → List Row → Place
+abbrev pub with_rows : Place → List LoopRow → Place
 with_rows p rows = record p { scope = record { params = p.scope.params; vars = p.scope.vars; rows = rows } }
 
 abbrev pub var_token : Place → ℕ → Token
@@ -176,16 +176,16 @@ abbrev pub heading_tokens : Place → Name → ℕ → ℕ → List Token
 heading_tokens p name lo hi =
     Word (codes "transaction") ∷ Word name ∷ Word (codes "levels") ∷ label_token p lo ∷ Word (codes "to") ∷ label_token p hi ∷ []
 
-abbrev pub outermost : Tables → Schemes → Tx → Place
+abbrev pub outermost : Policy → Schemes → Tx → Place
 outermost policy schemes tx = record { policy = policy; schemes = schemes; hi = tx.hi; scope = scope_of tx }
 
 abbrev pub tx_tokens : Place → Tx → List Token
 tx_tokens p tx =
     heading_tokens p tx.name tx.lo tx.hi ++ (params_tokens p tx.params ++ braced (flat_map var_tokens tx.vars ++ block_tokens p tx.body))
 
-abbrev pub tokens_of : Tables → Schemes → Tx → List Token
+abbrev pub tokens_of : Policy → Schemes → Tx → List Token
 tokens_of policy schemes tx = tx_tokens (outermost policy schemes tx) tx
 
 -- the canonical text
-abbrev pub printed : Tables → Schemes → Tx → List ℕ
+abbrev pub printed : Policy → Schemes → Tx → List ℕ
 printed policy schemes tx = layout (tokens_of policy schemes tx)

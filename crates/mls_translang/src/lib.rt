@@ -23,7 +23,7 @@ pub use expr::{Expr, Term};
 pub use named::Named;
 pub use operator::Operator;
 pub use print_tx::print;
-pub use row::Row;
+pub use row::LoopRow;
 pub use tx::{Parameter, Tx, statements};
 
 /// A layout of tokens is read back as these tokens.

@@ -7,7 +7,7 @@ ghost use Rattle.mls_translang.specs.Fits.{IsLabel, width};
 ghost use Rattle.mls_translang.specs.Kinds.{field_of};
 ghost use Rattle.mls_translang.specs.Tokens.{name_at, with_rows};
 
-use crate::row::Row;
+use crate::row::LoopRow;
 use crate::tx::Tx;
 use mls_lattice::{LabelNo, Policy};
 use mls_scheme::{RelNo, Scheme, Schemes};
@@ -19,7 +19,7 @@ pub(crate) struct Names<'a> {
     pub policy: &'a Policy,
     pub schemes: &'a Schemes,
     pub tx: &'a Tx,
-    pub rows: &'a [Row],
+    pub rows: &'a [LoopRow],
 }
 
 impl<'a> Model for Names<'a> {
@@ -64,7 +64,7 @@ impl Names<'_> {
     }
 
     /// The row at a depth.
-    pub fn row(&self, depth: u8) -> &Row
+    pub fn row(&self, depth: u8) -> &LoopRow
         requires { depth < length self.now.scope.rows }
         ensures { result.now ≡ row_at self.now.scope depth }
     {
@@ -72,7 +72,7 @@ impl Names<'_> {
     }
 
     /// The same, with other rows.
-    pub fn with_rows<'b>(&'b self, rows: &'b [Row]) -> Names<'b>
+    pub fn with_rows<'b>(&'b self, rows: &'b [LoopRow]) -> Names<'b>
         ensures { result ≡ with_rows self.now rows.now }
     {
         Names {

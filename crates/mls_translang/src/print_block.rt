@@ -15,7 +15,7 @@ use crate::names::Names;
 use crate::print_expr::expr_to;
 use crate::print_parts::{assign_to, emit_to, label_to, release_to};
 use crate::print_write::{delete_to, insert_to, update_to};
-use crate::row::{Row, rows_inside};
+use crate::row::{LoopRow, rows_inside};
 use mls_lattice::{LabelNo, Str};
 use mls_scheme::RelNo;
 use mls_tokens::Sign;
@@ -100,7 +100,7 @@ fn if_to(
 
 /// Writes what a loop begins with.
 #[tactic(auto, using(crate::proofs::LayoutLemmas::lists))]
-fn for_to(
+fn loop_head_to(
     names: &Names<'_>,
     out: &mut Printer,
     row: &str,
@@ -119,11 +119,16 @@ fn for_to(
 }
 
 /// The rows inside a loop.
-fn rows_of(alloc: Global, name: &str, relation: RelNo, rows: &[Row]) -> Result<Vec<Row>, AllocError>
+fn rows_of(
+    alloc: Global,
+    name: &str,
+    relation: RelNo,
+    rows: &[LoopRow],
+) -> Result<Vec<LoopRow>, AllocError>
     ensures { IfOk result (λ v. v.items ≡ record { name = name.now; relation = relation } ∷ rows.now) }
 {
     let name = Str::copy_of(alloc, name)?;
-    rows_inside(alloc, Row { name, relation }, rows)
+    rows_inside(alloc, LoopRow { name, relation }, rows)
 }
 
 /// Writes the body of a loop.
@@ -170,7 +175,7 @@ fn stmt_to(
             label,
             body,
         } => {
-            for_to(names, out, row.as_str(), *relation, *label)?;
+            loop_head_to(names, out, row.as_str(), *relation, *label)?;
             body_to(alloc, names, out, row.as_str(), *relation, body)
         }
         Stmt::Insert {

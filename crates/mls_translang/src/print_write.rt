@@ -43,7 +43,7 @@ fn head_to(
 
 /// Writes the label of a write, and its end.
 #[tactic(auto, using(crate::proofs::LayoutLemmas::lists))]
-fn at_end_to(
+fn write_end_to(
     names: &Names<'_>,
     out: &mut Printer,
     at: LabelNo,
@@ -77,7 +77,7 @@ pub(crate) fn insert_to(
     head_to(names, out, "insert", relation, key)?;
     out.word("values")?;
     list_to(names, out, values)?;
-    at_end_to(names, out, at, outcome)
+    write_end_to(names, out, at, outcome)
 }
 
 /// Writes a delete.
@@ -99,7 +99,7 @@ pub(crate) fn delete_to(
 {
     head_to(names, out, "delete", relation, key)?;
     label_to(names, out, "class", key_class)?;
-    at_end_to(names, out, at, outcome)
+    write_end_to(names, out, at, outcome)
 }
 
 /// Writes `ATTRIBUTE = e`.

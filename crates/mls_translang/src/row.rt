@@ -7,14 +7,14 @@ use std::alloc::{AllocError, Global};
 
 /// The row of a loop: its name, and the relation that it is of.
 #[derive(Clone, Drop)]
-pub struct Row {
+pub struct LoopRow {
     pub name: Str,
     pub relation: RelNo,
 }
 
-impl Row {
+impl LoopRow {
     /// An equal row.
-    pub fn copy(&self) -> Result<Row, AllocError>
+    pub fn copy(&self) -> Result<LoopRow, AllocError>
         ensures { IfOk result (λ r. r ≡ self.now) }
     {
         self.clone()
@@ -22,7 +22,11 @@ impl Row {
 }
 
 /// The rows inside a loop: its own, and those around.
-pub(crate) fn rows_inside(alloc: Global, row: Row, rows: &[Row]) -> Result<Vec<Row>, AllocError>
+pub(crate) fn rows_inside(
+    alloc: Global,
+    row: LoopRow,
+    rows: &[LoopRow],
+) -> Result<Vec<LoopRow>, AllocError>
     ensures { IfOk result (λ v. v.items ≡ row ∷ rows.now) }
 {
     let mut inside = Vec::new(alloc);

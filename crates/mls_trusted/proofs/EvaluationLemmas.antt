@@ -3,7 +3,7 @@ use mathlib.Core.List.{reverse}
 use Rattle.std.proofs.Common.{◌≡◌, ℕ, true, List, [], ◌∷◌, Option, sym, ap, ◌∙◌, subst}
 use Rattle.std.specs.List.{AllByRecursion}
 use Rattle.mls_lattice.specs.Labels.{Labels, below}
-use Rattle.mls_lattice.specs.Policy.{Tables, labels_of}
+use Rattle.mls_lattice.specs.Policy.{Policy, labels_of}
 use Rattle.mls_scheme.specs.declared.value.Value.{Value}
 use Rattle.mls_scheme.specs.declared.tuple.Tuple.{Tuple}
 use Rattle.mls_scheme.specs.Table.{Database}
@@ -24,7 +24,7 @@ use Rattle.mls_trusted.specs.Frames.{around_of, progress_of, MayRun, run_of, IsF
 outside : (f : Frame) → f.rows.items ≡ [] → [] ≡ around_of f
 outside f none = sym (ap reverse none)
 
-all_items : (policy : Tables) (hi : ℕ) (xs : List Item) → AllByRecursion (λ i. IsItem policy i × (below (labels_of policy) i.0 hi ≡ true)) xs → AllByRecursion (IsItem policy) xs
+all_items : (policy : Policy) (hi : ℕ) (xs : List Item) → AllByRecursion (λ i. IsItem policy i × (below (labels_of policy) i.0 hi ≡ true)) xs → AllByRecursion (IsItem policy) xs
 all_items policy hi [] h = tt
 all_items policy hi (x ∷ xs) h = (h.0.0, all_items policy hi xs h.1)
 

@@ -27,7 +27,7 @@ use Rattle.mls_queries.specs.Views.{Kept, AreViews}
 use Rattle.mls_trusted.specs.declared.call.Call.{Call}
 use Rattle.mls_trusted.specs.declared.frame.Frame.{Frame}
 use Rattle.mls_trusted.specs.Runs.{with_database}
-use Rattle.mls_trusted.specs.Frames.{around_of, progress_of, env_in, inside, MayRun, MayLoop, run_of, rows_of, loop_of, IsFrame, IsStep, IsReady, IsRun}
+use Rattle.mls_trusted.specs.Frames.{around_of, progress_of, env_in, inside, MayRun, MayLoop, run_of, rows_of, loop_of, IsFrame, IsStep, IsCallReady, IsRun}
 
 -- ---- the first statement and the rest
 
@@ -113,7 +113,7 @@ module _ (call : Call) {B : Type 0} (is_clean : B → Type 0) (state : B → Sta
   Ran = IsRun call is_clean state
 
   -- nothing
-  pub run_start : (run : Progress → Progress) (base : B) (f : Frame) → ((s : Progress) → s ≡ run s) → IsReady call is_clean state base f → Ran run base base f f
+  pub run_start : (run : Progress → Progress) (base : B) (f : Frame) → ((s : Progress) → s ≡ run s) → IsCallReady call is_clean state base f → Ran run base base f f
   run_start run base f e h = record { ready = h; rows = refl; rest = λ k. refl; progress = λ k. e (progress_of (state base).now.db f) }
 
   -- one part after another
@@ -130,7 +130,7 @@ module _ (call : Call) {B : Type 0} (is_clean : B → Type 0) (state : B → Sta
   run_same one other a b f g e p = record { ready = p.ready; rows = p.rows; rest = p.rest; progress = λ k. p.progress k ∙ e (state a).now.db }
 
   -- a part that leaves the base
-  run_step : (run : Progress → Progress) (a b : B) (f g : Frame) → b ≡ a → IsReady call is_clean state a f → IsStep call run f g → Ran run a b f g
+  run_step : (run : Progress → Progress) (a b : B) (f g : Frame) → b ≡ a → IsCallReady call is_clean state a f → IsStep call run f g → Ran run a b f g
   run_step run a b f g same h p = subst (λ (x : B). Ran run a x f g) (sym same) (record {
     ready = record { under = h.under; begun = h.begun; content = h.content; frame = p.frame; views = subst (AreViews call.policy.now is_clean state a) (sym p.views) h.views };
     rows = p.rows;
@@ -156,7 +156,7 @@ module _ (call : Call) {B : Type 0} (is_clean : B → Type 0) (state : B → Sta
 
   -- the base may have been read
   pub ready_read : (a b : B) (f : Frame) (kept : Kept) → (is_clean b → is_clean a) → (state b).begun ≡ true → (is_clean b → state b ≡ state a)
-      → AreViews call.policy.now is_clean state b kept → IsReady call is_clean state a f → IsReady call is_clean state b (record f { views = kept })
+      → AreViews call.policy.now is_clean state b kept → IsCallReady call is_clean state a f → IsCallReady call is_clean state b (record f { views = kept })
   ready_read a b f kept back begun same views h = record {
     under = h.under;
     begun = begun;
@@ -168,7 +168,7 @@ module _ (call : Call) {B : Type 0} (is_clean : B → Type 0) (state : B → Sta
   -- ---- inside a loop
 
   -- entering one
-  pub entered : (base : B) (f g : Frame) → g ≡ record f { rows = g.rows } → IsReady call is_clean state base f → IsReady call is_clean state base g
+  pub entered : (base : B) (f g : Frame) → g ≡ record f { rows = g.rows } → IsCallReady call is_clean state base f → IsCallReady call is_clean state base g
   entered base f g e h = record {
     under = h.under;
     begun = h.begun;
@@ -187,7 +187,7 @@ module _ (call : Call) {B : Type 0} (is_clean : B → Type 0) (state : B → Sta
   ok_same (Err e) one other a b f g h p = p
 
   -- a part that only takes memory
-  pub ok_step : {A E : Type 0} (r : Result A BaseFault) (growth : Result A E) (run : Progress → Progress) (a b : B) (f g : Frame) → IsReady call is_clean state a f
+  pub ok_step : {A E : Type 0} (r : Result A BaseFault) (growth : Result A E) (run : Progress → Progress) (a b : B) (f g : Frame) → IsCallReady call is_clean state a f
       → IfOk r (λ x. growth ≡ Ok x) → OnOk r (b ≡ a) → OnOk growth (IsStep call run f g) → OnOk r (Ran run a b f g)
   ok_step (Ok x) growth run a b f g h is same p = run_step run a b f g same h (subst (λ q. OnOk q (IsStep call run f g)) is p)
   ok_step (Err e) growth run a b f g h is same p = is

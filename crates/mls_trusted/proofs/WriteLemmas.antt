@@ -18,7 +18,7 @@ use Rattle.mls_queries.proofs.WrittenLemmas.{kept_written}
 use Rattle.mls_trusted.specs.declared.call.Call.{Call}
 use Rattle.mls_trusted.specs.declared.frame.Frame.{Frame}
 use Rattle.mls_trusted.specs.Runs.{with_database}
-use Rattle.mls_trusted.specs.Frames.{around_of, vars_of, progress_of, env_in, inside, MayRun, run_of, IsFrame, HasVars, IsReady, IsRun}
+use Rattle.mls_trusted.specs.Frames.{around_of, vars_of, progress_of, env_in, inside, MayRun, run_of, IsFrame, HasVars, IsCallReady, IsRun}
 use Rattle.mls_trusted.proofs.FrameLemmas.{vars_frame, env_fits}
 
 module _ (call : Call) (f : Frame) (rel w : ℕ) (writing : Writing) (outcome : Option ℕ) where
@@ -32,7 +32,7 @@ module _ (call : Call) (f : Frame) (rel w : ℕ) (writing : Writing) (outcome : 
     pub operands_kinds : WriteKinds (scheme_of call.schemes.now rel) (write_in (env_in call.args.now f) writing)
     operands_kinds = write_kinds call.policy.now call.schemes.now call.tx.now.hi (inside call m.rows) (env_in call.args.now f) (env_fits call f block i m) (scheme_of call.schemes.now rel) writing m.kinds.0.0
 
-  module _ {B : Type 0} (is_clean : B → Type 0) (state : B → State) (a c : B) (g : Frame) (o : Outcome) (h : IsReady call is_clean state a f) (m : MayRun call (around_of f) block)
+  module _ {B : Type 0} (is_clean : B → Type 0) (state : B → State) (a c : B) (g : Frame) (o : Outcome) (h : IsCallReady call is_clean state a f) (m : MayRun call (around_of f) block)
       (back : is_clean c → is_clean a) (begun : (state c).begun ≡ true)
       (done : is_clean c → IsWritten (labels_of call.policy.now) (scheme_of call.schemes.now rel) rel w (write_in (env_in call.args.now f) writing) (state a) (state c) o)
       (kept : is_clean c → IsContent (labels_of call.policy.now) (scheme_of call.schemes.now rel) ((state c).now.db rel))
@@ -77,14 +77,14 @@ module _ (call : Call) (f : Frame) (rel w : ℕ) (writing : Writing) (outcome : 
     }
 
   -- a base that was lent before still holds content of the stored form
-  pub content_lent : {B : Type 0} (is_clean : B → Type 0) (state : B → State) (a b : B) → b ≡ a → IsReady call is_clean state a f → (is_clean b → is_clean a) → is_clean b
+  pub content_lent : {B : Type 0} (is_clean : B → Type 0) (state : B → State) (a b : B) → b ≡ a → IsCallReady call is_clean state a f → (is_clean b → is_clean a) → is_clean b
       → IsContent (labels_of call.policy.now) (scheme_of call.schemes.now rel) ((state b).now.db rel)
   content_lent is_clean state a b same h back k =
       subst (λ x. IsContent (labels_of call.policy.now) (scheme_of call.schemes.now rel) ((state x).now.db rel)) (sym same) (h.content (back k) rel)
 
   -- the same, where the base was lent before, and the operands were copied
   pub run_written : {B : Type 0} (is_clean : B → Type 0) (state : B → State) (a b c : B) (g : Frame) (o : Outcome) (wr : Write) → b ≡ a → wr ≡ write_in (env_in call.args.now f) writing
-      → IsReady call is_clean state a f → MayRun call (around_of f) block → (is_clean c → is_clean b) → (state c).begun ≡ true
+      → IsCallReady call is_clean state a f → MayRun call (around_of f) block → (is_clean c → is_clean b) → (state c).begun ≡ true
       → (is_clean c → IsWritten (labels_of call.policy.now) (scheme_of call.schemes.now rel) rel w wr (state b) (state c) o)
       → (is_clean c → IsContent (labels_of call.policy.now) (scheme_of call.schemes.now rel) ((state c).now.db rel))
       → HasVars (set_outcome outcome o (vars_of f)) g.views f g → (named w wr).key_class < length call.policy.now.labels → AreLeftBy (labels_of call.policy.now) rel w (named w wr) o f.views g.views

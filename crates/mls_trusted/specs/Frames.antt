@@ -10,7 +10,7 @@ use Rattle.mls_scheme.specs.Scheme.{scheme_of, AreUnder}
 use Rattle.mls_filterview.specs.Content.{State}
 use Rattle.mls_filterview.specs.View.{rows}
 use Rattle.mls_filterview.specs.Stored.{AreContent}
-use Rattle.mls_translang.specs.declared.row.Row.{Row}
+use Rattle.mls_translang.specs.declared.row.LoopRow.{LoopRow}
 use Rattle.mls_translang.specs.Tree.{Block}
 use Rattle.mls_translang.specs.Scope.{Scope}
 use Rattle.mls_translang.specs.Tx.{scope_of, BlockIsOwn}
@@ -65,12 +65,12 @@ module _ (call : Call) where
   -- ---- what may be run
 
   -- the names inside loops over these rows
-  abbrev pub inside : List Row → Scope
+  abbrev pub inside : List LoopRow → Scope
   inside rows = record { params = call.tx.now.params; vars = call.tx.now.vars; rows = rows }
 
   -- a block that stands in loops over such rows
   pub record MayRun (around : List Tuple) (block : Block) : Type 0 where
-    pub rows : List Row
+    pub rows : List LoopRow
     pub own : BlockIsOwn (inside rows) block
     pub fits : BlockFits call.policy.now call.schemes.now call.tx.now.hi (inside rows) block
     pub kinds : BlockKinds call.schemes.now (inside rows) block
@@ -103,7 +103,7 @@ module _ (call : Call) where
 
   module _ {B : Type 0} (is_clean : B → Type 0) (state : B → State) where
     -- inside a change over content of the stored form, with views of it
-    pub record IsReady (base : B) (f : Frame) : Type 0 where
+    pub record IsCallReady (base : B) (f : Frame) : Type 0 where
       pub under : AreUnder (length call.policy.now.labels) call.schemes.now
       pub begun : (state base).begun ≡ true
       pub content : is_clean base → AreContent labels call.schemes.now (state base).now.db
@@ -119,7 +119,7 @@ module _ (call : Call) where
 
     -- a part of a run: all but the database stays
     pub record IsRun (run : Progress → Progress) (old new : B) (f g : Frame) : Type 0 where
-      pub ready : IsReady new g
+      pub ready : IsCallReady new g
       pub rows : g.rows.items ≡ f.rows.items
       pub rest : is_clean new → state new ≡ with_database (state old) (state new).now.db
       pub progress : is_clean new → progress_of (state new).now.db g ≡ run (progress_of (state old).now.db f)

@@ -1,7 +1,7 @@
 -- What evaluations promise.
 use Rattle.std.specs.Prelude.{◌≡◌, true, List, length, Option, Result, IfOk, OnOk}
 use Rattle.std.specs.List.{AllByRecursion}
-use Rattle.mls_lattice.specs.Policy.{Tables, labels_of}
+use Rattle.mls_lattice.specs.Policy.{Policy, labels_of}
 use Rattle.mls_scheme.specs.declared.value.Value.{Value}
 use Rattle.mls_scheme.specs.Scheme.{Schemes, AreUnder}
 use Rattle.mls_scheme.specs.Table.{Database}
@@ -26,13 +26,13 @@ pub record IsEvaluated (p : Progress) (left new : State) (r : Run) : Type 0 wher
   pub state : new ≡ left
 
 -- all that a call gave has declared labels and values of kinds
-pub record HasItems (policy : Tables) (r : Run) : Type 0 where
+pub record HasItems (policy : Policy) (r : Run) : Type 0 where
   pub emitted : AllByRecursion (IsItem policy) r.emitted
   pub released : AllByRecursion (IsItem policy) r.released
 
 -- ---- calls of a transaction with these arguments
 
-module _ {Self : Type 0} (is_clean : Self → Type 0) (state : Self → State) (policy : Tables) (schemes : Schemes) (tx : Tx) (given : List (Option Value)) where
+module _ {Self : Type 0} (is_clean : Self → Type 0) (state : Self → State) (policy : Policy) (schemes : Schemes) (tx : Tx) (given : List (Option Value)) where
   -- what may be called: a transaction that was read for these schemes, an argument for each parameter, content of the stored form
   pub record MayCall (base : Self) : Type 0 where
     pub under : AreUnder (length policy.labels) schemes

@@ -4,14 +4,14 @@ ghost use Rattle.std.specs.List.{AllByRecursion};
 ghost use Rattle.mls_filterview.specs.Calls.{IsCall, IsServed};
 ghost use Rattle.mls_translang.specs.Tree.{If, End};
 ghost use Rattle.mls_translang.specs.Blocks.{block_of};
-ghost use Rattle.mls_trusted.specs.Frames.{around_of, MayRun, MayLoop, run_of, rows_of, loop_of, IsReady, IsRun};
+ghost use Rattle.mls_trusted.specs.Frames.{around_of, MayRun, MayLoop, run_of, rows_of, loop_of, IsCallReady, IsRun};
 
 use crate::call::Call;
 use crate::fitting::rows_at;
 use crate::frame::Frame;
 use crate::plain::{assign, emit, release};
 use crate::write::{delete_at, insert_at, update_at};
-use mls_filterview::{Base, BaseFault, SharedTuple, SharedView, made};
+use mls_filterview::{Base, BaseFault, SharedTuple, SharedView, settle};
 use mls_lattice::LabelNo;
 use mls_scheme::RelNo;
 use mls_translang::{Block, Expr, Stmt};
@@ -24,7 +24,7 @@ pub(crate) fn run_block<B: Base>(
     frame: &mut Frame,
     block: &Block,
 ) -> Result<(), BaseFault>
-    requires ready { IsReady call.now B.is_clean B.state base.old frame.old }
+    requires ready { IsCallReady call.now B.is_clean B.state base.old frame.old }
     requires may { MayRun call.now (around_of frame.old) block.now }
     ensures call { IsCall B.is_clean B.failures B.state base.old base.new result }
     ensures served { IfErr result IsServed }
@@ -47,7 +47,7 @@ fn run_branch<B: Base>(
     one: &Block,
     other: &Block,
 ) -> Result<(), BaseFault>
-    requires ready { IsReady call.now B.is_clean B.state base.old frame.old }
+    requires ready { IsCallReady call.now B.is_clean B.state base.old frame.old }
     requires may { MayRun call.now (around_of frame.old) (If guard.now one.now other.now End) }
     ensures call { IsCall B.is_clean B.failures B.state base.old base.new result }
     ensures served { IfErr result IsServed }
@@ -71,14 +71,14 @@ fn run_row<B: Base>(
     row: SharedTuple,
     body: &Block,
 ) -> Result<(), BaseFault>
-    requires ready { IsReady call.now B.is_clean B.state base.old frame.old }
+    requires ready { IsCallReady call.now B.is_clean B.state base.old frame.old }
     requires may { MayRun call.now (row ∷ around_of frame.old) body.now }
     ensures call { IsCall B.is_clean B.failures B.state base.old base.new result }
     ensures served { IfErr result IsServed }
     ensures ran { OnOk result (IsRun call.now B.is_clean B.state
         (run_of call.now body.now (row ∷ around_of frame.old)) base.old base.new frame.old frame.new) }
 {
-    made(base, frame.enter(row))?;
+    settle(base, frame.enter(row))?;
     run_block(call, base, frame, body)?;
     frame.leave();
     Ok(())
@@ -93,7 +93,7 @@ fn run_rows<B: Base>(
     rows: &SharedView,
     body: &Block,
 ) -> Result<(), BaseFault>
-    requires ready { IsReady call.now B.is_clean B.state base.old frame.old }
+    requires ready { IsCallReady call.now B.is_clean B.state base.old frame.old }
     requires may { AllByRecursion (λ row. MayRun call.now (row ∷ around_of frame.old) body.now) rows.now }
     ensures call { IsCall B.is_clean B.failures B.state base.old base.new result }
     ensures served { IfErr result IsServed }
@@ -101,7 +101,7 @@ fn run_rows<B: Base>(
         (rows_of call.now body.now (around_of frame.old) rows.now) base.old base.new frame.old frame.new) }
 {
     for place in 0..rows.as_slice().len() {
-        let row = made(base, rows.tuple(place))?;
+        let row = settle(base, rows.tuple(place))?;
         run_row(call, base, frame, row, body)?;
     }
     Ok(())
@@ -117,7 +117,7 @@ fn run_loop<B: Base>(
     label: LabelNo,
     body: &Block,
 ) -> Result<(), BaseFault>
-    requires ready { IsReady call.now B.is_clean B.state base.old frame.old }
+    requires ready { IsCallReady call.now B.is_clean B.state base.old frame.old }
     requires may { MayLoop call.now relation label (around_of frame.old) body.now }
     ensures call { IsCall B.is_clean B.failures B.state base.old base.new result }
     ensures served { IfErr result IsServed }
@@ -136,7 +136,7 @@ fn run_stmt<B: Base>(
     frame: &mut Frame,
     stmt: &Stmt,
 ) -> Result<(), BaseFault>
-    requires ready { IsReady call.now B.is_clean B.state base.old frame.old }
+    requires ready { IsCallReady call.now B.is_clean B.state base.old frame.old }
     requires may { MayRun call.now (around_of frame.old) (block_of (stmt.now ∷ [])) }
     ensures call { IsCall B.is_clean B.failures B.state base.old base.new result }
     ensures served { IfErr result IsServed }
@@ -176,8 +176,8 @@ fn run_stmt<B: Base>(
             at,
             outcome,
         } => delete_at(call, base, frame, *relation, key, *key_class, *at, *outcome),
-        Stmt::Assign { variable, value } => made(base, assign(call, frame, *variable, value)),
-        Stmt::Release { value, to, into } => made(base, release(call, frame, value, *to, *into)),
-        Stmt::Emit { value, label } => made(base, emit(call, frame, value, *label)),
+        Stmt::Assign { variable, value } => settle(base, assign(call, frame, *variable, value)),
+        Stmt::Release { value, to, into } => settle(base, release(call, frame, value, *to, *into)),
+        Stmt::Emit { value, label } => settle(base, emit(call, frame, value, *label)),
     }
 }

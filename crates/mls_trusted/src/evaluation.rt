@@ -9,7 +9,7 @@ use crate::block::run_block;
 use crate::call::Call;
 use crate::frame::Frame;
 use mls_certcheck::{Certified, Run};
-use mls_filterview::{Base, BaseFault, made};
+use mls_filterview::{Base, BaseFault, settle};
 use mls_lattice::Policy;
 use mls_queries::Views;
 use mls_scheme::{Schemes, Value};
@@ -41,7 +41,7 @@ pub fn evaluate_in<B: Base>(
         tx: certified.tx(),
         args,
     };
-    let mut frame = made(base, Frame::new(&call, views.take_all()))?;
+    let mut frame = settle(base, Frame::new(&call, views.take_all()))?;
     run_block(&call, base, &mut frame, call.tx.body())?;
     let (run, kept) = frame.into_parts();
     *views = kept;

@@ -4,12 +4,12 @@ ghost use Rattle.mls_filterview.specs.Calls.{IsCall, IsServed};
 ghost use Rattle.mls_translang.specs.Tree.{Do, Write_at, Inserting, Updating, Deleting, End};
 ghost use Rattle.mls_certcheck.specs.Expressions.{value_in};
 ghost use Rattle.mls_certcheck.specs.Meaning.{values_set};
-ghost use Rattle.mls_trusted.specs.Frames.{around_of, env_in, MayRun, run_of, IsReady, IsRun};
+ghost use Rattle.mls_trusted.specs.Frames.{around_of, env_in, MayRun, run_of, IsCallReady, IsRun};
 
 use crate::call::Call;
 use crate::frame::Frame;
 use crate::operand::{sets_of, values_of};
-use mls_filterview::{Base, BaseFault, made};
+use mls_filterview::{Base, BaseFault, settle};
 use mls_lattice::LabelNo;
 use mls_scheme::{RelNo, Value};
 use mls_translang::Expr;
@@ -70,7 +70,7 @@ pub(crate) fn insert_at<B: Base>(
     at: LabelNo,
     outcome: Option<u8>,
 ) -> Result<(), BaseFault>
-    requires ready { IsReady call.now B.is_clean B.state base.old frame.old }
+    requires ready { IsCallReady call.now B.is_clean B.state base.old frame.old }
     requires may { MayRun call.now (around_of frame.old) (Do (Write_at relation at
         (Inserting key.now values.now) outcome) End) }
     ensures call { IsCall B.is_clean B.failures B.state base.old base.new result }
@@ -85,7 +85,7 @@ pub(crate) fn insert_at<B: Base>(
         schemes,
         ..
     } = *call;
-    let (key, values) = made(base, insert_operands(call, frame, key, values))?;
+    let (key, values) = settle(base, insert_operands(call, frame, key, values))?;
     let done = insert(alloc, base, policy, schemes, relation, at, &key, &values)?;
     frame.wrote(call, relation, at, &key, at, outcome, done);
     Ok(())
@@ -104,7 +104,7 @@ pub(crate) fn update_at<B: Base>(
     at: LabelNo,
     outcome: Option<u8>,
 ) -> Result<(), BaseFault>
-    requires ready { IsReady call.now B.is_clean B.state base.old frame.old }
+    requires ready { IsCallReady call.now B.is_clean B.state base.old frame.old }
     requires may { MayRun call.now (around_of frame.old) (Do (Write_at relation at
         (Updating key.now key_class from sets.now) outcome) End) }
     ensures call { IsCall B.is_clean B.failures B.state base.old base.new result }
@@ -119,7 +119,7 @@ pub(crate) fn update_at<B: Base>(
         schemes,
         ..
     } = *call;
-    let (key, sets) = made(base, update_operands(call, frame, key, sets))?;
+    let (key, sets) = settle(base, update_operands(call, frame, key, sets))?;
     let done = update(
         alloc, base, policy, schemes, relation, at, &key, key_class, from, &sets,
     )?;
@@ -138,7 +138,7 @@ pub(crate) fn delete_at<B: Base>(
     at: LabelNo,
     outcome: Option<u8>,
 ) -> Result<(), BaseFault>
-    requires ready { IsReady call.now B.is_clean B.state base.old frame.old }
+    requires ready { IsCallReady call.now B.is_clean B.state base.old frame.old }
     requires may { MayRun call.now (around_of frame.old) (Do (Write_at relation at (Deleting key.now key_class) outcome)
         End) }
     ensures call { IsCall B.is_clean B.failures B.state base.old base.new result }
@@ -153,7 +153,7 @@ pub(crate) fn delete_at<B: Base>(
         schemes,
         ..
     } = *call;
-    let key = made(base, delete_operands(call, frame, key))?;
+    let key = settle(base, delete_operands(call, frame, key))?;
     let done = delete(alloc, base, policy, schemes, relation, at, &key, key_class)?;
     frame.wrote(call, relation, at, &key, key_class, outcome, done);
     Ok(())

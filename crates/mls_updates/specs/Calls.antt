@@ -6,7 +6,7 @@ use Rattle.std.specs.FinMap.{get, insert, retain_keys}
 use Rattle.mls_lattice.specs.Labels.{Labels, below}
 use Rattle.mls_scheme.specs.declared.value.Value.{Value}
 use Rattle.mls_scheme.specs.declared.place.Place.{Place}
-use Rattle.mls_lattice.specs.Policy.{Tables, labels_of}
+use Rattle.mls_lattice.specs.Policy.{Policy, labels_of}
 use Rattle.mls_scheme.specs.Scheme.{Scheme, Schemes, scheme_of, AreUnder}
 use Rattle.mls_scheme.specs.Fits.{HaveKinds}
 use Rattle.mls_scheme.specs.Table.{change}
@@ -53,7 +53,7 @@ classes_below ls rel p from s =
 
 -- ---- what a write at w of a relation may be asked of: declared labels, attributes of their kinds, and stored content
 
-module _ {Self : Type 0} (is_clean : Self → Type 0) (state : Self → State) (base : Self) (policy : Tables) (schemes : Schemes) (rel w : ℕ) where
+module _ {Self : Type 0} (is_clean : Self → Type 0) (state : Self → State) (base : Self) (policy : Policy) (schemes : Schemes) (rel w : ℕ) where
   pub record CanInsert (key : Key) (values : List (Option Value)) : Type 0 where
     pub label : w < length policy.labels
     pub relation : rel < length schemes

@@ -4,7 +4,7 @@ use Rattle.std.specs.List.{AllByRecursion}
 use Rattle.std.specs.FinMap.{get, remove}
 use Rattle.mls_lattice.specs.Labels.{Labels, below}
 use Rattle.mls_scheme.specs.declared.tuple.Element.{Element}
-use Rattle.mls_lattice.specs.Policy.{Tables, labels_of}
+use Rattle.mls_lattice.specs.Policy.{Policy, labels_of}
 use Rattle.mls_scheme.specs.Scheme.{Scheme, IsUnder}
 use Rattle.mls_scheme.specs.Spelling.{HasSpelling, IsSpelledKey}
 use Rattle.mls_scheme.specs.Table.{Table, change}
@@ -75,7 +75,7 @@ module _ {Self : Type 0} (is_clean : Self → Type 0) (state : Self → State) (
       pub there : is_clean base → AllByRecursion (λ s. HasCell ((state base).now.db rel) p s.0) ss
 
     -- a tuple is made from that of class m, in a relation of the stored form
-    pub record CanDerive (policy : Tables) (scheme : Scheme) (m : ℕ) (sets : Sets) : Type 0 where
+    pub record CanDerive (policy : Policy) (scheme : Scheme) (m : ℕ) (sets : Sets) : Type 0 where
       pub at : IsBegunAt state base (length policy.labels) p
       pub from : m < length policy.labels
       pub other : m ≢ p.class

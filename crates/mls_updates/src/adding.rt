@@ -9,7 +9,7 @@ ghost use Rattle.mls_updates.specs.Rows.{entry_of};
 ghost use Rattle.mls_updates.specs.Steps.{CanAddRow};
 
 use crate::row::Row;
-use mls_filterview::{Base, BaseFault, Cell, Node, made};
+use mls_filterview::{Base, BaseFault, Cell, Node, settle};
 use std::alloc::{AllocError, Global};
 
 /// A tuple as a base takes it.
@@ -41,6 +41,6 @@ pub(crate) fn add_row<B: Base>(alloc: Global, base: &mut B, row: &Row) -> Result
         ≡ with_relation (B.state base.old) row.now.rel
         (insert ((B.state base.old).now.db row.now.rel) row.now.place es)) }
 {
-    let parts = made(base, parts_of(alloc, row))?;
+    let parts = settle(base, parts_of(alloc, row))?;
     base.add(row.rel, parts.node, &parts.cells)
 }

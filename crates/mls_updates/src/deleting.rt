@@ -16,7 +16,7 @@ use crate::finding::has_tuple;
 use crate::key::{has_null, place_of};
 use crate::order::downwards;
 use crate::outcome::Outcome;
-use mls_filterview::{Base, BaseFault, made};
+use mls_filterview::{Base, BaseFault, settle};
 use mls_lattice::{LabelNo, Policy};
 use mls_scheme::{Place, RelNo, Schemes, Value};
 use std::alloc::Global;
@@ -37,7 +37,7 @@ fn drop_above<B: Base>(
         ≡ with_relation (B.state base.old) rel
         (retain_keys ((B.state base.old).now.db rel) (λ q. not (is_above (labels_of policy.now) place q)))) }
 {
-    let order = made(base, downwards(alloc, policy, place.class))?;
+    let order = settle(base, downwards(alloc, policy, place.class))?;
     drop_each(base, rel, place, &order)
 }
 
@@ -96,6 +96,6 @@ pub fn delete<B: Base>(
     if has_null(key) {
         return Ok(Outcome::KeyNull);
     }
-    let place = made(base, place_of(alloc, key, key_class, w))?;
+    let place = settle(base, place_of(alloc, key, key_class, w))?;
     delete_at(alloc, base, policy, rel, place)
 }

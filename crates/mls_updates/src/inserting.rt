@@ -15,7 +15,7 @@ use crate::finding::has_tuple;
 use crate::key::{has_null, place_of};
 use crate::outcome::Outcome;
 use crate::root::add_root;
-use mls_filterview::{Base, BaseFault, made};
+use mls_filterview::{Base, BaseFault, settle};
 use mls_lattice::{LabelNo, Policy};
 use mls_scheme::{Place, RelNo, Scheme, Schemes, Value};
 use std::alloc::Global;
@@ -76,6 +76,6 @@ pub fn insert<B: Base>(
     if has_null(key) {
         return Ok(Outcome::KeyNull);
     }
-    let place = made(base, place_of(alloc, key, w, w))?;
+    let place = settle(base, place_of(alloc, key, w, w))?;
     insert_at(alloc, base, policy, scheme, rel, place, values)
 }

@@ -26,7 +26,7 @@ pub(crate) fn elements_of(
 {
     let mut elements = Vec::new(alloc);
     for (attr, class) in pattern.iter().enumerate() {
-        let value = value_of(rows, rel, place, cells, attr, *class)?;
+        let value = value_by_class(rows, rel, place, cells, attr, *class)?;
         elements.push(Element {
             value,
             class: *class,
@@ -36,7 +36,7 @@ pub(crate) fn elements_of(
 }
 
 /// The value at an attribute of a class.
-fn value_of(
+fn value_by_class(
     rows: &[Row],
     rel: RelNo,
     place: &Place,
@@ -48,18 +48,18 @@ fn value_of(
         (held_in rel place.now.class cells.now rows.now (with_class place.now class, attr)) None) }
 {
     if class == place.class {
-        return value_in(cells, attr);
+        return value_among_cells(cells, attr);
     }
     let other = Place {
         key: copy_key(&place.key)?,
         key_class: place.key_class,
         class,
     };
-    value_at(rows, rel, &other, attr)
+    value_in_base(rows, rel, &other, attr)
 }
 
 /// The value at an attribute among cells, null where there is none.
-fn value_in(cells: &[Cell], attr: usize) -> Result<Option<Value>, AllocError>
+fn value_among_cells(cells: &[Cell], attr: usize) -> Result<Option<Value>, AllocError>
     ensures { IfOk result (λ v. v ≡ value_in attr cells.now) }
 {
     for cell in cells {
@@ -71,7 +71,7 @@ fn value_in(cells: &[Cell], attr: usize) -> Result<Option<Value>, AllocError>
 }
 
 /// The value at an attribute of the tuple at a place, null where there is none.
-fn value_at(
+fn value_in_base(
     rows: &[Row],
     rel: RelNo,
     place: &Place,

@@ -9,7 +9,7 @@ use mls_lattice::{LabelNo, Policy};
 use std::alloc::{AllocError, Global};
 
 /// The place of the first label that is dominated by a new one, or the end.
-fn place_in(policy: &Policy, order: &[LabelNo], label: LabelNo) -> usize
+fn insertion_place(policy: &Policy, order: &[LabelNo], label: LabelNo) -> usize
     requires label { label < length policy.now.labels }
     requires order { AllByRecursion (λ m. m < length policy.now.labels) order.now }
     ensures exact { result ≡ prefix_len (λ x. not (below (labels_of policy.now) x label)) order.now }
@@ -39,7 +39,7 @@ pub(crate) fn downwards(
         if !policy.dominates(label, w) {
             continue;
         }
-        let place = place_in(policy, &order, label);
+        let place = insertion_place(policy, &order, label);
         order.insert(place, label)?;
     }
     Ok(order)

@@ -1,4 +1,6 @@
-//! A new tuple of an update: its classes, and the values of its own class.
+//! The tuple that an update adds at a level above the tuple that it updates: it has the classes of that one, but for the
+//! attributes that the update sets. The outline of it has a class for each attribute, and values where the update sets one; the other values
+//! are read off the entity's tuples of those classes.
 ghost use Rattle.std.specs.Prelude.{◌≡◌, List, IfOk, OnOk, None};
 ghost use Rattle.std.specs.FinMap.{get, insert};
 ghost use Rattle.mls_scheme.specs.declared.tuple.Element.{Element as SpecElement};
@@ -11,12 +13,13 @@ ghost use Rattle.mls_updates.specs.Writes.{set_element};
 use crate::adding::add_row;
 use crate::row::Row;
 use crate::sets::copy_value;
-use mls_filterview::{Base, BaseFault, made};
+use mls_filterview::{Base, BaseFault, settle};
 use mls_lattice::{Items, LabelNo};
 use mls_scheme::{Element, Place, RelNo, Value};
 use std::alloc::{AllocError, Global};
 
-/// The element of an attribute: of class `w` with its new value where it is named, else its class alone.
+/// One element of the outline: where the update sets the attribute, the new value, of the class `w` that it is made at;
+/// else null, of the class that the attribute has in the tuple that is updated.
 fn outline_element(
     w: LabelNo,
     sets: &[(usize, Option<Value>)],
@@ -34,8 +37,8 @@ fn outline_element(
     Ok(Element { value: None, class })
 }
 
-/// The elements of the new tuple of class `w` from one with this pattern.
-fn outline_of(
+/// All elements of the outline, in the order of the attributes. `pattern` has the classes of the tuple that is updated.
+fn outline_elements(
     alloc: Global,
     w: LabelNo,
     sets: &[(usize, Option<Value>)],
@@ -50,8 +53,8 @@ fn outline_of(
     Ok(elements)
 }
 
-/// The new tuple at a place.
-fn outline_at(
+/// The outline at its place in its relation. The class of the place is the class that the update is made at.
+fn outline_tuple(
     alloc: Global,
     rel: RelNo,
     place: Place,
@@ -60,7 +63,7 @@ fn outline_at(
 ) -> Result<Row, AllocError>
     ensures { IfOk result (λ r. r ≡ record { rel = rel; place = place; elements = outline place.class sets.now 0 pattern.now }) }
 {
-    let elements = outline_of(alloc, place.class, sets, pattern)?;
+    let elements = outline_elements(alloc, place.class, sets, pattern)?;
     Ok(Row {
         rel,
         place,
@@ -68,7 +71,8 @@ fn outline_at(
     })
 }
 
-/// Adds the new tuple at a place; its elements of other classes are those that the entity's tuples of these classes have.
+/// Adds the new tuple. Only the node and the values of its own class are written: a value of another class is one that
+/// the entity's tuple of that class has, and it stays there.
 pub(crate) fn add_outline<B: Base>(
     alloc: Global,
     base: &mut B,
@@ -85,6 +89,6 @@ pub(crate) fn add_outline<B: Base>(
         → OnOk result (B.state base.new
         ≡ with_relation (B.state base.old) rel (insert ((B.state base.old).now.db rel) place es)) }
 {
-    let row = made(base, outline_at(alloc, rel, place, sets, pattern))?;
+    let row = settle(base, outline_tuple(alloc, rel, place, sets, pattern))?;
     add_row(alloc, base, &row)
 }

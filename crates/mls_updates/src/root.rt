@@ -9,7 +9,7 @@ ghost use Rattle.mls_updates.specs.Steps.{CanAddRow};
 use crate::adding::add_row;
 use crate::row::Row;
 use crate::sets::copy_value;
-use mls_filterview::{Base, BaseFault, made};
+use mls_filterview::{Base, BaseFault, settle};
 use mls_lattice::{Items, LabelNo};
 use mls_scheme::{Element, Place, RelNo, Value};
 use std::alloc::{AllocError, Global};
@@ -63,6 +63,6 @@ pub(crate) fn add_root<B: Base>(
         ≡ with_relation (B.state base.old) rel
         (insert ((B.state base.old).now.db rel) place (root place.class values.now))) }
 {
-    let row = made(base, root_at(alloc, rel, place, values))?;
+    let row = settle(base, root_at(alloc, rel, place, values))?;
     add_row(alloc, base, &row)
 }

@@ -7,7 +7,7 @@ ghost use Rattle.mls_filterview.specs.Fragment.{set_in};
 ghost use Rattle.mls_updates.specs.Steps.{set_each, CanSetEach};
 
 use crate::sets::copy_value;
-use mls_filterview::{Base, BaseFault, made};
+use mls_filterview::{Base, BaseFault, settle};
 use mls_scheme::{Place, RelNo, Value};
 
 /// Sets the value of a cell, in every tuple of the entity that has it.
@@ -25,7 +25,7 @@ fn set_one<B: Base>(
         ≡ with_relation (B.state base.old) rel
         (change (set_in place.now attr value.now) ((B.state base.old).now.db rel))) }
 {
-    let value = made(base, copy_value(value))?;
+    let value = settle(base, copy_value(value))?;
     base.set(rel, place, attr, value)
 }
 

@@ -11,7 +11,7 @@ use crate::changing::update_own;
 use crate::key::{has_null, place_of};
 use crate::outcome::Outcome;
 use crate::raising::update_below;
-use mls_filterview::{Base, BaseFault, made};
+use mls_filterview::{Base, BaseFault, settle};
 use mls_lattice::{LabelNo, Policy};
 use mls_scheme::{RelNo, Schemes, Value};
 use std::alloc::Global;
@@ -50,7 +50,7 @@ pub fn update<B: Base>(
     // That the labels of a policy are distinct.
     let _count = policy.label_count();
     let scheme = schemes.scheme(rel);
-    let place = made(base, place_of(alloc, key, key_class, from))?;
+    let place = settle(base, place_of(alloc, key, key_class, from))?;
     if from == w {
         return update_own(base, policy, rel, &place, sets);
     }

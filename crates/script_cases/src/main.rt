@@ -6,6 +6,7 @@ mod counts;
 mod desk;
 mod elsewhere;
 mod lists;
+mod machine;
 mod most;
 mod narrow;
 mod readers;
@@ -29,5 +30,5 @@ fn main(rt: HostRuntime) -> io::Result<()> {
     for (file, table) in TABLES {
         tell_table(&rt, file, table)?;
     }
-    Ok(())
+    machine::tell(&rt)
 }

@@ -16,7 +16,7 @@ use mls_certcheck::Certified;
 use mls_filterview::{Base, BaseFault, abandon};
 use mls_host::stored_from;
 use mls_machine::{Audience, Form, Stored};
-use mls_runs::{Run, run_on};
+use mls_runs::{Run, run_over_base};
 use mls_script::script;
 use mls_sessions::{RunCause, RunFault, turn};
 use mls_trusted::evaluate;
@@ -117,7 +117,9 @@ fn run_over<B: Base>(
         reader: None,
         form: Form::Lines,
     };
-    let (outcome, left) = run_on(alloc, policy, schemes, stored, base, &events, everyone, out);
+    let (outcome, left) = run_over_base(
+        alloc, policy, schemes, stored, base, &events, everyone, out,
+    );
     (end_of(outcome), left)
 }
 

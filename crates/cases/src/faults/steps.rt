@@ -4,9 +4,9 @@ ghost use Rattle.std.specs.List.{AllByRecursion};
 ghost use Rattle.mls_scheme.specs.Scheme.{AreUnder};
 ghost use Rattle.mls_script.specs.Event.{EventFits};
 ghost use Rattle.mls_machine.specs.Observation.{EventsFit, AreRead, AreCertified};
-ghost use Rattle.mls_replies.specs.Under.{site_under};
+ghost use Rattle.mls_machine.specs.Under.{site_under};
 ghost use Rattle.mls_sessions.specs.World.{IsSound};
-ghost use Rattle.mls_sessions.specs.Engine.{site, IsReady, IsKept};
+ghost use Rattle.mls_sessions.specs.Engine.{site, IsEngineReady, IsKept};
 
 use super::narrow::Narrow;
 use super::runs::{Failure, Scripts};
@@ -21,7 +21,7 @@ use std::alloc::Global;
 
 /// Answers events in order, up to the first that fails: its number, from 1, and why.
 fn step_to_fault<B: Base>(engine: &mut Engine<B>, events: &[Event]) -> Option<(usize, BaseFault)>
-    requires ready { IsReady B.state B.is_clean engine.old }
+    requires ready { IsEngineReady B.state B.is_clean engine.old }
     requires fits { EventsFit (site engine.old) events.now }
     ensures kept { IsKept B.state B.is_clean engine.old engine.new }
     ensures number { IfSome result (λ r. (0 < r.0) × (r.0 ≤ length events.now)) }

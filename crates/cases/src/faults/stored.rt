@@ -5,8 +5,7 @@ ghost use Rattle.mls_translang.specs.Fits.{IsReadUnder};
 ghost use Rattle.mls_machine.specs.Stored.{tx_of, IsCertifiedUnder};
 ghost use Rattle.mls_machine.specs.Observation.{AreRead, AreCertified};
 
-use mls_certcheck::Certified;
-use mls_certificate::Certificate;
+use mls_certcheck::{Certificate, Certified};
 use mls_labeller::label_tx;
 use mls_lattice::{Items, Policy};
 use mls_parser::parse;

@@ -1,8 +1,7 @@
 //! Certificates that are checked for transactions.
 use crate::certificates::certificate_of;
 use case_tables::{Told, case_at, inner};
-use mls_certcheck::check;
-use mls_certificate::Certificate;
+use mls_certcheck::{Certificate, check};
 use mls_lattice::Policy;
 use mls_parser::parse;
 use mls_scheme::Schemes;

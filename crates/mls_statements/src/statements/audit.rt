@@ -4,7 +4,7 @@ ghost use Rattle.sqlite.specs.State.{HasCleanDisk, IsUnchanged};
 ghost use Rattle.sqlite.specs.Held.{state};
 ghost use Rattle.mls_statements.specs.Rows.{tables_of, audit_columns};
 ghost use Rattle.mls_statements.specs.Schema.{HasTables};
-ghost use Rattle.mls_statements.specs.Statements.{IsReady, Changes, AddsEntry, ClearsEntries, IsEnded};
+ghost use Rattle.mls_statements.specs.Statements.{IsSchemaReady, Changes, AddsEntry, ClearsEntries, IsEnded};
 
 use crate::decode::entries_from;
 use crate::rows::AuditRow;
@@ -13,7 +13,7 @@ use std::alloc::Global;
 
 /// Adds an entry under its number.
 pub fn add_entry<S: Alter>(conn: &mut Connection<S>, entry: &AuditRow) -> Result<usize, Error>
-    ensures added { HasCleanDisk (state S.Store conn.new) → IsReady (state S.Store conn.old).now
+    ensures added { HasCleanDisk (state S.Store conn.new) → IsSchemaReady (state S.Store conn.old).now
         → OnOk result (Changes (AddsEntry entry.now) (state S.Store conn.old) (state S.Store conn.new)) }
     ensures err { HasCleanDisk (state S.Store conn.new)
         → OnErr result (IsEnded (state S.Store conn.old) (state S.Store conn.new)) }
@@ -27,7 +27,7 @@ pub fn add_entry<S: Alter>(conn: &mut Connection<S>, entry: &AuditRow) -> Result
 
 /// Drops every entry.
 pub fn clear_entries<S: Alter>(conn: &mut Connection<S>) -> Result<usize, Error>
-    ensures cleared { HasCleanDisk (state S.Store conn.new) → IsReady (state S.Store conn.old).now
+    ensures cleared { HasCleanDisk (state S.Store conn.new) → IsSchemaReady (state S.Store conn.old).now
         → OnOk result (Changes ClearsEntries (state S.Store conn.old) (state S.Store conn.new)) }
     ensures err { HasCleanDisk (state S.Store conn.new)
         → OnErr result (IsEnded (state S.Store conn.old) (state S.Store conn.new)) }
@@ -55,13 +55,13 @@ pub fn read_entries<S: Alter>(
     conn: &mut Connection<S>,
     alloc: Global,
 ) -> Result<Vec<AuditRow>, Error>
-    ensures found { HasCleanDisk (state S.Store conn.new) → IsReady (state S.Store conn.old).now
+    ensures found { HasCleanDisk (state S.Store conn.new) → IsSchemaReady (state S.Store conn.old).now
         → IfOk result (λ found. IsPermutation (tables_of (state S.Store conn.old).now.trees).audit found.items) }
     ensures open { HasCleanDisk (state S.Store conn.new) → OnOk result (IsTrue (state S.Store conn.old).is_open) }
-    ensures same { HasCleanDisk (state S.Store conn.new) → IsReady (state S.Store conn.old).now
+    ensures same { HasCleanDisk (state S.Store conn.new) → IsSchemaReady (state S.Store conn.old).now
         → OnOk result (IsUnchanged (state S.Store conn.old) (state S.Store conn.new)) }
     ensures err { HasCleanDisk (state S.Store conn.new)
-        → (IsTrue (state S.Store conn.old).is_open → IsReady (state S.Store conn.old).now)
+        → (IsTrue (state S.Store conn.old).is_open → IsSchemaReady (state S.Store conn.old).now)
         → OnErr result (IsEnded (state S.Store conn.old) (state S.Store conn.new)) }
     ensures clean { HasCleanDisk (state S.Store conn.new) → HasCleanDisk (state S.Store conn.old) }
 {

@@ -6,7 +6,7 @@ ghost use Rattle.sqlite.specs.Held.{state};
 ghost use Rattle.sqlite.specs.Values.{bound};
 ghost use Rattle.mls_statements.specs.declared.rows.CellRow.{CellRow as SpecCell};
 ghost use Rattle.mls_statements.specs.Rows.{tables_of, is_cell_at, is_cell_among, is_cell_in, cell_beside, own_values, cell_values};
-ghost use Rattle.mls_statements.specs.Statements.{IsReady, Changes, AddsCell, AddsCells, ClearsCells, SetsCell, DropsCells, IsOne, has_key_of, IsEnded, IsWithin, GoesOn};
+ghost use Rattle.mls_statements.specs.Statements.{IsSchemaReady, Changes, AddsCell, AddsCells, ClearsCells, SetsCell, DropsCells, IsOne, has_key_of, IsEnded, IsWithin, GoesOn};
 
 use crate::decode::cells_from;
 use crate::rows::{CellRow, NodeRow, OwnCell};
@@ -21,7 +21,7 @@ const ADD_CELLS: &str =
 
 /// Adds a cell.
 pub fn add_cell<S: Alter>(conn: &mut Connection<S>, cell: &CellRow) -> Result<usize, Error>
-    ensures added { HasCleanDisk (state S.Store conn.new) → IsReady (state S.Store conn.old).now
+    ensures added { HasCleanDisk (state S.Store conn.new) → IsSchemaReady (state S.Store conn.old).now
         → OnOk result (Changes (AddsCell cell.now) (state S.Store conn.old) (state S.Store conn.new)) }
     ensures err { HasCleanDisk (state S.Store conn.new)
         → OnErr result (IsEnded (state S.Store conn.old) (state S.Store conn.new)) }
@@ -93,7 +93,7 @@ fn add_some<S: Alter>(
 ) -> Result<usize, Error>
     requires some { 0 < length cells.now }
     requires few { length cells.now ≤ 15 }
-    ensures added { HasCleanDisk (state S.Store conn.new) → IsReady (state S.Store conn.old).now
+    ensures added { HasCleanDisk (state S.Store conn.new) → IsSchemaReady (state S.Store conn.old).now
         → OnOk result (Changes (AddsCells (map (cell_beside node.now) cells.now)) (state S.Store conn.old)
         (state S.Store conn.new)) }
     ensures err { HasCleanDisk (state S.Store conn.new)
@@ -126,7 +126,7 @@ pub fn add_own<S: Alter>(
 
 /// Drops every cell.
 pub fn clear_cells<S: Alter>(conn: &mut Connection<S>) -> Result<usize, Error>
-    ensures cleared { HasCleanDisk (state S.Store conn.new) → IsReady (state S.Store conn.old).now
+    ensures cleared { HasCleanDisk (state S.Store conn.new) → IsSchemaReady (state S.Store conn.old).now
         → OnOk result (Changes ClearsCells (state S.Store conn.old) (state S.Store conn.new)) }
     ensures err { HasCleanDisk (state S.Store conn.new)
         → OnErr result (IsEnded (state S.Store conn.old) (state S.Store conn.new)) }
@@ -137,7 +137,7 @@ pub fn clear_cells<S: Alter>(conn: &mut Connection<S>) -> Result<usize, Error>
 
 /// Gives the one cell with the key of `cell` its value.
 pub fn set_cell<S: Alter>(conn: &mut Connection<S>, cell: &CellRow) -> Result<usize, Error>
-    ensures set { HasCleanDisk (state S.Store conn.new) → IsReady (state S.Store conn.old).now → (was : SpecCell)
+    ensures set { HasCleanDisk (state S.Store conn.new) → IsSchemaReady (state S.Store conn.old).now → (was : SpecCell)
         → IsOne (has_key_of cell.now) (tables_of (state S.Store conn.old).now.trees).cells was
         → OnOk result (Changes (SetsCell cell.now) (state S.Store conn.old) (state S.Store conn.new)) }
     ensures err { HasCleanDisk (state S.Store conn.new)
@@ -165,7 +165,7 @@ pub fn drop_cells<S: Alter>(
     kclass: u32,
     label: u32,
 ) -> Result<usize, Error>
-    ensures dropped { HasCleanDisk (state S.Store conn.new) → IsReady (state S.Store conn.old).now
+    ensures dropped { HasCleanDisk (state S.Store conn.new) → IsSchemaReady (state S.Store conn.old).now
         → OnOk result (Changes (DropsCells rel ent.now kclass label) (state S.Store conn.old)
         (state S.Store conn.new)) }
     ensures err { HasCleanDisk (state S.Store conn.new)
@@ -179,13 +179,17 @@ pub fn drop_cells<S: Alter>(
 }
 
 /// The cells of one class, as rows of their six columns.
-pub fn cells_at<S: Alter>(conn: &mut Connection<S>, rel: u32, label: u32) -> Result<Vec<Row>, Error>
-    ensures found { HasCleanDisk (state S.Store conn.new) → IsReady (state S.Store conn.old).now
+pub fn cells_of_class<S: Alter>(
+    conn: &mut Connection<S>,
+    rel: u32,
+    label: u32,
+) -> Result<Vec<Row>, Error>
+    ensures found { HasCleanDisk (state S.Store conn.new) → IsSchemaReady (state S.Store conn.old).now
         → IfOk result (λ rows. IsPermutation
         (map cell_values (filter (is_cell_at rel label) (tables_of (state S.Store conn.old).now.trees).cells))
         rows.items) }
     ensures open { HasCleanDisk (state S.Store conn.new) → OnOk result (IsTrue (state S.Store conn.old).is_open) }
-    ensures same { HasCleanDisk (state S.Store conn.new) → IsReady (state S.Store conn.old).now
+    ensures same { HasCleanDisk (state S.Store conn.new) → IsSchemaReady (state S.Store conn.old).now
         → OnOk result (IsUnchanged (state S.Store conn.old) (state S.Store conn.new)) }
     ensures err { HasCleanDisk (state S.Store conn.new)
         → OnErr result (IsEnded (state S.Store conn.old) (state S.Store conn.new)) }
@@ -203,12 +207,12 @@ pub fn cells_among<S: Alter>(
     rel: u32,
     labels: u64,
 ) -> Result<Vec<Row>, Error>
-    ensures found { HasCleanDisk (state S.Store conn.new) → IsReady (state S.Store conn.old).now
+    ensures found { HasCleanDisk (state S.Store conn.new) → IsSchemaReady (state S.Store conn.old).now
         → IfOk result (λ rows. IsPermutation
         (map cell_values (filter (is_cell_among rel labels) (tables_of (state S.Store conn.old).now.trees).cells))
         rows.items) }
     ensures open { HasCleanDisk (state S.Store conn.new) → OnOk result (IsTrue (state S.Store conn.old).is_open) }
-    ensures same { HasCleanDisk (state S.Store conn.new) → IsReady (state S.Store conn.old).now
+    ensures same { HasCleanDisk (state S.Store conn.new) → IsSchemaReady (state S.Store conn.old).now
         → OnOk result (IsUnchanged (state S.Store conn.old) (state S.Store conn.new)) }
     ensures err { HasCleanDisk (state S.Store conn.new)
         → OnErr result (IsEnded (state S.Store conn.old) (state S.Store conn.new)) }
@@ -221,19 +225,19 @@ pub fn cells_among<S: Alter>(
 }
 
 /// The cells of one tuple's own class, as rows of their six columns.
-pub fn cells_of<S: Alter>(
+pub fn cells_of_tuple<S: Alter>(
     conn: &mut Connection<S>,
     rel: u32,
     ent: &[u8],
     kclass: u32,
     label: u32,
 ) -> Result<Vec<Row>, Error>
-    ensures found { HasCleanDisk (state S.Store conn.new) → IsReady (state S.Store conn.old).now
+    ensures found { HasCleanDisk (state S.Store conn.new) → IsSchemaReady (state S.Store conn.old).now
         → IfOk result (λ rows. IsPermutation
         (map cell_values (filter (is_cell_in rel ent.now kclass label)
         (tables_of (state S.Store conn.old).now.trees).cells)) rows.items) }
     ensures open { HasCleanDisk (state S.Store conn.new) → OnOk result (IsTrue (state S.Store conn.old).is_open) }
-    ensures same { HasCleanDisk (state S.Store conn.new) → IsReady (state S.Store conn.old).now
+    ensures same { HasCleanDisk (state S.Store conn.new) → IsSchemaReady (state S.Store conn.old).now
         → OnOk result (IsUnchanged (state S.Store conn.old) (state S.Store conn.new)) }
     ensures err { HasCleanDisk (state S.Store conn.new)
         → OnErr result (IsEnded (state S.Store conn.old) (state S.Store conn.new)) }
@@ -246,24 +250,24 @@ pub fn cells_of<S: Alter>(
 }
 
 /// The cells of one class.
-pub fn read_cells_at<S: Alter>(
+pub fn read_cells_of_class<S: Alter>(
     conn: &mut Connection<S>,
     alloc: Global,
     rel: u32,
     label: u32,
 ) -> Result<Vec<CellRow>, Error>
-    ensures found { HasCleanDisk (state S.Store conn.new) → IsReady (state S.Store conn.old).now
+    ensures found { HasCleanDisk (state S.Store conn.new) → IsSchemaReady (state S.Store conn.old).now
         → IfOk result (λ found. IsPermutation
         (filter (is_cell_at rel label) (tables_of (state S.Store conn.old).now.trees).cells) found.items) }
     ensures open { HasCleanDisk (state S.Store conn.new) → OnOk result (IsTrue (state S.Store conn.old).is_open) }
-    ensures same { HasCleanDisk (state S.Store conn.new) → IsReady (state S.Store conn.old).now
+    ensures same { HasCleanDisk (state S.Store conn.new) → IsSchemaReady (state S.Store conn.old).now
         → OnOk result (IsUnchanged (state S.Store conn.old) (state S.Store conn.new)) }
     ensures err { HasCleanDisk (state S.Store conn.new)
-        → (IsTrue (state S.Store conn.old).is_open → IsReady (state S.Store conn.old).now)
+        → (IsTrue (state S.Store conn.old).is_open → IsSchemaReady (state S.Store conn.old).now)
         → OnErr result (IsEnded (state S.Store conn.old) (state S.Store conn.new)) }
     ensures clean { HasCleanDisk (state S.Store conn.new) → HasCleanDisk (state S.Store conn.old) }
 {
-    cells_from(alloc, &cells_at(conn, rel, label)?)
+    cells_from(alloc, &cells_of_class(conn, rel, label)?)
 }
 
 /// The cells of the labels whose bits are set.
@@ -273,14 +277,14 @@ pub fn read_cells_among<S: Alter>(
     rel: u32,
     labels: u64,
 ) -> Result<Vec<CellRow>, Error>
-    ensures found { HasCleanDisk (state S.Store conn.new) → IsReady (state S.Store conn.old).now
+    ensures found { HasCleanDisk (state S.Store conn.new) → IsSchemaReady (state S.Store conn.old).now
         → IfOk result (λ found. IsPermutation
         (filter (is_cell_among rel labels) (tables_of (state S.Store conn.old).now.trees).cells) found.items) }
     ensures open { HasCleanDisk (state S.Store conn.new) → OnOk result (IsTrue (state S.Store conn.old).is_open) }
-    ensures same { HasCleanDisk (state S.Store conn.new) → IsReady (state S.Store conn.old).now
+    ensures same { HasCleanDisk (state S.Store conn.new) → IsSchemaReady (state S.Store conn.old).now
         → OnOk result (IsUnchanged (state S.Store conn.old) (state S.Store conn.new)) }
     ensures err { HasCleanDisk (state S.Store conn.new)
-        → (IsTrue (state S.Store conn.old).is_open → IsReady (state S.Store conn.old).now)
+        → (IsTrue (state S.Store conn.old).is_open → IsSchemaReady (state S.Store conn.old).now)
         → OnErr result (IsEnded (state S.Store conn.old) (state S.Store conn.new)) }
     ensures clean { HasCleanDisk (state S.Store conn.new) → HasCleanDisk (state S.Store conn.old) }
 {
@@ -288,7 +292,7 @@ pub fn read_cells_among<S: Alter>(
 }
 
 /// The cells of one tuple's own class.
-pub fn read_cells_of<S: Alter>(
+pub fn read_cells_of_tuple<S: Alter>(
     conn: &mut Connection<S>,
     alloc: Global,
     rel: u32,
@@ -296,17 +300,17 @@ pub fn read_cells_of<S: Alter>(
     kclass: u32,
     label: u32,
 ) -> Result<Vec<CellRow>, Error>
-    ensures found { HasCleanDisk (state S.Store conn.new) → IsReady (state S.Store conn.old).now
+    ensures found { HasCleanDisk (state S.Store conn.new) → IsSchemaReady (state S.Store conn.old).now
         → IfOk result (λ found. IsPermutation
         (filter (is_cell_in rel ent.now kclass label) (tables_of (state S.Store conn.old).now.trees).cells)
         found.items) }
     ensures open { HasCleanDisk (state S.Store conn.new) → OnOk result (IsTrue (state S.Store conn.old).is_open) }
-    ensures same { HasCleanDisk (state S.Store conn.new) → IsReady (state S.Store conn.old).now
+    ensures same { HasCleanDisk (state S.Store conn.new) → IsSchemaReady (state S.Store conn.old).now
         → OnOk result (IsUnchanged (state S.Store conn.old) (state S.Store conn.new)) }
     ensures err { HasCleanDisk (state S.Store conn.new)
-        → (IsTrue (state S.Store conn.old).is_open → IsReady (state S.Store conn.old).now)
+        → (IsTrue (state S.Store conn.old).is_open → IsSchemaReady (state S.Store conn.old).now)
         → OnErr result (IsEnded (state S.Store conn.old) (state S.Store conn.new)) }
     ensures clean { HasCleanDisk (state S.Store conn.new) → HasCleanDisk (state S.Store conn.old) }
 {
-    cells_from(alloc, &cells_of(conn, rel, ent, kclass, label)?)
+    cells_from(alloc, &cells_of_tuple(conn, rel, ent, kclass, label)?)
 }

@@ -4,7 +4,7 @@ ghost use Rattle.sqlite.specs.State.{HasCleanDisk, KeepsCommit};
 ghost use Rattle.sqlite.specs.Held.{state};
 ghost use Rattle.mls_statements.specs.Schema.{IsMade, no_schema, with_node, with_cell, with_audit, no_others, schema};
 ghost use Rattle.mls_statements.specs.Rows.{tables_of, described};
-ghost use Rattle.mls_statements.specs.Statements.{IsReady, IsNext, IsEnded, IsNewStore};
+ghost use Rattle.mls_statements.specs.Statements.{IsSchemaReady, IsNext, IsEnded, IsNewStore};
 
 use crate::statements::{change, meta};
 use sqlite::{Alter, Connection, Error};

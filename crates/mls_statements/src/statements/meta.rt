@@ -4,7 +4,7 @@ ghost use Rattle.sqlite.specs.State.{HasCleanDisk, IsUnchanged};
 ghost use Rattle.sqlite.specs.Held.{state};
 ghost use Rattle.mls_statements.specs.Rows.{meta_columns, first_meta};
 ghost use Rattle.mls_statements.specs.Schema.{HasTables};
-ghost use Rattle.mls_statements.specs.Statements.{IsReady, Changes, AddsMeta, ClearsMeta, IsEnded};
+ghost use Rattle.mls_statements.specs.Statements.{IsSchemaReady, Changes, AddsMeta, ClearsMeta, IsEnded};
 
 use sqlite::{Alter, Connection, Error, Row, params};
 
@@ -15,7 +15,7 @@ pub fn add_meta<S: Alter>(
     lattice: &str,
     schemes: &str,
 ) -> Result<usize, Error>
-    ensures added { HasCleanDisk (state S.Store conn.new) → IsReady (state S.Store conn.old).now
+    ensures added { HasCleanDisk (state S.Store conn.new) → IsSchemaReady (state S.Store conn.old).now
         → OnOk result (Changes (AddsMeta (first_meta version lattice.now schemes.now)) (state S.Store conn.old)
         (state S.Store conn.new)) }
     ensures err { HasCleanDisk (state S.Store conn.new)
@@ -30,7 +30,7 @@ pub fn add_meta<S: Alter>(
 
 /// Drops every row that describes the store.
 pub fn clear_meta<S: Alter>(conn: &mut Connection<S>) -> Result<usize, Error>
-    ensures cleared { HasCleanDisk (state S.Store conn.new) → IsReady (state S.Store conn.old).now
+    ensures cleared { HasCleanDisk (state S.Store conn.new) → IsSchemaReady (state S.Store conn.old).now
         → OnOk result (Changes ClearsMeta (state S.Store conn.old) (state S.Store conn.new)) }
     ensures err { HasCleanDisk (state S.Store conn.new)
         → OnErr result (IsEnded (state S.Store conn.old) (state S.Store conn.new)) }

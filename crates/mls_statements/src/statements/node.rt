@@ -4,7 +4,7 @@ ghost use Rattle.sqlite.specs.State.{HasCleanDisk, IsUnchanged, KeepsCommit};
 ghost use Rattle.sqlite.specs.Held.{state};
 ghost use Rattle.mls_statements.specs.Rows.{tables_of, is_node_at, is_node_among, is_node, node_values};
 ghost use Rattle.mls_statements.specs.Pattern.{pattern_values};
-ghost use Rattle.mls_statements.specs.Statements.{IsReady, Changes, AddsNode, AddsNodes, ClearsNodes, DropsNode, IsEnded, IsWithin, GoesOn};
+ghost use Rattle.mls_statements.specs.Statements.{IsSchemaReady, Changes, AddsNode, AddsNodes, ClearsNodes, DropsNode, IsEnded, IsWithin, GoesOn};
 
 use crate::decode::{bytes_from, nodes_from};
 use crate::rows::NodeRow;
@@ -14,7 +14,7 @@ use std::alloc::Global;
 
 /// Adds a node.
 pub fn add_node<S: Alter>(conn: &mut Connection<S>, node: &NodeRow) -> Result<usize, Error>
-    ensures added { HasCleanDisk (state S.Store conn.new) → IsReady (state S.Store conn.old).now
+    ensures added { HasCleanDisk (state S.Store conn.new) → IsSchemaReady (state S.Store conn.old).now
         → OnOk result (Changes (AddsNode node.now) (state S.Store conn.old) (state S.Store conn.new)) }
     ensures err { HasCleanDisk (state S.Store conn.new)
         → OnErr result (IsEnded (state S.Store conn.old) (state S.Store conn.new)) }
@@ -48,7 +48,7 @@ pub fn add_nodes<S: Alter>(conn: &mut Connection<S>, nodes: &[NodeRow]) -> Resul
 
 /// Drops every node.
 pub fn clear_nodes<S: Alter>(conn: &mut Connection<S>) -> Result<usize, Error>
-    ensures cleared { HasCleanDisk (state S.Store conn.new) → IsReady (state S.Store conn.old).now
+    ensures cleared { HasCleanDisk (state S.Store conn.new) → IsSchemaReady (state S.Store conn.old).now
         → OnOk result (Changes ClearsNodes (state S.Store conn.old) (state S.Store conn.new)) }
     ensures err { HasCleanDisk (state S.Store conn.new)
         → OnErr result (IsEnded (state S.Store conn.old) (state S.Store conn.new)) }
@@ -65,7 +65,7 @@ pub fn drop_node<S: Alter>(
     kclass: u32,
     label: u32,
 ) -> Result<usize, Error>
-    ensures dropped { HasCleanDisk (state S.Store conn.new) → IsReady (state S.Store conn.old).now
+    ensures dropped { HasCleanDisk (state S.Store conn.new) → IsSchemaReady (state S.Store conn.old).now
         → OnOk result (Changes (DropsNode rel ent.now kclass label) (state S.Store conn.old) (state S.Store conn.new)) }
     ensures err { HasCleanDisk (state S.Store conn.new)
         → OnErr result (IsEnded (state S.Store conn.old) (state S.Store conn.new)) }
@@ -78,13 +78,17 @@ pub fn drop_node<S: Alter>(
 }
 
 /// The nodes of one class, as rows of their five columns.
-pub fn nodes_at<S: Alter>(conn: &mut Connection<S>, rel: u32, label: u32) -> Result<Vec<Row>, Error>
-    ensures found { HasCleanDisk (state S.Store conn.new) → IsReady (state S.Store conn.old).now
+pub fn nodes_of_class<S: Alter>(
+    conn: &mut Connection<S>,
+    rel: u32,
+    label: u32,
+) -> Result<Vec<Row>, Error>
+    ensures found { HasCleanDisk (state S.Store conn.new) → IsSchemaReady (state S.Store conn.old).now
         → IfOk result (λ rows. IsPermutation
         (map node_values (filter (is_node_at rel label) (tables_of (state S.Store conn.old).now.trees).nodes))
         rows.items) }
     ensures open { HasCleanDisk (state S.Store conn.new) → OnOk result (IsTrue (state S.Store conn.old).is_open) }
-    ensures same { HasCleanDisk (state S.Store conn.new) → IsReady (state S.Store conn.old).now
+    ensures same { HasCleanDisk (state S.Store conn.new) → IsSchemaReady (state S.Store conn.old).now
         → OnOk result (IsUnchanged (state S.Store conn.old) (state S.Store conn.new)) }
     ensures err { HasCleanDisk (state S.Store conn.new)
         → OnErr result (IsEnded (state S.Store conn.old) (state S.Store conn.new)) }
@@ -102,12 +106,12 @@ pub fn nodes_among<S: Alter>(
     rel: u32,
     labels: u64,
 ) -> Result<Vec<Row>, Error>
-    ensures found { HasCleanDisk (state S.Store conn.new) → IsReady (state S.Store conn.old).now
+    ensures found { HasCleanDisk (state S.Store conn.new) → IsSchemaReady (state S.Store conn.old).now
         → IfOk result (λ rows. IsPermutation
         (map node_values (filter (is_node_among rel labels) (tables_of (state S.Store conn.old).now.trees).nodes))
         rows.items) }
     ensures open { HasCleanDisk (state S.Store conn.new) → OnOk result (IsTrue (state S.Store conn.old).is_open) }
-    ensures same { HasCleanDisk (state S.Store conn.new) → IsReady (state S.Store conn.old).now
+    ensures same { HasCleanDisk (state S.Store conn.new) → IsSchemaReady (state S.Store conn.old).now
         → OnOk result (IsUnchanged (state S.Store conn.old) (state S.Store conn.new)) }
     ensures err { HasCleanDisk (state S.Store conn.new)
         → OnErr result (IsEnded (state S.Store conn.old) (state S.Store conn.new)) }
@@ -120,19 +124,19 @@ pub fn nodes_among<S: Alter>(
 }
 
 /// The node at a key, as rows of its five columns.
-pub fn nodes_of<S: Alter>(
+pub fn nodes_of_key<S: Alter>(
     conn: &mut Connection<S>,
     rel: u32,
     ent: &[u8],
     kclass: u32,
     label: u32,
 ) -> Result<Vec<Row>, Error>
-    ensures found { HasCleanDisk (state S.Store conn.new) → IsReady (state S.Store conn.old).now
+    ensures found { HasCleanDisk (state S.Store conn.new) → IsSchemaReady (state S.Store conn.old).now
         → IfOk result (λ rows. IsPermutation
         (map node_values (filter (is_node rel ent.now kclass label)
         (tables_of (state S.Store conn.old).now.trees).nodes)) rows.items) }
     ensures open { HasCleanDisk (state S.Store conn.new) → OnOk result (IsTrue (state S.Store conn.old).is_open) }
-    ensures same { HasCleanDisk (state S.Store conn.new) → IsReady (state S.Store conn.old).now
+    ensures same { HasCleanDisk (state S.Store conn.new) → IsSchemaReady (state S.Store conn.old).now
         → OnOk result (IsUnchanged (state S.Store conn.old) (state S.Store conn.new)) }
     ensures err { HasCleanDisk (state S.Store conn.new)
         → OnErr result (IsEnded (state S.Store conn.old) (state S.Store conn.new)) }
@@ -145,19 +149,19 @@ pub fn nodes_of<S: Alter>(
 }
 
 /// The pattern of the node at a key, as rows of that column.
-pub fn patterns_of<S: Alter>(
+pub fn patterns_of_key<S: Alter>(
     conn: &mut Connection<S>,
     rel: u32,
     ent: &[u8],
     kclass: u32,
     label: u32,
 ) -> Result<Vec<Row>, Error>
-    ensures found { HasCleanDisk (state S.Store conn.new) → IsReady (state S.Store conn.old).now
+    ensures found { HasCleanDisk (state S.Store conn.new) → IsSchemaReady (state S.Store conn.old).now
         → IfOk result (λ rows. IsPermutation
         (map pattern_values (filter (is_node rel ent.now kclass label)
         (tables_of (state S.Store conn.old).now.trees).nodes)) rows.items) }
     ensures open { HasCleanDisk (state S.Store conn.new) → OnOk result (IsTrue (state S.Store conn.old).is_open) }
-    ensures same { HasCleanDisk (state S.Store conn.new) → IsReady (state S.Store conn.old).now
+    ensures same { HasCleanDisk (state S.Store conn.new) → IsSchemaReady (state S.Store conn.old).now
         → OnOk result (IsUnchanged (state S.Store conn.old) (state S.Store conn.new)) }
     ensures err { HasCleanDisk (state S.Store conn.new)
         → OnErr result (IsEnded (state S.Store conn.old) (state S.Store conn.new)) }
@@ -170,24 +174,24 @@ pub fn patterns_of<S: Alter>(
 }
 
 /// The nodes of one class.
-pub fn read_nodes_at<S: Alter>(
+pub fn read_nodes_of_class<S: Alter>(
     conn: &mut Connection<S>,
     alloc: Global,
     rel: u32,
     label: u32,
 ) -> Result<Vec<NodeRow>, Error>
-    ensures found { HasCleanDisk (state S.Store conn.new) → IsReady (state S.Store conn.old).now
+    ensures found { HasCleanDisk (state S.Store conn.new) → IsSchemaReady (state S.Store conn.old).now
         → IfOk result (λ found. IsPermutation
         (filter (is_node_at rel label) (tables_of (state S.Store conn.old).now.trees).nodes) found.items) }
     ensures open { HasCleanDisk (state S.Store conn.new) → OnOk result (IsTrue (state S.Store conn.old).is_open) }
-    ensures same { HasCleanDisk (state S.Store conn.new) → IsReady (state S.Store conn.old).now
+    ensures same { HasCleanDisk (state S.Store conn.new) → IsSchemaReady (state S.Store conn.old).now
         → OnOk result (IsUnchanged (state S.Store conn.old) (state S.Store conn.new)) }
     ensures err { HasCleanDisk (state S.Store conn.new)
-        → (IsTrue (state S.Store conn.old).is_open → IsReady (state S.Store conn.old).now)
+        → (IsTrue (state S.Store conn.old).is_open → IsSchemaReady (state S.Store conn.old).now)
         → OnErr result (IsEnded (state S.Store conn.old) (state S.Store conn.new)) }
     ensures clean { HasCleanDisk (state S.Store conn.new) → HasCleanDisk (state S.Store conn.old) }
 {
-    nodes_from(alloc, &nodes_at(conn, rel, label)?)
+    nodes_from(alloc, &nodes_of_class(conn, rel, label)?)
 }
 
 /// The nodes of the labels whose bits are set.
@@ -197,14 +201,14 @@ pub fn read_nodes_among<S: Alter>(
     rel: u32,
     labels: u64,
 ) -> Result<Vec<NodeRow>, Error>
-    ensures found { HasCleanDisk (state S.Store conn.new) → IsReady (state S.Store conn.old).now
+    ensures found { HasCleanDisk (state S.Store conn.new) → IsSchemaReady (state S.Store conn.old).now
         → IfOk result (λ found. IsPermutation
         (filter (is_node_among rel labels) (tables_of (state S.Store conn.old).now.trees).nodes) found.items) }
     ensures open { HasCleanDisk (state S.Store conn.new) → OnOk result (IsTrue (state S.Store conn.old).is_open) }
-    ensures same { HasCleanDisk (state S.Store conn.new) → IsReady (state S.Store conn.old).now
+    ensures same { HasCleanDisk (state S.Store conn.new) → IsSchemaReady (state S.Store conn.old).now
         → OnOk result (IsUnchanged (state S.Store conn.old) (state S.Store conn.new)) }
     ensures err { HasCleanDisk (state S.Store conn.new)
-        → (IsTrue (state S.Store conn.old).is_open → IsReady (state S.Store conn.old).now)
+        → (IsTrue (state S.Store conn.old).is_open → IsSchemaReady (state S.Store conn.old).now)
         → OnErr result (IsEnded (state S.Store conn.old) (state S.Store conn.new)) }
     ensures clean { HasCleanDisk (state S.Store conn.new) → HasCleanDisk (state S.Store conn.old) }
 {
@@ -212,7 +216,7 @@ pub fn read_nodes_among<S: Alter>(
 }
 
 /// The node at a key, where there is one.
-pub fn read_nodes_of<S: Alter>(
+pub fn read_nodes_of_key<S: Alter>(
     conn: &mut Connection<S>,
     alloc: Global,
     rel: u32,
@@ -220,22 +224,22 @@ pub fn read_nodes_of<S: Alter>(
     kclass: u32,
     label: u32,
 ) -> Result<Vec<NodeRow>, Error>
-    ensures found { HasCleanDisk (state S.Store conn.new) → IsReady (state S.Store conn.old).now
+    ensures found { HasCleanDisk (state S.Store conn.new) → IsSchemaReady (state S.Store conn.old).now
         → IfOk result (λ found. IsPermutation
         (filter (is_node rel ent.now kclass label) (tables_of (state S.Store conn.old).now.trees).nodes) found.items) }
     ensures open { HasCleanDisk (state S.Store conn.new) → OnOk result (IsTrue (state S.Store conn.old).is_open) }
-    ensures same { HasCleanDisk (state S.Store conn.new) → IsReady (state S.Store conn.old).now
+    ensures same { HasCleanDisk (state S.Store conn.new) → IsSchemaReady (state S.Store conn.old).now
         → OnOk result (IsUnchanged (state S.Store conn.old) (state S.Store conn.new)) }
     ensures err { HasCleanDisk (state S.Store conn.new)
-        → (IsTrue (state S.Store conn.old).is_open → IsReady (state S.Store conn.old).now)
+        → (IsTrue (state S.Store conn.old).is_open → IsSchemaReady (state S.Store conn.old).now)
         → OnErr result (IsEnded (state S.Store conn.old) (state S.Store conn.new)) }
     ensures clean { HasCleanDisk (state S.Store conn.new) → HasCleanDisk (state S.Store conn.old) }
 {
-    nodes_from(alloc, &nodes_of(conn, rel, ent, kclass, label)?)
+    nodes_from(alloc, &nodes_of_key(conn, rel, ent, kclass, label)?)
 }
 
 /// The pattern of the node at a key, where there is one.
-pub fn read_patterns_of<S: Alter>(
+pub fn read_patterns_of_key<S: Alter>(
     conn: &mut Connection<S>,
     alloc: Global,
     rel: u32,
@@ -243,17 +247,17 @@ pub fn read_patterns_of<S: Alter>(
     kclass: u32,
     label: u32,
 ) -> Result<Vec<Items<u8>>, Error>
-    ensures found { HasCleanDisk (state S.Store conn.new) → IsReady (state S.Store conn.old).now
+    ensures found { HasCleanDisk (state S.Store conn.new) → IsSchemaReady (state S.Store conn.old).now
         → IfOk result (λ found. IsPermutation
         (map (λ n. n.pattern) (filter (is_node rel ent.now kclass label)
         (tables_of (state S.Store conn.old).now.trees).nodes)) found.items) }
     ensures open { HasCleanDisk (state S.Store conn.new) → OnOk result (IsTrue (state S.Store conn.old).is_open) }
-    ensures same { HasCleanDisk (state S.Store conn.new) → IsReady (state S.Store conn.old).now
+    ensures same { HasCleanDisk (state S.Store conn.new) → IsSchemaReady (state S.Store conn.old).now
         → OnOk result (IsUnchanged (state S.Store conn.old) (state S.Store conn.new)) }
     ensures err { HasCleanDisk (state S.Store conn.new)
-        → (IsTrue (state S.Store conn.old).is_open → IsReady (state S.Store conn.old).now)
+        → (IsTrue (state S.Store conn.old).is_open → IsSchemaReady (state S.Store conn.old).now)
         → OnErr result (IsEnded (state S.Store conn.old) (state S.Store conn.new)) }
     ensures clean { HasCleanDisk (state S.Store conn.new) → HasCleanDisk (state S.Store conn.old) }
 {
-    bytes_from(alloc, &patterns_of(conn, rel, ent, kclass, label)?)
+    bytes_from(alloc, &patterns_of_key(conn, rel, ent, kclass, label)?)
 }

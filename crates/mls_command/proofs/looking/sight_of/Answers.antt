@@ -16,4 +16,4 @@ pub returns-in-Err : goal.returns-in-Err
 returns-in-Err g c =
     if_both (λ d fault cause.
     subst (λ (f : Option OpenFault). IsSight (g.H.Host.hosting c.args.host.now) c.args.setting.now c.args.path.now f) (sym fault) (hidden c.in-Err.cause c.in-Err.ensures.hidden cause))
-    c.hidden_by.result c.hidden_by.ensures.fault c.hidden_by.ensures.cause
+    c.diagnosis_of_hidden.result c.diagnosis_of_hidden.ensures.fault c.diagnosis_of_hidden.ensures.cause

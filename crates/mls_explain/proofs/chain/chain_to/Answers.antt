@@ -17,7 +17,7 @@ loop-labeller-preserved c =
     let tx = c.args.tx.now in
     let n = c.loop-labeller.invariant.0 in
     let s = c.loop-labeller.search in
-    (suc n, round_done p tx (steps tx) (IsBroken tx.hi (body_lines tx) c.args.broken) n s.tails.items s.left.items c.loop-labeller.invariant.1 _ _ c.in_ok-search-2.ensures (subst (AllByRecursion (λ t. is_root p tx t.limit t.root ≡ false)) c.deref.ensures.value (c.root_in.ensures.none c.in_default.is)))
+    (suc n, round_done p tx (steps tx) (IsBroken tx.hi (body_lines tx) c.args.broken) n s.tails.items s.left.items c.loop-labeller.invariant.1 _ _ c.in_ok-search-2.ensures (subst (AllByRecursion (λ t. is_root p tx t.limit t.root ≡ false)) c.deref.ensures.value (c.tail_with_root.ensures.none c.in_default.is)))
 
 pub returns-in-Some : goal.returns-in-Some
 returns-in-Some c =

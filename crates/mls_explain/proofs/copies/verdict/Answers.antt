@@ -22,23 +22,23 @@ pub returns-in-Ok-clause-sound : goal.returns-in-Ok-clause-sound
 returns-in-Ok-clause-sound c =
     let outcome = c.adopted-outcome.result.0 in
     let taken = c.adopted-outcome.ensures.sound (memory_files_are_clean c.adopted-outcome.result.1) in
-    on_ok_weaker c.verdict_over.result (λ is.
+    on_ok_weaker c.verdict_of_opening.result (λ is.
     let db = (file_state c.in-Ok.conn).now in
     let t = subst (λ (o : Result (Unit {0}) OpenFault). OnOk o (IsTakenOver c.args.policy.now c.args.file.now db)) is taken in (
       t.0,
       record { had = t.1.had; was = (db, c.in-Ok.ensures.found, t.1.was); row = t.1.row; takes = t.1.takes },
-    )) c.verdict_over.ensures.ok
+    )) c.verdict_of_opening.ensures.ok
 
 pub returns-in-Ok-clause-others : goal.returns-in-Ok-clause-others
 returns-in-Ok-clause-others c =
     let db = (file_state c.in-Ok.conn).now in
-    IfErr-weaker c.verdict_over.result _ _ (λ e others is. (db, c.in-Ok.ensures.found, others is))
-    (kept (IsOfOthers c.args.policy.now c.args.file.now db) OtherPolicy (λ e. absurd cc) c.adopted-outcome.result.0 c.verdict_over.result c.verdict_over.ensures.err
+    IfErr-weaker c.verdict_of_opening.result _ _ (λ e others is. (db, c.in-Ok.ensures.found, others is))
+    (kept (IsOfOthers c.args.policy.now c.args.file.now db) OtherPolicy (λ e. absurd cc) c.adopted-outcome.result.0 c.verdict_of_opening.result c.verdict_of_opening.ensures.err
     (c.adopted-outcome.ensures.others (memory_files_are_clean c.adopted-outcome.result.1)))
 
 pub returns-in-Ok-clause-bad : goal.returns-in-Ok-clause-bad
 returns-in-Ok-clause-bad c =
     let db = (file_state c.in-Ok.conn).now in
-    IfErr-weaker c.verdict_over.result _ _ (λ e bad is. (db, c.in-Ok.ensures.found, bad is))
-    (kept (IsBad c.args.policy.now c.args.file.now db) BadRows (λ e. absurd cc) c.adopted-outcome.result.0 c.verdict_over.result c.verdict_over.ensures.err
+    IfErr-weaker c.verdict_of_opening.result _ _ (λ e bad is. (db, c.in-Ok.ensures.found, bad is))
+    (kept (IsBad c.args.policy.now c.args.file.now db) BadRows (λ e. absurd cc) c.adopted-outcome.result.0 c.verdict_of_opening.result c.verdict_of_opening.ensures.err
     (c.adopted-outcome.ensures.bad (memory_files_are_clean c.adopted-outcome.result.1)))

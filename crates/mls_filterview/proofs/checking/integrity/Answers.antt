@@ -4,7 +4,7 @@ use Rattle.std.specs.List.{AllByRecursion}
 use Rattle.std.proofs.lemmas.List.{length-map}
 use Rattle.std.proofs.lemmas.Bool.{cases_lt}
 use Rattle.std.proofs.lemmas.Option.{none-some}
-use Rattle.mls_lattice.specs.Policy.{Tables, labels_of}
+use Rattle.mls_lattice.specs.Policy.{Policy, labels_of}
 use Rattle.mls_scheme.specs.declared.tuple.Tuple.{Tuple}
 use Rattle.mls_scheme.specs.Tuple.{HasClassesBelow}
 use Rattle.mls_filterview.specs.Checking.{broken_rule}
@@ -12,7 +12,7 @@ use Rattle.mls_filterview.specs.Rules.{IsFirstBroken}
 use Rattle.mls_filterview.proofs.CheckingLemmas.{all_unbroken, first_broken, not_stored}
 use Rattle.mls_filterview.proofs.checking.integrity.Goals as goal
 
-bounded : (policy : Tables) (ts : List Tuple) → AllByRecursion (HasClassesBelow (length policy.labels)) ts → AllByRecursion (HasClassesBelow (length (labels_of policy))) ts
+bounded : (policy : Policy) (ts : List Tuple) → AllByRecursion (HasClassesBelow (length policy.labels)) ts → AllByRecursion (HasClassesBelow (length (labels_of policy))) ts
 bounded policy ts h = subst (λ k. AllByRecursion (HasClassesBelow k) ts) (sym (length-map policy.labels (λ l. l.value))) h
 
 broken : (c : goal.In-Some) → IsFirstBroken (labels_of c.args.policy.now) c.args.scheme.now c.args.tuples.now c.loop-row.row c.in-Some.rule

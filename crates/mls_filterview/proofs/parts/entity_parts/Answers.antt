@@ -35,19 +35,19 @@ loop-number-preserved g c =
     let B = g.B.Base in
     let inv = c.loop-number.invariant in
     let f = c.in_ok-part in
-    let here = ap B.state c.in_ok-made.ensures.same in
-    let put = c.in_ok-made.ensures.value in
+    let here = ap B.state c.in_ok-settle.ensures.same in
+    let put = c.in_ok-settle.ensures.value in
     let ls = labels_of c.args.policy.now in
     let label = c.args.label in
     record {
-      clean = λ clean. inv.clean (f.ensures.read.call.clean (c.in_ok-made.ensures.call.clean clean));
-      count = (let x = inv.count in let y = f.ensures.read.call.count in let z = c.in_ok-made.ensures.call.count in omega (arith, x, y, z));
+      clean = λ clean. inv.clean (f.ensures.read.call.clean (c.in_ok-settle.ensures.call.clean clean));
+      count = (let x = inv.count in let y = f.ensures.read.call.count in let z = c.in_ok-settle.ensures.call.count in omega (arith, x, y, z));
       mode = ap (λ s. s.begun) here ∙ f.ensures.read.mode ∙ inv.mode;
-      same = λ clean. (let before = c.in_ok-made.ensures.call.clean clean in here ∙ f.ensures.read.same before ∙ inv.same (f.ensures.read.call.clean before));
+      same = λ clean. (let before = c.in_ok-settle.ensures.call.clean clean in here ∙ f.ensures.read.same before ∙ inv.same (f.ensures.read.call.clean before));
       key = inv.key;
       key_class = inv.key_class;
       parts = λ clean.
-          let before = c.in_ok-made.ensures.call.clean clean in
+          let before = c.in_ok-settle.ensures.call.clean clean in
           let start = f.ensures.read.call.clean before in
           let p : Place = record { key = c.loop-number.place.key; key_class = c.loop-number.place.key_class; class = c.new-class.result } in
           let low : below ls c.loop-number.number label ≡ true =
@@ -71,11 +71,11 @@ returns-in_err-part-clause-read g c =
     fault_read B.is_clean B.failures B.state c.args.base.now c.loop-number.base c.entity.new.self c.in_err-part.field-0.0 c.from_residual.result
     inv.clean inv.count inv.mode inv.same c.in_err-part.ensures.read.call c.in_err-part.ensures.read.served (search rules)
 
-pub returns-in_err-made-clause-read : goal.returns-in_err-made-clause-read
-returns-in_err-made-clause-read g c =
+pub returns-in_err-settle-clause-read : goal.returns-in_err-settle-clause-read
+returns-in_err-settle-clause-read g c =
     let B = g.B.Base in
     let inv = c.loop-number.invariant in
     let f = c.in_ok-part.ensures.read in
     let first = inv.count in let second = f.call.count in
-    fault_read B.is_clean B.failures B.state c.args.base.now c.entity.new.self c.made.new.base c.in_err-made.field-0.0 c.from_residual-in_err-made.result
-    (λ h. inv.clean (f.call.clean h)) (omega (arith, first, second)) (f.mode ∙ inv.mode) (λ h. f.same h ∙ inv.same (f.call.clean h)) c.in_err-made.ensures.call c.in_err-made.ensures.served (search rules)
+    fault_read B.is_clean B.failures B.state c.args.base.now c.entity.new.self c.settle.new.base c.in_err-settle.field-0.0 c.from_residual-in_err-settle.result
+    (λ h. inv.clean (f.call.clean h)) (omega (arith, first, second)) (f.mode ∙ inv.mode) (λ h. f.same h ∙ inv.same (f.call.clean h)) c.in_err-settle.ensures.call c.in_err-settle.ensures.served (search rules)

@@ -3,7 +3,7 @@ use Rattle.std.proofs.Common.{◌≡◌, Bool, true, false, ◌&&◌, List, Opti
 use Rattle.std.specs.BTreeMap.{get}
 use Rattle.std.specs.List.{list_all}
 use Rattle.std.proofs.lemmas.List.{length-map}
-use Rattle.mls_lattice.specs.Policy.{Tables, labels_of}
+use Rattle.mls_lattice.specs.Policy.{Policy, labels_of}
 use Rattle.mls_scheme.specs.declared.tuple.Element.{Element}
 use Rattle.mls_scheme.specs.declared.place.Place.{Place}
 use Rattle.mls_scheme.specs.Table.{place_cmp}
@@ -14,7 +14,7 @@ use Rattle.mls_filterview.proofs.ContentLemmas.{content_told}
 use Rattle.mls_filterview.proofs.recovering.is_content.Goals as goal
 
 -- the numbers of labels, counted in either list
-same_test : (policy : Tables) (scheme : Scheme) (found : Place → Option (List Element)) (es : List Entry)
+same_test : (policy : Policy) (scheme : Scheme) (found : Place → Option (List Element)) (es : List Entry)
     → list_all (is_stored_row (length policy.labels) (labels_of policy) scheme found) es ≡ list_all (is_stored_row (length (labels_of policy)) (labels_of policy) scheme found) es
 same_test policy scheme found es = sym (ap (λ n. list_all (is_stored_row n (labels_of policy) scheme found) es) (length-map policy.labels (λ l. l.value)))
 

@@ -12,12 +12,12 @@ use Rattle.mls_fragments.proofs.ReadingLemmas.{found_entity}
 use Rattle.mls_fragments.proofs.ShownLemmas.{shows_nothing}
 use Rattle.mls_fragments.proofs.entity.read_entity.Goals as goal
 
-pub returns-in-Ok-fragment_in-clause-found : goal.returns-in-Ok-fragment_in-clause-found
-returns-in-Ok-fragment_in-clause-found g c clean content holds =
+pub returns-in-Ok-fragment_of_relation-clause-found : goal.returns-in-Ok-fragment_of_relation-clause-found
+returns-in-Ok-fragment_of_relation-clause-found g c clean content holds =
     let p = c.args.place.now in
     let rel = c.args.rel in
     let t = c.args.store.now.now in
-    let f = c.in-Ok-fragment_in.fragment in
+    let f = c.in-Ok-fragment_of_relation.fragment in
     let nodes = c.in_ok-nodes.nodes.items in
     let cells = c.in_ok-cells.cells.items in
     let before = c.in_ok-cells.ensures.read.call.clean clean in
@@ -28,9 +28,9 @@ returns-in-Ok-fragment_in-clause-found g c clean content holds =
     let read_cells = subst (λ e. IsPermutation (filter (is_cell_in rel e p.key_class p.class) c.nodes_at.new.store.now.cells) cells) key_again (c.in_ok-cells.ensures.found clean) in
     let some_cells = subst (λ xs. IsPermutation (filter (is_cell_in rel (key_spelling p.key) p.key_class p.class) xs) cells) same_cells read_cells in
     found_entity t content rel p f nodes cells holds c.requires.key some_nodes some_cells
-    (subst (λ xs. map (node_row rel) f.nodes ≡ filter (λ r. nat_eq r.rel rel) xs) c.deref-4.ensures.value c.in-Ok-fragment_in.ensures.nodes)
-    (subst (λ xs. map (cell_row rel) f.cells ≡ filter (λ r. nat_eq r.rel rel) xs) c.deref-5.ensures.value c.in-Ok-fragment_in.ensures.cells)
-    c.in-Ok-fragment_in.ensures.spelled.0 c.in-Ok-fragment_in.ensures.spelled.1
+    (subst (λ xs. map (node_row rel) f.nodes ≡ filter (λ r. nat_eq r.rel rel) xs) c.deref-4.ensures.value c.in-Ok-fragment_of_relation.ensures.nodes)
+    (subst (λ xs. map (cell_row rel) f.cells ≡ filter (λ r. nat_eq r.rel rel) xs) c.deref-5.ensures.value c.in-Ok-fragment_of_relation.ensures.cells)
+    c.in-Ok-fragment_of_relation.ensures.spelled.0 c.in-Ok-fragment_of_relation.ensures.spelled.1
 
 pub returns-then-is_empty-clause-found : goal.returns-then-is_empty-clause-found
 returns-then-is_empty-clause-found g c clean content holds =
@@ -40,8 +40,8 @@ returns-then-is_empty-clause-found g c clean content holds =
     let some = subst (λ e. IsPermutation (filter (is_node c.args.rel e p.key_class p.class) c.args.store.now.now.nodes) c.in_ok-nodes.nodes.items) key (c.in_ok-nodes.ensures.found clean) in
     shows_nothing c.args.store.now.now content c.args.rel p c.nothing.result holds c.requires.key (subst (IsPermutation (filter (is_node c.args.rel (key_spelling p.key) p.key_class p.class) c.args.store.now.now.nodes)) none some) c.nothing.ensures.0 c.nothing.ensures.1
 
-pub give_up-requires-in-Err-fragment_in : goal.give_up-requires-in-Err-fragment_in
-give_up-requires-in-Err-fragment_in g c bad clean =
+pub abandon_at_row-requires-in-Err-fragment_of_relation : goal.abandon_at_row-requires-in-Err-fragment_of_relation
+abandon_at_row-requires-in-Err-fragment_of_relation g c bad clean =
     let p = c.args.place.now in
     let t = c.args.store.now.now in
     let nodes = c.in_ok-nodes.nodes.items in
@@ -51,7 +51,7 @@ give_up-requires-in-Err-fragment_in g c bad clean =
     let same_cells = ap (λ u. u.cells) (c.in_ok-nodes.ensures.read.same before).0 in
     let some_nodes = c.in_ok-nodes.ensures.found before in
     let some_cells = subst (λ xs. IsPermutation (filter (is_cell_in c.args.rel c.deref-3.result.now p.key_class p.class) xs) cells) same_cells (c.in_ok-cells.ensures.found clean) in
-    let memory = c.in-Err-fragment_in.ensures.only
+    let memory = c.in-Err-fragment_of_relation.ensures.only
     (subst (AllByRecursion IsNodeRow) (sym c.deref-4.ensures.value) (read_nodes t held.0 held.1 held.2 _ nodes some_nodes))
     (subst (AllByRecursion IsCellRow) (sym c.deref-5.ensures.value) (read_cells t held.0 held.1 held.2 _ cells some_cells)) in
     (let e = sym bad ∙ memory in cc)

@@ -13,11 +13,8 @@ returns-in_err-entries-clause-only c t all content holds sound =
     let memory = c.in_err-entries.ensures.only content.audit (IsPermutation-trans _ _ _ holds.audit all.1.1) sound.entries in
     search rules
 
-pub judge_rows-requires-clause-nodes : goal.judge_rows-requires-clause-nodes
-judge_rows-requires-clause-nodes c = nodes_in_order c.sort.new.self.items c.in_ok-sort.ensures.sorted
-
-pub judge_rows-requires-clause-cells : goal.judge_rows-requires-clause-cells
-judge_rows-requires-clause-cells c = cells_in_order c.sort-2.new.self.items c.in_ok-sort-2.ensures.sorted
+pub judge_rows-requires-clause-order : goal.judge_rows-requires-clause-order
+judge_rows-requires-clause-order c = (nodes_in_order c.sort.new.self.items c.in_ok-sort.ensures.sorted, cells_in_order c.sort-2.new.self.items c.in_ok-sort-2.ensures.sorted)
 
 pub returns-in_err-content-clause-only : goal.returns-in_err-content-clause-only
 returns-in_err-content-clause-only c t all content holds sound =
@@ -25,13 +22,11 @@ returns-in_err-content-clause-only c t all content holds sound =
     search rules
 
 pub returns-clause-held : goal.returns-clause-held
-returns-clause-held c t all =
+returns-clause-held c =
     let nodes = c.sort.new.self.items in
     let cells = c.sort-2.new.self.items in
-    let content = content_of c.in_ok-content.content.changes in
-    judged_holds c.args.policy.now c.args.schemes.now c.args.labels c.args.rows nodes cells c.in_ok-entries.entries content c.in_ok-sort.ensures.permutation c.in_ok-sort-2.ensures.permutation c.in_ok-entries.ensures.numbered
-    (subst (λ list. IsJudged c.args.policy.now c.args.schemes.now c.args.labels (rows_in nodes cells) list content) c.deref.ensures c.in_ok-content.ensures.judged) t all
-
-pub returns-clause-classes : goal.returns-clause-classes
-returns-clause-classes c =
-    content_bytes (labels_of c.args.policy.now) c.args.schemes.now (content_of c.in_ok-content.content.changes) (few_labels c.args.policy.now c.label_count-labels.ensures.few) c.in_ok-content.ensures.judged.sound.content
+    let content = content_of c.in_ok-content.content.changes in (
+      judged_holds c.args.policy.now c.args.schemes.now c.args.labels c.args.rows nodes cells c.in_ok-entries.entries content c.in_ok-sort.ensures.permutation c.in_ok-sort-2.ensures.permutation c.in_ok-entries.ensures.numbered
+          (subst (λ list. IsJudged c.args.policy.now c.args.schemes.now c.args.labels (rows_in nodes cells) list content) c.deref.ensures c.in_ok-content.ensures.judged),
+      content_bytes (labels_of c.args.policy.now) c.args.schemes.now content (few_labels c.args.policy.now c.label_count-labels.ensures.few) c.in_ok-content.ensures.judged.sound.content,
+    )

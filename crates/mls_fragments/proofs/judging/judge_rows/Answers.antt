@@ -10,7 +10,7 @@ pub parts-init : goal.parts-init
 parts-init c =
     let a = c.args in
     subst (λ changes. IsUnderWay a.policy.now a.schemes.now a.labels a.nodes.items a.cells.items a.entries.now a.nodes.items a.cells.items (content_of changes)) (sym c.find.ensures)
-    (begins a.policy.now a.schemes.now a.labels a.nodes.items a.cells.items a.entries.now c.requires.nodes c.requires.cells c.requires.entries)
+    (begins a.policy.now a.schemes.now a.labels a.nodes.items a.cells.items a.entries.now c.requires.order.0 c.requires.order.1 c.requires.entries)
 
 pub parts-preserved : goal.parts-preserved
 parts-preserved c =

@@ -24,8 +24,8 @@ returns-in-Ok-clause-found g c clean content holds =
     (subst (λ xs. map (cell_row c.args.rel) f.cells ≡ filter (λ r. nat_eq r.rel c.args.rel) xs) c.deref-2.ensures.value c.in-Ok.ensures.cells)
     c.in-Ok.ensures.spelled.0 c.in-Ok.ensures.spelled.1 c.args.labels.now c.bits_of-bits.result c.bits_of-bits.ensures some_nodes some_cells
 
-pub give_up-requires : goal.give_up-requires
-give_up-requires g c bad clean =
+pub abandon_at_row-requires : goal.abandon_at_row-requires
+abandon_at_row-requires g c bad clean =
     let t = c.args.store.now.now in
     let nodes = c.in_ok-nodes.nodes.items in
     let cells = c.in_ok-cells.cells.items in

@@ -1,6 +1,6 @@
 use Rattle.std.proofs.Common.{subst}
-use Rattle.mls_certificate.specs.declared.cert.Version.TheVariants as version
-use Rattle.mls_certificate.specs.declared.cert.Certificate.TheVariants.{Two}
+use Rattle.mls_certcheck.specs.declared.cert.Version.TheVariants as version
+use Rattle.mls_certcheck.specs.declared.cert.Certificate.TheVariants.{Two}
 use Rattle.mls_certcheck.specs.Rules.{claim}
 use Rattle.mls_labeller.specs.Least.{IsLeast}
 use Rattle.mls_labeller.proofs.FlowLemmas.{rules_meet}

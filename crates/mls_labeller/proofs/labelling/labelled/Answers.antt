@@ -1,10 +1,10 @@
 use Rattle.std.proofs.Common.{◌≡◌, ℕ, Result, Ok, Err, sym, subst}
 use Rattle.std.specs.Prelude.{IfErr}
 use Rattle.std.specs.Result.{IsErrAnd}
-use Rattle.mls_lattice.specs.Policy.{Tables, labels_of}
+use Rattle.mls_lattice.specs.Policy.{Policy, labels_of}
 use Rattle.mls_translang.specs.Tx.{Tx}
-use Rattle.mls_certificate.specs.declared.cert.Version.{Version}
-use Rattle.mls_certificate.specs.declared.cert.Certificate.{Certificate}
+use Rattle.mls_certcheck.specs.declared.cert.Version.{Version}
+use Rattle.mls_certcheck.specs.declared.cert.Certificate.{Certificate}
 use Rattle.mls_certcheck.specs.declared.refusal.Rule.{Rule}
 use Rattle.mls_certcheck.specs.Rules.{Rules, claim}
 use Rattle.mls_labeller.specs.Least.{IsOf, IsLeast}
@@ -15,11 +15,11 @@ use Rattle.mls_labeller.proofs.FlowLemmas.{rules_meet, lesser_obey}
 use Rattle.mls_labeller.proofs.labelling.labelled.Goals as goal
 
 -- where the least labels break a rule, all of their version do
-none_passes : (v : Version) (p : Tables) (tx : Tx) (x : Certificate) → IsLeast v p tx x → (Rules (claim p tx x) → ⊥) → (other : Certificate) → IsOf v other → Rules (claim p tx other) → ⊥
+none_passes : (v : Version) (p : Policy) (tx : Tx) (x : Certificate) → IsLeast v p tx x → (Rules (claim p tx x) → ⊥) → (other : Certificate) → IsOf v other → Rules (claim p tx other) → ⊥
 none_passes v p tx x least bad other is rules =
     bad (lesser_obey (labels_of p) tx x other (least.least other is (rules_meet (claim p tx other) rules)) least.meets rules)
 
-said : (v : Version) (p : Tables) (tx : Tx) (r : Result Certificate LabelFault) (stmt : ℕ) (rule : Rule) → IsErrAnd r (λ e. e ≡ NoLabels stmt rule) → ((other : Certificate) → IsOf v other → Rules (claim p tx other) → ⊥) → IfErr r (HasNone v p tx)
+said : (v : Version) (p : Policy) (tx : Tx) (r : Result Certificate LabelFault) (stmt : ℕ) (rule : Rule) → IsErrAnd r (λ e. e ≡ NoLabels stmt rule) → ((other : Certificate) → IsOf v other → Rules (claim p tx other) → ⊥) → IfErr r (HasNone v p tx)
 said v p tx (Ok x) stmt rule h none = tt
 said v p tx (Err e) stmt rule h none = subst (HasNone v p tx) (sym h) none
 

@@ -7,5 +7,5 @@ use Rattle.mls_parser.proofs.header.has.Goals as goal
 pub returns : goal.returns
 returns g c =
     c.is_some.ensures
-    ∙ ap is_some (c.place.ensures.exact ∙ (λ i. position (λ x. bytes_eq x.0 (c.text.ensures i)) c.args.named.now))
+    ∙ ap is_some (c.place.ensures.exact ∙ (λ i. position (λ x. bytes_eq x.0 (c.as_str.ensures i)) c.args.named.now))
     ∙ is_some-position (λ x. bytes_eq x.0 c.args.name.now.0) c.args.named.now

@@ -1,19 +1,20 @@
-use Rattle.std.proofs.Common.{rules, ◌≡◌, ◌<◌, not, ◌||◌, length, get_or}
-use Rattle.mls_translang.specs.Named.{has_name}
-use Rattle.mls_parser.specs.declared.fault.TextCause.TheVariants.{Repeated}
-use Rattle.mls_parser.specs.Fault.{unless, least_from}
-use Rattle.mls_parser.specs.Faults.{kept, var_of}
-use Rattle.mls_parser.proofs.HeaderLemmas.{vars_more}
+use Rattle.std.proofs.Common.{rules, ◌≡◌, ◌<◌, ◌+◌, ◌-◌, [], Some, Ok, arith}
+use Rattle.mls_parser.specs.ReadTx.{next_var}
+use Rattle.mls_parser.proofs.HeaderSteps.{things_more}
 use Rattle.mls_parser.proofs.header.vars.Goals as goal
 
-pub loop-var-preserved : goal.loop-var-preserved
-loop-var-preserved c =
-    let x = c.var-item.result in
-    let front = c.loop-var.vars in
-    let within : c.loop-var.var-index < length c.args.syntax.now = search rules in
-    let is : x ≡ get_or c.args.syntax.now c.loop-var.var-index x = search rules in
-    let again : c.if-has.again ≡ (has_name c.args.params.now x.name.0 || has_name front x.name.0) = search rules in
-    let repeated : c.unless-found.result ≡ least_from c.loop-var.found (unless (not (has_name c.args.params.now x.name.0 || has_name front x.name.0)) x.name.1 Repeated) = search rules in
-    let more : c.keep.new.named ≡ kept front (var_of x) = search rules in
-    vars_more c.args.params.now c.args.syntax.now c.args.found front c.keep.new.named c.loop-var.found c.unless-found.result
-    c.loop-var.var-index x within is repeated more c.loop-var.invariant
+pub loop-vars-preserved : goal.loop-vars-preserved
+loop-vars-preserved c =
+    let h = c.loop-vars.invariant in
+    let is : next_var c.args.params.now (c.loop-vars.vars, c.loop-vars.count) (c.loop-vars.faults.items, c.loop-vars.tokens)
+    ≡ Ok (Some (c.next_var.new.vars, c.in-Some.next), (c.next_var.new.faults.items, c.next_var.new.tokens)) = search rules in
+    let less : c.loop-vars.count < 64 = search rules in
+    let more : c.in-Some.next ≡ c.loop-vars.count + 1 = search rules in
+    let few = c.in_ok-next.ensures.few in
+    let before = h.few in
+    record {
+      so_far = things_more (next_var c.args.params.now) 65 ([], 0) (c.args.faults.now.items, c.args.tokens.now) (64 - c.loop-vars.count) (c.loop-vars.vars, c.loop-vars.count) c.loop-vars.faults.items c.loop-vars.tokens h.so_far
+          (c.next_var.new.vars, c.in-Some.next) c.next_var.new.faults.items c.next_var.new.tokens (64 - c.in-Some.next) is (omega (arith, less, more));
+      few = omega (arith, few, before, more);
+      most = omega (arith, less, more);
+    }

@@ -1,6 +1,14 @@
-use Rattle.std.proofs.Common.{drop}
-use Rattle.mls_parser.proofs.HeaderLemmas.{AreLeftVars}
+use Rattle.std.proofs.Common.{◌≤◌, ◌-◌, [], length}
+use Rattle.mls_parser.specs.ReadTx.{next_var}
+use Rattle.mls_parser.proofs.HeaderSteps.{ThingsSoFar}
 use Rattle.mls_parser.proofs.header.vars.Given as goal
 
-abbrev pub invariant-loop-var : goal.invariant-loop-var
-invariant-loop-var l = AreLeftVars l.params l.vars l.found (drop l.var-index l.syntax) l.fn.found l.syntax
+abbrev pub invariant-loop-vars : goal.invariant-loop-vars
+invariant-loop-vars l = record {
+  so_far : ThingsSoFar (next_var l.params) 65 ([], 0) (l.fn.faults.items, l.fn.tokens) (64 - l.count) (l.vars, l.count) l.faults.items l.tokens;
+  few : length l.vars ≤ l.count;
+  most : l.count ≤ 64;
+}
+
+abbrev pub decreases-loop-vars : goal.decreases-loop-vars
+decreases-loop-vars l = 64 - l.count

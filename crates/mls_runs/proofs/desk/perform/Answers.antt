@@ -1,7 +1,7 @@
 use Rattle.std.proofs.Common.{subst, ap}
 use Rattle.mls_sessions.specs.Engine.{site, world_of}
-use Rattle.mls_shells.specs.Shell.{events_of, FateFits}
-use Rattle.mls_shells.proofs.TalkLemmas.{none_is_lost}
+use Rattle.mls_runs.specs.Shell.{events_of, FateFits}
+use Rattle.mls_runs.proofs.TalkLemmas.{none_is_lost}
 use Rattle.mls_runs.proofs.AnsweringLemmas.{done_none, done_default}
 use Rattle.mls_sessions.proofs.FrameLemmas.{goes_nowhere}
 use Rattle.mls_runs.proofs.desk.perform.Goals as goal

@@ -3,7 +3,7 @@ use Rattle.mls_sessions.specs.Sessions.{site_of}
 use Rattle.mls_sessions.specs.Engine.{site, world_of, Continues}
 use Rattle.mls_host.specs.Ending.{ending_if}
 use Rattle.mls_host.specs.Hosting.{IsAppended}
-use Rattle.mls_shells.proofs.TalkLemmas.{fits_at}
+use Rattle.mls_runs.proofs.TalkLemmas.{fits_at}
 use Rattle.mls_runs.specs.Desk.{IsService}
 use Rattle.mls_runs.proofs.ReadingLemmas.{one_event}
 use Rattle.mls_runs.proofs.DeskLemmas.{SoFar, Heard, so_far_start, so_far_more, broken, over_last, worn_out, heard_at}

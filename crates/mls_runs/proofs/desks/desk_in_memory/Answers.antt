@@ -17,8 +17,8 @@ use Rattle.mls_host.proofs.StoppingLemmas.{ended_in_memory}
 use Rattle.mls_runs.specs.Desk.{IsDesk}
 use Rattle.mls_runs.proofs.desks.desk_in_memory.Goals as goal
 
-pub desk_on-outcome-requires-clause-sound : goal.desk_on-outcome-requires-clause-sound
-desk_on-outcome-requires-clause-sound g c = λ _. none_sound (site_of c.args.policy.now c.args.file.now.schemes c.args.stored) _ c.in-Ok.ensures.content
+pub desk_over_base-outcome-requires-clause-sound : goal.desk_over_base-outcome-requires-clause-sound
+desk_over_base-outcome-requires-clause-sound g c = λ _. none_sound (site_of c.args.policy.now c.args.file.now.schemes c.args.stored) _ c.in-Ok.ensures.content
 
 pub returns-in-Err-clause-ends : goal.returns-in-Err-clause-ends
 returns-in-Err-clause-ends g c = (ap Store c.in-Err.ensures.fault, Appends-nil _)
@@ -26,19 +26,19 @@ returns-in-Err-clause-ends g c = (ap Store c.in-Err.ensures.fault, Appends-nil _
 pub returns-clause-ends : goal.returns-clause-ends
 returns-clause-ends g c =
     let at = site_of c.args.policy.now c.args.file.now.schemes c.args.stored in
-    let left = (state_of c.desk_on-outcome.result.1).now in
+    let left = (state_of c.desk_over_base-outcome.result.1).now in
     let before = g.L.TypedLines.remaining c.args.lines.now in
-    let after = g.L.TypedLines.remaining c.desk_on-outcome.new.lines in
-    let Broken = g.L.TypedLines.breaks c.desk_on-outcome.new.lines in
-    let Wrote = IsAppended g.W.Write.contents c.args.out.now c.desk_on-outcome.new.out in
-    let desk = c.desk_on-outcome.ensures.desk c.close.ensures.clean in
+    let after = g.L.TypedLines.remaining c.desk_over_base-outcome.new.lines in
+    let Broken = g.L.TypedLines.breaks c.desk_over_base-outcome.new.lines in
+    let Wrote = IsAppended g.W.Write.contents c.args.out.now c.desk_over_base-outcome.new.out in
+    let desk = c.desk_over_base-outcome.ensures.desk c.close.ensures.clean in
     let Runs : Result Ending RunFault → Type 0 = λ end. (last : Content) × IsDesk g.L.TypedLines.echo at before after Broken Wrote end no_content last in
-    let ran : Runs c.desk_on-outcome.result.0 =
-    (left, subst (λ (x : State). IsDesk g.L.TypedLines.echo at before after Broken Wrote c.desk_on-outcome.result.0 x.now left) c.in-Ok.ensures.content desk) in
+    let ran : Runs c.desk_over_base-outcome.result.0 =
+    (left, subst (λ (x : State). IsDesk g.L.TypedLines.echo at before after Broken Wrote c.desk_over_base-outcome.result.0 x.now left) c.in-Ok.ensures.content desk) in
     let Nothing : Reason → Type 0 = λ reason. (reason ≡ Store stores.Memory) × Wrote [] in
-    subst (λ (r : Result Ending Refusal). IsEnd Runs Nothing r) (sym c.ended.ensures) (ended_so Runs Nothing c.desk_on-outcome.result.0 (Ok tt) ran)
+    subst (λ (r : Result Ending Refusal). IsEnd Runs Nothing r) (sym c.ended.ensures) (ended_so Runs Nothing c.desk_over_base-outcome.result.0 (Ok tt) ran)
 
 pub returns-clause-caused : goal.returns-clause-caused
 returns-clause-caused g c =
     subst (λ (r : Result Ending Refusal). IsCausedInMemory r) (sym c.ended.ensures)
-    (ended_in_memory c.desk_on-outcome.result.0 (c.desk_on-outcome.ensures.leaves.store c.close.ensures.clean))
+    (ended_in_memory c.desk_over_base-outcome.result.0 (c.desk_over_base-outcome.ensures.leaves.store c.close.ensures.clean))

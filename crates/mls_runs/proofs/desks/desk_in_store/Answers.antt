@@ -19,15 +19,15 @@ returns-in-Err-clause-ends g c = ((c.in-Err.fault, c.in-Err.ensures.barred, refl
 pub returns-clause-ends : goal.returns-clause-ends
 returns-clause-ends g c =
     let h = hosted g.H.Host.hosting g.L.TypedLines.echo c.args.host.now c.keep-closed.new.self in
-    let Wrote = IsAppended g.W.Write.contents c.args.out.now c.desk_on-outcome.new.out in
+    let Wrote = IsAppended g.W.Write.contents c.args.out.now c.desk_over_base-outcome.new.out in
     let Runs : Result Ending RunFault → Type 0
-    = IsDeskFrom h (g.L.TypedLines.remaining c.args.lines.now) (g.L.TypedLines.remaining c.desk_on-outcome.new.lines) (g.L.TypedLines.breaks c.desk_on-outcome.new.lines) Wrote
+    = IsDeskFrom h (g.L.TypedLines.remaining c.args.lines.now) (g.L.TypedLines.remaining c.desk_over_base-outcome.new.lines) (g.L.TypedLines.breaks c.desk_over_base-outcome.new.lines) Wrote
     c.args.file.now (Some c.args.path.now) (site_of c.args.policy.now c.args.file.now.schemes c.args.stored) in
-    let ran : Runs c.desk_on-outcome.result.0 = λ honest.
+    let ran : Runs c.desk_over_base-outcome.result.0 = λ honest.
     let clean = c.keep-closed.ensures.honest.0 honest in
-    record { first = _; left = _; begins = c.in-Ok.ensures.kept (c.desk_on-outcome.ensures.leaves.clean clean); kept = c.keep-closed.ensures.kept honest; leads = c.desk_on-outcome.ensures.desk clean } in
+    record { first = _; left = _; begins = c.in-Ok.ensures.kept (c.desk_over_base-outcome.ensures.leaves.clean clean); kept = c.keep-closed.ensures.kept honest; leads = c.desk_over_base-outcome.ensures.desk clean } in
     subst (λ (r : Result Ending Refusal). IsEnd Runs (λ reason. IsBarred (g.H.Host.hosting c.args.host.now) c.args.policy.now c.args.file.now (Some c.args.path.now) reason × Wrote []) r) (sym c.ended.ensures)
-    (ended_so Runs (λ reason. IsBarred (g.H.Host.hosting c.args.host.now) c.args.policy.now c.args.file.now (Some c.args.path.now) reason × Wrote []) c.desk_on-outcome.result.0 c.keep-closed.result ran)
+    (ended_so Runs (λ reason. IsBarred (g.H.Host.hosting c.args.host.now) c.args.policy.now c.args.file.now (Some c.args.path.now) reason × Wrote []) c.desk_over_base-outcome.result.0 c.keep-closed.result ran)
 
 pub returns-in-Err-clause-caused : goal.returns-in-Err-clause-caused
 returns-in-Err-clause-caused g c = c.in-Err.ensures.same
@@ -36,5 +36,5 @@ pub returns-clause-caused : goal.returns-clause-caused
 returns-clause-caused g c =
     let h = hosted g.H.Host.hosting g.L.TypedLines.echo c.args.host.now c.keep-closed.new.self in
     subst (λ (r : Result Ending Refusal). IsCaused h (Some c.args.path.now) r) (sym c.ended.ensures)
-    (caused_in_store h c.args.path.now c.desk_on-outcome.result.0 c.keep-closed.result (g.H.Store.Base.failures c.in-Ok.base) (g.H.Store.Base.failures c.desk_on-outcome.result.1)
-    c.keep-closed.ensures.closed.1 c.keep-closed.ensures.failed.1 (λ honest. c.desk_on-outcome.ensures.leaves.store (c.keep-closed.ensures.honest.0 honest)))
+    (caused_in_store h c.args.path.now c.desk_over_base-outcome.result.0 c.keep-closed.result (g.H.Store.Base.failures c.in-Ok.base) (g.H.Store.Base.failures c.desk_over_base-outcome.result.1)
+    c.keep-closed.ensures.closed.1 c.keep-closed.ensures.failed.1 (λ honest. c.desk_over_base-outcome.ensures.leaves.store (c.keep-closed.ensures.honest.0 honest)))

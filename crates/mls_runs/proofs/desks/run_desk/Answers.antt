@@ -9,8 +9,8 @@ use Rattle.mls_host.specs.Words.{named}
 use Rattle.mls_runs.proofs.DeskEndLemmas.{desk_before, desk_over_stored}
 use Rattle.mls_runs.proofs.desks.run_desk.Goals as goal
 
-pub desk_over-requires : goal.desk_over-requires
-desk_over-requires g c =
+pub desk_over_store-requires : goal.desk_over_store-requires
+desk_over_store-requires g c =
     let i = c.args.inputs in
     let stored_are = subst (λ blocks. AreStoredWith i.setting.policy blocks i.transactions c.in_ok-stored.stored) c.deref.ensures c.in_ok-stored.ensures in
     record {
@@ -28,10 +28,10 @@ returns-in_err-stored-clause-desk g c =
 
 pub returns-clause-desk : goal.returns-clause-desk
 returns-clause-desk g c =
-    let h = hosted g.H.Host.hosting g.H.Lines.TypedLines.echo c.args.host.now c.desk_over.new.host in
-    desk_over_stored h c.args.inputs (named c.args.store) (IsAppended g.W.Write.contents c.args.out.now c.desk_over.new.out) c.in_ok-stored.stored
-    (g.H.Lines.TypedLines.remaining c.lines-lines.result) (g.H.Lines.TypedLines.remaining c.desk_over.new.lines) (g.H.Lines.TypedLines.breaks c.desk_over.new.lines)
-    (subst (λ blocks. AreStoredWith c.args.inputs.setting.policy blocks c.args.inputs.transactions c.in_ok-stored.stored) c.deref.ensures c.in_ok-stored.ensures) c.lines-lines.ensures.typed (c.lines-lines.ensures.broken c.desk_over.new.lines) c.desk_over.result c.desk_over.ensures.ends
+    let h = hosted g.H.Host.hosting g.H.Lines.TypedLines.echo c.args.host.now c.desk_over_store.new.host in
+    desk_over_stored h c.args.inputs (named c.args.store) (IsAppended g.W.Write.contents c.args.out.now c.desk_over_store.new.out) c.in_ok-stored.stored
+    (g.H.Lines.TypedLines.remaining c.lines-lines.result) (g.H.Lines.TypedLines.remaining c.desk_over_store.new.lines) (g.H.Lines.TypedLines.breaks c.desk_over_store.new.lines)
+    (subst (λ blocks. AreStoredWith c.args.inputs.setting.policy blocks c.args.inputs.transactions c.in_ok-stored.stored) c.deref.ensures c.in_ok-stored.ensures) c.lines-lines.ensures.typed (c.lines-lines.ensures.broken c.desk_over_store.new.lines) c.desk_over_store.result c.desk_over_store.ensures.ends
 
 pub returns-in_err-stored-clause-caused : goal.returns-in_err-stored-clause-caused
 returns-in_err-stored-clause-caused g c =

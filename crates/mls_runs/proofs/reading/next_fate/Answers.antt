@@ -1,8 +1,8 @@
 use Rattle.std.proofs.Common.{subst}
 use Rattle.mls_sessions.specs.declared.cause.RunCause.TheVariants.{Memory, Write}
-use Rattle.mls_shells.specs.declared.seat.Fate.TheVariants.{Unreadable, Lost}
-use Rattle.mls_shells.specs.Reading.{Becomes}
-use Rattle.mls_shells.proofs.ReadingLemmas.{read_long, read_lost, lost_read}
+use Rattle.mls_runs.specs.declared.seat.Fate.TheVariants.{Unreadable, Lost}
+use Rattle.mls_runs.specs.Typed.{Becomes}
+use Rattle.mls_runs.proofs.TypedLemmas.{read_long, read_lost, lost_read}
 use Rattle.mls_runs.specs.Desk.{IsFate}
 use Rattle.mls_runs.specs.Reading.{fate_of}
 use Rattle.mls_runs.proofs.ReadingLemmas.{read_whole}

@@ -15,8 +15,8 @@ use Rattle.mls_host.specs.Stopping.{IsCausedInMemory}
 use Rattle.mls_host.proofs.StoppingLemmas.{ended_in_memory}
 use Rattle.mls_runs.proofs.running.run_in_memory.Goals as goal
 
-pub run_on-outcome-requires-clause-sound : goal.run_on-outcome-requires-clause-sound
-run_on-outcome-requires-clause-sound g c = λ _. none_sound (site_of c.args.policy.now c.args.file.now.schemes c.args.stored) _ c.in-Ok.ensures.content
+pub run_over_base-outcome-requires-clause-sound : goal.run_over_base-outcome-requires-clause-sound
+run_over_base-outcome-requires-clause-sound g c = λ _. none_sound (site_of c.args.policy.now c.args.file.now.schemes c.args.stored) _ c.in-Ok.ensures.content
 
 pub returns-in-Err-clause-ends : goal.returns-in-Err-clause-ends
 returns-in-Err-clause-ends g c = (ap Store c.in-Err.ensures.fault, Appends-nil _)
@@ -24,16 +24,16 @@ returns-in-Err-clause-ends g c = (ap Store c.in-Err.ensures.fault, Appends-nil _
 pub returns-clause-ends : goal.returns-clause-ends
 returns-clause-ends g c =
     let at = site_of c.args.policy.now c.args.file.now.schemes c.args.stored in
-    let left = (state_of c.run_on-outcome.result.1).now in
+    let left = (state_of c.run_over_base-outcome.result.1).now in
     let before = g.W.Write.contents c.args.out.now in
-    let after = g.W.Write.contents c.run_on-outcome.new.out in
-    let run = c.run_on-outcome.ensures.run c.close.ensures.clean in
+    let after = g.W.Write.contents c.run_over_base-outcome.new.out in
+    let run = c.run_over_base-outcome.ensures.run c.close.ensures.clean in
     let Runs : Result (Unit {0}) RunFault → Type 0 = λ end. (last : Content) × IsRun at c.args.audience c.args.events.now (Appends before after) end no_content last in
-    let ran : Runs c.run_on-outcome.result.0 = (left, subst (λ (x : State). IsRun at c.args.audience c.args.events.now (Appends before after) c.run_on-outcome.result.0 x.now left) c.in-Ok.ensures.content run) in
+    let ran : Runs c.run_over_base-outcome.result.0 = (left, subst (λ (x : State). IsRun at c.args.audience c.args.events.now (Appends before after) c.run_over_base-outcome.result.0 x.now left) c.in-Ok.ensures.content run) in
     let Nothing : Reason → Type 0 = λ reason. (reason ≡ Store stores.Memory) × Appends before after [] in
-    subst (λ (r : Result (Unit {0}) Refusal). IsEnd Runs Nothing r) (sym c.ended.ensures) (ended_so Runs Nothing c.run_on-outcome.result.0 (Ok tt) ran)
+    subst (λ (r : Result (Unit {0}) Refusal). IsEnd Runs Nothing r) (sym c.ended.ensures) (ended_so Runs Nothing c.run_over_base-outcome.result.0 (Ok tt) ran)
 
 pub returns-clause-caused : goal.returns-clause-caused
 returns-clause-caused g c =
     subst (λ (r : Result (Unit {0}) Refusal). IsCausedInMemory r) (sym c.ended.ensures)
-    (ended_in_memory c.run_on-outcome.result.0 (c.run_on-outcome.ensures.leaves.store c.close.ensures.clean))
+    (ended_in_memory c.run_over_base-outcome.result.0 (c.run_over_base-outcome.ensures.leaves.store c.close.ensures.clean))

@@ -18,14 +18,14 @@ returns-in-Err-clause-ends g c = ((c.in-Err.fault, c.in-Err.ensures.barred, refl
 pub returns-clause-ends : goal.returns-clause-ends
 returns-clause-ends g c =
     let h = hosted g.H.Host.hosting g.H.Lines.TypedLines.echo c.args.host.now c.keep-closed.new.self in
-    let Wrote = IsAppended g.W.Write.contents c.args.out.now c.run_on-outcome.new.out in
+    let Wrote = IsAppended g.W.Write.contents c.args.out.now c.run_over_base-outcome.new.out in
     let Runs : Result (Unit {0}) RunFault → Type 0
     = IsRunFrom h c.args.file.now (Some c.args.path.now) (site_of c.args.policy.now c.args.file.now.schemes c.args.stored) c.args.audience c.args.events.now Wrote in
-    let ran : Runs c.run_on-outcome.result.0 = λ honest.
+    let ran : Runs c.run_over_base-outcome.result.0 = λ honest.
     let clean = c.keep-closed.ensures.honest.0 honest in
-    record { first = _; left = _; begins = c.in-Ok.ensures.kept (c.run_on-outcome.ensures.leaves.clean clean); kept = c.keep-closed.ensures.kept honest; leads = c.run_on-outcome.ensures.run clean } in
+    record { first = _; left = _; begins = c.in-Ok.ensures.kept (c.run_over_base-outcome.ensures.leaves.clean clean); kept = c.keep-closed.ensures.kept honest; leads = c.run_over_base-outcome.ensures.run clean } in
     subst (λ (r : Result (Unit {0}) Refusal). IsEnd Runs (λ reason. IsBarred (g.H.Host.hosting c.args.host.now) c.args.policy.now c.args.file.now (Some c.args.path.now) reason × Wrote []) r) (sym c.ended.ensures)
-    (ended_so Runs (λ reason. IsBarred (g.H.Host.hosting c.args.host.now) c.args.policy.now c.args.file.now (Some c.args.path.now) reason × Wrote []) c.run_on-outcome.result.0 c.keep-closed.result ran)
+    (ended_so Runs (λ reason. IsBarred (g.H.Host.hosting c.args.host.now) c.args.policy.now c.args.file.now (Some c.args.path.now) reason × Wrote []) c.run_over_base-outcome.result.0 c.keep-closed.result ran)
 
 pub returns-in-Err-clause-caused : goal.returns-in-Err-clause-caused
 returns-in-Err-clause-caused g c = c.in-Err.ensures.same
@@ -34,5 +34,5 @@ pub returns-clause-caused : goal.returns-clause-caused
 returns-clause-caused g c =
     let h = hosted g.H.Host.hosting g.H.Lines.TypedLines.echo c.args.host.now c.keep-closed.new.self in
     subst (λ (r : Result (Unit {0}) Refusal). IsCaused h (Some c.args.path.now) r) (sym c.ended.ensures)
-    (caused_in_store h c.args.path.now c.run_on-outcome.result.0 c.keep-closed.result (g.H.Store.Base.failures c.in-Ok.base) (g.H.Store.Base.failures c.run_on-outcome.result.1)
-    c.keep-closed.ensures.closed.1 c.keep-closed.ensures.failed.1 (λ honest. c.run_on-outcome.ensures.leaves.store (c.keep-closed.ensures.honest.0 honest)))
+    (caused_in_store h c.args.path.now c.run_over_base-outcome.result.0 c.keep-closed.result (g.H.Store.Base.failures c.in-Ok.base) (g.H.Store.Base.failures c.run_over_base-outcome.result.1)
+    c.keep-closed.ensures.closed.1 c.keep-closed.ensures.failed.1 (λ honest. c.run_over_base-outcome.ensures.leaves.store (c.keep-closed.ensures.honest.0 honest)))

@@ -28,7 +28,7 @@ returns-in-Err-text_of-clause-continues g c =
     record {
       clean = step.turn.clean;
       count = step.turn.count;
-      kept = noted g.B.Base.state g.B.Base.is_clean c.args.engine.now c.step.new.self c.notice_with-engine.result step.kept;
+      kept = noted g.B.Base.state g.B.Base.is_clean c.args.engine.now c.step.new.self c.next_notice-engine.result step.kept;
       store = λ h k.
           absurd (not_store c.in-Err-text_of.cause (c.in-Err-text_of.ensures.failed
           (reply_known g.B.Base.state g.B.Base.is_clean c.args.engine.now c.step.new.self c.args.event.now c.in-Ok.reply (c.in-Ok.ensures.answers.done h) step.kept.rules
@@ -47,9 +47,9 @@ returns-in-Ok-write_whole-clause-continues g c =
     record {
       clean = step.turn.clean;
       count = step.turn.count;
-      kept = noted g.B.Base.state g.B.Base.is_clean c.args.engine.now c.step.new.self c.notice_with-engine.result step.kept;
+      kept = noted g.B.Base.state g.B.Base.is_clean c.args.engine.now c.step.new.self c.next_notice-engine.result step.kept;
       store = λ h. tt;
     }
 
 pub returns-in-Ok-write_whole-clause-noticed : goal.returns-in-Ok-write_whole-clause-noticed
-returns-in-Ok-write_whole-clause-noticed g c = λ h. c.notice_with-engine.ensures ∙ ap (λ r. is_some c.args.engine.now.notice || not (is_done r)) (c.in-Ok.ensures.answers.done h).reply
+returns-in-Ok-write_whole-clause-noticed g c = λ h. c.next_notice-engine.ensures ∙ ap (λ r. is_some c.args.engine.now.notice || not (is_done r)) (c.in-Ok.ensures.answers.done h).reply

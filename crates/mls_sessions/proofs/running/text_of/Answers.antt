@@ -3,7 +3,7 @@ use Rattle.mls_machine.specs.Site.{site_labels}
 use Rattle.mls_machine.specs.Output.{printed}
 use Rattle.mls_machine.specs.Observation.{heard}
 use Rattle.mls_sessions.specs.Sessions.{site_of}
-use Rattle.mls_replies.proofs.PrintingSteps.{lines_under}
+use Rattle.mls_machine.proofs.PrintingSteps.{lines_under}
 use Rattle.mls_sessions.proofs.running.text_of.Goals as goal
 
 pub returns-in-Ok-clause-done : goal.returns-in-Ok-clause-done

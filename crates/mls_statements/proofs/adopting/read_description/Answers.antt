@@ -1,21 +1,26 @@
-use Rattle.std.proofs.Common.{arith}
-use Rattle.std.proofs.lemmas.Grind.{common_steps}
+use Rattle.sqlite.specs.Held.{state}
+use Rattle.mls_statements.proofs.EndLemmas.{kept_ended}
 use Rattle.mls_statements.proofs.adopting.read_description.Goals as goal
 
-pub returns-in-Ok-clause-schema : goal.returns-in-Ok-clause-schema
-returns-in-Ok-clause-schema g c = grind (arith, common_steps)
-
-pub returns-in-Ok-clause-open : goal.returns-in-Ok-clause-open
-returns-in-Ok-clause-open g c = grind (arith, common_steps)
-
 pub returns-in-Ok-clause-described : goal.returns-in-Ok-clause-described
-returns-in-Ok-clause-described g c = grind (arith, common_steps)
+returns-in-Ok-clause-described g c clean = (c.in-Ok.ensures.described clean).0
 
 pub returns-in-Ok-clause-read : goal.returns-in-Ok-clause-read
-returns-in-Ok-clause-read g c = grind (arith, common_steps)
+returns-in-Ok-clause-read g c clean = (c.in-Ok.ensures.described clean).1
 
-pub returns-in-Err-clause-ended : goal.returns-in-Err-clause-ended
-returns-in-Err-clause-ended g c = grind (arith, common_steps)
+pub returns-in-Ok-clause-reading : goal.returns-in-Ok-clause-reading
+returns-in-Ok-clause-reading g c =
+    let read = c.in-Ok.ensures.reading in
+    record { clean = read.clean; schema = read.schema; was_open = read.was_open; left = λ clean. tt; bad = λ clean. tt }
 
-pub returns-in-Err-clause-bad : goal.returns-in-Err-clause-bad
-returns-in-Err-clause-bad g c = grind (arith, common_steps)
+pub returns-in-Err-clause-reading : goal.returns-in-Err-clause-reading
+returns-in-Err-clause-reading g c =
+    let read = c.in-Err.ensures.reading in
+    let end = c.end.ensures in
+    record {
+      clean = λ clean. read.clean (end.clean clean);
+      schema = tt;
+      was_open = λ clean. tt;
+      left = λ clean. kept_ended (state g.S.Store c.args.conn.now) (state g.S.Store c.describe_database.new.conn) (state g.S.Store c.end.new.conn) (read.left (end.clean clean)) (end.ended clean);
+      bad = λ clean. read.bad (end.clean clean);
+    }

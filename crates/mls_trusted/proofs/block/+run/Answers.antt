@@ -10,7 +10,7 @@ use Rattle.mls_translang.specs.Blocks.{block_of}
 use Rattle.mls_translang.proofs.BlockLemmas.{size_step}
 use Rattle.mls_certcheck.proofs.EachLemmas.{all_at}
 use Rattle.mls_certcheck.specs.Expressions.{is_true, eval}
-use Rattle.mls_trusted.specs.Frames.{around_of, progress_of, MayRun, run_of, rows_of, loop_of, IsReady, IsRun}
+use Rattle.mls_trusted.specs.Frames.{around_of, progress_of, MayRun, run_of, rows_of, loop_of, IsCallReady, IsRun}
 use Rattle.mls_trusted.proofs.RunLemmas.{run_none, run_start, run_stmts, may_here, branch_one, branch_other, loop_same, run_rows_more, ok_same, ok_step, ready_read, may_each, entered, entered_around}
 use Rattle.mls_trusted.proofs.block.+run.Goals as goal
 
@@ -82,10 +82,10 @@ run_row-run_block-requires g t c κs within =
     let f = c.args.frame.now in
     let into = c.enter.new.self in
     let body = c.args.body.now in
-    let is = c.in_ok-made.ensures.value in
+    let is = c.in_ok-settle.ensures.value in
     let rest = subst (λ r. OnOk r (into ≡ record f { rows = into.rows })) is c.enter.ensures.rest in
     let rows = subst (λ r. OnOk r (into.rows.items ≡ f.rows.items ++ c.args.row ∷ [])) is c.enter.ensures.rows in
-    let ready = subst (λ b. IsReady call g.B.Base.is_clean g.B.Base.state b into) (sym c.in_ok-made.ensures.same) (entered call g.B.Base.is_clean g.B.Base.state c.args.base.now f into rest c.requires.ready) in
+    let ready = subst (λ b. IsCallReady call g.B.Base.is_clean g.B.Base.state b into) (sym c.in_ok-settle.ensures.same) (entered call g.B.Base.is_clean g.B.Base.state c.args.base.now f into rest c.requires.ready) in
     let may = subst (λ around. MayRun call around body) (entered_around call g.B.Base.is_clean g.B.Base.state f into c.args.row rows) c.requires.may in
     (omega arith, (within, (ready, may)))
 
@@ -97,7 +97,7 @@ run_rows-run_row-requires g t c κs within =
     let i = c.loop-place.place in
     let body = c.args.body.now in
     let inv = c.loop-place.invariant in
-    let ready = subst (λ b. IsReady call g.B.Base.is_clean g.B.Base.state b c.loop-place.frame) (sym c.in_ok-row.ensures.same) inv.ran.ready in
+    let ready = subst (λ b. IsCallReady call g.B.Base.is_clean g.B.Base.state b c.loop-place.frame) (sym c.in_ok-row.ensures.same) inv.ran.ready in
     let is = subst (λ r. IfOk r (λ x. x ≡ get_or xs i no_tuple)) c.in_ok-row.ensures.value c.tuple.ensures in
     let lt = subst (λ (l : List Tuple). i < length l) c.as_slice-place-end.ensures c.loop-place-test.true in
     let here = all_at (λ r. MayRun call (r ∷ around_of f) body) xs i no_tuple lt c.requires.may in
@@ -122,7 +122,7 @@ run_rows-loop-place-preserved g t c =
       count = (let a = inv.count in let b = one.call.count in let d = ap g.B.Base.failures same in omega (arith, a, b, d));
       ran = subst (λ rows. IsRun call g.B.Base.is_clean g.B.Base.state (rows_of call body (around_of f) rows) c.args.base.now c.run_row.new.base f c.run_row.new.frame) (sym more)
           (run_rows_more call g.B.Base.is_clean g.B.Base.state body (take i xs) c.in_ok-row.row
-          c.args.base.now c.made.new.base c.run_row.new.base f c.loop-place.frame c.run_row.new.frame one.call.clean
+          c.args.base.now c.settle.new.base c.run_row.new.base f c.loop-place.frame c.run_row.new.frame one.call.clean
           (subst (λ b. IsRun call g.B.Base.is_clean g.B.Base.state (rows_of call body (around_of f) (take i xs)) c.args.base.now b f c.loop-place.frame) (sym same) inv.ran) one.ran);
     }
 
@@ -140,16 +140,16 @@ run_stmt-returns-in-Assign-clause-ran g t c =
     let call = c.args.call.now in
     let f = c.args.frame.now in
     let x = c.in-Assign in
-    subst (λ (s : Stmt). OnOk c.made.result (IsRun call g.B.Base.is_clean g.B.Base.state (run_of call (block_of (s ∷ [])) (around_of f)) c.args.base.now c.made.new.base f c.assign.new.frame)) (sym x.is)
-    (ok_step call g.B.Base.is_clean g.B.Base.state c.made.result c.assign.result (run_of call (Do (Assign x.variable x.value) End) (around_of f)) c.args.base.now c.made.new.base f c.assign.new.frame
-    c.requires.ready c.made.ensures.value c.made.ensures.same c.assign.ensures)
+    subst (λ (s : Stmt). OnOk c.settle.result (IsRun call g.B.Base.is_clean g.B.Base.state (run_of call (block_of (s ∷ [])) (around_of f)) c.args.base.now c.settle.new.base f c.assign.new.frame)) (sym x.is)
+    (ok_step call g.B.Base.is_clean g.B.Base.state c.settle.result c.assign.result (run_of call (Do (Assign x.variable x.value) End) (around_of f)) c.args.base.now c.settle.new.base f c.assign.new.frame
+    c.requires.ready c.settle.ensures.value c.settle.ensures.same c.assign.ensures)
 
 pub run_stmt-returns-in-Release-clause-ran : goal.run_stmt-returns-in-Release-clause-ran
 run_stmt-returns-in-Release-clause-ran g t c =
     let call = c.args.call.now in
     let f = c.args.frame.now in
     let x = c.in-Release in
-    let m = c.made-in-Release in
+    let m = c.settle-in-Release in
     subst (λ (s : Stmt). OnOk m.result (IsRun call g.B.Base.is_clean g.B.Base.state (run_of call (block_of (s ∷ [])) (around_of f)) c.args.base.now m.new.base f c.release.new.frame)) (sym x.is)
     (ok_step call g.B.Base.is_clean g.B.Base.state m.result c.release.result (run_of call (Do (Release x.value x.to x.into) End) (around_of f)) c.args.base.now m.new.base f c.release.new.frame
     c.requires.ready m.ensures.value m.ensures.same c.release.ensures)
@@ -159,7 +159,7 @@ run_stmt-returns-in-Emit-clause-ran g t c =
     let call = c.args.call.now in
     let f = c.args.frame.now in
     let x = c.in-Emit in
-    let m = c.made-in-Emit in
+    let m = c.settle-in-Emit in
     subst (λ (s : Stmt). OnOk m.result (IsRun call g.B.Base.is_clean g.B.Base.state (run_of call (block_of (s ∷ [])) (around_of f)) c.args.base.now m.new.base f c.emit.new.frame)) (sym x.is)
     (ok_step call g.B.Base.is_clean g.B.Base.state m.result c.emit.result (run_of call (Do (Emit x.value x.label) End) (around_of f)) c.args.base.now m.new.base f c.emit.new.frame
     c.requires.ready m.ensures.value m.ensures.same c.emit.ensures)

@@ -20,7 +20,7 @@ pub run_block-requires-clause-ready : goal.run_block-requires-clause-ready
 run_block-requires-clause-ready g c =
     let call : Call = record { alloc = c.args.alloc; policy = c.args.policy; schemes = c.args.schemes; tx = c.tx.result; args = c.args.args } in
     let is = IfOk-at_ok (λ (x : Frame). x.views ≡ c.take_all.result) c.in_ok-frame.ensures.value c.new.ensures.views in
-    let views = subst (AreViews c.args.policy.now g.B.Base.is_clean g.B.Base.state c.made.new.base) (sym (is ∙ c.take_all.ensures.all))
+    let views = subst (AreViews c.args.policy.now g.B.Base.is_clean g.B.Base.state c.settle.new.base) (sym (is ∙ c.take_all.ensures.all))
     (subst (λ b. AreViews c.args.policy.now g.B.Base.is_clean g.B.Base.state b c.args.views.now) (sym c.in_ok-frame.ensures.same) c.requires.views) in
     record {
       under = c.requires.call.under;
@@ -49,8 +49,8 @@ returns-clause-called g c =
       done = λ clean.
           let none = IfOk-at_ok (λ (x : Frame). x.rows.items ≡ []) c.in_ok-frame.ensures.value c.new.ensures.rows in
           let first = IfOk-at_ok (λ (x : Frame). (db : Database) → progress_of db x ≡ start db) c.in_ok-frame.ensures.value c.new.ensures.start in
-          let ran = subst (λ (x : Block). IsRun call g.B.Base.is_clean state (run_of call x (around_of f)) c.made.new.base c.run_block.new.base f c.run_block.new.frame) c.body.ensures.body c.in_ok-run_block.ensures.ran in
-          let evaluated = gives_run call g.B.Base.is_clean state c.made.new.base c.run_block.new.base f c.run_block.new.frame c.into_parts-run.result.0 first none ran c.into_parts-run.ensures.emitted c.into_parts-run.ensures.released clean in
+          let ran = subst (λ (x : Block). IsRun call g.B.Base.is_clean state (run_of call x (around_of f)) c.settle.new.base c.run_block.new.base f c.run_block.new.frame) c.body.ensures.body c.in_ok-run_block.ensures.ran in
+          let evaluated = gives_run call g.B.Base.is_clean state c.settle.new.base c.run_block.new.base f c.run_block.new.frame c.into_parts-run.result.0 first none ran c.into_parts-run.ensures.emitted c.into_parts-run.ensures.released clean in
           subst (λ (x : Tx). let run = run_tx ls c.args.schemes.now x c.args.args.now (state c.args.base.now).now.db in IsEvaluated run (with_database (state c.args.base.now) run.db) (state c.run_block.new.base) c.into_parts-run.result.0) c.tx.ensures
           (subst (λ b. let run = run_tx ls c.args.schemes.now c.tx.result.now c.args.args.now (state b).now.db in IsEvaluated run (with_database (state b) run.db) (state c.run_block.new.base) c.into_parts-run.result.0) c.in_ok-frame.ensures.same evaluated);
       content = λ clean. c.in_ok-run_block.ensures.ran.ready.content clean;

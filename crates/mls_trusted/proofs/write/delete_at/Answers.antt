@@ -28,7 +28,7 @@ delete-requires g c =
       relation = search rules;
       key = subst (HaveKinds scheme.keys) (sym (c.deref.ensures.value ∙ key)) kinds;
       stored = content_lent c.args.call.now c.args.frame.now c.args.relation c.args.at (Deleting c.args.key.now c.args.key_class) c.args.outcome
-          g.B.Base.is_clean g.B.Base.state c.args.base.now c.made.new.base c.in_ok-key.ensures.same c.requires.ready c.in_ok-key.ensures.call.clean;
+          g.B.Base.is_clean g.B.Base.state c.args.base.now c.settle.new.base c.in_ok-key.ensures.same c.requires.ready c.in_ok-key.ensures.call.clean;
     }
 
 pub returns-clause-ran : goal.returns-clause-ran
@@ -42,6 +42,6 @@ returns-clause-ran g c =
     let left =
     subst (λ k. AreLeftBy (labels_of call.policy.now) c.args.relation c.args.at (place k c.args.key_class c.args.at) c.in_ok-done.done f.views c.wrote.new.self.views)
     (c.deref-2.ensures.value ∙ sym c.deref.ensures.value) c.wrote.ensures.views in
-    run_written call f c.args.relation c.args.at (Deleting c.args.key.now c.args.key_class) c.args.outcome g.B.Base.is_clean g.B.Base.state c.args.base.now c.made.new.base c.delete.new.base
+    run_written call f c.args.relation c.args.at (Deleting c.args.key.now c.args.key_class) c.args.outcome g.B.Base.is_clean g.B.Base.state c.args.base.now c.settle.new.base c.delete.new.base
     c.wrote.new.self c.in_ok-done.done (Delete c.deref.result.now c.args.key_class) c.in_ok-key.ensures.same (λ i. Delete (same i) c.args.key_class) c.requires.ready c.requires.may
     c.in_ok-done.ensures.change.call.clean c.in_ok-done.ensures.change.mode c.in_ok-done.ensures.done c.in_ok-done.ensures.kept c.wrote.ensures.vars within left

@@ -25,7 +25,7 @@ insert-requires g c =
       under = c.requires.ready.under;
       kinds = (subst (HaveKinds scheme.keys) (sym (c.deref.ensures.value ∙ ops.0)) kinds.0, subst (HaveKinds scheme.others) (sym (c.deref-2.ensures.value ∙ ops.1)) kinds.1);
       stored = content_lent c.args.call.now c.args.frame.now c.args.relation c.args.at (Inserting c.args.key.now c.args.values.now) c.args.outcome
-          g.B.Base.is_clean g.B.Base.state c.args.base.now c.made.new.base c.in_ok-key.ensures.same c.requires.ready c.in_ok-key.ensures.call.clean;
+          g.B.Base.is_clean g.B.Base.state c.args.base.now c.settle.new.base c.in_ok-key.ensures.same c.requires.ready c.in_ok-key.ensures.call.clean;
     }
 
 pub returns-clause-ran : goal.returns-clause-ran
@@ -40,6 +40,6 @@ returns-clause-ran g c =
     let left =
     subst (λ k. AreLeftBy (labels_of call.policy.now) c.args.relation c.args.at (place k c.args.at c.args.at) c.in_ok-done.done f.views c.wrote.new.self.views)
     (c.deref-3.ensures.value ∙ sym c.deref.ensures.value) c.wrote.ensures.views in
-    run_written call f c.args.relation c.args.at (Inserting c.args.key.now c.args.values.now) c.args.outcome g.B.Base.is_clean g.B.Base.state c.args.base.now c.made.new.base c.insert.new.base
+    run_written call f c.args.relation c.args.at (Inserting c.args.key.now c.args.values.now) c.args.outcome g.B.Base.is_clean g.B.Base.state c.args.base.now c.settle.new.base c.insert.new.base
     c.wrote.new.self c.in_ok-done.done (Insert c.deref.result.now c.deref-2.result.now) c.in_ok-key.ensures.same (λ i. Insert (key i) (values i)) c.requires.ready c.requires.may
     c.in_ok-done.ensures.change.call.clean c.in_ok-done.ensures.change.mode c.in_ok-done.ensures.done c.in_ok-done.ensures.kept c.wrote.ensures.vars within left

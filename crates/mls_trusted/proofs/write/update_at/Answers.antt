@@ -38,7 +38,7 @@ update-requires g c =
       fits = subst (AllByRecursion (λ s. s.0 < length scheme.others)) sets fits.2;
       key = subst (HaveKinds scheme.keys) (sym (c.deref.ensures.value ∙ ops.0)) own;
       kinds = subst (AllByRecursion (λ s. fits_kind s.1 (other_of scheme s.0).kind ≡ true)) sets kinds;
-      stored = content_lent call f c.args.relation c.args.at wr c.args.outcome g.B.Base.is_clean g.B.Base.state c.args.base.now c.made.new.base c.in_ok-key.ensures.same c.requires.ready c.in_ok-key.ensures.call.clean;
+      stored = content_lent call f c.args.relation c.args.at wr c.args.outcome g.B.Base.is_clean g.B.Base.state c.args.base.now c.settle.new.base c.in_ok-key.ensures.same c.requires.ready c.in_ok-key.ensures.call.clean;
     }
 
 pub returns-clause-ran : goal.returns-clause-ran
@@ -53,6 +53,6 @@ returns-clause-ran g c =
     let left =
     subst (λ k. AreLeftBy (labels_of call.policy.now) c.args.relation c.args.at (place k c.args.key_class c.args.at) c.in_ok-done.done f.views c.wrote.new.self.views)
     (c.deref-3.ensures.value ∙ sym c.deref.ensures.value) c.wrote.ensures.views in
-    run_written call f c.args.relation c.args.at (Updating c.args.key.now c.args.key_class c.args.from c.args.sets.now) c.args.outcome g.B.Base.is_clean g.B.Base.state c.args.base.now c.made.new.base c.update.new.base
+    run_written call f c.args.relation c.args.at (Updating c.args.key.now c.args.key_class c.args.from c.args.sets.now) c.args.outcome g.B.Base.is_clean g.B.Base.state c.args.base.now c.settle.new.base c.update.new.base
     c.wrote.new.self c.in_ok-done.done (Update c.deref.result.now c.args.key_class c.args.from c.deref-2.result.now) c.in_ok-key.ensures.same (λ i. Update (key i) c.args.key_class c.args.from (sets i)) c.requires.ready c.requires.may
     c.in_ok-done.ensures.change.call.clean c.in_ok-done.ensures.change.mode c.in_ok-done.ensures.done c.in_ok-done.ensures.kept c.wrote.ensures.vars within left

@@ -16,10 +16,10 @@ returns-clause-done g c = λ clean es is.
     let T = (g.B.Base.state c.args.base.now).now.db rel in
     let node : c.in_ok-parts.parts.node ≡ n = subst (λ r. IfOk r (λ x. x.node ≡ n)) c.in_ok-parts.ensures.value c.parts_of.ensures.node in
     let own = subst (λ r. IfOk r (λ x. x.cells.items ≡ cells_of (entry_of c.args.row.now))) c.in_ok-parts.ensures.value c.parts_of.ensures.cells in
-    let same : g.B.Base.state c.made.new.base ≡ g.B.Base.state c.args.base.now = ap g.B.Base.state c.in_ok-parts.ensures.same in
+    let same : g.B.Base.state c.settle.new.base ≡ g.B.Base.state c.args.base.now = ap g.B.Base.state c.in_ok-parts.ensures.same in
     on_ok_weaker c.add.result (λ e. e ∙ (λ i. with_relation (same i) rel (insert ((same i).now.db rel) (place_of_node (node i)) es)))
     (c.add.ensures.done clean es
-    (made_same ((g.B.Base.state c.made.new.base).now.db rel) T c.in_ok-parts.parts.node n c.deref.result.now _ es (ap (λ x. x.now.db rel) same) node (c.deref.ensures.value ∙ own) is))
+    (made_same ((g.B.Base.state c.settle.new.base).now.db rel) T c.in_ok-parts.parts.node n c.deref.result.now _ es (ap (λ x. x.now.db rel) same) node (c.deref.ensures.value ∙ own) is))
 
 pub add-requires : goal.add-requires
 add-requires g c =

@@ -20,7 +20,7 @@ returns-then-has_null-clause-done g c = λ clean.
 pub delete_at-requires-clause-stored : goal.delete_at-requires-clause-stored
 delete_at-requires-clause-stored g c = λ clean.
     let scheme = scheme_of c.args.schemes.now c.args.rel in
-    let same : g.B.Base.state c.made.new.base ≡ g.B.Base.state c.args.base.now = ap g.B.Base.state c.in_ok-place.ensures.same in
+    let same : g.B.Base.state c.settle.new.base ≡ g.B.Base.state c.args.base.now = ap g.B.Base.state c.in_ok-place.ensures.same in
     (length scheme.others, subst (λ x. IsStored (labels_of c.args.policy.now) (length scheme.others) (x.now.db c.args.rel)) (sym same) (c.requires.stored (c.in_ok-place.ensures.call.clean clean)).stored)
 
 pub returns-clause-done : goal.returns-clause-done
@@ -31,11 +31,11 @@ returns-clause-done g c = λ clean.
     let u = g.B.Base.state c.delete_at.new.base in
     let p = place c.args.key.now c.args.key_class c.args.w in
     let here : c.in_ok-place.place ≡ p = subst (λ r. IfOk r (λ q. q ≡ p)) c.in_ok-place.ensures.value c.place_of.ensures in
-    let same : g.B.Base.state c.made.new.base ≡ s = ap g.B.Base.state c.in_ok-place.ensures.same in
-    IfOk-weaker c.delete_at.result (λ o. (x : Scheme) → IsDeleted ls x c.args.rel c.in_ok-place.place (g.B.Base.state c.made.new.base) u o) _
+    let same : g.B.Base.state c.settle.new.base ≡ s = ap g.B.Base.state c.in_ok-place.ensures.same in
+    IfOk-weaker c.delete_at.result (λ o. (x : Scheme) → IsDeleted ls x c.args.rel c.in_ok-place.place (g.B.Base.state c.settle.new.base) u o) _
     (λ o done. delete_left ls scheme c.args.rel c.args.w c.args.key.now s c.args.key_class u o (sym c.if-has_null.ensures)
     (subst (λ x. IsDeleted ls scheme c.args.rel p x u o) same
-    (subst (λ x. IsDeleted ls scheme c.args.rel x (g.B.Base.state c.made.new.base) u o) here (done scheme))))
+    (subst (λ x. IsDeleted ls scheme c.args.rel x (g.B.Base.state c.settle.new.base) u o) here (done scheme))))
     (c.delete_at.ensures.done clean)
 
 pub returns-clause-kept : goal.returns-clause-kept

@@ -12,7 +12,7 @@ use Rattle.mls_updates.proofs.deleting.drop_above.Goals as goal
 pub drop_each-requires-clause-alone : goal.drop_each-requires-clause-alone
 drop_each-requires-clause-alone g c = λ clean.
     let ls = labels_of c.args.policy.now in
-    let t = g.B.Base.state c.made.new.base in
+    let t = g.B.Base.state c.settle.new.base in
     let same : t ≡ g.B.Base.state c.args.base.now = ap g.B.Base.state c.in_ok-order.ensures.same in
     let above : AreAbove ls c.args.place.class c.in_ok-order.order.items = subst (λ r. IfOk r (λ o. AreAbove ls c.args.place.class o.items)) c.in_ok-order.ensures.value c.downwards.ensures in
     let stored = c.requires.stored (c.in_ok-order.ensures.call.clean clean) in
@@ -22,7 +22,7 @@ drop_each-requires-clause-alone g c = λ clean.
 pub returns-clause-done : goal.returns-clause-done
 returns-clause-done g c = λ clean.
     let ls = labels_of c.args.policy.now in
-    let t = g.B.Base.state c.made.new.base in
+    let t = g.B.Base.state c.settle.new.base in
     let same : t ≡ g.B.Base.state c.args.base.now = ap g.B.Base.state c.in_ok-order.ensures.same in
     let above : AreAbove ls c.args.place.class c.in_ok-order.order.items = subst (λ r. IfOk r (λ o. AreAbove ls c.args.place.class o.items)) c.in_ok-order.ensures.value c.downwards.ensures in
     let stored = c.requires.stored (c.in_ok-order.ensures.call.clean (c.drop_each.ensures.step.call.clean clean)) in

@@ -30,12 +30,12 @@ returns-clause-done g c = λ clean.
     let u = g.B.Base.state c.insert_at.new.base in
     let p = place c.args.key.now w w in
     let here : c.in_ok-place.place ≡ p = subst (λ r. IfOk r (λ q. q ≡ p)) c.in_ok-place.ensures.value c.place_of.ensures in
-    let same : g.B.Base.state c.made.new.base ≡ s = ap g.B.Base.state c.in_ok-place.ensures.same in
-    IfOk-weaker c.insert_at.result (IsInserted ls c.scheme-scheme.result.now c.args.rel c.in_ok-place.place values (g.B.Base.state c.made.new.base) u) _
+    let same : g.B.Base.state c.settle.new.base ≡ s = ap g.B.Base.state c.in_ok-place.ensures.same in
+    IfOk-weaker c.insert_at.result (IsInserted ls c.scheme-scheme.result.now c.args.rel c.in_ok-place.place values (g.B.Base.state c.settle.new.base) u) _
     (λ o done. insert_left ls (scheme_of c.args.schemes.now c.args.rel) c.args.rel w c.args.key.now s values u o (sym c.if-has_null.ensures)
     (subst (λ (x : Scheme). IsInserted ls x c.args.rel p values s u o) c.scheme-scheme.ensures.row
     (subst (λ x. IsInserted ls c.scheme-scheme.result.now c.args.rel p values x u o) same
-    (subst (λ x. IsInserted ls c.scheme-scheme.result.now c.args.rel x values (g.B.Base.state c.made.new.base) u o) here done))))
+    (subst (λ x. IsInserted ls c.scheme-scheme.result.now c.args.rel x values (g.B.Base.state c.settle.new.base) u o) here done))))
     (c.insert_at.ensures.done clean)
 
 pub returns-clause-kept : goal.returns-clause-kept

@@ -12,12 +12,12 @@ loop-number-preserved c =
     let xs = c.loop-number.order.items in
     let n = c.loop-number.number in
     let label : c.new-label.result ≡ n = search rules in
-    let at : c.place_in-place.result ≡ before ls c.new-label.result xs = c.place_in-place.ensures.exact ∙ ap (before ls c.new-label.result) c.deref.ensures.value in
-    let new : c.insert.new.self.items ≡ insert xs c.place_in-place.result n = c.in_ok-insert.ensures.items ∙ ap (insert xs c.place_in-place.result) label in
+    let at : c.insertion_place-place.result ≡ before ls c.new-label.result xs = c.insertion_place-place.ensures.exact ∙ ap (before ls c.new-label.result) c.deref.ensures.value in
+    let new : c.insert.new.self.items ≡ insert xs c.insertion_place-place.result n = c.in_ok-insert.ensures.items ∙ ap (insert xs c.insertion_place-place.result) label in
     let above : below ls c.args.w n ≡ true = ap (below ls c.args.w) (sym label) ∙ sym c.dominates.ensures.order ∙ c.if-not-dominates.false in (
       new ∙ ap (λ k. insert xs k n) (at ∙ ap (λ m. before ls m xs) label) ∙ downward_put ls c.args.w n xs c.loop-number.invariant.0 above,
       subst (AllByRecursion (λ m. m < length c.args.policy.now.labels)) (sym new)
-          (insert_all (λ m. m < length c.args.policy.now.labels) xs c.place_in-place.result n c.loop-number.invariant.1
+          (insert_all (λ m. m < length c.args.policy.now.labels) xs c.insertion_place-place.result n c.loop-number.invariant.1
           (let l = c.loop-number-test.true in let m = c.label_count-number-end.ensures.count in omega (arith, l, m))),
     )
 
@@ -48,12 +48,12 @@ loop-number-preserved-then-not-dominates c =
     let not_above : below ls c.args.w c.loop-number.number ≡ false = ap (below ls c.args.w) (sym c.new-label.ensures) ∙ sym c.dominates.ensures.order ∙ c.if-not-dominates.true in
     (c.loop-number.invariant.0 ∙ sym (downward_skip ls c.args.w c.loop-number.number not_above), c.loop-number.invariant.1)
 
-pub place_in-place-requires-clause-label : goal.place_in-place-requires-clause-label
-place_in-place-requires-clause-label c =
+pub insertion_place-place-requires-clause-label : goal.insertion_place-place-requires-clause-label
+insertion_place-place-requires-clause-label c =
     subst (λ m. m < length c.args.policy.now.labels) (sym c.new-label.ensures) (let l = c.loop-number-test.true in let m = c.label_count-number-end.ensures.count in omega (arith, l, m))
 
-pub place_in-place-requires-clause-order : goal.place_in-place-requires-clause-order
-place_in-place-requires-clause-order c = subst (AllByRecursion (λ m. m < length c.args.policy.now.labels)) (sym c.deref.ensures.value) c.loop-number.invariant.1
+pub insertion_place-place-requires-clause-order : goal.insertion_place-place-requires-clause-order
+insertion_place-place-requires-clause-order c = subst (AllByRecursion (λ m. m < length c.args.policy.now.labels)) (sym c.deref.ensures.value) c.loop-number.invariant.1
 
 pub insert-requires : goal.insert-requires
-insert-requires c = subst (λ n. c.place_in-place.result ≤ n) c.deref.ensures.len c.place_in-place.ensures.within
+insert-requires c = subst (λ n. c.insertion_place-place.result ≤ n) c.deref.ensures.len c.insertion_place-place.ensures.within

@@ -14,8 +14,8 @@ pub returns-clause-done : goal.returns-clause-done
 returns-clause-done g c = λ clean.
     let it : Row = record { rel = c.args.rel; place = c.args.place; elements = root c.args.place.class c.args.values.now } in
     let row : c.in_ok-row.row ≡ it = subst (λ r. IfOk r (λ x. x ≡ it)) c.in_ok-row.ensures.value c.root_at.ensures in
-    let same : g.B.Base.state c.made.new.base ≡ g.B.Base.state c.args.base.now = ap g.B.Base.state c.in_ok-row.ensures.same in
-    let t = g.B.Base.state c.made.new.base in
+    let same : g.B.Base.state c.settle.new.base ≡ g.B.Base.state c.args.base.now = ap g.B.Base.state c.in_ok-row.ensures.same in
+    let t = g.B.Base.state c.settle.new.base in
     let es = root c.args.place.class c.args.values.now in
     on_ok_weaker c.add_row.result (λ e. e ∙ (λ i. with_relation (same i) (row i).rel (insert ((same i).now.db (row i).rel) (row i).place es)))
     (c.add_row.ensures.done clean es (subst (λ (r : Row). IsMadeOf (t.now.db r.rel) (node_of (entry_of r)) (cells_of (entry_of r)) es) (sym row) (root_made (t.now.db c.args.rel) c.args.place c.args.values.now)))

@@ -11,7 +11,7 @@ pub returns-clause-done : goal.returns-clause-done
 returns-clause-done g c = λ clean.
     let rel = c.args.rel in
     let value : c.in_ok-value.value ≡ c.args.value.now = subst (λ r. IfOk r (λ v. v ≡ c.args.value.now)) c.in_ok-value.ensures.value c.copy_value.ensures in
-    let same : g.B.Base.state c.made.new.base ≡ g.B.Base.state c.args.base.now = ap g.B.Base.state c.in_ok-value.ensures.same in
+    let same : g.B.Base.state c.settle.new.base ≡ g.B.Base.state c.args.base.now = ap g.B.Base.state c.in_ok-value.ensures.same in
     on_ok_weaker c.set.result (λ e. e ∙ (λ i. with_relation (same i) rel (change (set_in c.args.place.now c.args.attr (value i)) ((same i).now.db rel)))) (c.set.ensures.done clean)
 
 pub returns-clause-step : goal.returns-clause-step

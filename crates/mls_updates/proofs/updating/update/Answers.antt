@@ -26,7 +26,7 @@ update_own-requires-clause-sets g c = sets_spelled (scheme_of c.args.schemes.now
 
 pub update_own-requires-clause-fits : goal.update_own-requires-clause-fits
 update_own-requires-clause-fits g c = λ clean es found.
-    let same : g.B.Base.state c.made.new.base ≡ g.B.Base.state c.args.base.now = ap g.B.Base.state c.in_ok-place.ensures.same in
+    let same : g.B.Base.state c.settle.new.base ≡ g.B.Base.state c.args.base.now = ap g.B.Base.state c.in_ok-place.ensures.same in
     let stored = (c.requires.stored (c.in_ok-place.ensures.call.clean clean)).stored in
     subst (λ n. AllByRecursion (λ s. s.0 < n) c.args.sets.now) (sym (stored c.in_ok-place.place es (subst (λ x. get (x.now.db c.args.rel) c.in_ok-place.place ≡ Some es) same found)).count) c.requires.fits
 
@@ -42,11 +42,11 @@ returns-then-eq-clause-done g c = λ clean.
     let q = place c.args.key.now c.args.key_class c.args.from in
     let here : c.in_ok-place.place ≡ q = subst (λ r. IfOk r (λ x. x ≡ q)) c.in_ok-place.ensures.value c.place_of.ensures in
     let there : c.in_ok-place.place ≡ place c.args.key.now kc c.args.w = here ∙ ap (place c.args.key.now kc) e in
-    let same : g.B.Base.state c.made.new.base ≡ s = ap g.B.Base.state c.in_ok-place.ensures.same in
-    IfOk-weaker c.update_own.result (λ o. (x : Scheme) → IsChanged ls x c.args.rel c.in_ok-place.place sets (g.B.Base.state c.made.new.base) u o) _
+    let same : g.B.Base.state c.settle.new.base ≡ s = ap g.B.Base.state c.in_ok-place.ensures.same in
+    IfOk-weaker c.update_own.result (λ o. (x : Scheme) → IsChanged ls x c.args.rel c.in_ok-place.place sets (g.B.Base.state c.settle.new.base) u o) _
     (λ o done. own_left ls scheme c.args.rel c.args.w c.args.key.now s kc sets c.args.from u o e (sym c.if-has_null.ensures)
     (subst (λ x. IsChanged ls scheme c.args.rel (place c.args.key.now kc c.args.w) sets x u o) same
-    (subst (λ x. IsChanged ls scheme c.args.rel x sets (g.B.Base.state c.made.new.base) u o) there (done scheme))))
+    (subst (λ x. IsChanged ls scheme c.args.rel x sets (g.B.Base.state c.settle.new.base) u o) there (done scheme))))
     (c.update_own.ensures.done clean)
 
 pub returns-then-eq-clause-kept : goal.returns-then-eq-clause-kept
@@ -73,12 +73,12 @@ returns-clause-done g c = λ clean.
     let u = g.B.Base.state c.update_below.new.base in
     let q = place c.args.key.now c.args.key_class c.args.from in
     let here : c.in_ok-place.place ≡ q = subst (λ r. IfOk r (λ x. x ≡ q)) c.in_ok-place.ensures.value c.place_of.ensures in
-    let same : g.B.Base.state c.made.new.base ≡ s = ap g.B.Base.state c.in_ok-place.ensures.same in
-    IfOk-weaker c.update_below.result (IsDerived ls c.scheme-scheme.result.now c.args.rel (with_class c.in_ok-place.place w) c.in_ok-place.place.class sets (g.B.Base.state c.made.new.base) u) _
+    let same : g.B.Base.state c.settle.new.base ≡ s = ap g.B.Base.state c.in_ok-place.ensures.same in
+    IfOk-weaker c.update_below.result (IsDerived ls c.scheme-scheme.result.now c.args.rel (with_class c.in_ok-place.place w) c.in_ok-place.place.class sets (g.B.Base.state c.settle.new.base) u) _
     (λ o done. below_left ls scheme c.args.rel w c.args.key.now s kc sets c.args.from u o (λ e. true≢false (sym (eq-eqb c.args.from w e) ∙ sym c.if-eq.ensures)) (sym c.if-has_null.ensures)
     (subst (λ (x : Scheme). IsDerived ls x c.args.rel (with_class q w) c.args.from sets s u o) c.scheme-scheme.ensures.row
     (subst (λ x. IsDerived ls c.scheme-scheme.result.now c.args.rel (with_class q w) c.args.from sets x u o) same
-    (subst (λ x. IsDerived ls c.scheme-scheme.result.now c.args.rel (with_class x w) x.class sets (g.B.Base.state c.made.new.base) u o) here done))))
+    (subst (λ x. IsDerived ls c.scheme-scheme.result.now c.args.rel (with_class x w) x.class sets (g.B.Base.state c.settle.new.base) u o) here done))))
     (c.update_below.ensures.done clean)
 
 pub returns-clause-kept : goal.returns-clause-kept

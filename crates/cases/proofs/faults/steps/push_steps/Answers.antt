@@ -1,6 +1,6 @@
 use Rattle.std.proofs.Common.{sym, subst}
 use Rattle.mls_filterview.specs.Content.{State}
-use Rattle.mls_replies.specs.Under.{site_under}
+use Rattle.mls_machine.specs.Under.{site_under}
 use Rattle.mls_sessions.specs.World.{IsSound}
 use Rattle.mls_sessions.proofs.StartLemmas.{no_content_sound}
 use Rattle.cases.proofs.faults.steps.push_steps.Goals as goal

@@ -1,6 +1,6 @@
 use Rattle.std.proofs.Common.{◌≡◌, [], ◌++◌, ◌∙◌, sym, ap, subst, codes, string_bytes, OnOk}
 use Rattle.std.proofs.lemmas.Result.{on_ok_weaker}
-use Rattle.mls_certificate.specs.declared.cert.Certificate.{Certificate}
+use Rattle.mls_certcheck.specs.declared.cert.Certificate.{Certificate}
 use Rattle.mls_explain.specs.Telling.{variable_lines, statement_lines, label_lines}
 use Rattle.mls_explain.proofs.TellingLemmas.{joined}
 use Rattle.mls_explain.proofs.teller.Teller.labels_to.Goals as goal

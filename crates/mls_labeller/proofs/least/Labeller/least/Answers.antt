@@ -1,6 +1,6 @@
 use Rattle.std.proofs.Common.{◌≡◌, List, length, refl, sym, ap, subst, ◌∙◌}
 use Rattle.mls_translang.specs.Tree.{statements}
-use Rattle.mls_certificate.specs.declared.cert.Certificate.{Certificate}
+use Rattle.mls_certcheck.specs.declared.cert.Certificate.{Certificate}
 use Rattle.mls_certcheck.specs.Rules.{claim}
 use Rattle.mls_certcheck.specs.declared.flow.Line.{Line}
 use Rattle.mls_labeller.specs.Rising.{cert_of, HasFlows, HasCounts, AreBounded}

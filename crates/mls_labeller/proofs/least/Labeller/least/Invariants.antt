@@ -1,6 +1,6 @@
 use Rattle.std.proofs.Common.{length}
 use Rattle.mls_translang.specs.Tree.{statements}
-use Rattle.mls_certificate.specs.declared.cert.Certificate.{Certificate}
+use Rattle.mls_certcheck.specs.declared.cert.Certificate.{Certificate}
 use Rattle.mls_certcheck.specs.Rules.{claim}
 use Rattle.mls_labeller.specs.Least.{IsOf, Meets, Below}
 use Rattle.mls_labeller.specs.Rising.{cert_of, claim_at, HasCounts, room}

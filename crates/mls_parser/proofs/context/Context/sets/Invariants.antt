@@ -1,6 +1,10 @@
-use Rattle.std.proofs.Common.{◌≡◌, map, take}
-use Rattle.mls_parser.specs.Elaboration.{set}
+use Rattle.std.proofs.Common.{[], length}
+use Rattle.mls_parser.specs.ReadList.{set_at}
+use Rattle.mls_parser.proofs.ItemSteps.{ItemsSoFar}
 use Rattle.mls_parser.proofs.context.Context.sets.Given as goal
 
-abbrev pub invariant-loop-name : goal.invariant-loop-name
-invariant-loop-name l = l.resolved.items ≡ map (set l.self l.scheme) (take l.name-index l.sets)
+abbrev pub invariant-loop-sets : goal.invariant-loop-sets
+invariant-loop-sets l = ItemsSoFar (set_at l.self l.scheme) [] (l.fn.faults.items, l.fn.tokens) l.sets.items (l.faults.items, l.tokens)
+
+abbrev pub decreases-loop-sets : goal.decreases-loop-sets
+decreases-loop-sets l = length l.tokens.placed

@@ -1,5 +1,5 @@
 use Rattle.std.proofs.lemmas.Result.{IfOk-weaker}
-use Rattle.mls_replies.proofs.KnownLemmas.{numbers_known}
+use Rattle.mls_machine.proofs.KnownLemmas.{numbers_known}
 use Rattle.mls_sessions.specs.Engine.{site, world_of}
 use Rattle.mls_sessions.proofs.EngineLemmas.{outside_is, answers_opened}
 use Rattle.mls_sessions.proofs.engine.Engine.outside.Goals as goal

@@ -1,0 +1,82 @@
+//! Why a text is no certificate, and in which line.
+ghost use Rattle.std.specs.Prelude.{◌≡◌};
+ghost use Rattle.mls_certcheck.specs.declared.fault.CertCause.TheVariants.{Memory};
+ghost use Rattle.mls_certcheck.specs.Fault.{code_of, word_of};
+
+use std::alloc::{AllocError, AllocFailed};
+use std::fmt;
+use thiserror::Error;
+
+/// Why a text is no certificate.
+#[derive(Clone, Copy, PartialEq, Eq, Debug, Error)]
+pub enum CertCause {
+    /// The line has the wrong form, or is missing.
+    Line,
+    /// A label is none.
+    Label,
+    /// The version is another.
+    Version,
+    /// A name stands twice.
+    Repeated,
+    /// A growth was refused.
+    Memory,
+}
+
+impl CertCause {
+    /// The number of the cause.
+    pub fn code(self) -> u8
+        ensures { result ≡ code_of self }
+    {
+        self as u8 + 51
+    }
+
+    /// The name of the cause.
+    pub fn word(self) -> &'static str
+        ensures { result.now ≡ word_of self }
+    {
+        match self {
+            CertCause::Line => "Line",
+            CertCause::Label => "Label",
+            CertCause::Version => "Version",
+            CertCause::Repeated => "Repeated",
+            CertCause::Memory => "Memory",
+        }
+    }
+}
+
+/// The name of the fault.
+impl fmt::Display for CertCause {
+    fn fmt<W: fmt::Write>(&self, f: &mut fmt::Formatter<W>) -> fmt::Result {
+        f.write_str(self.word())
+    }
+}
+
+/// In which line which fault stands; lines are counted from 1. Want of memory names line 1.
+#[derive(Clone, Copy, PartialEq, Eq, Debug, Error)]
+#[error("line {line}: {cause}")]
+pub struct CertFault {
+    pub line: usize,
+    pub cause: CertCause,
+}
+
+impl From<AllocError> for CertFault {
+    ghost from_gives = { λ _ e. e.cause ≡ Memory };
+
+    fn from(_e: AllocError) -> CertFault {
+        CertFault {
+            line: 1,
+            cause: CertCause::Memory,
+        }
+    }
+}
+
+impl<T: Drop> From<AllocFailed<T>> for CertFault {
+    ghost from_gives = { λ _ e. e.cause ≡ Memory };
+
+    fn from(_e: AllocFailed<T>) -> CertFault {
+        CertFault {
+            line: 1,
+            cause: CertCause::Memory,
+        }
+    }
+}

@@ -1,0 +1,255 @@
+-- What is printed: the name of a label by its value, and the lines of replies.
+use Rattle.std.proofs.Common.{◌≡◌, ◌+◌, ℕ, ◌<◌, Bool, true, false, List, [], ◌∷◌, length, drop, get_or, refl, sym, ap, ◌∙◌, add-one, drop-cons, Option, Some, None, ◌++◌, take, codes, append-nil, append_assoc}
+use Rattle.std.specs.List.{flat_map}
+use Rattle.std.specs.Prelude.{map, slice_get, option_map, Result, Ok, Err, OnOk}
+use Rattle.std.proofs.lemmas.List.{get_or-map, flat_map_more, take_more}
+use Rattle.std.proofs.lemmas.Option.{slice_get-get_or}
+use Rattle.mls_lattice.specs.Lattice.{Pair, same_pair, bottom}
+use Rattle.mls_lattice.specs.Labels.{label_of}
+use Rattle.mls_lattice.specs.Name.{is_name}
+use Rattle.mls_lattice.specs.Policy.{Name, Named, Policy}
+use Rattle.mls_lattice.specs.Canon.{label_name}
+use Rattle.mls_scheme.specs.Scheme.{Attribute, Scheme, Schemes, column_of}
+use Rattle.mls_scheme.specs.declared.value.Value.{Value}
+use Rattle.mls_scheme.proofs.CanonLemmas.{lines_more}
+use Rattle.std.proofs.lemmas.List.Folds.{flat_map-map}
+use Rattle.std.proofs.lemmas.Grind.{flat_map-append}
+use Rattle.mls_tokens.specs.Writing.{printable}
+use Rattle.mls_scheme.specs.declared.tuple.Tuple.{Tuple}
+use Rattle.mls_audit.specs.declared.entry.Entry.{Entry}
+use Rattle.mls_certcheck.specs.declared.run.Run.{Run}
+use Rattle.mls_certcheck.specs.Meaning.{Item}
+use Rattle.mls_queries.specs.declared.query.Query.{Query}
+use Rattle.mls_script.specs.declared.event.Event.{Event}
+use Rattle.mls_script.specs.declared.event.Command.{Command}
+use Rattle.mls_script.specs.declared.event.Command.TheVariants as commands
+use Rattle.mls_machine.specs.declared.form.Form.{Form}
+use Rattle.mls_machine.specs.declared.form.Form.TheVariants.{Lines, Table}
+use Rattle.mls_machine.specs.declared.reply.Reply.{Reply}
+use Rattle.mls_machine.specs.declared.reply.Reply.TheVariants.{Opened, Closed, Rows, Dumped, Wrote, Ran, Entries, Denied}
+use Rattle.mls_machine.specs.declared.stored.Stored.{Stored}
+use Rattle.mls_machine.specs.Site.{Site, site_scheme}
+use Rattle.mls_machine.specs.Dumping.{dump_event}
+use Rattle.mls_script.specs.Writing.{cell_text}
+use Rattle.mls_machine.specs.Output.{Line, name_of, front, line, item_line, heading, count_text, row_text, entry_text, view_texts, dump_heading, script_text, dump_texts, call_texts, reply_texts, reply_lines, reply_lines_in, lines_with, escaped_line, table_texts, texts_in_table, printed}
+use Rattle.mls_machine.specs.Under.{site_under}
+use Rattle.mls_machine.proofs.DumpLemmas.{printable_name}
+
+abbrev no_label : Named
+no_label = record { name = []; value = bottom }
+
+module _ (ls : List Named) (n : ℕ) (p v : Pair) (within : n < length ls) (is : v ≡ label_of (map (λ l. l.value) ls) n) where
+  value_at : v ≡ (get_or ls n no_label).value
+  value_at = is ∙ get_or-map (λ (l : Named). l.value) ls n no_label bottom within
+
+  here : name_of (drop n ls) p ≡ name_of (get_or ls n no_label ∷ drop (n + 1) ls) p
+  here =
+      let split : drop n ls ≡ get_or ls n no_label ∷ drop (n + 1) ls = rw (add-one n, drop-cons ls n no_label within) refl in
+      ap (λ (xs : List Named). name_of xs p) split
+
+  pub name_of-found : same_pair v p ≡ true → name_of (drop n ls) p ≡ label_name ls n
+  name_of-found h = here ∙ rw (← value_at, h, slice_get-get_or ls n no_label within) refl
+
+  pub name_of-next : same_pair v p ≡ false → name_of (drop (n + 1) ls) p ≡ name_of (drop n ls) p
+  name_of-next h = sym (here ∙ rw (← value_at, h) refl)
+
+pub ruleset naming = (name_of-found, name_of-next)
+
+-- one attribute more
+pub names_more : (attributes : List Attribute) (k : ℕ) (name : Name) (start : List ℕ) → option_map (λ a. a.name) (slice_get attributes k) ≡ Some name
+    → (start ++ flat_map (λ a. codes " " ++ a.name) (take k attributes)) ++ (codes " " ++ name) ≡ start ++ flat_map (λ a. codes " " ++ a.name) (take (k + 1) attributes)
+names_more attributes k name start h =
+    let Goal : Type 0 = (start ++ flat_map (λ a. codes " " ++ a.name) (take k attributes)) ++ (codes " " ++ name) ≡ start ++ flat_map (λ a. codes " " ++ a.name) (take (k + 1) attributes) in
+    elim (slice_get attributes k) as (λ o. slice_get attributes k ≡ o → option_map (λ a. a.name) o ≡ Some name → Goal) [
+      | None ↦ λ e g. absurd cc
+      | Some a ↦ λ e g. lines_more (λ (x : Attribute). codes " " ++ x.name) attributes k name (column_of a) start h (ap (option_map column_of) e)
+    ] refl h
+
+-- ---- lines
+
+-- the parts of the line of an item
+pub line_parts : (start f row end : List ℕ) → ((start ++ f) ++ row) ++ end ≡ start ++ (f ++ row ++ end)
+line_parts start f row end = ap (λ (x : List ℕ). x ++ end) (append_assoc start f row) ∙ append_assoc start (f ++ row) end
+
+pub cell_parts : (start cell sign name end : List ℕ) → (((start ++ cell) ++ sign) ++ name) ++ end ≡ start ++ (cell ++ sign ++ name ++ end)
+cell_parts start cell sign name end = ap (λ (x : List ℕ). (x ++ name) ++ end) (append_assoc start cell sign) ∙ line_parts start (cell ++ sign) name end
+
+pub item_parts : (start f deed cell end : List ℕ) → (((start ++ f) ++ deed) ++ cell) ++ end ≡ start ++ (f ++ (deed ++ cell) ++ end)
+item_parts start f deed cell end =
+    ap (λ (x : List ℕ). x ++ end) (append_assoc (start ++ f) deed cell) ∙ line_parts start f (deed ++ cell) end
+
+-- what is written for one thing more
+pub one_more : {X : Type 0} (f : X → List ℕ) (xs : List X) (k : ℕ) (x d : X) (start old new : List ℕ) → k < length xs → x ≡ get_or xs k d
+    → old ≡ start ++ flat_map f (take k xs) → new ≡ old ++ f x → new ≡ start ++ flat_map f (take (k + 1) xs)
+one_more f xs k x d start old new within is before after =
+    after ∙ ap (λ (t : List ℕ). t ++ f x) before ∙ flat_map_more f start (take k xs) x
+    ∙ ap (λ ys. start ++ flat_map f ys) (sym (take_more xs k d within ∙ ap (λ y. take k xs ++ y ∷ []) (sym is)))
+
+no_texts : (site : Site) (command : Command) (tuples : List Tuple) → ((rel label : ℕ) (query : Query) (counts : Bool) → command ≡ commands.View rel label query counts → ⊥) → view_texts site command tuples ≡ []
+no_texts site (commands.Open name) tuples other = refl
+no_texts site commands.Close tuples other = refl
+no_texts site commands.Audit tuples other = refl
+no_texts site (commands.Dump rel) tuples other = refl
+no_texts site (commands.View rel label query counts) tuples other = absurd (other rel label query counts refl)
+no_texts site (commands.Insert rel key values) tuples other = refl
+no_texts site (commands.Update rel key key_class from sets) tuples other = refl
+no_texts site (commands.Delete rel key key_class) tuples other = refl
+no_texts site (commands.Call name args) tuples other = refl
+
+no_call_texts : (command : Command) → ((name : Name) (args : List (Option Value)) → command ≡ commands.Call name args → ⊥) → call_texts command ≡ []
+no_call_texts (commands.Open name) other = refl
+no_call_texts commands.Close other = refl
+no_call_texts commands.Audit other = refl
+no_call_texts (commands.View rel label query counts) other = refl
+no_call_texts (commands.Dump rel) other = refl
+no_call_texts (commands.Insert rel key values) other = refl
+no_call_texts (commands.Update rel key key_class from sets) other = refl
+no_call_texts (commands.Delete rel key key_class) other = refl
+no_call_texts (commands.Call name args) other = absurd (other name args refl)
+
+module _ (site : Site) (e : Event) where
+  abbrev start : List ℕ
+  start = front site.policy e e.level
+
+  abbrev on_line : List ℕ → List ℕ
+  on_line t = start ++ t ++ codes "\n"
+
+  pub other_texts : (tuples : List Tuple) → ((rel label : ℕ) (query : Query) (counts : Bool) → e.command ≡ commands.View rel label query counts → ⊥) → [] ≡ flat_map on_line (view_texts site e.command tuples)
+  other_texts tuples other = sym (ap (flat_map on_line) (no_texts site e.command tuples other))
+
+  rows_lines : (rel label : ℕ) (query : Query) (tuples : List Tuple)
+      → on_line (heading site.policy (site_scheme site rel) label query) ++ flat_map (λ t. on_line (row_text site.policy t)) tuples
+      ≡ flat_map on_line (view_texts site (commands.View rel label query false) tuples)
+  rows_lines rel label query tuples =
+      ap (λ l. on_line (heading site.policy (site_scheme site rel) label query) ++ l) (sym (flat_map-map on_line (row_text site.policy) tuples))
+
+  module _ (rel label : ℕ) (query : Query) (counts : Bool) (tuples : List Tuple) (is : e.command ≡ commands.View rel label query counts)
+      (scheme : Scheme) (same : scheme ≡ site_scheme site rel) (old new : List ℕ) where
+    answered : (b : Bool) → counts ≡ b → flat_map on_line (view_texts site (commands.View rel label query b) tuples) ≡ flat_map on_line (view_texts site e.command tuples)
+    answered b h = sym (ap (λ x. flat_map on_line (view_texts site x tuples)) (is ∙ ap (λ c. commands.View rel label query c) h))
+
+    -- after a heading of the scheme of the relation
+    pub rows_more : counts ≡ false → {A F : Type 0} (r : Result A F)
+        → OnOk r (new ≡ old ++ (on_line (heading site.policy scheme label query) ++ flat_map (λ t. on_line (row_text site.policy t)) tuples))
+        → OnOk r (new ≡ old ++ flat_map on_line (view_texts site e.command tuples))
+    rows_more not_counted (Ok x) h =
+        h ∙ ap (λ s. old ++ (on_line (heading site.policy s label query) ++ flat_map (λ t. on_line (row_text site.policy t)) tuples)) same
+        ∙ ap (λ l. old ++ l) (rows_lines rel label query tuples ∙ answered false not_counted)
+    rows_more not_counted (Err f) h = h
+
+    -- their number alone
+    pub count_more : counts ≡ true → (n : ℕ) → n ≡ length tuples → {A F : Type 0} (r : Result A F)
+        → OnOk r (new ≡ old ++ on_line (count_text site.policy scheme label query n)) → OnOk r (new ≡ old ++ flat_map on_line (view_texts site e.command tuples))
+    count_more counted n all (Ok x) h =
+        h ∙ (λ i. old ++ on_line (count_text site.policy (same i) label query (all i)))
+        ∙ ap (λ l. old ++ l) (sym (append-nil (on_line (count_text site.policy (site_scheme site rel) label query (length tuples)))) ∙ answered true counted)
+    count_more counted n all (Err f) h = h
+
+  printed_lines : (texts : List (List ℕ)) → printed (map (line site.policy e e.level) texts) ≡ flat_map on_line texts
+  printed_lines texts = flat_map-map (λ (l : Line). l.text ++ codes "\n") (line site.policy e e.level) texts
+
+  -- a reply without items
+  only_texts : (texts : List (List ℕ)) → printed (map (line site.policy e e.level) texts ++ []) ≡ flat_map on_line texts
+  only_texts texts = ap printed (append-nil (map (line site.policy e e.level) texts)) ∙ printed_lines texts
+
+  pub rows_printed : (r : Reply) (tuples : List Tuple) → r ≡ Rows tuples → flat_map on_line (view_texts site e.command tuples) ≡ printed (reply_lines site e r)
+  rows_printed r tuples is = sym (ap (λ x. printed (reply_lines site e x)) is ∙ only_texts (view_texts site e.command tuples))
+
+  -- ---- dumps
+
+  -- after a heading
+  dump_lines : (rel : ℕ) (tuples : List Tuple) → e.command ≡ commands.Dump rel
+      → on_line (dump_heading (site_scheme site rel)) ++ flat_map (λ t. on_line (script_text site (dump_event site e.session rel t))) tuples
+      ≡ flat_map on_line (dump_texts site e.session e.command tuples)
+  dump_lines rel tuples is =
+      ap (λ l. on_line (dump_heading (site_scheme site rel)) ++ l) (sym (flat_map-map on_line (λ t. script_text site (dump_event site e.session rel t)) tuples))
+      ∙ sym (ap (λ x. flat_map on_line (dump_texts site e.session x tuples)) is)
+
+  pub dump_more : (rel : ℕ) (tuples : List Tuple) → e.command ≡ commands.Dump rel → (old new : List ℕ) → {A F : Type 0} (r : Result A F)
+      → OnOk r (new ≡ old ++ (on_line (dump_heading (site_scheme site rel)) ++ flat_map (λ t. on_line (script_text site (dump_event site e.session rel t))) tuples))
+      → OnOk r (new ≡ old ++ flat_map on_line (dump_texts site e.session e.command tuples))
+  dump_more rel tuples is old new (Ok x) h = h ∙ ap (λ l. old ++ l) (dump_lines rel tuples is)
+  dump_more rel tuples is old new (Err f) h = h
+
+  pub dump_printed : is_name e.session ≡ true → (r : Reply) (tuples : List Tuple) → r ≡ Dumped tuples
+      → flat_map on_line (dump_texts site e.session e.command tuples) ≡ printed (reply_lines site e r)
+  dump_printed named r tuples is =
+      ap (λ session. flat_map on_line (dump_texts site session e.command tuples)) (sym (printable_name e.session named))
+      ∙ sym (ap (λ x. printed (reply_lines site e x)) is ∙ only_texts (dump_texts site (printable e.session) e.command tuples))
+
+  pub entries_printed : (r : Reply) (es : List Entry) → r ≡ Entries es
+      → on_line (codes "audit") ++ flat_map (λ x. on_line (entry_text site.policy x)) es ≡ printed (reply_lines site e r)
+  entries_printed r es is =
+      sym (ap (λ x. printed (reply_lines site e x)) is ∙ only_texts (codes "audit" ∷ map (entry_text site.policy) es)
+      ∙ ap (λ l. on_line (codes "audit") ++ l) (flat_map-map on_line (entry_text site.policy) es))
+
+  -- ---- the lines of a call and of items
+
+  pub other_calls : ((name : Name) (args : List (Option Value)) → e.command ≡ commands.Call name args → ⊥) → [] ≡ flat_map on_line (call_texts e.command)
+  other_calls other = sym (ap (flat_map on_line) (no_call_texts e.command other))
+
+  pub call_lines : (name : Name) (args : List (Option Value)) → e.command ≡ commands.Call name args → on_line (codes "called " ++ printable name) ≡ flat_map on_line (call_texts e.command)
+  call_lines name args is = sym (append-nil (on_line (codes "called " ++ printable name))) ∙ sym (ap (λ x. flat_map on_line (call_texts x)) is)
+
+  abbrev on_item_line : List ℕ → Item → List ℕ
+  on_item_line deed i = front site.policy e i.0 ++ (deed ++ cell_text i.1) ++ codes "\n"
+
+  printed_items : (deed : List ℕ) (items : List Item) → printed (map (item_line site.policy e deed) items) ≡ flat_map (on_item_line deed) items
+  printed_items deed items = flat_map-map (λ (l : Line). l.text ++ codes "\n") (item_line site.policy e deed) items
+
+  printed_more : (ls ms : List Line) → printed (ls ++ ms) ≡ printed ls ++ printed ms
+  printed_more ls ms = flat_map-append (λ (l : Line). l.text ++ codes "\n") ls ms
+
+  pub ran_printed : (r : Reply) (run : Run) → r ≡ Ran run
+      → flat_map on_line (call_texts e.command) ++ flat_map (on_item_line (codes "emit ")) run.emitted ++ flat_map (on_item_line (codes "release ")) run.released ≡ printed (reply_lines site e r)
+  ran_printed r run is =
+      let first = map (line site.policy e e.level) (call_texts e.command) in
+      let second = map (item_line site.policy e (codes "emit ")) run.emitted in
+      let third = map (item_line site.policy e (codes "release ")) run.released in
+      sym (ap (λ x. printed (reply_lines site e x)) is ∙ printed_more first (second ++ third) ∙ ap (λ l. printed first ++ l) (printed_more second third)
+      ∙ (λ i. printed_lines (call_texts e.command) i ++ (printed_items (codes "emit ") run.emitted i ++ printed_items (codes "release ") run.released i))
+      ∙ sym (append_assoc (flat_map on_line (call_texts e.command)) (flat_map (on_item_line (codes "emit ")) run.emitted) (flat_map (on_item_line (codes "release ")) run.released)))
+
+-- the stored transactions play no part in what is printed
+same_views : (p : Policy) (s : Schemes) (stored : List Stored) (command : Command) (tuples : List Tuple)
+    → view_texts (site_under p s) command tuples ≡ view_texts (record { policy = p; schemes = s; stored = stored }) command tuples
+same_views p s stored (commands.Open name) tuples = refl
+same_views p s stored commands.Close tuples = refl
+same_views p s stored commands.Audit tuples = refl
+same_views p s stored (commands.View rel label query counts) tuples = refl
+same_views p s stored (commands.Dump rel) tuples = refl
+same_views p s stored (commands.Insert rel key values) tuples = refl
+same_views p s stored (commands.Update rel key key_class from sets) tuples = refl
+same_views p s stored (commands.Delete rel key key_class) tuples = refl
+same_views p s stored (commands.Call name args) tuples = refl
+
+same_dumps : (p : Policy) (s : Schemes) (stored : List Stored) (session : Name) (command : Command) (tuples : List Tuple)
+    → dump_texts (site_under p s) session command tuples ≡ dump_texts (record { policy = p; schemes = s; stored = stored }) session command tuples
+same_dumps p s stored session (commands.Dump rel) tuples = refl
+same_dumps p s stored session command tuples = refl
+
+same_texts : (p : Policy) (s : Schemes) (stored : List Stored) (session : Name) (command : Command) (r : Reply)
+    → reply_texts (site_under p s) session command r ≡ reply_texts (record { policy = p; schemes = s; stored = stored }) session command r
+same_texts p s stored session command (Opened user) = refl
+same_texts p s stored session command Closed = refl
+same_texts p s stored session command (Rows tuples) = same_views p s stored command tuples
+same_texts p s stored session command (Dumped tuples) = same_dumps p s stored (printable session) command tuples
+same_texts p s stored session command (Wrote o) = refl
+same_texts p s stored session command (Ran run) = refl
+same_texts p s stored session command (Entries es) = refl
+same_texts p s stored session command (Denied d) = refl
+
+same_tables : (p : Policy) (s : Schemes) (stored : List Stored) (command : Command) (tuples : List Tuple)
+    → table_texts (site_under p s) command tuples ≡ table_texts (record { policy = p; schemes = s; stored = stored }) command tuples
+same_tables p s stored (commands.View rel label query counts) tuples = refl
+same_tables p s stored (commands.Dump rel) tuples = refl
+same_tables p s stored command tuples = refl
+
+same_in_table : (p : Policy) (s : Schemes) (stored : List Stored) (session : Name) (command : Command) (r : Reply)
+    → texts_in_table (site_under p s) session command r ≡ texts_in_table (record { policy = p; schemes = s; stored = stored }) session command r
+same_in_table p s stored session command (Rows tuples) = same_tables p s stored command tuples
+same_in_table p s stored session command r = same_texts p s stored session command r
+
+pub lines_under : (form : Form) (site : Site) (e : Event) (r : Reply) → reply_lines_in form (site_under site.policy site.schemes) e r ≡ reply_lines_in form site e r
+lines_under Lines site e r = ap (λ texts. lines_with site e texts r) (same_texts site.policy site.schemes site.stored e.session e.command r)
+lines_under Table site e r = ap (λ texts. map escaped_line (lines_with site e texts r)) (same_in_table site.policy site.schemes site.stored e.session e.command r)

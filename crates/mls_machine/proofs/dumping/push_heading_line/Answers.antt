@@ -1,0 +1,11 @@
+use Rattle.std.proofs.Common.{◌++◌, ℕ, List, ◌∙◌, ap, codes}
+use Rattle.mls_scheme.specs.Scheme.{scheme_of}
+use Rattle.mls_machine.specs.Output.{front, dump_heading}
+use Rattle.mls_machine.proofs.PrintingSteps.{line_parts}
+use Rattle.mls_machine.proofs.dumping.push_heading_line.Goals as goal
+
+pub returns : goal.returns
+returns c =
+    c.in_ok-push_str.ensures
+    ∙ ap (λ (x : List ℕ). x ++ codes "\n") (c.in_ok-push_heading.ensures ∙ (λ i. c.in_ok-push_front.ensures i ++ dump_heading (c.scheme.ensures.row i)))
+    ∙ line_parts c.args.text.now.items (front c.args.policy.now c.args.event.now c.args.event.now.level) (dump_heading (scheme_of c.args.schemes.now c.args.rel)) (codes "\n")

@@ -1,0 +1,10 @@
+use Rattle.std.proofs.Common.{sym, subst}
+use Rattle.mls_script.specs.Writing.{IsKnown}
+use Rattle.mls_machine.specs.Under.{site_under}
+use Rattle.mls_machine.proofs.DumpLemmas.{made_known}
+use Rattle.mls_machine.proofs.dumping.push_tuple.Goals as goal
+
+pub push_event_line-requires : goal.push_event_line-requires
+push_event_line-requires c =
+    subst (IsKnown c.args.policy.now c.args.schemes.now) (sym c.in_ok-made.ensures)
+    (made_known (site_under c.args.policy.now c.args.schemes.now) c.args.rel c.args.tuple.now c.requires.rel c.requires.classes c.args.session.now)

@@ -1,0 +1,17 @@
+use Rattle.std.proofs.Common.{◌∙◌, sym}
+use Rattle.std.proofs.lemmas.Result.{IfOk-weaker}
+use Rattle.mls_machine.specs.Output.{table_texts}
+use Rattle.mls_machine.specs.Under.{site_under}
+use Rattle.mls_machine.proofs.ShowingLemmas.{all_heard, none_heard}
+use Rattle.mls_machine.proofs.showing.heard_table.Goals as goal
+
+pub returns-then-is_shown : goal.returns-then-is_shown
+returns-then-is_shown c =
+    let site = site_under c.args.policy.now c.args.schemes.now in
+    IfOk-weaker c.table_bytes.result _ _
+    (λ v h. h ∙ all_heard site c.args.event.now c.args.reader (sym c.is_shown.ensures ∙ c.if-is_shown.true) (table_texts site c.args.event.now.command c.args.rows.now)) c.table_bytes.ensures
+
+pub returns-else-is_shown : goal.returns-else-is_shown
+returns-else-is_shown c =
+    let site = site_under c.args.policy.now c.args.schemes.now in
+    c.new.ensures.items ∙ none_heard site c.args.event.now c.args.reader (sym c.is_shown.ensures ∙ c.if-is_shown.false) (table_texts site c.args.event.now.command c.args.rows.now)

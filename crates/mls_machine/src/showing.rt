@@ -1,0 +1,126 @@
+//! What an audience is shown of a reply.
+ghost use Rattle.std.specs.Prelude.{◌≡◌, ◌<◌, map, length, IfOk};
+ghost use Rattle.std.specs.List.{AllByRecursion};
+ghost use Rattle.std.specs.Option.{IfSome};
+ghost use Rattle.mls_lattice.specs.Policy.{labels_of};
+ghost use Rattle.mls_scheme.specs.Tuple.{HasClassesBelow};
+ghost use Rattle.mls_machine.specs.Under.{site_under};
+ghost use Rattle.mls_machine.specs.Seen.{hears};
+ghost use Rattle.mls_machine.specs.Output.{line, lines_with, table_texts, texts_in_table, reply_lines, printed, CommandIsKnown, CanBePrinted};
+ghost use Rattle.mls_machine.specs.Observation.{heard, reply_shows};
+
+use crate::replies::reply_bytes;
+use crate::shown::shown_bytes;
+use crate::table::table_bytes;
+use crate::{Audience, Form, Reply};
+use mls_lattice::{LabelNo, Policy};
+use mls_queries::Selection;
+use mls_scheme::Schemes;
+use mls_script::Event;
+use mls_tokens::escape;
+use std::alloc::{AllocError, Global};
+
+/// The lines of a reply whose labels the reader dominates, or all where there is no reader.
+fn heard_bytes(
+    alloc: Global,
+    policy: &Policy,
+    schemes: &Schemes,
+    event: &Event,
+    reply: &Reply,
+    reader: Option<LabelNo>,
+) -> Result<Vec<u8>, AllocError>
+    requires printable { CanBePrinted (site_under policy.now schemes.now) event.now reply.now }
+    requires reader { IfSome reader (λ c. c < length policy.now.labels) }
+    ensures { IfOk result (λ text. text.items
+        ≡ printed (heard (labels_of policy.now) reader
+        (reply_lines (site_under policy.now schemes.now) event.now reply.now))) }
+{
+    match reader {
+        None => reply_bytes(alloc, policy, schemes, event, reply),
+        Some(label) => shown_bytes(alloc, policy, schemes, event, reply, label),
+    }
+}
+
+/// Whether a reader is shown the lines of a level.
+fn is_shown(policy: &Policy, level: LabelNo, reader: Option<LabelNo>) -> bool
+    requires level { level < length policy.now.labels }
+    requires reader { IfSome reader (λ c. c < length policy.now.labels) }
+    ensures { result ≡ hears (labels_of policy.now) reader level }
+{
+    match reader {
+        None => true,
+        Some(label) => policy.dominates(label, level),
+    }
+}
+
+/// The lines of a view as a table, if the reader dominates the level of its session.
+fn heard_table(
+    alloc: Global,
+    policy: &Policy,
+    schemes: &Schemes,
+    event: &Event,
+    rows: &Selection,
+    reader: Option<LabelNo>,
+) -> Result<Vec<u8>, AllocError>
+    requires level { event.now.level < length policy.now.labels }
+    requires command { CommandIsKnown (site_under policy.now schemes.now) event.now.command }
+    requires classes { AllByRecursion (HasClassesBelow (length policy.now.labels)) rows.now }
+    requires reader { IfSome reader (λ c. c < length policy.now.labels) }
+    ensures { IfOk result (λ text. text.items
+        ≡ printed (heard (labels_of policy.now) reader
+        (map (line policy.now event.now event.now.level)
+        (table_texts (site_under policy.now schemes.now) event.now.command rows.now)))) }
+{
+    if is_shown(policy, event.level, reader) {
+        table_bytes(alloc, policy, schemes, event, rows)
+    } else {
+        Ok(Vec::new(alloc))
+    }
+}
+
+/// What a screen is shown, before it is escaped.
+fn bare_bytes(
+    alloc: Global,
+    policy: &Policy,
+    schemes: &Schemes,
+    event: &Event,
+    reply: &Reply,
+    reader: Option<LabelNo>,
+) -> Result<Vec<u8>, AllocError>
+    requires printable { CanBePrinted (site_under policy.now schemes.now) event.now reply.now }
+    requires reader { IfSome reader (λ c. c < length policy.now.labels) }
+    ensures { IfOk result (λ text. text.items
+        ≡ printed (heard (labels_of policy.now) reader
+        (lines_with (site_under policy.now schemes.now) event.now
+        (texts_in_table (site_under policy.now schemes.now) event.now.session event.now.command reply.now)
+        reply.now))) }
+{
+    match reply {
+        Reply::Rows(rows) => heard_table(alloc, policy, schemes, event, rows, reader),
+        _ => heard_bytes(alloc, policy, schemes, event, reply, reader),
+    }
+}
+
+/// The lines of a reply that an audience is shown, each with its line feed.
+#[tactic(auto, using(crate::proofs::ShowingLemmas::screen_steps))]
+pub fn shown_to(
+    alloc: Global,
+    policy: &Policy,
+    schemes: &Schemes,
+    event: &Event,
+    reply: &Reply,
+    audience: Audience,
+) -> Result<Vec<u8>, AllocError>
+    requires printable { CanBePrinted (site_under policy.now schemes.now) event.now reply.now }
+    requires reader { IfSome audience.reader (λ c. c < length policy.now.labels) }
+    ensures { IfOk result (λ text. text.items
+        ≡ reply_shows (site_under policy.now schemes.now) audience event.now reply.now) }
+{
+    match audience.form {
+        Form::Lines => heard_bytes(alloc, policy, schemes, event, reply, audience.reader),
+        Form::Table => {
+            let bare = bare_bytes(alloc, policy, schemes, event, reply, audience.reader)?;
+            escape(alloc, &bare)
+        }
+    }
+}

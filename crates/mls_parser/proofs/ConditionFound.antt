@@ -1,0 +1,458 @@
+-- What is read is what stands there: conditions.
+use Rattle.std.proofs.Common.{◌≡◌, ℕ, zero, suc, ◌+◌, ◌<◌, ◌≤◌, Bool, true, false, ◌==◌, List, [], ◌∷◌, ◌++◌, Option, Some, None, option_map, Result, Ok, Err, inl, inr, refl, sym, ap, ◌∙◌, subst, arith}
+use Rattle.std.specs.Prelude.{codes, ◌⊎◌, if◌then◌else◌, IfOk}
+use Rattle.std.specs.Str.{bytes_eq}
+use Rattle.std.proofs.lemmas.Option.{same_Some}
+use Rattle.mls_lattice.specs.Policy.{Policy}
+use Rattle.mls_lattice.specs.Reading.{◌>>=◌}
+use Rattle.mls_lattice.proofs.ReadingLemmas.{ok_is, bind_ok}
+use Rattle.mls_scheme.specs.Scheme.{Schemes}
+use Rattle.mls_tokens.specs.declared.fault.TokenFault.{TokenFault}
+use Rattle.mls_tokens.specs.declared.token.Token.{Token}
+use Rattle.mls_tokens.specs.declared.token.Token.TheVariants.{Word, Int, Text, Sign as Sign_token}
+use Rattle.mls_tokens.specs.declared.token.Placed.{Placed}
+use Rattle.mls_tokens.specs.declared.sign.Sign.{Sign}
+use Rattle.mls_tokens.specs.declared.sign.Sign.TheVariants as signs
+use Rattle.mls_tokens.specs.Scanning.{Left, without_places}
+use Rattle.mls_tokens.specs.Passing.{left}
+use Rattle.mls_tokens.proofs.TokenLemmas.{chosen}
+use Rattle.mls_tokens.proofs.PassedLemmas.{Passed, passed_more}
+use Rattle.mls_translang.specs.declared.operator.Operator.{Operator}
+use Rattle.mls_translang.specs.declared.operator.Operator.TheVariants.{Plus, Minus, Times, Equal, Unequal, Less, AtMost, Greater, AtLeast, And, Or}
+use Rattle.mls_translang.specs.Tokens.{Place, operator_token}
+use Rattle.mls_translang.specs.Tree.{Expr}
+use Rattle.mls_parser.specs.declared.fault.PlacedFault.{PlacedFault}
+use Rattle.mls_parser.specs.declared.fault.TextCause.TheVariants as cause
+use Rattle.mls_parser.specs.declared.given.Given.{Given}
+use Rattle.mls_parser.specs.Condition.{is_comparison, SpellsBetween, SpellsSide, SpellsTest, SpellsTests, SpellsCondition, TellsCondition, IsCondition, IsConditionOf, IsJudged}
+use Rattle.mls_parser.specs.Fault.{fault, least, IsLeast}
+use Rattle.mls_parser.specs.Infer.{may_be_truth, operands_fit}
+use Rattle.mls_parser.specs.Noted.{State, Read, note, Gives}
+use Rattle.mls_parser.specs.Parsing.{answer}
+use Rattle.mls_parser.specs.ReadCondition.{comparison_of_sign, comparison_of, joiner_of, take_known, taken_as, behind_known, takes_known, between, between_faults, are_mixed, past_most, with_next, compared, test_at, joined, next_test_at, tests_from, tests_at, written_place, as_fields, judged, noted_at, condition_at}
+use Rattle.mls_parser.specs.ReadExpr.{whole_at}
+use Rattle.mls_parser.specs.ReadList.{tested}
+use Rattle.mls_parser.specs.Words.{operator_of_word, pass_head}
+use Rattle.mls_parser.proofs.ConditionLemmas.{told_of_row}
+use Rattle.mls_parser.proofs.FaultLemmas.{neither, holds}
+use Rattle.mls_parser.proofs.FoundSteps.{Found}
+use Rattle.mls_parser.proofs.LeastLemmas.{none_at_all, least_is}
+use Rattle.mls_parser.proofs.ListFound.{right_read}
+use Rattle.mls_parser.proofs.PassedLemmas.{Quiet, AreSpelled, split}
+use Rattle.mls_parser.proofs.SortLemmas.{IsSound, as_truth, operator_gives}
+use Rattle.mls_parser.proofs.WordLemmas.{operator_is}
+
+-- ---- operators
+
+abbrev IsComparison : Token → Operator → Type 0
+IsComparison t op = (t ≡ operator_token op) × (is_comparison op ≡ true)
+
+-- the operator is this one
+this : (own op : Operator) → is_comparison own ≡ true → Some own ≡ Some op → IsComparison (operator_token own) op
+this own op is e = (ap operator_token (same_Some own op e), sym (ap is_comparison (same_Some own op e)) ∙ is)
+
+comparison_sign : (s : Sign) (op : Operator) → comparison_of_sign s ≡ Some op → IsComparison (Sign_token s) op
+comparison_sign signs.Equals op e = this Equal op refl e
+comparison_sign signs.Differs op e = this Unequal op refl e
+comparison_sign signs.Less op e = this Less op refl e
+comparison_sign signs.AtMost op e = this AtMost op refl e
+comparison_sign signs.Greater op e = this Greater op refl e
+comparison_sign signs.AtLeast op e = this AtLeast op refl e
+comparison_sign signs.Becomes op e = absurd cc
+comparison_sign signs.LeftParen op e = absurd cc
+comparison_sign signs.RightParen op e = absurd cc
+comparison_sign signs.LeftBrace op e = absurd cc
+comparison_sign signs.RightBrace op e = absurd cc
+comparison_sign signs.Comma op e = absurd cc
+comparison_sign signs.Semicolon op e = absurd cc
+comparison_sign signs.Colon op e = absurd cc
+comparison_sign signs.Dot op e = absurd cc
+comparison_sign signs.Plus op e = absurd cc
+comparison_sign signs.Minus op e = absurd cc
+comparison_sign signs.Times op e = absurd cc
+
+comparison_is : (t : Token) (op : Operator) → comparison_of t ≡ Some op → IsComparison t op
+comparison_is (Word s) op e = absurd cc
+comparison_is (Int n) op e = absurd cc
+comparison_is (Text s) op e = absurd cc
+comparison_is (Sign_token s) op e = comparison_sign s op e
+
+abbrev pub is_joiner : Operator → Bool
+is_joiner And = true
+is_joiner Or = true
+is_joiner _ = false
+
+abbrev IsJoiner : Token → Operator → Type 0
+IsJoiner t op = (t ≡ operator_token op) × (is_joiner op ≡ true)
+
+word_joins : (b c : Bool) (op : Operator) → (if b then Some And else (if c then Some Or else None)) ≡ Some op → is_joiner op ≡ true
+word_joins true c op e = sym (ap is_joiner (same_Some And op e))
+word_joins false true op e = sym (ap is_joiner (same_Some Or op e))
+word_joins false false op e = absurd cc
+
+joiner_is : (t : Token) (op : Operator) → joiner_of t ≡ Some op → IsJoiner t op
+joiner_is (Word s) op e = (operator_is (Word s) op e, word_joins (bytes_eq s (codes "and")) (bytes_eq s (codes "or")) op e)
+joiner_is (Int n) op e = absurd cc
+joiner_is (Text s) op e = absurd cc
+joiner_is (Sign_token s) op e = absurd cc
+
+module _ (what : Token → Option Operator) (Is : Operator → Type 0) (is : (t : Token) (op : Operator) → what t ≡ Some op → (t ≡ operator_token op) × Is op) where
+  -- such an operator was passed
+  abbrev KnownFound : Left → (Operator × ℕ) × Left → Type 0
+  KnownFound l x = Is x.0.0 × Passed (operator_token x.0.0 ∷ []) l x.1
+
+  known_first : (p : Placed) (ps : List Placed) (stop : TokenFault) (o : Option Operator) (x : (Operator × ℕ) × Left) → what p.token ≡ o
+      → option_map (λ (op : Operator). ((op, p.at), left ps stop)) o ≡ Some x → KnownFound (left (p ∷ ps) stop) x
+  known_first p ps stop None x e h = absurd cc
+  known_first p ps stop (Some op) x e h =
+      subst (KnownFound (left (p ∷ ps) stop)) (same_Some ((op, p.at), left ps stop) x h)
+      ((is p.token op e).1, record { tokens = ap (λ t. t ∷ without_places ps) (is p.token op e).0; stop = refl })
+
+  known_of : (ps : List Placed) (stop : TokenFault) (x : (Operator × ℕ) × Left) → take_known what ps stop ≡ Some x → KnownFound (left ps stop) x
+  known_of [] stop x e = absurd cc
+  known_of (p ∷ ps) stop x e = known_first p ps stop (what p.token) x refl e
+
+  known_behind : (fs : List PlacedFault) (l : Left) (o : Option ((Operator × ℕ) × Left)) (x : (Operator × ℕ) × State) → taken_as what l ≡ o → option_map (behind_known fs) o ≡ Some x
+      → Is x.0.0 × Quiet (operator_token x.0.0 ∷ []) (fs, l) x.1
+  known_behind fs l None x is e = absurd cc
+  known_behind fs l (Some y) x is e =
+      let h = known_of l.placed l.stop y is in
+      subst (λ (z : (Operator × ℕ) × State). Is z.0.0 × Quiet (operator_token z.0.0 ∷ []) (fs, l) z.1) (same_Some (behind_known fs y) x e)
+      (h.0, record { passed = h.1; faults = refl })
+
+  known_found : (s : State) (x : (Operator × ℕ) × State) → takes_known what s ≡ Some x → Is x.0.0 × Quiet (operator_token x.0.0 ∷ []) s x.1
+  known_found s x e = known_behind s.0 s.1 (taken_as what s.1) x refl e
+
+-- ---- tests
+
+module _ (p : Place) where
+  -- a part of a condition, in which no fault was noted
+  record IsPart (Spelling : Expr → List Token → Type 0) (ts : List Token) (g : Given) : Type 0 where
+    spells : Spelling g.expr ts
+    sound : IsSound p g.gives g.expr
+
+  part_made : (A B : Expr → List Token → Type 0) → ((e : Expr) (ts : List Token) → A e ts → B e ts) → (s : State) (x : Given × State) → Found (IsPart A) s x → Found (IsPart B) s x
+  part_made A B made s x f = record {
+    tokens = f.tokens;
+    passed = f.passed;
+    right = λ none a.
+        let r = f.right none a in
+        (r.0, record { spells = made x.0.expr f.tokens r.1.spells; sound = r.1.sound });
+  }
+
+  side_found : (s : State) (x : Given × State) → whole_at p s ≡ Ok x → Found (IsPart (SpellsSide p)) s x
+  side_found s x e =
+      let h = right_read p s x e in
+      record {
+        tokens = h.tokens;
+        passed = h.passed;
+        right = λ none a.
+            let r = h.right none a in
+            (r.0, record { spells = record { tokens = r.1.tokens; nesting = r.1.nesting }; sound = r.1.sound });
+      }
+
+  -- two parts, and an operator between them
+  between_found : (A B : Expr → List Token → Type 0) (op : Operator × ℕ) (s m : State) (a b : Given × State) → Found (IsPart A) s a → Quiet (operator_token op.0 ∷ []) a.1 m → Found (IsPart B) m b
+      → Found (IsPart (SpellsBetween A op.0 B)) s (between a.0 op b.0, note (between_faults a.0 op b.0) b.1)
+  between_found A B op s m a b l q r = record {
+    tokens = l.tokens ++ operator_token op.0 ∷ r.tokens;
+    passed = passed_more l.tokens (operator_token op.0 ∷ r.tokens) s.1 a.1.1 b.1.1 l.passed (passed_more (operator_token op.0 ∷ []) r.tokens a.1.1 m.1 b.1.1 q.passed r.passed);
+    right = λ none t.
+        let n = neither b.1.0 (between_faults a.0 op b.0) none in
+        let parts = split l.tokens (operator_token op.0 ∷ r.tokens) t in
+        let second = r.right n.0 parts.1.1 in
+        let first = l.right (sym q.faults ∙ second.0) parts.0 in
+        let fit = holds (operands_fit op.0 a.0.gives b.0.gives) op.1 _ n.1 in (
+          first.0,
+          record {
+            spells = record {
+              left = a.0.expr;
+              right = b.0.expr;
+              is = refl;
+              before = l.tokens;
+              behind = r.tokens;
+              tokens = refl;
+              spells_left = first.1.spells;
+              spells_right = second.1.spells;
+            };
+            sound = record {
+              own = (first.1.sound.own, second.1.sound.own);
+              fits = (first.1.sound.fits, second.1.sound.fits);
+              gives = operator_gives p op.0 a.0.gives b.0.gives a.0.expr b.0.expr fit first.1.sound.gives second.1.sound.gives;
+            };
+          },
+        );
+  }
+
+  test_found : (s : State) (x : Given × State) → test_at p s ≡ Ok x → Found (IsPart (SpellsTest p)) s x
+  unfolding test_at
+  test_found s x e =
+      let a = bind_ok (whole_at p s) (λ a. compared p a.0 a.1 (takes_known comparison_of a.1)) x e in
+      behind a.0 (side_found s a.0 a.1) (takes_known comparison_of a.0.1) refl a.2
+    where
+      behind : (a : Given × State) → Found (IsPart (SpellsSide p)) s a → (o : Option ((Operator × ℕ) × State)) → takes_known comparison_of a.1 ≡ o → compared p a.0 a.1 o ≡ Ok x
+          → Found (IsPart (SpellsTest p)) s x
+      behind a side None is h =
+          subst (Found (IsPart (SpellsTest p)) s) (ok_is {E = PlacedFault} (a.0, a.1) x h) (part_made (SpellsSide p) (SpellsTest p) (λ e ts y. inl y) s a side)
+      behind a side (Some op) is h =
+          let next : Given × State → Given × State = λ b. (between a.0 op.0 b.0, note (between_faults a.0 op.0 b.0) b.1) in
+          let b = bind_ok (whole_at p op.1) (λ b. Ok (next b)) x h in
+          let mark = known_found comparison_of (λ op. is_comparison op ≡ true) comparison_is a.1 op is in
+          let both = between_found (SpellsSide p) (SpellsSide p) op.0 s op.1 a b.0 side mark.1 (side_found op.1 b.0 b.1) in
+          subst (Found (IsPart (SpellsTest p)) s) (ok_is {E = PlacedFault} (next b.0) x b.2)
+          (part_made (SpellsBetween (SpellsSide p) op.0.0 (SpellsSide p)) (SpellsTest p) (λ e ts y. inr (op.0.0, mark.0, y)) s (next b.0) both)
+
+  -- ---- one test more
+
+  record MoreFound (room : ℕ) (before : Option Operator) (s : State) (op : Operator × ℕ) (test : Given) (r : State) : Type 0 where
+    some : 0 < room
+    unmixed : are_mixed before op.0 ≡ false
+    joins : is_joiner op.0 ≡ true
+    behind : State
+    word : Quiet (operator_token op.0 ∷ []) s behind
+    found : Found (IsPart (SpellsTest p)) behind (test, r)
+
+  abbrev NextFound : ℕ → Option Operator → State → Option ((Operator × ℕ) × Given) × State → Type 0
+  NextFound room before s (None, r) = r ≡ s
+  NextFound room before s (Some (op, test), r) = MoreFound room before s op test r
+
+  abbrev refused_next : PlacedFault → Read (Option ((Operator × ℕ) × Given))
+  refused_next f = Err f
+
+  abbrev one_more : (Operator × ℕ) × State → Read (Option ((Operator × ℕ) × Given))
+  one_more op = test_at p op.1 >>= λ t. Ok (Some (op.0, t.0), t.1)
+
+  some_room : (room : ℕ) → (room == 0) ≡ false → 0 < room
+  some_room zero e = absurd cc
+  some_room (suc room) e = omega arith
+
+  next_found : (room : ℕ) (before : Option Operator) (s : State) (x : Option ((Operator × ℕ) × Given) × State) → next_test_at p room before s ≡ Ok x → NextFound room before s x
+  unfolding next_test_at
+  next_found room before s x e = go (takes_known joiner_of s) refl e
+    where
+      go : (o : Option ((Operator × ℕ) × State)) → takes_known joiner_of s ≡ o → joined p room before s o ≡ Ok x → NextFound room before s x
+      go None is h = subst (NextFound room before s) (ok_is {E = PlacedFault} (None, s) x h) refl
+      go (Some op) is h = mixed (chosen (are_mixed before op.0.0) (refused_next (fault op.0.1 cause.Expected)) (if room == 0 then refused_next (past_most (pass_head op.1.1)) else one_more op) (Ok x) h)
+        where
+          last : are_mixed before op.0.0 ≡ false
+              → (((room == 0) ≡ true) × (refused_next (past_most (pass_head op.1.1)) ≡ Ok x)) ⊎ (((room == 0) ≡ false) × (one_more op ≡ Ok x)) → NextFound room before s x
+          last plain (inl y) = absurd (let bad = y.1 in cc)
+          last plain (inr n) =
+              let t = bind_ok (test_at p op.1) (λ t. Ok (Some (op.0, t.0), t.1)) x n.1 in
+              let word = known_found joiner_of (λ op. is_joiner op ≡ true) joiner_is s op is in
+              subst (NextFound room before s) (ok_is {E = PlacedFault} (Some (op.0, t.0.0), t.0.1) x t.2)
+              (record {
+                some = some_room room n.0;
+                unmixed = plain;
+                joins = word.0;
+                behind = op.1;
+                word = word.1;
+                found = test_found op.1 t.0 t.1;
+              })
+
+          mixed : ((are_mixed before op.0.0 ≡ true) × (refused_next (fault op.0.1 cause.Expected) ≡ Ok x))
+              ⊎ ((are_mixed before op.0.0 ≡ false) × ((if room == 0 then refused_next (past_most (pass_head op.1.1)) else one_more op) ≡ Ok x)) → NextFound room before s x
+          mixed (inl y) = absurd (let bad = y.1 in cc)
+          mixed (inr n) = last n.0 (chosen (room == 0) (refused_next (past_most (pass_head op.1.1))) (one_more op) (Ok x) n.1)
+
+  -- ---- all tests
+
+  between_made : (A B C : Expr → List Token → Type 0) (op : Operator) (e : Expr) (ts : List Token) → ((l : Expr) (us : List Token) → A l us → B l us) → SpellsBetween A op C e ts → SpellsBetween B op C e ts
+  between_made A B C op e ts made b = record {
+    left = b.left;
+    right = b.right;
+    is = b.is;
+    before = b.before;
+    behind = b.behind;
+    tokens = b.tokens;
+    spells_left = made b.left b.before b.spells_left;
+    spells_right = b.spells_right;
+  }
+
+  -- of so many tests at most
+  spells_more : (op : Operator) (n m : ℕ) (e : Expr) (ts : List Token) → n ≤ m → SpellsTests p op n e ts → SpellsTests p op m e ts
+  spells_more op zero m e ts le h = absurd h
+  spells_more op (suc n) zero e ts le h = absurd (omega (arith, le))
+  spells_more op (suc n) (suc m) e ts le (inl test) = inl test
+  spells_more op (suc n) (suc m) e ts le (inr b) =
+      inr (between_made (λ l us. SpellsTests p op n l us) (λ l us. SpellsTests p op m l us) (SpellsTest p) op e ts (λ l us h. spells_more op n m l us (omega (arith, le)) h) b)
+
+  -- one test, or some with one word between each two
+  abbrev SpellsSoFar : Option Operator → ℕ → Expr → List Token → Type 0
+  SpellsSoFar None n e ts = SpellsTest p e ts
+  SpellsSoFar (Some op) n e ts = (is_joiner op ≡ true) × SpellsTests p op n e ts
+
+  spells_whole : (before : Option Operator) (n : ℕ) → n ≤ 16 → (e : Expr) (ts : List Token) → SpellsSoFar before n e ts → SpellsCondition p e ts
+  spells_whole None n le e ts h = inl (inl h)
+  spells_whole (Some And) n le e ts h = inl (spells_more And n 16 e ts le h.1)
+  spells_whole (Some Or) n le e ts h = inr (spells_more Or n 16 e ts le h.1)
+  spells_whole (Some Plus) n le e ts h = absurd (let j = h.0 in cc)
+  spells_whole (Some Minus) n le e ts h = absurd (let j = h.0 in cc)
+  spells_whole (Some Times) n le e ts h = absurd (let j = h.0 in cc)
+  spells_whole (Some Equal) n le e ts h = absurd (let j = h.0 in cc)
+  spells_whole (Some Unequal) n le e ts h = absurd (let j = h.0 in cc)
+  spells_whole (Some Less) n le e ts h = absurd (let j = h.0 in cc)
+  spells_whole (Some AtMost) n le e ts h = absurd (let j = h.0 in cc)
+  spells_whole (Some Greater) n le e ts h = absurd (let j = h.0 in cc)
+  spells_whole (Some AtLeast) n le e ts h = absurd (let j = h.0 in cc)
+
+  -- the word is the one before
+  mixed_or_same : (b op : Operator) → is_joiner b ≡ true → is_joiner op ≡ true → are_mixed (Some b) op ≡ false → b ≡ op
+  mixed_or_same And And j k m = refl
+  mixed_or_same Or Or j k m = refl
+  mixed_or_same And Or j k m = absurd cc
+  mixed_or_same Or And j k m = absurd cc
+  mixed_or_same Plus op j k m = absurd cc
+  mixed_or_same Minus op j k m = absurd cc
+  mixed_or_same Times op j k m = absurd cc
+  mixed_or_same Equal op j k m = absurd cc
+  mixed_or_same Unequal op j k m = absurd cc
+  mixed_or_same Less op j k m = absurd cc
+  mixed_or_same AtMost op j k m = absurd cc
+  mixed_or_same Greater op j k m = absurd cc
+  mixed_or_same AtLeast op j k m = absurd cc
+  mixed_or_same b Plus j k m = absurd cc
+  mixed_or_same b Minus j k m = absurd cc
+  mixed_or_same b Times j k m = absurd cc
+  mixed_or_same b Equal j k m = absurd cc
+  mixed_or_same b Unequal j k m = absurd cc
+  mixed_or_same b Less j k m = absurd cc
+  mixed_or_same b AtMost j k m = absurd cc
+  mixed_or_same b Greater j k m = absurd cc
+  mixed_or_same b AtLeast j k m = absurd cc
+
+  joined_so_far : (before : Option Operator) (op : Operator) (n : ℕ) → are_mixed before op ≡ false → is_joiner op ≡ true → (e : Expr) (ts : List Token) → SpellsSoFar before (suc n) e ts
+      → SpellsTests p op (suc n) e ts
+  joined_so_far None op n m j e ts h = inl h
+  joined_so_far (Some b) op n m j e ts h = subst (λ o. SpellsTests p o (suc n) e ts) (mixed_or_same b op h.0 j m) h.1
+
+  module _ (start : State) (x : Given × State) where
+    ended : (before : Option Operator) (n : ℕ) (g : Given) (s r : State) → n ≤ 16 → Found (IsPart (SpellsSoFar before n)) start (g, s) → r ≡ s → Path (Read Given) (Ok (g, r)) (Ok x) → Found (IsPart (SpellsCondition p)) start x
+    ended before n g s r le f same h =
+        subst (Found (IsPart (SpellsCondition p)) start) (ok_is {E = PlacedFault} (g, r) x h)
+        (subst (λ (m : State). Found (IsPart (SpellsCondition p)) start (g, m)) (sym same) (part_made (SpellsSoFar before n) (SpellsCondition p) (spells_whole before n le) start (g, s) f))
+
+    -- one test more, behind those before
+    more_found : (before : Option Operator) (n room : ℕ) (g : Given) (s : State) (op : Operator × ℕ) (test : Given) (r : State) → Found (IsPart (SpellsSoFar before (suc n))) start (g, s) → MoreFound room before s op test r
+        → Found (IsPart (SpellsSoFar (Some op.0) (suc (suc n)))) start (between g op test, note (between_faults g op test) r)
+    more_found before n room g s op test r f m =
+        part_made (SpellsBetween (SpellsSoFar before (suc n)) op.0 (SpellsTest p)) (SpellsSoFar (Some op.0) (suc (suc n)))
+        (λ e ts b. (m.joins, inr (between_made (SpellsSoFar before (suc n)) (λ l us. SpellsTests p op.0 (suc n) l us) (SpellsTest p) op.0 e ts (joined_so_far before op.0 n m.unmixed m.joins) b)))
+        start (between g op test, note (between_faults g op test) r)
+        (between_found (SpellsSoFar before (suc n)) (SpellsTest p) op start m.behind (g, s) (test, r) f m.word m.found)
+
+    tests_found : (room n : ℕ) (before : Option Operator) (g : Given) (s : State) → suc n + room ≡ 16 → Found (IsPart (SpellsSoFar before (suc n))) start (g, s) → tests_from p room before g s ≡ Ok x
+        → Found (IsPart (SpellsCondition p)) start x
+    unfolding tests_from
+    tests_found zero n before g s full f h =
+        let y = bind_ok (next_test_at p zero before s) (λ y. Ok (g, y.1)) x h in
+        go y.0 (next_found zero before s y.0 y.1) y.2
+      where
+        go : (y : Option ((Operator × ℕ) × Given) × State) → NextFound zero before s y → Path (Read Given) (Ok (g, y.1)) (Ok x) → Found (IsPart (SpellsCondition p)) start x
+        go (None, r) found k = ended before (suc n) g s r (omega (arith, full)) f found k
+        go (Some (op, test), r) found k = absurd (let some = found.some in omega (arith, some))
+    tests_found (suc room) n before g s full f h =
+        let y = bind_ok (next_test_at p (suc room) before s) (with_next (λ op whole r. tests_from p room (Some op) whole r) g) x h in
+        go (λ op whole r found k. tests_found room (suc n) (Some op) whole r (omega (arith, full)) found k) y.0 (next_found (suc room) before s y.0 y.1) y.2
+      where
+        go : ((op : Operator) (whole : Given) (r : State) → Found (IsPart (SpellsSoFar (Some op) (suc (suc n)))) start (whole, r) → tests_from p room (Some op) whole r ≡ Ok x → Found (IsPart (SpellsCondition p)) start x)
+            → (y : Option ((Operator × ℕ) × Given) × State) → NextFound (suc room) before s y → with_next (λ op whole r. tests_from p room (Some op) whole r) g y ≡ Ok x → Found (IsPart (SpellsCondition p)) start x
+        go more (None, r) found k = ended before (suc n) g s r (omega (arith, full)) f found k
+        go more (Some (op, test), r) found k = more op.0 (between g op test) (note (between_faults g op test) r) (more_found before n (suc room) g s op test r f found) k
+
+  tests_at_found : (s : State) (x : Given × State) → tests_at p s ≡ Ok x → Found (IsPart (SpellsCondition p)) s x
+  unfolding tests_at
+  tests_at_found s x e =
+      let t = bind_ok (test_at p s) (λ t. tests_from p 15 None t.0 t.1) x e in
+      tests_found s x 15 0 None t.0.0 t.0.1 refl (test_found s t.0 t.1) t.2
+
+-- ---- conditions
+
+module _ (policy : Policy) (schemes : Schemes) (rel : ℕ) where
+  abbrev place : Place
+  place = written_place policy schemes rel
+
+  -- tokens were passed, and they tell what is read without a fault
+  pub record ConditionFound (l : Left) (read : Result Expr PlacedFault) (r : Left) : Type 0 where
+    pub tokens : List Token
+    pub passed : Passed tokens l r
+    pub told : (test : Expr) → read ≡ Ok test → AreSpelled tokens → TellsCondition policy schemes rel test tokens
+
+  judged_told : (g : Given) (fs : List PlacedFault) (ts : List Token) → (fs ≡ [] → AreSpelled ts → Path (List PlacedFault) [] [] × IsPart place (SpellsCondition place) ts g) → (test : Expr)
+      → answer (least (fs ++ tested (may_be_truth g.gives) g)) (as_fields g.expr) ≡ Ok test → AreSpelled ts → TellsCondition policy schemes rel test ts
+  judged_told g fs ts right test e all = go (least (fs ++ tested (may_be_truth g.gives) g)) refl e
+    where
+      go : (o : Option PlacedFault) → least (fs ++ tested (may_be_truth g.gives) g) ≡ o → answer o (as_fields g.expr) ≡ Ok test → TellsCondition policy schemes rel test ts
+      go None is h =
+          let n = neither fs (tested (may_be_truth g.gives) g) (none_at_all (fs ++ tested (may_be_truth g.gives) g) is) in
+          let r = (right n.0 all).1 in
+          record {
+            written = g.expr;
+            is = sym (ok_is {E = PlacedFault} (as_fields g.expr) test h);
+            spells = r.spells;
+            own = r.sound.own;
+            fits = r.sound.fits;
+            truth = as_truth place g.gives g.expr (holds (may_be_truth g.gives) g.at _ n.1) r.sound.gives;
+          }
+      go (Some f) is h = absurd cc
+
+  pub condition_found : (l : Left) (y : Result Expr PlacedFault × Left) → condition_at policy schemes rel l ≡ Ok y → ConditionFound l y.0 y.1
+  unfolding noted_at condition_at
+  condition_found l y e =
+      let x = bind_ok (noted_at policy schemes rel l) (λ x. Ok (judged x, x.1.1)) y e in
+      let g = bind_ok (tests_at place ([], l)) (λ g. Ok (g.0, note (tested (may_be_truth g.0.gives) g.0) g.1)) x.0 x.1 in
+      let found = tests_at_found place ([], l) g.0 g.1 in
+      let whole : (judged (g.0.0, note (tested (may_be_truth g.0.0.gives) g.0.0) g.0.1), g.0.1.1) ≡ y =
+      ap (λ (z : Given × State). (judged z, z.1.1)) (ok_is {E = PlacedFault} (g.0.0, note (tested (may_be_truth g.0.0.gives) g.0.0) g.0.1) x.0 g.2)
+      ∙ ok_is {E = PlacedFault} (judged x.0, x.0.1.1) y x.2 in
+      subst (λ (z : Result Expr PlacedFault × Left). ConditionFound l z.0 z.1) whole
+      (record { tokens = found.tokens; passed = found.passed; told = judged_told g.0.0 g.0.1.0 found.tokens found.right })
+
+  -- ---- what the reader returned
+
+  module _ (l r : Left) where
+    kept : (x : Result (Result Expr PlacedFault) PlacedFault) (test : Expr) → x ≡ Ok (Ok test) → Gives (λ z. (z, r)) x (condition_at policy schemes rel l) → AreSpelled (without_places l.placed)
+        → IsCondition policy schemes rel l r test
+    kept x test is g all =
+        let read : condition_at policy schemes rel l ≡ Ok (Ok test, r) = subst (λ z. Gives (λ y. (y, r)) z (condition_at policy schemes rel l)) is g in
+        let found = condition_found l (Ok test, r) read in
+        record {
+          tokens = found.tokens;
+          tells = found.told test refl (split found.tokens (without_places r.placed) (subst AreSpelled found.passed.tokens all)).0;
+          passed = found.passed.tokens;
+          stop = found.passed.stop;
+        }
+
+    pub told_kept : (x : Result (Result Expr PlacedFault) PlacedFault) → Gives (λ z. (z, r)) x (condition_at policy schemes rel l) → AreSpelled (without_places l.placed)
+        → IfOk x (λ z. IfOk z (IsCondition policy schemes rel l r))
+    told_kept (Ok (Ok test)) g all = kept (Ok (Ok test)) test refl g all
+    told_kept (Ok (Err f)) g all = tt
+    told_kept (Err f) g all = tt
+
+    pub fits_kept : (x : Result (Result Expr PlacedFault) PlacedFault) → Gives (λ z. (z, r)) x (condition_at policy schemes rel l) → AreSpelled (without_places l.placed)
+        → IfOk x (λ z. IfOk z (IsConditionOf schemes rel))
+    fits_kept (Ok (Ok test)) g all = let h = kept (Ok (Ok test)) test refl g all in told_of_row schemes rel policy test h.tokens h.tells
+    fits_kept (Ok (Err f)) g all = tt
+    fits_kept (Err f) g all = tt
+
+    -- what was noted, where the form is right
+    noted_is : (y : Result Expr PlacedFault) (x : Given × State) → noted_at policy schemes rel l ≡ Ok x → condition_at policy schemes rel l ≡ Ok (y, r) → answer (least x.1.0) (as_fields x.0.expr) ≡ y
+    unfolding condition_at
+    noted_is y x right g =
+        let same = ok_is {E = PlacedFault} (judged x, x.1.1) (y, r) (ap (λ z. z >>= λ x. Ok (judged x, x.1.1)) (sym right) ∙ g) in
+        ap (λ (z : Result Expr PlacedFault × Left). z.0) same
+
+    clean : (x : Given × State) (test : Expr) (o : Option PlacedFault) → least x.1.0 ≡ o → answer o (as_fields x.0.expr) ≡ Ok test → x.1.0 ≡ []
+    clean x test None is h = none_at_all x.1.0 is
+    clean x test (Some f) is h = absurd cc
+
+    first : (x : Given × State) (f : PlacedFault) (o : Option PlacedFault) → least x.1.0 ≡ o → answer o (as_fields x.0.expr) ≡ Err f → IsLeast x.1.0 f
+    first x f None is h = absurd cc
+    first x f (Some g) is h =
+        let same : g ≡ f = cc in
+        subst (λ y. IsLeast x.1.0 y) same (least_is x.1.0 g is)
+
+    pub judged_kept : (x : Result (Result Expr PlacedFault) PlacedFault) → Gives (λ z. (z, r)) x (condition_at policy schemes rel l) → IsJudged policy schemes rel l x
+    judged_kept (Ok (Ok test)) g = λ x right. clean x test (least x.1.0) refl (noted_is (Ok test) x right g)
+    judged_kept (Ok (Err f)) g = λ x right. first x f (least x.1.0) refl (noted_is (Err f) x right g)
+    judged_kept (Err f) g = tt

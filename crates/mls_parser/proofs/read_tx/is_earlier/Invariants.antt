@@ -1,0 +1,7 @@
+use Rattle.std.proofs.Common.{◌≡◌, map, drop}
+use Rattle.std.specs.List.{list_any}
+use Rattle.std.specs.Str.{bytes_eq}
+use Rattle.mls_parser.proofs.read_tx.is_earlier.Given as goal
+
+abbrev pub invariant-loop-tx : goal.invariant-loop-tx
+invariant-loop-tx l = list_any (bytes_eq l.name.0) (map (λ t. t.name) (drop l.tx-index l.earlier)) ≡ list_any (bytes_eq l.name.0) (map (λ t. t.name) l.earlier)

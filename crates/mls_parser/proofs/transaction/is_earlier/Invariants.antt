@@ -1,7 +1,0 @@
-use Rattle.std.proofs.Common.{◌≡◌, map, drop}
-use Rattle.std.specs.List.{list_any}
-use Rattle.std.specs.Str.{bytes_eq}
-use Rattle.mls_parser.proofs.transaction.is_earlier.Given as goal
-
-abbrev pub invariant-loop-tx : goal.invariant-loop-tx
-invariant-loop-tx l = list_any (bytes_eq l.name.0) (map (λ t. t.name.0) (drop l.tx-index l.earlier)) ≡ list_any (bytes_eq l.name.0) (map (λ t. t.name.0) l.earlier)

@@ -1,0 +1,91 @@
+-- Lists of expressions, and new values of attributes, from the tokens that are left.
+use Rattle.std.specs.Prelude.{ℕ, zero, suc, Bool, false, not, ◌==◌, nat_eq, List, [], ◌∷◌, ◌++◌, map, length, slice_get, Option, Some, None, Ok, Err}
+use Rattle.std.specs.List.{list_any}
+use Rattle.mls_lattice.specs.Reading.{◌>>=◌}
+use Rattle.mls_scheme.specs.Scheme.{Attribute, Scheme, other_of}
+use Rattle.mls_tokens.specs.declared.sign.Sign.TheVariants.{LeftParen, RightParen, Comma, Equals}
+use Rattle.mls_tokens.specs.Passing.{refused, PlacedName}
+use Rattle.mls_translang.specs.Tokens.{Place}
+use Rattle.mls_translang.specs.Tree.{Expr}
+use Rattle.mls_parser.specs.declared.fault.TextCause.TheVariants as cause
+use Rattle.mls_parser.specs.declared.fault.PlacedFault.{PlacedFault}
+use Rattle.mls_parser.specs.declared.given.Given.{Given}
+use Rattle.mls_parser.specs.declared.inferred.Inferred.{Inferred}
+use Rattle.mls_parser.specs.Fault.{unless, lifted}
+use Rattle.mls_parser.specs.Infer.{may_be, may_be_value}
+use Rattle.mls_parser.specs.Names.{other_named}
+use Rattle.mls_parser.specs.Noted.{State, Read, note, takes_sign, sign_at, name_at}
+use Rattle.mls_parser.specs.ReadExpr.{whole_at}
+
+-- ---- items with a comma between each two
+
+abbrev pub after_item : {A : Type 0} → (A → State → Read A) → A → State → Option (ℕ × State) → Read A
+after_item more items s None = Ok (items, s)
+after_item more items s (Some comma) = more items comma.1
+
+module _ {A : Type 0} (next : A → State → Read A) where
+  -- n items at most, behind those before
+  abbrev pub items_from : ℕ → A → State → Read A
+  items_from zero items s = Err (lifted (refused s.1))
+  items_from (suc n) items s = next items s >>= λ x. after_item (λ xs r. items_from n xs r) x.0 x.1 (takes_sign Comma x.1)
+
+  -- no more of them than there are tokens
+  abbrev pub items_at : A → State → Read A
+  items_at items s = items_from (suc (length s.1.placed)) items s
+
+-- ---- what may stand where
+
+-- an expression that has to pass a test
+abbrev pub tested : Bool → Given → List PlacedFault
+tested holds g = unless holds g.at cause.Kind
+
+-- of the kind of its attribute; any value where there are more than attributes
+abbrev pub fits_item : Option Attribute → Inferred → Bool
+fits_item None gives = may_be_value gives
+fits_item (Some a) gives = may_be gives a.kind
+
+-- an attribute outside the key, which may be set already
+abbrev pub set_faults : Scheme → List (ℕ × Expr) → PlacedName → Option ℕ → Given → List PlacedFault
+set_faults scheme front name None g = unless false name.1 cause.UnknownName ++ tested (may_be_value g.gives) g
+set_faults scheme front name (Some i) g =
+    unless (not (list_any (nat_eq i) (map (λ x. x.0) front))) name.1 cause.Repeated ++ tested (may_be g.gives (other_of scheme i).kind) g
+
+abbrev pub with_set : List (ℕ × Expr) → Option ℕ → Expr → List (ℕ × Expr)
+with_set front None e = front
+with_set front (Some i) e = front ++ (i, e) ∷ []
+
+module _ (p : Place) where
+  -- ---- lists
+
+  -- an expression more, behind those before
+  unfoldable pub item_at : List Attribute → List Expr → State → Read (List Expr)
+  item_at attributes front s = do
+    g ← whole_at p s
+    Ok (front ++ g.0.expr ∷ [], note (tested (fits_item (slice_get attributes (length front)) g.0.gives) g.0) g.1)
+
+  -- one for each attribute, up to the parenthesis at a place
+  abbrev pub listed : List Attribute → List Expr → ℕ × State → List Expr × State
+  listed attributes es end = (es, note (unless (length es == length attributes) end.0 cause.Kind) end.1)
+
+  abbrev pub list_behind : List Attribute → State → Option (ℕ × State) → Read (List Expr)
+  list_behind attributes s (Some end) = Ok (listed attributes [] end)
+  list_behind attributes s None = do
+    es ← items_at (item_at attributes) [] s
+    end ← sign_at RightParen es.1
+    Ok (listed attributes es.0 end)
+
+  unfoldable pub list_at : List Attribute → State → Read (List Expr)
+  list_at attributes s = sign_at LeftParen s >>= λ x. list_behind attributes x.1 (takes_sign RightParen x.1)
+
+  -- ---- new values
+
+  -- ATTRIBUTE = EXPR, behind those before; an unknown name sets nothing
+  unfoldable pub set_at : Scheme → List (ℕ × Expr) → State → Read (List (ℕ × Expr))
+  set_at scheme front s = do
+    n ← name_at s
+    e ← sign_at Equals n.1
+    v ← whole_at p e.1
+    Ok (with_set front (other_named scheme n.0.0) v.0.expr, note (set_faults scheme front n.0 (other_named scheme n.0.0) v.0) v.1)
+
+  unfoldable pub sets_at : Scheme → State → Read (List (ℕ × Expr))
+  sets_at scheme s = items_at (set_at scheme) [] s

@@ -1,0 +1,316 @@
+//! Blocks, from the tokens that are left. The statements of a transaction are counted, inner ones too.
+ghost use Rattle.std.specs.Prelude.{◌≡◌, ◌+◌, ◌≤◌, ◌<◌, ◌∷◌, length, IfOk};
+ghost use Rattle.mls_translang.specs.Tokens.{at_row, with_rows};
+ghost use Rattle.mls_parser.specs.Names.{IsPlace};
+ghost use Rattle.mls_parser.specs.Noted.{Gives};
+ghost use Rattle.mls_parser.specs.ReadBlock.{guard_at, loop_head_at, braced, other_at, blocks_at, if_at, for_at, content_at, stmt_at, stmts_at};
+
+use crate::context::Context;
+use crate::fault::{PlacedFault, TextCause, ill_formed, note};
+use crate::limits::MAX_STATEMENTS;
+use crate::words::{Opening, pass_opening};
+use mls_lattice::{LabelNo, Str};
+use mls_scheme::RelNo;
+use mls_tokens::{Sign, Tokens};
+use mls_translang::{Block, Expr, LoopRow, Stmt};
+use std::alloc::{AllocError, Global};
+
+impl Context<'_> {
+    /// The rows inside a loop: its own, and those around.
+    #[tactic(auto, using(crate::proofs::PlaceLemmas::place_steps))]
+    fn rows_inside(
+        &self,
+        alloc: Global,
+        row: &Str,
+        relation: RelNo,
+    ) -> Result<Vec<LoopRow>, AllocError>
+        requires room { length self.now.scope.rows + 1 ≤ 16 }
+        requires known { relation < length self.now.schemes }
+        ensures rows { IfOk result (λ rows. rows.items ≡ record { name = row.now; relation = relation } ∷ self.now.scope.rows) }
+        ensures place { IfOk result (λ rows. IsPlace (with_rows self.now rows.items)) }
+    {
+        let mut rows = Vec::new(alloc);
+        rows.push(LoopRow {
+            name: Str::copy_of(alloc, row.as_str())?,
+            relation,
+        })?;
+        for around in self.rows {
+            rows.push(around.copy()?)?;
+        }
+        Ok(rows)
+    }
+
+    /// The same place, inside these rows.
+    fn with_rows<'b>(&'b self, rows: &'b [LoopRow]) -> Context<'b>
+        requires { IsPlace (with_rows self.now rows.now) }
+        ensures { result ≡ with_rows self.now rows.now }
+    {
+        Context {
+            policy: self.policy,
+            schemes: self.schemes,
+            hi: self.hi,
+            params: self.params,
+            vars: self.vars,
+            rows,
+        }
+    }
+
+    /// An expression that gives a truth value.
+    #[tactic(auto, unfolding(crate::specs::ReadBlock::guard_at))]
+    fn guard(
+        &self,
+        alloc: Global,
+        tokens: &mut Tokens,
+        faults: &mut Vec<PlacedFault>,
+    ) -> Result<Expr, PlacedFault>
+        ensures { Gives (λ e. (e, (faults.new.items, tokens.new))) result (guard_at self.now (faults.old.items, tokens.old)) }
+    {
+        let given = self.whole(alloc, tokens, faults)?;
+        note(
+            faults,
+            given.gives.may_be_truth(),
+            given.at,
+            TextCause::Kind,
+        )?;
+        Ok(given.expr)
+    }
+
+    /// The row of a loop, its relation and its label.
+    #[tactic(auto, unfolding(crate::specs::ReadBlock::loop_head_at))]
+    fn loop_head(
+        &self,
+        tokens: &mut Tokens,
+        faults: &mut Vec<PlacedFault>,
+    ) -> Result<(Str, RelNo, LabelNo), PlacedFault>
+        ensures exact { Gives (λ x. ((x.0, x.1, x.2), (faults.new.items, tokens.new))) result
+            (loop_head_at self.now (faults.old.items, tokens.old)) }
+        ensures within { IfOk result (λ x. x.1 < length self.now.schemes) }
+    {
+        let name = tokens.name()?;
+        note(faults, !self.is_taken(&name), name.1, TextCause::Repeated)?;
+        tokens.word("in")?;
+        let relation = self.relation(tokens, faults)?;
+        let label = self.label_behind(tokens, faults, "at")?;
+        Ok((name.0, relation, label))
+    }
+
+    /// A block in its braces, and how many statements the transaction has up to its end, where it has `count` before.
+    #[cycle(block)]
+    fn braced(
+        &self,
+        alloc: Global,
+        tokens: &mut Tokens,
+        faults: &mut Vec<PlacedFault>,
+        depth: usize,
+        count: usize,
+    ) -> Result<(Block, usize), PlacedFault>
+        requires shallow { length self.now.scope.rows + depth ≤ 16 }
+        requires few { count ≤ 1000 }
+        ensures exact { Gives (λ x. ((x.0, x.1), (faults.new.items, tokens.new))) result
+            (braced (stmts_at depth) self.now count (faults.old.items, tokens.old)) }
+        ensures counted { IfOk result (λ x. (count ≤ x.1) × (x.1 ≤ 1000)) }
+    {
+        tokens.sign(Sign::LeftBrace)?;
+        self.stmts(alloc, tokens, faults, depth, count)
+    }
+
+    /// The other block of an `if`, or an empty one.
+    #[cycle(block)]
+    fn other(
+        &self,
+        alloc: Global,
+        tokens: &mut Tokens,
+        faults: &mut Vec<PlacedFault>,
+        depth: usize,
+        count: usize,
+    ) -> Result<(Block, usize), PlacedFault>
+        requires shallow { length self.now.scope.rows + depth ≤ 16 }
+        requires few { count ≤ 1000 }
+        ensures exact { Gives (λ x. ((x.0, x.1), (faults.new.items, tokens.new))) result
+            (other_at (stmts_at depth) self.now count (faults.old.items, tokens.old)) }
+        ensures counted { IfOk result (λ x. (count ≤ x.1) × (x.1 ≤ 1000)) }
+    {
+        if tokens.takes_word("else").is_none() {
+            let stmts = Vec::new(alloc);
+            return Ok((Block { stmts }, count));
+        }
+        self.braced(alloc, tokens, faults, depth, count)
+    }
+
+    /// The blocks of an `if`.
+    #[cycle(block)]
+    #[tactic(auto, unfolding(crate::specs::ReadBlock::blocks_at))]
+    fn blocks(
+        &self,
+        alloc: Global,
+        tokens: &mut Tokens,
+        faults: &mut Vec<PlacedFault>,
+        depth: usize,
+        count: usize,
+    ) -> Result<((Block, Block), usize), PlacedFault>
+        requires shallow { length self.now.scope.rows + depth ≤ 16 }
+        requires few { count ≤ 1000 }
+        ensures exact { Gives (λ x. (((x.0.0, x.0.1), x.1), (faults.new.items, tokens.new))) result
+            (blocks_at (stmts_at depth) self.now count (faults.old.items, tokens.old)) }
+        ensures counted { IfOk result (λ x. (count ≤ x.1) × (x.1 ≤ 1000)) }
+    {
+        let (one, count) = self.braced(alloc, tokens, faults, depth, count)?;
+        let (other, count) = self.other(alloc, tokens, faults, depth, count)?;
+        Ok(((one, other), count))
+    }
+
+    /// An `if` behind its word.
+    #[cycle(block)]
+    fn if_stmt(
+        &self,
+        alloc: Global,
+        tokens: &mut Tokens,
+        faults: &mut Vec<PlacedFault>,
+        depth: usize,
+        count: usize,
+    ) -> Result<(Stmt, usize), PlacedFault>
+        requires shallow { length self.now.scope.rows + depth ≤ 16 }
+        requires few { count ≤ 1000 }
+        ensures exact { Gives (λ x. ((x.0, x.1), (faults.new.items, tokens.new))) result
+            (if_at (stmts_at depth) self.now count (faults.old.items, tokens.old)) }
+        ensures counted { IfOk result (λ x. (count ≤ x.1) × (x.1 ≤ 1000)) }
+    {
+        let guard = self.guard(alloc, tokens, faults)?;
+        let ((one, other), count) = self.blocks(alloc, tokens, faults, depth, count)?;
+        Ok((Stmt::If { guard, one, other }, count))
+    }
+
+    /// The body of a loop.
+    #[cycle(block)]
+    fn body_of(
+        &self,
+        alloc: Global,
+        tokens: &mut Tokens,
+        faults: &mut Vec<PlacedFault>,
+        depth: usize,
+        count: usize,
+        row: &Str,
+        relation: RelNo,
+    ) -> Result<(Block, usize), PlacedFault>
+        requires shallow { length self.now.scope.rows + depth + 1 ≤ 16 }
+        requires few { count ≤ 1000 }
+        requires known { relation < length self.now.schemes }
+        ensures exact { Gives (λ x. ((x.0, x.1), (faults.new.items, tokens.new))) result
+            (braced (stmts_at depth) (at_row self.now row.now relation) count (faults.old.items, tokens.old)) }
+        ensures counted { IfOk result (λ x. (count ≤ x.1) × (x.1 ≤ 1000)) }
+    {
+        let rows = self.rows_inside(alloc, row, relation)?;
+        let inside = (&*self).with_rows(&rows);
+        inside.braced(alloc, tokens, faults, depth, count)
+    }
+
+    /// A loop behind its word.
+    #[cycle(block)]
+    fn for_stmt(
+        &self,
+        alloc: Global,
+        tokens: &mut Tokens,
+        faults: &mut Vec<PlacedFault>,
+        depth: usize,
+        count: usize,
+    ) -> Result<(Stmt, usize), PlacedFault>
+        requires shallow { length self.now.scope.rows + depth + 1 ≤ 16 }
+        requires few { count ≤ 1000 }
+        ensures exact { Gives (λ x. ((x.0, x.1), (faults.new.items, tokens.new))) result
+            (for_at (stmts_at depth) self.now count (faults.old.items, tokens.old)) }
+        ensures counted { IfOk result (λ x. (count ≤ x.1) × (x.1 ≤ 1000)) }
+    {
+        let (row, relation, label) = self.loop_head(tokens, faults)?;
+        let (body, count) = self.body_of(alloc, tokens, faults, depth, count, &row, relation)?;
+        Ok((
+            Stmt::For {
+                row,
+                relation,
+                label,
+                body,
+            },
+            count,
+        ))
+    }
+
+    /// A statement behind what it begins with, which stands at `at`.
+    #[cycle(block)]
+    fn content(
+        &self,
+        alloc: Global,
+        tokens: &mut Tokens,
+        faults: &mut Vec<PlacedFault>,
+        depth: usize,
+        count: usize,
+        opening: Opening,
+        at: usize,
+    ) -> Result<(Stmt, usize), PlacedFault>
+        requires shallow { length self.now.scope.rows + depth + 1 ≤ 16 }
+        requires few { count ≤ 1000 }
+        ensures exact { Gives (λ x. ((x.0, x.1), (faults.new.items, tokens.new))) result
+            (content_at (stmts_at depth) self.now opening at count (faults.old.items, tokens.old)) }
+        ensures counted { IfOk result (λ x. (count ≤ x.1) × (x.1 ≤ 1000)) }
+    {
+        match opening {
+            Opening::If => self.if_stmt(alloc, tokens, faults, depth, count),
+            Opening::For => self.for_stmt(alloc, tokens, faults, depth, count),
+            Opening::Plain(form) => {
+                let stmt = self.plain(alloc, tokens, faults, form, at)?;
+                Ok((stmt, count))
+            }
+        }
+    }
+
+    /// A statement that may have `depth - 1` others inside one another.
+    #[cycle(block)]
+    #[tactic(auto, unfolding(crate::specs::ReadBlock::stmt_at))]
+    fn stmt(
+        &self,
+        alloc: Global,
+        tokens: &mut Tokens,
+        faults: &mut Vec<PlacedFault>,
+        depth: usize,
+        count: usize,
+    ) -> Result<(Stmt, usize), PlacedFault>
+        requires { length self.now.scope.rows + depth ≤ 16 }
+        ensures exact { Gives (λ x. ((x.0, x.1), (faults.new.items, tokens.new))) result
+            (stmt_at depth self.now count (faults.old.items, tokens.old)) }
+        ensures counted { IfOk result (λ x. (count < x.1) × (x.1 ≤ 1000)) }
+    {
+        let (opening, at) = pass_opening(tokens)?;
+        if depth == 0 {
+            return Err(ill_formed(at, TextCause::Depth));
+        }
+        if count >= MAX_STATEMENTS {
+            return Err(ill_formed(at, TextCause::TooLong));
+        }
+        self.content(alloc, tokens, faults, depth - 1, count + 1, opening, at)
+    }
+
+    /// Statements up to the brace that closes them, with `depth` of them inside one another at most.
+    #[cycle(block)]
+    #[tactic(auto, using(crate::proofs::StmtSteps::stmt_steps))]
+    pub fn stmts(
+        &self,
+        alloc: Global,
+        tokens: &mut Tokens,
+        faults: &mut Vec<PlacedFault>,
+        depth: usize,
+        count: usize,
+    ) -> Result<(Block, usize), PlacedFault>
+        requires shallow { length self.now.scope.rows + depth ≤ 16 }
+        requires few { count ≤ 1000 }
+        ensures exact { Gives (λ x. ((x.0, x.1), (faults.new.items, tokens.new))) result
+            (stmts_at depth self.now count (faults.old.items, tokens.old)) }
+        ensures counted { IfOk result (λ x. (count ≤ x.1) × (x.1 ≤ 1000)) }
+    {
+        let mut stmts = Vec::new(alloc);
+        let mut count = count;
+        while tokens.takes_sign(Sign::RightBrace).is_none() {
+            let (next, so_far) = self.stmt(alloc, tokens, faults, depth, count)?;
+            stmts.push(next)?;
+            count = so_far;
+        }
+        Ok((Block { stmts }, count))
+    }
+}

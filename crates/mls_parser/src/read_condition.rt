@@ -1,0 +1,316 @@
+//! Conditions on a row, from the tokens that are left.
+ghost use Rattle.std.specs.Prelude.{◌≡◌, ◌≢◌, ◌<◌, ◌++◌, length, map, option_map, IfOk, IfErr, IfSome, IsNone, OnOk};
+ghost use Rattle.std.specs.List.{IsDistinct};
+ghost use Rattle.std.specs.Str.{bytes_eq};
+ghost use Rattle.mls_tokens.specs.Scanning.{without_places};
+ghost use Rattle.mls_parser.specs.declared.fault.TextCause.TheVariants.{Memory};
+ghost use Rattle.mls_parser.specs.Condition.{AreOfText, IsCondition, IsConditionOf, IsJudged};
+ghost use Rattle.mls_parser.specs.Names.{IsPlace};
+ghost use Rattle.mls_parser.specs.Noted.{Gives};
+ghost use Rattle.mls_parser.specs.Parsing.{answer};
+ghost use Rattle.mls_parser.specs.ReadCondition.{comparison_of, joiner_of, taken_as, between, between_faults, test_at, are_mixed, past_most, next_test_at, tests_at, attribute_var, row_vars, as_fields, judged, noted_at, condition_at};
+ghost use Rattle.mls_parser.specs.Words.{pass_head};
+ghost use Rattle.mls_parser.specs.Fault.{least};
+
+use crate::context::Context;
+use crate::fault::{PlacedFault, TextCause, ill_formed, least, note};
+use crate::given::Given;
+use crate::inferred::operands_fit;
+use crate::limits::MAX_TESTS;
+use crate::read_expr::combined;
+use crate::words::pass_head;
+use mls_lattice::{LabelNo, Policy, Str};
+use mls_scheme::{Attributes, Kind, RelNo, Scheme, Schemes};
+use mls_tokens::{Sign, Tokens};
+use mls_translang::{Expr, LoopRow, Named, Operator, Term};
+use std::alloc::{AllocError, Global};
+
+/// Passes a comparison if it is next, and gives its place too.
+#[tactic(auto, using(crate::proofs::ConditionSteps::comparison_steps))]
+fn takes_comparison(tokens: &mut Tokens) -> Option<(Operator, usize)>
+    ensures taken { option_map (λ x. ((x.0, x.1), tokens.new)) result ≡ taken_as comparison_of tokens.old }
+    ensures stays { IsNone result → tokens.new ≡ tokens.old }
+{
+    if let Some(at) = tokens.takes_sign(Sign::Equals) {
+        return Some((Operator::Equal, at));
+    }
+    if let Some(at) = tokens.takes_sign(Sign::Differs) {
+        return Some((Operator::Unequal, at));
+    }
+    if let Some(at) = tokens.takes_sign(Sign::Less) {
+        return Some((Operator::Less, at));
+    }
+    if let Some(at) = tokens.takes_sign(Sign::AtMost) {
+        return Some((Operator::AtMost, at));
+    }
+    if let Some(at) = tokens.takes_sign(Sign::Greater) {
+        return Some((Operator::Greater, at));
+    }
+    let at = tokens.takes_sign(Sign::AtLeast)?;
+    Some((Operator::AtLeast, at))
+}
+
+/// Passes the word between two tests if it is next, and gives its place too.
+#[tactic(auto, using(crate::proofs::ConditionSteps::joiner_steps))]
+fn takes_joiner(tokens: &mut Tokens) -> Option<(Operator, usize)>
+    ensures taken { option_map (λ x. ((x.0, x.1), tokens.new)) result ≡ taken_as joiner_of tokens.old }
+    ensures stays { IsNone result → tokens.new ≡ tokens.old }
+{
+    if let Some(at) = tokens.takes_word("and") {
+        return Some((Operator::And, at));
+    }
+    let at = tokens.takes_word("or")?;
+    Some((Operator::Or, at))
+}
+
+/// Two parts with an operator between them. An operation with no parentheses has the place of its first token.
+fn between(
+    alloc: Global,
+    faults: &mut Vec<PlacedFault>,
+    left: Given,
+    operator: (Operator, usize),
+    right: Given,
+) -> Result<Given, PlacedFault>
+    ensures new { IfOk result (λ g. g ≡ between left (operator.0, operator.1) right) }
+    ensures noted { OnOk result (faults.new.items
+        ≡ faults.old.items ++ between_faults left (operator.0, operator.1) right) }
+    ensures memory { IfErr result (λ e. e.cause ≡ Memory) }
+{
+    let (operator, at) = operator;
+    let fit = operands_fit(operator, left.gives, right.gives);
+    note(faults, fit, at, TextCause::Kind)?;
+    combined(alloc, operator, left.expr, right.expr, left.at)
+}
+
+/// Whether a word is another than the one between the tests before.
+fn are_mixed(before: Option<Operator>, operator: Operator) -> bool
+    ensures { result ≡ are_mixed before operator }
+{
+    match (before, operator) {
+        (Some(Operator::And), Operator::Or) | (Some(Operator::Or), Operator::And) => true,
+        _ => false,
+    }
+}
+
+/// The fault of one test more than there may be.
+fn past_most(tokens: &mut Tokens) -> PlacedFault
+    ensures { result.cause ≢ Memory → result ≡ past_most (pass_head tokens.old) }
+{
+    match pass_head(tokens) {
+        Ok((_, at)) => ill_formed(at, TextCause::Depth),
+        Err(fault) => PlacedFault::from(fault),
+    }
+}
+
+impl Context<'_> {
+    /// An expression, or two with a comparison between them.
+    #[tactic(auto, unfolding(crate::specs::ReadCondition::test_at))]
+    fn test(
+        &self,
+        alloc: Global,
+        tokens: &mut Tokens,
+        faults: &mut Vec<PlacedFault>,
+    ) -> Result<Given, PlacedFault>
+        ensures { Gives (λ g. (g, (faults.new.items, tokens.new))) result
+            (test_at self.now (faults.old.items, tokens.old)) }
+    {
+        let left = self.whole(alloc, tokens, faults)?;
+        let Some(operator) = takes_comparison(tokens) else {
+            return Ok(left);
+        };
+        let right = self.whole(alloc, tokens, faults)?;
+        between(alloc, faults, left, operator, right)
+    }
+
+    /// The word that joins one test more, and this test, if there is one. There is room for so many, and one word
+    /// stands between those before.
+    #[tactic(auto, unfolding(crate::specs::ReadCondition::next_test_at))]
+    fn next_test(
+        &self,
+        alloc: Global,
+        tokens: &mut Tokens,
+        faults: &mut Vec<PlacedFault>,
+        room: usize,
+        before: Option<Operator>,
+    ) -> Result<Option<((Operator, usize), Given)>, PlacedFault>
+        ensures exact { Gives (λ x. (option_map (λ y. ((y.0.0, y.0.1), y.1)) x, (faults.new.items, tokens.new))) result
+            (next_test_at self.now room before (faults.old.items, tokens.old)) }
+        ensures within { IfOk result (λ x. IfSome x (λ _. 0 < room)) }
+    {
+        let Some((operator, at)) = takes_joiner(tokens) else {
+            return Ok(None);
+        };
+        if are_mixed(before, operator) {
+            return Err(ill_formed(at, TextCause::Expected));
+        }
+        if room == 0 {
+            return Err(past_most(tokens));
+        }
+        let next = self.test(alloc, tokens, faults)?;
+        Ok(Some(((operator, at), next)))
+    }
+
+    /// Tests with one word between each two.
+    #[tactic(auto, using(crate::proofs::ConditionSteps::condition_steps))]
+    fn tests(
+        &self,
+        alloc: Global,
+        tokens: &mut Tokens,
+        faults: &mut Vec<PlacedFault>,
+    ) -> Result<Given, PlacedFault>
+        ensures { Gives (λ g. (g, (faults.new.items, tokens.new))) result
+            (tests_at self.now (faults.old.items, tokens.old)) }
+    {
+        let mut whole = self.test(alloc, tokens, faults)?;
+        let mut before = None;
+        let mut room = MAX_TESTS - 1;
+        loop {
+            let Some((operator, next)) = self.next_test(alloc, tokens, faults, room, before)? else {
+                return Ok(whole);
+            };
+            whole = between(alloc, faults, whole, operator, next)?;
+            before = Some(operator.0);
+            room -= 1;
+        }
+    }
+}
+
+/// Attributes as variables, behind those before.
+fn push_vars(
+    alloc: Global,
+    vars: &mut Named<Kind>,
+    attributes: &Attributes,
+) -> Result<(), AllocError>
+    requires { IsDistinct bytes_eq (map (λ v. v.0) (vars.old ++ map attribute_var attributes.now)) }
+    ensures { OnOk result (vars.new ≡ vars.old ++ map attribute_var attributes.now) }
+{
+    for place in 0..attributes.len() {
+        let name = String::from_str(alloc, attributes.name(place))?;
+        vars.push(name, attributes.get(place).kind)?;
+    }
+    Ok(())
+}
+
+/// The attributes of a relation as variables.
+#[tactic(auto, using(crate::proofs::ConditionLemmas::vars_steps))]
+fn row_vars(alloc: Global, scheme: &Scheme) -> Result<Named<Kind>, AllocError>
+    ensures { IfOk result (λ vs. vs ≡ row_vars scheme.now) }
+{
+    let mut vars = Named::new(alloc);
+    push_vars(alloc, &mut vars, scheme.keys())?;
+    push_vars(alloc, &mut vars, scheme.others())?;
+    Ok(vars)
+}
+
+/// Makes each variable the attribute of its number.
+fn make_fields(expr: &mut Expr)
+    ensures { expr.new ≡ as_fields expr.old }
+{
+    match &mut expr.term {
+        Term::Variable(number) => {
+            let attribute = *number;
+            expr.term = Term::Field {
+                depth: 0,
+                attribute,
+            };
+        }
+        Term::Not(operand) => make_fields(operand),
+        Term::Op(_, left, right) => {
+            make_fields(left);
+            make_fields(right);
+        }
+        _ => {}
+    }
+}
+
+/// The tests, which have to be a truth value.
+#[tactic(auto, unfolding(crate::specs::ReadCondition::noted_at))]
+fn noted(
+    alloc: Global,
+    policy: &Policy,
+    schemes: &Schemes,
+    rel: RelNo,
+    tokens: &mut Tokens,
+) -> Result<(Given, Vec<PlacedFault>), PlacedFault>
+    requires { rel < length schemes.now }
+    ensures { Gives (λ x. (x.0, (x.1.items, tokens.new))) result
+        (noted_at policy.now schemes.now rel tokens.old) }
+{
+    // a policy has some label
+    let _count = policy.label_count();
+    let scheme = schemes.scheme(rel);
+    let rows = [LoopRow {
+        name: Str::copy_of(alloc, scheme.name())?,
+        relation: rel,
+    }];
+    let params = Named::new(alloc);
+    let vars = row_vars(alloc, scheme)?;
+    let context = Context {
+        policy,
+        schemes,
+        hi: LabelNo::new(0),
+        params: &params,
+        vars: &vars,
+        rows: &rows,
+    };
+    let mut faults = Vec::new(alloc);
+    let given = context.tests(alloc, tokens, &mut faults)?;
+    note(
+        &mut faults,
+        given.gives.may_be_truth(),
+        given.at,
+        TextCause::Kind,
+    )?;
+    Ok((given, faults))
+}
+
+/// The condition, or the least fault that was noted.
+#[tactic(auto, unfolding(crate::specs::ReadCondition::condition_at))]
+fn unless_noted(
+    alloc: Global,
+    policy: &Policy,
+    schemes: &Schemes,
+    rel: RelNo,
+    tokens: &mut Tokens,
+) -> Result<Result<Expr, PlacedFault>, PlacedFault>
+    requires { rel < length schemes.now }
+    ensures { Gives (λ r. (r, tokens.new)) result (condition_at policy.now schemes.now rel tokens.old) }
+{
+    let (mut given, faults) = noted(alloc, policy, schemes, rel, tokens)?;
+    match least(faults.as_slice()) {
+        Some(fault) => Ok(Err(fault)),
+        None => {
+            make_fields(&mut given.expr);
+            Ok(Ok(given.expr))
+        }
+    }
+}
+
+/// A condition on a row of a relation: a test, or several with `and` between each two, or with `or`; and what stands behind is
+/// left to the caller. A name is an attribute of the row, key or other, and so is a name behind the name of the relation. Or the
+/// first fault by its form: Token where no token stands, Expected at the first token that nothing goes on with (the end is one)
+/// and at the second word where `and` and `or` are mixed without parentheses, Depth at a `(` or `not` inside 16 others on one
+/// side of a comparison and at the first token of a 17th test, if that can begin one, and TooLong at a long text between quotes.
+/// Where the form is right, the inner answer is the condition, or the least fault of its names and kinds, by place and then by
+/// number: UnknownName, and Kind at a `not` or an operator whose operands do not fit and at the first token of what is no truth
+/// value. Memory may stand in place of any answer.
+pub fn condition(
+    alloc: Global,
+    policy: &Policy,
+    schemes: &Schemes,
+    rel: RelNo,
+    tokens: &mut Tokens,
+) -> Result<Result<Expr, PlacedFault>, PlacedFault>
+    requires { rel < length schemes.now }
+    // The condition or its fault, and what is left behind it.
+    ensures exact { Gives (λ r. (r, tokens.new)) result (condition_at policy.now schemes.now rel tokens.old) }
+    // What is read has no fault of names and kinds, and of all of them the least is answered.
+    ensures judged { IsJudged policy.now schemes.now rel tokens.old result }
+    // What was passed tells what is read, where the tokens are those of a text.
+    ensures told { AreOfText (without_places tokens.old.placed)
+        → IfOk result (λ r. IfOk r (IsCondition policy.now schemes.now rel tokens.old tokens.new)) }
+    // And that is a truth value of the row.
+    ensures fits { AreOfText (without_places tokens.old.placed) → IfOk result (λ r. IfOk r (IsConditionOf schemes.now rel)) }
+{
+    unless_noted(alloc, policy, schemes, rel, tokens)
+}

@@ -1,6 +1,0 @@
-use Rattle.std.proofs.Common.{◌≡◌, drop}
-use Rattle.mls_replies.specs.Known.{tuples_known}
-use Rattle.mls_replies.proofs.known.are_rows_known.Given as goal
-
-abbrev pub invariant-loop-place : goal.invariant-loop-place
-invariant-loop-place l = tuples_known l.count (drop l.place l.rows) ≡ tuples_known l.count l.rows

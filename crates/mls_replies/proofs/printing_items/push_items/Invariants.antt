@@ -1,8 +1,0 @@
-use Rattle.std.proofs.Common.{◌≡◌, ◌++◌, take, codes}
-use Rattle.std.specs.List.{flat_map}
-use Rattle.mls_script.specs.Writing.{cell_text}
-use Rattle.mls_machine.specs.Output.{front}
-use Rattle.mls_replies.proofs.printing_items.push_items.Given as goal
-
-abbrev pub invariant-loop-item : goal.invariant-loop-item
-invariant-loop-item l = l.text.items ≡ l.initial.text.items ++ flat_map (λ i. front l.policy l.event i.0 ++ (l.deed ++ cell_text i.1) ++ codes "\n") (take l.item-index l.items)

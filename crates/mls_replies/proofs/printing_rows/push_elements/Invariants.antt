@@ -1,7 +1,0 @@
-use Rattle.std.proofs.Common.{◌≡◌, ◌++◌, take}
-use Rattle.std.specs.List.{flat_map}
-use Rattle.mls_machine.specs.Output.{cell_entry}
-use Rattle.mls_replies.proofs.printing_rows.push_elements.Given as goal
-
-abbrev pub invariant-loop-element : goal.invariant-loop-element
-invariant-loop-element l = l.text.items ≡ l.initial.text.items ++ flat_map (λ e. cell_entry l.policy.labels e.class e.value) (take l.element-index l.elements)

@@ -1,7 +1,0 @@
-use Rattle.std.proofs.Common.{◌≡◌, ◌++◌, take, codes}
-use Rattle.std.specs.List.{flat_map}
-use Rattle.mls_machine.specs.Output.{front, entry_text}
-use Rattle.mls_replies.proofs.replies.push_entries.Given as goal
-
-abbrev pub invariant-loop-entry : goal.invariant-loop-entry
-invariant-loop-entry l = l.text.items ≡ l.initial.text.items ++ flat_map (λ e. front l.policy l.event l.event.level ++ entry_text l.policy e ++ codes "\n") (take l.entry-index l.entries)

@@ -1,7 +1,0 @@
-use Rattle.std.proofs.Common.{◌≡◌, ◌++◌, take, codes}
-use Rattle.std.specs.List.{flat_map}
-use Rattle.mls_machine.specs.Output.{front, row_text}
-use Rattle.mls_replies.proofs.replies.push_rows.Given as goal
-
-abbrev pub invariant-loop-place : goal.invariant-loop-place
-invariant-loop-place l = l.text.items ≡ l.initial.text.items ++ flat_map (λ t. front l.policy l.event l.event.level ++ row_text l.policy t ++ codes "\n") (take l.place l.rows)

@@ -1,7 +1,0 @@
-use Rattle.std.proofs.Common.{◌≡◌, ◌++◌, take}
-use Rattle.std.specs.List.{flat_map}
-use Rattle.mls_replies.specs.Seen.{seen_item}
-use Rattle.mls_replies.proofs.shown.push_seen.Given as goal
-
-abbrev pub invariant-loop-item : goal.invariant-loop-item
-invariant-loop-item l = l.text.items ≡ l.initial.text.items ++ flat_map (seen_item l.policy l.event l.reader l.deed) (take l.item-index l.items)

@@ -1,5 +1,0 @@
-use Rattle.std.proofs.Common.{◌≡◌, ◌++◌, take, map}
-use Rattle.mls_replies.proofs.table.push_name_cells.Given as goal
-
-abbrev pub invariant-loop-place : goal.invariant-loop-place
-invariant-loop-place l = l.cells.items ≡ l.initial.cells.items ++ map (λ a. a.name) (take l.place l.attributes)

@@ -1,0 +1,145 @@
+-- Shells over stores: where they begin, and how they end.
+use Rattle.mls_sessions.proofs.FrameLemmas.{carried}
+use Rattle.std.proofs.Common.{◌≡◌, ℕ, ◌<◌, length, true, ◌∷◌, List, [], Option, Some, None, Result, refl, sym, subst}
+use Rattle.std.specs.Prelude.{IsErrAnd}
+use Rattle.std.specs.Borrow.{Bor}
+use Rattle.std.specs.Io.KnownBytes.{Appends}
+use Rattle.mls_filterview.specs.Content.{Content, no_content}
+use Rattle.mls_lattice.specs.Name.{is_name}
+use Rattle.mls_lattice.specs.Labels.{AreDistinct}
+use Rattle.mls_script.specs.declared.event.Event.{Event}
+use Rattle.mls_scheme.specs.declared.file.SchemesFile.{SchemesFile}
+use Rattle.mls_machine.specs.declared.stored.Stored.{Stored}
+use Rattle.mls_machine.specs.Site.{Site, site_labels}
+use Rattle.mls_machine.specs.Machine.{World, Sessions}
+use Rattle.mls_machine.specs.Observation.{AreStored, EventsFit, AreRead, AreCertified}
+use Rattle.mls_machine.proofs.KeepingLemmas.{keep_integrity}
+use Rattle.mls_machine.proofs.RunLemmas.{first_accepted_alike}
+use Rattle.mls_sessions.specs.World.{world_at, IsSound}
+use Rattle.mls_sessions.specs.declared.cause.RunFault.{RunFault}
+use Rattle.mls_host.specs.declared.ending.Ending.{Ending}
+use Rattle.mls_runs.specs.declared.seat.Seat.{Seat}
+use Rattle.mls_host.specs.declared.reason.Reason.{Reason}
+use Rattle.mls_host.specs.declared.refusal.Refusal.{Refusal}
+use Rattle.mls_host.specs.declared.refusal.Refusal.TheVariants.{Before}
+use Rattle.mls_host.specs.Hosting.{Hosted}
+use Rattle.mls_host.specs.declared.reason.Reason.TheVariants.{Memory}
+use Rattle.mls_host.specs.declared.job.Inputs.{Inputs}
+use Rattle.mls_host.specs.Storing.{AreStoredWith}
+use Rattle.mls_host.specs.Words.{named}
+use Rattle.mls_host.specs.Causes.{IsBarred, no_memory, no_store}
+use Rattle.mls_host.specs.Refusal.{IsEnd}
+use Rattle.mls_host.specs.Running.{site_of, first_world}
+use Rattle.mls_runs.specs.Shell.{audience_at, opening, events_in, IsConversation, IsShell}
+use Rattle.mls_runs.specs.ShellRun.{seat_of, IsShellFrom, IsShellRun, IsShellRefused, not_begun}
+use Rattle.mls_host.proofs.RunningLemmas.{run_at, end_weaker}
+
+pub opening_fits : (site : Site) (seat : Seat) → seat.level < length site.policy.labels → is_name seat.user ≡ true → EventsFit site (opening seat ∷ [])
+opening_fits site seat level name = (record { level = level; session = name; command = name }, tt)
+
+-- a conversation over a content that it leaves as another
+pub shell_at : (echo : List ℕ → List ℕ) (site : Site) (seat : Seat) (sessions : Sessions) (first left : Content) (before after was is : Option (List ℕ)) (Broken : Type 0)
+    (Told : List ℕ → Type 0) (end : Result Ending RunFault)
+    → AreDistinct (site_labels site) → AreRead site → AreCertified site → IsSound site first → IsSound site left
+    → IsConversation echo site seat before after was is Broken Told end (first_world site first) (world_at site sessions left)
+    → IsShell echo site seat before after Broken (Appends was is) Told end first left
+shell_at echo site seat sessions first left before after was is Broken Told end distinct read certified sound sound_left k =
+    let w = first_world site first in
+    let es : List Event = opening seat ∷ events_in k.talk.turns in
+    let stored : AreStored site w.db = λ rel. (sound.content rel).stored in
+    record {
+      talk = k.talk;
+      run = λ silent. let a = k.run silent in
+          run_at site (audience_at seat) sessions first left es was is k.talk.run_end sound_left
+          (record { ok = a.whole; err = a.stopped; fault = a.fault; integrity = keep_integrity site distinct read w es stored k.fits; secret = first_accepted_alike site distinct read certified w es stored k.fits });
+    }
+
+-- a conversation at what is the same site, from and to what are the same worlds
+pub conversation_at : (echo : List ℕ → List ℕ) (seat : Seat) (before after was is : Option (List ℕ)) (Broken : Type 0) (Told : List ℕ → Type 0) (end : Result Ending RunFault)
+    (s t : Site) (v x w y : World) → s ≡ t → v ≡ x → w ≡ y
+    → IsConversation echo s seat before after was is Broken Told end v w → IsConversation echo t seat before after was is Broken Told end x y
+conversation_at echo seat before after was is Broken Told end s t v x w y e f g k =
+    subst (λ w. IsConversation echo t seat before after was is Broken Told end x w) g
+    (subst (λ v. IsConversation echo t seat before after was is Broken Told end v w) f (subst (λ s. IsConversation echo s seat before after was is Broken Told end v w) e k))
+
+-- ---- where shells begin
+
+module _ (h : Hosted) (file : SchemesFile) (site : Site) (seat : Seat) (before after : Option (List ℕ)) (Broken : Type 0) (Wrote Told : List ℕ → Type 0) where
+  abbrev From : Option (List ℕ) → Result Ending RunFault → Type 0
+  From store = IsShellFrom h before after Broken Wrote Told file store site seat
+
+  abbrev Fresh : Result Ending RunFault → Type 0
+  Fresh end = (left : Content) × IsShell h.echo site seat before after Broken Wrote Told end no_content left
+
+  module _ (Nothing : Option (List ℕ) → Reason → Type 0) (store : Option (Bor (List ℕ))) (r : Result Ending Refusal) where
+    -- with nothing
+    pub shell_from_memory : store ≡ None → IsEnd Fresh (Nothing None) r → IsEnd (From (named store)) (Nothing (named store)) r
+    shell_from_memory none shell =
+        let f : (end : Result Ending RunFault) → Fresh end → From None end
+        = λ end k. λ clean. record { first = no_content; left = k.0; begins = refl; kept = tt; leads = k.1 } in
+        subst (λ (s : Option (Bor (List ℕ))). IsEnd (From (named s)) (Nothing (named s)) r) (sym none) (end_weaker Fresh (Nothing None) (From None) (Nothing None) f (λ _ k. k) r shell)
+
+    -- with what a store kept
+    pub shell_from_store : (path : Bor (List ℕ)) → store ≡ Some path → IsEnd (From (Some path.now)) (Nothing (Some path.now)) r → IsEnd (From (named store)) (Nothing (named store)) r
+    shell_from_store path some shell = subst (λ (s : Option (Bor (List ℕ))). IsEnd (From (named s)) (Nothing (named s)) r) (sym some) shell
+
+-- ---- tasks
+
+-- a read of the lines has failed only where the host says that it may
+read_only_so : (echo : List ℕ → List ℕ) (site : Site) (seat : Seat) (before after : Option (List ℕ)) (Broken May : Type 0) (Wrote Told : List ℕ → Type 0) (end : Result Ending RunFault) (first left : Content)
+    → (Broken → May) → IsShell echo site seat before after Broken Wrote Told end first left → IsShell echo site seat before after May Wrote Told end first left
+read_only_so echo site seat before after Broken May Wrote Told end first left f k = record {
+  talk = record { turns = k.talk.turns; run_end = k.talk.run_end; lines = k.talk.lines; broken = λ b. f (k.talk.broken b); told = k.talk.told; ended = k.talk.ended };
+  run = k.run;
+}
+
+module _ (h : Hosted) (inputs : Inputs) (store : Option (List ℕ)) (label user : List ℕ) (Wrote Told : List ℕ → Type 0) where
+  -- it was not begun, and nothing was written or told
+  abbrev Nothing : Reason → Type 0
+  Nothing reason = IsShellRefused h.before inputs.setting store reason × Wrote [] × Told []
+
+  abbrev Ends : Result Ending Refusal → Type 0
+  Ends r = IsEnd (IsShellRun h inputs store label user Wrote Told) Nothing r
+
+  -- at the exit of a `?`
+  pub shell_before : (r : Result Ending Refusal) → IsErrAnd r (λ e. e ≡ Before Memory) → Wrote [] → Told [] → Ends r
+  shell_before r is wrote told = carried Ends r (Before Memory) is (not_begun (no_memory refl), wrote, told)
+
+  module _ (stored : List Stored) (level : ℕ) (before after : Option (List ℕ)) (Broken : Type 0)
+      (stored_are : AreStoredWith inputs.setting.policy inputs.certificates inputs.transactions stored)
+      (level_is : inputs.setting.reader ≡ Some level) (typed : h.before.types before) (broken : Broken → h.before.breaks) where
+    abbrev at : Site
+    at = site_of inputs.setting.policy inputs.setting.file.schemes stored
+
+    abbrev seat : Seat
+    seat = seat_of label user level h.before.is_terminal h.before.is_watched
+
+    abbrev Shells : Result Ending RunFault → Type 0
+    Shells = IsShellFrom h before after Broken Wrote Told inputs.setting.file store at seat
+
+    shell_run : (end : Result Ending RunFault) → Shells end → IsShellRun h inputs store label user Wrote Told end
+    shell_run end k = record {
+      stored = stored;
+      level = level;
+      before = before;
+      after = after;
+      stored_are = stored_are;
+      level_is = level_is;
+      typed = typed;
+      shell = λ clean. let o = k clean in record {
+        first = o.first;
+        left = o.left;
+        begins = o.begins;
+        kept = o.kept;
+        leads = read_only_so h.echo at seat before after Broken h.before.breaks Wrote Told end o.first o.left broken o.leads;
+      };
+    }
+
+    -- its store was barred, and nothing was written
+    abbrev Barred : Reason → Type 0
+    Barred reason = IsBarred h.before inputs.setting.policy inputs.setting.file store reason × Wrote [] × Told []
+
+    pub shell_over_stored : (r : Result Ending Refusal) → IsEnd Shells Barred r → Ends r
+    shell_over_stored r k =
+        let g : (reason : Reason) → Barred reason → Nothing reason = λ reason n. (not_begun (no_store n.0), n.1, n.2) in
+        end_weaker Shells Barred (IsShellRun h inputs store label user Wrote Told) Nothing shell_run g r k

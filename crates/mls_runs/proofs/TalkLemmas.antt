@@ -1,0 +1,495 @@
+-- Shells, line by line: what holds of the lines up to here, and how a shell ends.
+use Rattle.std.proofs.Common.{◌≡◌, ℕ, suc, ◌+◌, ◌<◌, Bool, true, false, true≢false, not, ◌||◌, List, [], ◌∷◌, ◌++◌, length, Option, Result, Ok, Err, OnOk, IfErr, refl, sym, ap, ◌∙◌, subst, inl, inr, ◌⊎◌, append_assoc, append-nil, arith}
+use Rattle.std.specs.List.{list_any}
+use Rattle.std.specs.Io.KnownBytes.{Appends, IsAtEnd}
+use Rattle.std.proofs.KnownBytes.{Appends-trans}
+use Rattle.mls_filterview.specs.Content.{State}
+use Rattle.mls_script.specs.declared.event.Event.{Event}
+use Rattle.mls_machine.specs.declared.form.Audience.{Audience}
+use Rattle.mls_machine.specs.Site.{Site}
+use Rattle.mls_machine.specs.Machine.{World, end_of}
+use Rattle.mls_machine.specs.Observation.{EventsFit}
+use Rattle.mls_lattice.specs.Policy.{Policy}
+use Rattle.mls_scheme.specs.Scheme.{Schemes}
+use Rattle.mls_sessions.specs.Sessions.{site_of}
+use Rattle.mls_sessions.specs.declared.cause.RunFault.{RunFault}
+use Rattle.mls_sessions.specs.declared.cause.RunCause.{RunCause}
+use Rattle.mls_sessions.specs.declared.engine.Engine.{Engine}
+use Rattle.mls_sessions.specs.Engine.{site, world_of, IsKept}
+use Rattle.mls_sessions.specs.Run.{are_done, IsWhole}
+use Rattle.mls_host.specs.Telling.{IsMore}
+use Rattle.mls_host.specs.declared.errors.Errors.{Errors}
+use Rattle.mls_host.specs.declared.telling.Tally.{Tally}
+use Rattle.mls_runs.specs.declared.seat.Seat.{Seat}
+use Rattle.mls_runs.specs.declared.seat.Fate.{Fate}
+use Rattle.mls_runs.specs.declared.seat.Fate.TheVariants as fates
+use Rattle.mls_runs.specs.Tally.{tally_with}
+use Rattle.mls_host.specs.Ending.{ending_if}
+use Rattle.mls_host.specs.Hosting.{IsTold}
+use Rattle.mls_host.proofs.HostingLemmas.{told_nothing, told_more}
+use Rattle.mls_runs.specs.Shell.{audience_at, verdicts_in, Turn, IsFate, events_of, events_in, opening, is_open, is_last, is_failed, is_lost, verdict_of, is_short, end_told, prompt_of, told_of, AreTold, AreAllTold, answers, after_opening, transcript, shown_to, AreTurns, tally_of, IsSilent, FateFits, IsAnswered, IsFollowed, IsRead, IsConversation}
+use Rattle.mls_runs.proofs.ShellLemmas.{nothing_done, whole_more, stopped_more, fault_more, first_part, all-append, length-snoc, events-snoc, told-snoc, world-snoc, transcript-snoc, shown_before, shown_behind, shown_from, turns-snoc, AreFew, few_more, tally-snoc, none_failed, failed_there, silent_turn, silent_lines, any-snoc}
+
+-- the events of a line are answered
+pub followed_whole : (at : Site) (audience : Audience) (w : World) (es : List Event) (was is : Option (List ℕ)) (new : World) (line : ℕ)
+    → IsFollowed at audience w es was is new line (Ok tt) → IsWhole at audience w es was is new
+followed_whole at audience w es was is new line h = subst (λ (r : Result (Unit {0}) RunFault). OnOk r (IsWhole at audience w es was is new)) h.ok h.answered.whole
+
+ok_where : (r e : Result (Unit {0}) RunFault) → e ≡ Ok tt → OnOk r (e ≡ Ok tt)
+ok_where (Ok u) e h = h
+ok_where (Err f) e h = tt
+
+nothing_where : (r : Result (Unit {0}) RunFault) → IfErr r (λ fault. Unit {0})
+nothing_where (Ok u) = tt
+nothing_where (Err f) = tt
+
+-- no events are answered
+followed_nothing : (at : Site) (audience : Audience) (w : World) (es : List Event) (a : Option (List ℕ)) (line : ℕ) (r : Result (Unit {0}) RunFault) → es ≡ [] → IfErr r (λ fault. fault.event ≡ line)
+    → IsFollowed at audience w es a a w line r
+followed_nothing at audience w es a line r none is = record {
+  end = Ok tt;
+  answered = record { whole = subst (λ (es : List Event). IsWhole at audience w es a a w) (sym none) (nothing_done at audience w a); stopped = tt; fault = tt };
+  ok = ok_where r (Ok tt) refl;
+  line = is;
+  cause = nothing_where r;
+}
+
+pub none_is_lost : (fate : Fate) → ((cause : RunCause) → fate ≡ fates.Lost cause → ⊥) → is_lost fate ≡ false
+none_is_lost fates.Over h = refl
+none_is_lost fates.Blank h = refl
+none_is_lost fates.Help h = refl
+none_is_lost fates.Asked h = refl
+none_is_lost (fates.Said events) h = refl
+none_is_lost (fates.Refused fault) h = refl
+none_is_lost fates.TooLong h = refl
+none_is_lost fates.Unreadable h = refl
+none_is_lost (fates.Lost cause) h = absurd (h cause refl)
+
+pub followed_lost : (at : Site) (audience : Audience) (w : World) (fate : Fate) (a : Option (List ℕ)) (line : ℕ) (cause : RunCause) → fate ≡ fates.Lost cause
+    → IsFollowed at audience w (events_of fate) a a w line (Err (record { event = line; cause = cause; done = false }))
+followed_lost at audience w fate a line cause is = followed_nothing at audience w (events_of fate) a line _ (ap events_of is) refl
+
+pub no_events : (fate : Fate) → ((events : List Event) → fate ≡ fates.Said events → ⊥) → events_of fate ≡ []
+no_events fates.Over h = refl
+no_events fates.Blank h = refl
+no_events fates.Help h = refl
+no_events fates.Asked h = refl
+no_events (fates.Said events) h = absurd (h events refl)
+no_events (fates.Refused fault) h = refl
+no_events fates.TooLong h = refl
+no_events fates.Unreadable h = refl
+no_events (fates.Lost cause) h = refl
+
+pub followed_none : (at : Site) (audience : Audience) (w : World) (fate : Fate) (a : Option (List ℕ)) (line : ℕ) → ((events : List Event) → fate ≡ fates.Said events → ⊥)
+    → IsFollowed at audience w (events_of fate) a a w line (Ok tt)
+followed_none at audience w fate a line h = followed_nothing at audience w (events_of fate) a line (Ok tt) (no_events fate h) tt
+
+pub fate_fits : (at : Site) (fate : Fate) → FateFits at.policy at.schemes fate → EventsFit at (events_of fate)
+fate_fits at fates.Over h = tt
+fate_fits at fates.Blank h = tt
+fate_fits at fates.Help h = tt
+fate_fits at fates.Asked h = tt
+fate_fits at (fates.Said events) h = h
+fate_fits at (fates.Refused fault) h = tt
+fate_fits at fates.TooLong h = tt
+fate_fits at fates.Unreadable h = tt
+fate_fits at (fates.Lost cause) h = tt
+
+-- ---- what is counted of a line
+
+-- of one without events, whatever is said of events
+pub verdict_same : (fate : Fate) (a b : Bool) → ((events : List Event) → fate ≡ fates.Said events → ⊥) → verdict_of a fate ≡ verdict_of b fate
+verdict_same fates.Over a b h = refl
+verdict_same fates.Blank a b h = refl
+verdict_same fates.Help a b h = refl
+verdict_same fates.Asked a b h = refl
+verdict_same (fates.Said events) a b h = absurd (h events refl)
+verdict_same (fates.Refused fault) a b h = refl
+verdict_same fates.TooLong a b h = refl
+verdict_same fates.Unreadable a b h = refl
+verdict_same (fates.Lost cause) a b h = refl
+
+-- of one whose events are answered, by whether there is a notice
+pub verdict_noticed : (at : Site) (w : World) (fate : Fate) (events es : List Event) (noticed : Bool) → fate ≡ fates.Said events → es ≡ events → noticed ≡ not (are_done at w es)
+    → verdict_of (not noticed) fate ≡ verdict_of (are_done at w (events_of fate)) fate
+verdict_noticed at w fate events es noticed is same h =
+    ap (λ b. verdict_of (not b) fate) h ∙ ap (λ b. verdict_of b fate) (not_not (are_done at w es) ∙ ap (are_done at w) (same ∙ sym (ap events_of is)))
+  where
+    not_not : (b : Bool) → not (not b) ≡ b
+    not_not true = refl
+    not_not false = refl
+
+-- what is read under the policy and the schemes is read under the site
+pub fits_at : (p q : Site) (policy : Policy) (schemes : Schemes) → p ≡ q → q.policy ≡ policy → q.schemes ≡ schemes → (fate : Fate) → FateFits policy schemes fate → FateFits p.policy p.schemes fate
+fits_at p q policy schemes same a b fate h =
+    subst (λ (x : Site). FateFits x.policy x.schemes fate) (sym same) (subst (λ y. FateFits q.policy y fate) (sym b) (subst (λ x. FateFits x schemes fate) (sym a) h))
+
+pub level_at : (p q : Site) (policy : Policy) → p ≡ q → q.policy ≡ policy → (level : ℕ) → level < length policy.labels → level < length p.policy.labels
+level_at p q policy same a level h = subst (λ (x : Site). level < length x.policy.labels) (sym same) (subst (λ (x : Policy). level < length x.labels) (sym a) h)
+
+pub read_at : (echo : List ℕ → List ℕ) (q : Site) (policy : Policy) (schemes : Schemes) (seat : Seat) (a b c d : Option (List ℕ)) (Broken : Type 0) (fate : Fate) → q.policy ≡ policy → q.schemes ≡ schemes
+    → IsRead echo (IsFate policy schemes seat) a b c d Broken fate → IsRead echo (IsFate q.policy q.schemes seat) a b c d Broken fate
+read_at echo q policy schemes seat a b c d Broken fate e f h =
+    subst (λ y. IsRead echo (IsFate q.policy y seat) a b c d Broken fate) (sym f) (subst (λ x. IsRead echo (IsFate x schemes seat) a b c d Broken fate) (sym e) h)
+
+-- a line behind which no other is read is the end, or it was not read, or the shell is given up at it
+pub last_line : (fate : Fate) (left : Option (List ℕ)) → is_last fate ≡ true → is_lost fate ≡ false → (fate ≡ fates.Over → IsAtEnd left) → IsAtEnd left ⊎ (is_failed fate ≡ true)
+last_line fates.Over left h none over = inl (over refl)
+last_line fates.Blank left h none over = absurd cc
+last_line fates.Help left h none over = absurd cc
+last_line fates.Asked left h none over = absurd cc
+last_line (fates.Said events) left h none over = absurd cc
+last_line (fates.Refused fault) left h none over = absurd cc
+last_line fates.TooLong left h none over = absurd cc
+last_line fates.Unreadable left h none over = inr refl
+last_line (fates.Lost cause) left h none over = absurd cc
+
+pub failed_last : (ts : List Turn) (t : Turn) (left : Option (List ℕ)) → IsAtEnd left ⊎ (is_failed t.fate ≡ true) → IsAtEnd left ⊎ (list_any (λ (t : Turn). is_failed t.fate) (ts ++ t ∷ []) ≡ true)
+failed_last ts t left (inl h) = inl h
+failed_last ts t left (inr h) = inr (any-snoc (λ (t : Turn). is_failed t.fate) ts t ∙ ap (λ b. list_any (λ (t : Turn). is_failed t.fate) ts || b) h ∙ or_true (list_any (λ (t : Turn). is_failed t.fate) ts))
+  where
+    or_true : (b : Bool) → (b || true) ≡ true
+    or_true true = refl
+    or_true false = refl
+
+-- ---- the lines up to here
+
+module _ {B E : Type 0} (state : B → State) (is_clean : B → Type 0) (contents : E → Option (List ℕ)) (echo : List ℕ → List ℕ) (seat : Seat)
+    (first : Engine B) (quiet : Errors E) (given was : Option (List ℕ)) where
+  abbrev at : Site
+  at = site first
+
+  abbrev w : World
+  w = world_of state first
+
+  -- what is told of these lines, perhaps behind more
+  pub record AreSoFarTold (turns : List Turn) (err : Errors E) : Type 0 where
+    pub lines : List ℕ
+    pub are : AreTold seat 1 turns lines
+    pub opening : IsMore seat.is_watched (λ more. IsTold contents quiet err (more ++ lines))
+
+  -- and behind it the last
+  all_told : (turns : List Turn) (last : List ℕ) (err final : Errors E) → AreSoFarTold turns err → IsTold contents err final last → AreAllTold seat turns last (IsTold contents quiet final)
+  all_told turns last err final h k = record {
+    lines = h.lines;
+    are = h.are;
+    opening = record { more = h.opening.more; none = h.opening.none; leads = told_more contents quiet err final (h.opening.more ++ h.lines) last h.opening.leads k };
+  }
+
+  -- so many lines were read, answered and counted; of the last it is said whether it is one behind which no other is read
+  pub record SoFar (count : ℕ) (now : Engine B) (err : Errors E) (left is : Option (List ℕ)) (was_opened : Bool) (tally : Tally) (last : Bool) : Type 0 where
+    pub turns : List Turn
+    pub count_is : length turns ≡ count
+    pub clean : is_clean now.base → is_clean first.base
+    pub kept : IsKept state is_clean first now
+    pub none_lost : list_any (λ (t : Turn). is_lost t.fate) turns ≡ false
+    pub last_is : list_any (λ (t : Turn). is_last t.fate) turns ≡ last
+    pub told : AreSoFarTold turns err
+    pub fits : EventsFit at (events_in turns)
+    pub lines : is_clean now.base → AreTurns echo at seat (after_opening at seat w) given left turns
+    pub world : is_clean now.base → world_of state now ≡ end_of at w (opening seat ∷ events_in turns)
+    pub written : is_clean now.base → Appends was is (transcript at seat w turns)
+    pub few : AreFew tally count
+    pub opened_is : is_clean now.base → was_opened ≡ is_open seat (after_opening at seat w)
+    pub tally_is : is_clean now.base → tally ≡ tally_of at seat w turns
+
+  -- what is said of the session is said of the world
+  pub record Opened (now : Engine B) (is : Option (List ℕ)) (was_opened : Bool) : Type 0 where
+    pub clean : is_clean now.base → is_clean first.base
+    pub kept : IsKept state is_clean first now
+    pub followed : is_clean now.base → IsFollowed at (audience_at seat) w (opening seat ∷ []) was is (world_of state now) 0 (Ok tt)
+    pub opened_is : was_opened ≡ is_open seat (world_of state now)
+
+  pub so_far_start : (now : Engine B) (is : Option (List ℕ)) (was_opened : Bool) → Opened now is was_opened → (err : Errors E) → IsMore seat.is_watched (IsTold contents quiet err)
+      → SoFar 0 now err given is was_opened (record { lines = 0; refused = 0; misunderstood = 0 }) false
+  unfolding AreTold Rattle.mls_runs.specs.Shell.dialogue AreTurns verdicts_in
+  so_far_start now is was_opened h err m =
+      let done : is_clean now.base → IsWhole at (audience_at seat) w (opening seat ∷ []) was is (world_of state now) =
+      λ c. followed_whole at (audience_at seat) w (opening seat ∷ []) was is (world_of state now) 0 (h.followed c) in
+      record {
+        turns = [];
+        count_is = refl;
+        clean = h.clean;
+        kept = h.kept;
+        none_lost = refl;
+        last_is = refl;
+        told = record { lines = []; are = refl; opening = record { more = m.more; none = m.none; leads = subst (IsTold contents quiet err) (sym (append-nil m.more)) m.leads } };
+        fits = tt;
+        lines = λ c. refl;
+        world = λ c. (done c).world;
+        written = λ c. subst (Appends was is) (sym (append-nil (answers at seat w (opening seat ∷ [])))) (done c).bytes;
+        few = record { lines = omega arith; refused = omega arith; misunderstood = omega arith };
+        opened_is = λ c. h.opened_is ∙ ap (is_open seat) (done c).world;
+        tally_is = λ c. refl;
+      }
+
+  module _ (count : ℕ) (now : Engine B) (err : Errors E) (left is : Option (List ℕ)) (was_opened : Bool) (tally : Tally) (s : SoFar count now err left is was_opened tally false) where
+    same_site : site now ≡ at
+    same_site = ap site_of s.kept.rules
+
+    -- the prompt is shown, a line is read, something becomes of it, and that is told
+    pub record Line (fate : Fate) (asked said : Errors E) (over shown : Option (List ℕ)) (Broken : Type 0) : Type 0 where
+      pub was_open : is_open seat (world_of state now) ≡ true
+      pub asked_is : IsTold contents err asked (prompt_of seat)
+      pub read : IsRead echo (IsFate at.policy at.schemes seat) left over is shown Broken fate
+      pub fits : FateFits at.policy at.schemes fate
+      pub said_is : IsMore seat.is_watched (λ more. IsTold contents asked said (told_of seat (count + 1) fate ++ more))
+
+    module _ (fate : Fate) (asked said : Errors E) (over shown : Option (List ℕ)) (Broken : Type 0) (l : Line fate asked said over shown Broken) where
+      abbrev turn : Turn
+      turn = l.read.turn
+
+      abbrev turns : List Turn
+      turns = s.turns ++ turn ∷ []
+
+      told_now : AreSoFarTold turns said
+      told_now = record {
+        lines = s.told.lines ++ here (count + 1) fate;
+        are = subst (λ (x : Fate). AreTold seat 1 turns (s.told.lines ++ here (count + 1) x)) l.read.same
+            (subst (λ (n : ℕ). AreTold seat 1 turns (s.told.lines ++ here n turn.fate)) number (told-snoc seat 1 s.turns turn s.told.lines l.said_is.more l.said_is.none s.told.are));
+        opening = record {
+          more = s.told.opening.more;
+          none = s.told.opening.none;
+          leads = subst (IsTold contents quiet said) (append_assoc s.told.opening.more s.told.lines (here (count + 1) fate))
+              (told_more contents quiet err said _ _ s.told.opening.leads (told_more contents err asked said (prompt_of seat) _ l.asked_is l.said_is.leads));
+        };
+      }
+        where
+          here : ℕ → Fate → List ℕ
+          here n x = prompt_of seat ++ (told_of seat n x ++ l.said_is.more)
+
+          number : 1 + length s.turns ≡ count + 1
+          number = let e = s.count_is in omega arith
+
+      fits_now : EventsFit at (events_in turns)
+      fits_now = subst (EventsFit at) (sym (events-snoc s.turns turn)) (all-append _ (events_in s.turns) (events_of turn.fate) s.fits (subst (λ (x : Fate). EventsFit at (events_of x)) (sym l.read.same) (fate_fits at fate l.fits)))
+
+      lines_now : is_clean now.base → AreTurns echo at seat (after_opening at seat w) given over turns
+      lines_now c = turns-snoc at seat w echo given left over s.turns turn (s.lines c) s.last_is (subst (λ u. is_open seat u ≡ true) (s.world c) l.was_open) l.read.is_turn
+
+      pub broken_now : list_any (λ (t : Turn). is_failed t.fate) turns ≡ true → Broken
+      broken_now h = l.read.broken (sym l.read.same ∙ failed_there s.turns turn s.last_is h)
+
+      count_now : length turns ≡ count + 1
+      count_now = length-snoc s.turns turn ∙ ap (λ n. n + 1) s.count_is
+
+      module _ (new : Engine B) (after : Option (List ℕ)) (clean : is_clean new.base → is_clean now.base) (kept : IsKept state is_clean now new) where
+        kept_now : IsKept state is_clean first new
+        kept_now = record { rules = kept.rules ∙ s.kept.rules; ready = kept.ready }
+
+        -- the events of the line, from the world up to here
+        moved : {r : Result (Unit {0}) RunFault} → (c : is_clean new.base) → IsFollowed (site now) (audience_at seat) (world_of state now) (events_of fate) shown after (world_of state new) (count + 1) r
+            → IsFollowed at (audience_at seat) (end_of at w (opening seat ∷ events_in s.turns)) (events_of turn.fate) shown after (world_of state new) (count + 1) r
+        moved {r} c h =
+            subst (λ (x : Fate). IsFollowed at (audience_at seat) (end_of at w (opening seat ∷ events_in s.turns)) (events_of x) shown after (world_of state new) (count + 1) r) (sym l.read.same)
+            (subst (λ (u : World). IsFollowed at (audience_at seat) u (events_of fate) shown after (world_of state new) (count + 1) r) (s.world (clean c))
+            (subst (λ (p : Site). IsFollowed p (audience_at seat) (world_of state now) (events_of fate) shown after (world_of state new) (count + 1) r) same_site h))
+
+        moved_verdict : (done : Bool) → is_clean new.base → verdict_of done fate ≡ verdict_of (are_done (site now) (world_of state now) (events_of fate)) fate
+            → verdict_of done fate ≡ verdict_of (are_done at (end_of at w (opening seat ∷ events_in s.turns)) (events_of turn.fate)) turn.fate
+        moved_verdict done c h =
+            h ∙ ap (λ (p : Site). verdict_of (are_done p (world_of state now) (events_of fate)) fate) same_site
+            ∙ ap (λ (u : World). verdict_of (are_done at u (events_of fate)) fate) (s.world (clean c))
+            ∙ ap (λ (x : Fate). verdict_of (are_done at (end_of at w (opening seat ∷ events_in s.turns)) (events_of x)) x) (sym l.read.same)
+
+        pub so_far_more : is_lost fate ≡ false → (is_clean new.base → IsFollowed (site now) (audience_at seat) (world_of state now) (events_of fate) shown after (world_of state new) (count + 1) (Ok tt))
+            → (done : Bool) → (is_clean new.base → verdict_of done fate ≡ verdict_of (are_done (site now) (world_of state now) (events_of fate)) fate)
+            → SoFar (count + 1) new said over after was_opened (tally_with tally (verdict_of done fate)) (is_last fate)
+        so_far_more found h all counts =
+            let done : is_clean new.base → IsWhole at (audience_at seat) (end_of at w (opening seat ∷ events_in s.turns)) (events_of turn.fate) shown after (world_of state new) =
+            λ c. followed_whole at (audience_at seat) (end_of at w (opening seat ∷ events_in s.turns)) (events_of turn.fate) shown after (world_of state new) (count + 1) (moved c (h c)) in
+            record {
+              turns = turns;
+              count_is = count_now;
+              clean = λ c. s.clean (clean c);
+              kept = kept_now;
+              none_lost = any-snoc (λ (t : Turn). is_lost t.fate) s.turns turn ∙ ap (λ b. b || is_lost turn.fate) s.none_lost ∙ ap is_lost l.read.same ∙ found;
+              last_is = any-snoc (λ (t : Turn). is_last t.fate) s.turns turn ∙ ap (λ b. b || is_last turn.fate) s.last_is ∙ ap is_last l.read.same;
+              told = told_now;
+              fits = fits_now;
+              lines = λ c. lines_now (clean c);
+              world = λ c. (done c).world ∙ world-snoc at seat w s.turns turn;
+              written = λ c. subst (Appends was after) (sym (transcript-snoc at seat w s.turns turn))
+                  (Appends-trans was is after (transcript at seat w s.turns) _ (s.written (clean c)) (Appends-trans is shown after turn.shown _ l.read.shown (done c).bytes));
+              few = few_more tally count (verdict_of all fate) s.few;
+              opened_is = λ c. s.opened_is (clean c);
+              tally_is = λ c. (λ i. tally_with (s.tally_is (clean c) i) (moved_verdict all c (counts c) i)) ∙ sym (tally-snoc at seat w s.turns turn);
+            }
+
+        -- a shell that is given up at the line
+        pub broken : EventsFit at (opening seat ∷ []) → (fault : RunFault) → (c : is_clean new.base)
+            → IsFollowed (site now) (audience_at seat) (world_of state now) (events_of fate) shown after (world_of state new) (count + 1) (Err fault)
+            → IsConversation echo at seat given over was after Broken (IsTold contents quiet said) (Err fault) w (world_of state new)
+        broken opens fault c h =
+            let k = moved c h in
+            let world = end_of at w (opening seat ∷ events_in s.turns) in
+            let (part, rest, bytes, both) = first_part at (audience_at seat) world (events_of turn.fate) shown after (world_of state new) k.end k.answered in
+            let es = (opening seat ∷ events_in s.turns) ++ events_of turn.fate in
+            let same : es ≡ opening seat ∷ events_in turns = ap (λ (l : List Event). opening seat ∷ l) (sym (events-snoc s.turns turn)) in
+            let silent : IsSilent echo → IsWhole at (audience_at seat) w (opening seat ∷ events_in s.turns) was shown world =
+            λ q. record {
+              bytes = subst (Appends was shown) (append-nil _) (Appends-trans was is shown (answers at seat w (opening seat ∷ events_in s.turns)) []
+                  (subst (Appends was is) (silent_lines at seat echo w given left s.turns q (s.lines (clean c))) (s.written (clean c)))
+                  (subst (Appends is shown) (silent_turn at seat echo (IsFate at.policy at.schemes seat) left over turn q l.read.is_turn) l.read.shown));
+              world = refl;
+            } in
+            let line : fault.event ≡ length turns = k.line ∙ sym count_now in
+            let front = transcript at seat w s.turns in
+            let before : shown_to at seat w turns fault.event ≡ front = shown_before at seat w s.turns turn fault.event line in
+            record {
+              talk = record {
+                turns = turns;
+                run_end = later k.end;
+                lines = lines_now (clean c);
+                broken = broken_now;
+                told = all_told turns [] said said told_now (told_nothing contents said);
+                ended = record {
+                  line = line;
+                  cause = later_cause k.end fault k.cause;
+                  part = turn.shown ++ part;
+                  rest = rest;
+                  written = subst (λ t. Appends was after (t ++ (turn.shown ++ part))) (sym before)
+                      (Appends-trans was is after front _ (s.written (clean c)) (Appends-trans is shown after turn.shown part l.read.shown bytes));
+                  whole = ap (λ t. (t ++ (turn.shown ++ part)) ++ rest) before ∙ append_assoc front (turn.shown ++ part) rest
+                      ∙ ap (λ t. front ++ t) (append_assoc turn.shown part rest ∙ ap (λ t. turn.shown ++ t) both)
+                      ∙ sym (transcript-snoc at seat w s.turns turn) ∙ sym (shown_behind at seat w turns fault.event line);
+                };
+              };
+              fits = (opens.0, fits_now);
+              run = λ q. subst (λ (es : List Event). IsAnswered at (audience_at seat) w es was after (world_of state new) (later k.end)) same (later_answered k.end (silent q) k.answered);
+            }
+          where
+            later : Result (Unit {0}) RunFault → Result (Unit {0}) RunFault
+            later (Ok u) = Ok tt
+            later (Err f) = Err (record { event = length (opening seat ∷ events_in s.turns) + f.event; cause = f.cause; done = f.done })
+
+            later_cause : (end : Result (Unit {0}) RunFault) (fault : RunFault) → IfErr end (λ f. (f.cause ≡ fault.cause) × (f.done ≡ fault.done)) → IfErr (later end) (λ f. (f.cause ≡ fault.cause) × (f.done ≡ fault.done))
+            later_cause (Ok u) fault h = tt
+            later_cause (Err f) fault h = h
+
+            later_answered : (end : Result (Unit {0}) RunFault) → IsWhole at (audience_at seat) w (opening seat ∷ events_in s.turns) was shown (end_of at w (opening seat ∷ events_in s.turns))
+                → IsAnswered at (audience_at seat) (end_of at w (opening seat ∷ events_in s.turns)) (events_of turn.fate) shown after (world_of state new) end
+                → IsAnswered at (audience_at seat) w ((opening seat ∷ events_in s.turns) ++ events_of turn.fate) was after (world_of state new) (later end)
+            later_answered (Ok u) first h = record {
+              whole = whole_more at (audience_at seat) w (opening seat ∷ events_in s.turns) (events_of turn.fate) was shown after first.bytes (world_of state new) h.whole;
+              stopped = tt;
+              fault = tt;
+            }
+            later_answered (Err f) first h = record {
+              whole = tt;
+              stopped = stopped_more at (audience_at seat) w (opening seat ∷ events_in s.turns) (events_of turn.fate) was shown after first.bytes (world_of state new) f h.fault h.stopped;
+              fault = fault_more at (audience_at seat) w (opening seat ∷ events_in s.turns) (events_of turn.fate) was shown after first.bytes (world_of state new) f h.fault;
+            }
+
+  -- ---- how a shell ends
+
+  module _ (opens : EventsFit at (opening seat ∷ [])) (Broken : Type 0) where
+    -- it is given up at the opening
+    pub broken_first : (new : Engine B) (after : Option (List ℕ)) (fault : RunFault) → IsFollowed at (audience_at seat) w (opening seat ∷ []) was after (world_of state new) 0 (Err fault)
+        → IsConversation echo at seat given given was after Broken (IsTold contents quiet quiet) (Err fault) w (world_of state new)
+    unfolding AreTold Rattle.mls_runs.specs.Shell.dialogue AreTurns
+    broken_first new after fault h =
+        let (part, rest, bytes, both) = first_part at (audience_at seat) w (opening seat ∷ []) was after (world_of state new) h.end h.answered in
+        record {
+          talk = record {
+            turns = [];
+            run_end = h.end;
+            lines = refl;
+            broken = λ f. absurd (true≢false (sym f));
+            told = record { lines = []; are = refl; opening = record { more = []; none = λ off. refl; leads = told_nothing contents quiet } };
+            ended = record {
+              line = h.line;
+              cause = h.cause;
+              part = part;
+              rest = rest;
+              written = subst (λ n. Appends was after (shown_to at seat w [] n ++ part)) (sym h.line) bytes;
+              whole = subst (λ n. (shown_to at seat w [] n ++ part) ++ rest ≡ shown_to at seat w [] (suc n)) (sym h.line) (both ∙ sym (append-nil (answers at seat w (opening seat ∷ []))));
+            };
+          };
+          fits = opens;
+          run = λ q. h.answered;
+        }
+
+    module _ (count : ℕ) (now : Engine B) (err : Errors E) (left is : Option (List ℕ)) (was_opened : Bool) (tally : Tally) (last : Bool) (s : SoFar count now err left is was_opened tally last) (c : is_clean now.base) where
+      all_answered : IsSilent echo → IsAnswered at (audience_at seat) w (opening seat ∷ events_in s.turns) was is (world_of state now) (Ok tt)
+      all_answered q = record {
+        whole = record { bytes = subst (Appends was is) (silent_lines at seat echo w given left s.turns q (s.lines c)) (s.written c); world = s.world c };
+        stopped = tt;
+        fault = tt;
+      }
+
+      -- it ends well
+      pub over : (is_open seat (world_of state now) ≡ true → IsAtEnd left ⊎ (list_any (λ (t : Turn). is_failed t.fate) s.turns ≡ true))
+          → (list_any (λ (t : Turn). is_failed t.fate) s.turns ≡ true → Broken)
+          → (final : Errors E) → IsTold contents err final (end_told seat tally)
+          → IsConversation echo at seat given left was is Broken (IsTold contents quiet final) (Ok (ending_if (not was_opened || is_short tally))) w (world_of state now)
+      over all breaks final end = record {
+        talk = record {
+          turns = s.turns;
+          run_end = Ok tt;
+          lines = s.lines c;
+          broken = breaks;
+          told = all_told s.turns (end_told seat (tally_of at seat w s.turns)) err final s.told (subst (λ t. IsTold contents err final (end_told seat t)) (s.tally_is c) end);
+          ended = (
+            refl,
+            record {
+              written = s.written c;
+              status = λ i. ending_if (not (s.opened_is c i) || is_short (s.tally_is c i));
+              none_lost = s.none_lost;
+              all = λ o. all (subst (λ u. is_open seat u ≡ true) (sym (s.world c)) o);
+            },
+          );
+        };
+        fits = (opens.0, s.fits);
+        run = all_answered;
+      }
+
+    module _ (count : ℕ) (now : Engine B) (err : Errors E) (left is : Option (List ℕ)) (was_opened : Bool) (tally : Tally) (s : SoFar count now err left is was_opened tally false) (c : is_clean now.base) where
+      none_broken : list_any (λ (t : Turn). is_failed t.fate) s.turns ≡ true → Broken
+      none_broken f = absurd (true≢false (sym f ∙ none_failed s.turns s.last_is))
+
+      -- it ends well where the session is closed
+      pub over_closed : is_open seat (world_of state now) ≡ false → (final : Errors E) → IsTold contents err final (end_told seat tally)
+          → IsConversation echo at seat given left was is Broken (IsTold contents quiet final) (Ok (ending_if (not was_opened || is_short tally))) w (world_of state now)
+      over_closed closed = over count now err left is was_opened tally false s c (λ o. absurd (true≢false (sym o ∙ closed))) none_broken
+
+      -- it is given up between two lines
+      pub worn_out : (fault : RunFault) → fault.event ≡ count → IsConversation echo at seat given left was is Broken (IsTold contents quiet err) (Err fault) w (world_of state now)
+      worn_out fault e =
+          let line : fault.event ≡ length s.turns = e ∙ sym s.count_is in
+          let rest = shown_from at seat w s.turns fault.event in
+          record {
+            talk = record {
+              turns = s.turns;
+              run_end = Ok tt;
+              lines = s.lines c;
+              broken = none_broken;
+              told = all_told s.turns [] err err s.told (told_nothing contents err);
+              ended = record {
+                line = line;
+                cause = tt;
+                part = rest.0;
+                rest = [];
+                written = subst (Appends was is) (sym rest.1) (s.written c);
+                whole = append-nil (shown_to at seat w s.turns fault.event ++ rest.0) ∙ rest.1 ∙ sym (shown_behind at seat w s.turns fault.event line);
+              };
+            };
+            fits = (opens.0, s.fits);
+            run = all_answered count now err left is was_opened tally false s c;
+          }
+
+    -- it ends well at a line behind which no other is read
+    pub over_last : (count : ℕ) (now : Engine B) (err : Errors E) (left is : Option (List ℕ)) (was_opened : Bool) (tally : Tally) (s : SoFar count now err left is was_opened tally false)
+        (fate : Fate) (asked said : Errors E) (past shown : Option (List ℕ)) (l : Line count now err left is was_opened tally s fate asked said past shown Broken)
+        (new : Engine B) (after : Option (List ℕ)) (clean : is_clean new.base → is_clean now.base) (kept : IsKept state is_clean now new)
+        → is_lost fate ≡ false → (is_clean new.base → IsFollowed (site now) (audience_at seat) (world_of state now) (events_of fate) shown after (world_of state new) (count + 1) (Ok tt))
+        → (done : Bool) → (is_clean new.base → verdict_of done fate ≡ verdict_of (are_done (site now) (world_of state now) (events_of fate)) fate)
+        → is_last fate ≡ true → is_clean new.base → (final : Errors E) → IsTold contents said final (end_told seat (tally_with tally (verdict_of done fate)))
+        → IsConversation echo at seat given past was after Broken (IsTold contents quiet final) (Ok (ending_if (not was_opened || is_short (tally_with tally (verdict_of done fate))))) w (world_of state new)
+    unfolding so_far_more
+    over_last count now err left is was_opened tally s fate asked said past shown l new after clean kept found h done counts last c =
+        over (count + 1) new said past after was_opened (tally_with tally (verdict_of done fate)) (is_last fate)
+        (so_far_more count now err left is was_opened tally s fate asked said past shown Broken l new after clean kept found h done counts) c
+        (λ o. failed_last s.turns l.read.turn past
+        (last_line l.read.turn.fate past (ap is_last l.read.same ∙ last) (ap is_lost l.read.same ∙ found) (λ e. l.read.over (sym l.read.same ∙ e))))
+        (broken_now count now err left is was_opened tally s fate asked said past shown Broken l)

@@ -1,0 +1,158 @@
+-- What becomes of a typed line.
+use Rattle.std.proofs.Common.{◌≡◌, ◌≢◌, ℕ, ◌≤◌, Bool, true, false, true≢false, List, [], ◌∷◌, ◌++◌, length, Option, Result, Ok, Err, cond, nat_eq, eqb-true, codes, ◌⊎◌, refl, sym, ap, ◌∙◌, subst, inl, inr, append-nil, arith}
+use Rattle.std.specs.Str.{bytes_eq}
+use Rattle.std.specs.List.{list_all}
+use Rattle.std.proofs.lemmas.Slice.Eq.{bytes_eq-Decides}
+use Rattle.std.specs.Io.KnownBytes.{Appends, IsAtEnd}
+use Rattle.mls_lattice.specs.Policy.{Policy, IsPolicy}
+use Rattle.mls_scheme.specs.Scheme.{Schemes, AreSchemes}
+use Rattle.mls_script.specs.declared.event.Event.{Event}
+use Rattle.mls_script.specs.declared.fault.ScriptFault.{ScriptFault}
+use Rattle.mls_script.specs.Reading.{script_at}
+use Rattle.mls_script.specs.Script.{ReadsScript}
+use Rattle.mls_script.proofs.LawLemmas.{script_found}
+use Rattle.mls_script.proofs.TellingLemmas.{script_again}
+use Rattle.mls_sessions.specs.declared.cause.RunCause.{RunCause}
+use Rattle.mls_sessions.specs.declared.cause.RunCause.TheVariants.{Memory}
+use Rattle.mls_tokens.specs.Typing.{IsNext, IsLong, IsLost}
+use Rattle.mls_runs.specs.declared.seat.Seat.{Seat}
+use Rattle.mls_runs.specs.declared.seat.Fate.{Fate}
+use Rattle.mls_runs.specs.declared.seat.Fate.TheVariants as fates
+use Rattle.mls_runs.specs.Typed.{fate_of_fault, fate_read, fate_of, Becomes}
+use Rattle.mls_runs.specs.Shell.{prefix_of, is_own, is_asked, meant, IsCommand, IsFate, over, help, asked, said, blank, refused, IsCut, whole, long, cut, IsRead}
+
+pub lost_read : (cause : RunCause) → fates.Lost cause ≡ fates.Unreadable → ⊥
+lost_read cause h = absurd cc
+
+no_line : (text : List ℕ) → [] ≡ text ++ 10 ∷ [] → ⊥
+no_line [] h = absurd cc
+no_line (x ∷ xs) h = absurd cc
+
+-- what is told of events is no end, and was read
+some_events : (b : Bool) (events : List Event) (fault : ScriptFault) → cond b (fates.Said events) (fates.Refused fault) ≡ fates.Over → ⊥
+some_events true events fault h = absurd cc
+some_events false events fault h = absurd cc
+
+read_events : (b : Bool) (events : List Event) (fault : ScriptFault) → cond b (fates.Said events) (fates.Refused fault) ≡ fates.Unreadable → ⊥
+read_events true events fault h = absurd cc
+read_events false events fault h = absurd cc
+
+empty : (line : List ℕ) → nat_eq (length line) 0 ≡ true → line ≡ []
+empty [] h = refl
+empty (x ∷ xs) h = absurd (let e = eqb-true _ _ h in omega arith)
+
+-- ---- a line is read, whatever is to become of it
+
+module _ (echo : List ℕ → List ℕ) (IsFateOf : List ℕ → Fate → Type 0) (before after was is : Option (List ℕ)) (Broken : Type 0) where
+  at_end : (line : List ℕ) → IsNext before after line → line ≡ [] → IsAtEnd after
+  at_end line n e = ends n.whole
+    where
+      ends : (line ≡ n.text ++ 10 ∷ []) ⊎ ((line ≡ n.text) × IsAtEnd after) → IsAtEnd after
+      ends (inl h) = absurd (no_line n.text (sym e ∙ h))
+      ends (inr h) = h.1
+
+  -- it is understood
+  pub read_line : (line : List ℕ) → IsNext before after line → length line ≤ 1048576 → Appends was is (echo line) → (fate : Fate) → IsFateOf line fate → (fate ≡ fates.Over → line ≡ []) → (fate ≡ fates.Unreadable → ⊥)
+      → IsRead echo IsFateOf before after was is Broken fate
+  read_line line n short w fate is none read = record {
+    turn = record { line = line; shown = echo line; fate = fate };
+    is_turn = whole n short refl is;
+    same = refl;
+    shown = w;
+    over = λ o. at_end line n (none o);
+    broken = λ u. absurd (read u);
+  }
+
+  -- there is no memory to understand it
+  pub read_in_vain : (line : List ℕ) → IsNext before after line → Appends was is (echo line) → (fate : Fate) → fate ≡ fates.Lost Memory → IsRead echo IsFateOf before after was is Broken fate
+  read_in_vain line n w fate e = record {
+    turn = record { line = line; shown = echo line; fate = fate };
+    is_turn = cut line [] n.read (append-nil (echo line)) (subst IsCut (sym e) (λ is. cc));
+    same = refl;
+    shown = w;
+    over = λ o. let bad : fates.Lost Memory ≡ fates.Over = sym e ∙ o in absurd cc;
+    broken = λ u. let bad : fates.Lost Memory ≡ fates.Unreadable = sym e ∙ u in absurd cc;
+  }
+
+  pub read_long : (line : List ℕ) → IsLong before after line → Appends was is [] → IsRead echo IsFateOf before after was is Broken fates.TooLong
+  read_long line l w = record {
+    turn = record { line = line; shown = []; fate = fates.TooLong };
+    is_turn = long l refl refl;
+    same = refl;
+    shown = w;
+    over = λ o. let bad : fates.TooLong ≡ fates.Over = o in absurd cc;
+    broken = λ u. let bad : fates.TooLong ≡ fates.Unreadable = u in absurd cc;
+  }
+
+  pub read_lost : (fate : Fate) → IsCut fate → (fate ≡ fates.Unreadable → Broken) → IsLost echo before after was is → IsRead echo IsFateOf before after was is Broken fate
+  read_lost fate c b l = record {
+    turn = record { line = l.bytes; shown = l.shown; fate = fate };
+    is_turn = cut l.line l.rest l.read l.part c;
+    same = refl;
+    shown = l.written;
+    over = λ o. absurd (subst IsCut o c);
+    broken = b;
+  }
+
+module _ (policy : Policy) (schemes : Schemes) (seat : Seat) where
+  -- ---- what becomes of a line is found
+
+  module _ (is_policy : IsPolicy policy) (are_schemes : AreSchemes schemes) (line : List ℕ) where
+    none_other : (bytes : List ℕ) (events : List Event) (r : Result (List Event) ScriptFault) → script_at policy schemes bytes ≡ r → ReadsScript policy schemes bytes events → Ok events ≡ r
+    none_other bytes events r e h = sym (script_again policy schemes is_policy are_schemes bytes events h) ∙ e
+
+    fault_is : (fault : ScriptFault) → IsCommand seat line → script_at policy schemes (prefix_of seat ++ meant seat line) ≡ Err fault → (alone : Result (List Event) ScriptFault)
+        → script_at policy schemes (meant seat line) ≡ alone → IsFate policy schemes seat line (fate_of_fault fault alone)
+    fault_is fault command e (Ok []) a =
+        blank command (λ events h. let bad = none_other (prefix_of seat ++ meant seat line) events (Err fault) e h in absurd cc) (script_found policy schemes (meant seat line) [] a) refl
+    fault_is fault command e (Ok (x ∷ xs)) a = refused fault command e (λ h. let bad = none_other (meant seat line) [] (Ok (x ∷ xs)) a h in absurd cc) refl
+    fault_is fault command e (Err other) a = refused fault command e (λ h. let bad = none_other (meant seat line) [] (Err other) a h in absurd cc) refl
+
+    read_is : IsCommand seat line → (r : Result (List Event) ScriptFault) → script_at policy schemes (prefix_of seat ++ meant seat line) ≡ r
+        → IsFate policy schemes seat line (fate_read policy schemes seat (meant seat line) r)
+    read_is command (Ok events) e = said events command (script_found policy schemes (prefix_of seat ++ meant seat line) events e) refl
+    read_is command (Err fault) e = fault_is fault command e (script_at policy schemes (meant seat line)) refl
+
+    asked_is : (b : Bool) → is_asked seat line ≡ b → (rest : Fate) → (is_asked seat line ≡ false → IsFate policy schemes seat line rest) → IsFate policy schemes seat line (cond b fates.Asked rest)
+    asked_is true e rest f = asked e refl
+    asked_is false e rest f = f e
+
+    help_is : (b : Bool) → bytes_eq line (codes "help\n") ≡ b → (rest : Fate) → (line ≢ codes "help\n" → IsFate policy schemes seat line rest) → IsFate policy schemes seat line (cond b fates.Help rest)
+    help_is true e rest f = help ((bytes_eq-Decides line (codes "help\n")).0 e) refl
+    help_is false e rest f = f (λ h. true≢false (sym ((bytes_eq-Decides line (codes "help\n")).1 h) ∙ e))
+
+    over_is : (b : Bool) → nat_eq (length line) 0 ≡ b → (rest : Fate) → (line ≢ [] → IsFate policy schemes seat line rest) → IsFate policy schemes seat line (cond b fates.Over rest)
+    over_is true e rest f = over (empty line e) refl
+    over_is false e rest f = f (λ h. true≢false (sym (ap (λ l. nat_eq (length l) 0) h) ∙ e))
+
+    pub fate_is : IsFate policy schemes seat line (fate_of policy schemes seat line)
+    fate_is =
+        let r = script_at policy schemes (prefix_of seat ++ meant seat line) in
+        let read = fate_read policy schemes seat (meant seat line) r in
+        let more = cond (is_asked seat line) fates.Asked read in
+        over_is (nat_eq (length line) 0) refl (cond (bytes_eq line (codes "help\n")) fates.Help more)
+        (λ some. help_is (bytes_eq line (codes "help\n")) refl more (λ other. asked_is (is_asked seat line) refl read (λ none. read_is (some, other, none) r refl)))
+
+  over_is_empty : (line : List ℕ) (fate : Fate) → IsFate policy schemes seat line fate → fate ≡ fates.Over → line ≡ []
+  over_is_empty line fate (over e f) h = e
+  over_is_empty line fate (help e f) h = absurd (let bad : fates.Help ≡ fates.Over = sym f ∙ h in cc)
+  over_is_empty line fate (asked e f) h = absurd (let bad : fates.Asked ≡ fates.Over = sym f ∙ h in cc)
+  over_is_empty line fate (said events c r f) h = absurd (some_events (list_all (is_own seat) events) events _ (sym f ∙ h))
+  over_is_empty line fate (blank c n r f) h = absurd (let bad : fates.Blank ≡ fates.Over = sym f ∙ h in cc)
+  over_is_empty line fate (refused fault c r n f) h = absurd (let bad : fates.Refused fault ≡ fates.Over = sym f ∙ h in cc)
+
+  was_read : (line : List ℕ) (fate : Fate) → IsFate policy schemes seat line fate → fate ≡ fates.Unreadable → ⊥
+  was_read line fate (over e f) h = let bad : fates.Over ≡ fates.Unreadable = sym f ∙ h in absurd cc
+  was_read line fate (help e f) h = let bad : fates.Help ≡ fates.Unreadable = sym f ∙ h in absurd cc
+  was_read line fate (asked e f) h = let bad : fates.Asked ≡ fates.Unreadable = sym f ∙ h in absurd cc
+  was_read line fate (said events c r f) h = read_events (list_all (is_own seat) events) events _ (sym f ∙ h)
+  was_read line fate (blank c n r f) h = let bad : fates.Blank ≡ fates.Unreadable = sym f ∙ h in absurd cc
+  was_read line fate (refused fault c r n f) h = let bad : fates.Refused fault ≡ fates.Unreadable = sym f ∙ h in absurd cc
+
+  module _ (echo : List ℕ → List ℕ) (before after was is_now : Option (List ℕ)) (Broken : Type 0) where
+    pub read_whole : IsPolicy policy → AreSchemes schemes → (line : List ℕ) → IsNext before after line → length line ≤ 1048576 → Appends was is_now (echo line) → (fate : Fate) → Becomes (fate_of policy schemes seat line) fate
+        → IsRead echo (IsFate policy schemes seat) before after was is_now Broken fate
+    read_whole is_policy are_schemes line n short w fate (inl e) =
+        let is = subst (IsFate policy schemes seat line) (sym e) (fate_is is_policy are_schemes line) in
+        read_line echo (IsFate policy schemes seat) before after was is_now Broken line n short w fate is (over_is_empty line fate is) (was_read line fate is)
+    read_whole is_policy are_schemes line n short w fate (inr e) = read_in_vain echo (IsFate policy schemes seat) before after was is_now Broken line n w fate e

@@ -1,0 +1,43 @@
+use Rattle.std.proofs.Common.{◌≡◌, sym, ap, subst, ◌∙◌}
+use Rattle.mls_lattice.specs.Labels.{AreDistinct}
+use Rattle.mls_machine.specs.Site.{Site, site_labels}
+use Rattle.mls_sessions.specs.World.{world_at, IsSound}
+use Rattle.mls_sessions.specs.Sessions.{site_of, sessions_of}
+use Rattle.mls_host.specs.Hosting.{IsAppended}
+use Rattle.mls_host.specs.Running.{first_world, site_of as site_for}
+use Rattle.mls_runs.proofs.DeskLemmas.{service_at}
+use Rattle.mls_runs.proofs.DeskEndLemmas.{desk_at}
+use Rattle.mls_sessions.proofs.FrameLemmas.{left_behind}
+use Rattle.mls_runs.proofs.desk.desk_over_base.Goals as goal
+
+pub serve-outcome-requires-clause-policy : goal.serve-outcome-requires-clause-policy
+serve-outcome-requires-clause-policy g c = ap (λ (s : Site). s.policy) c.new-engine.ensures.site
+
+pub serve-outcome-requires-clause-schemes : goal.serve-outcome-requires-clause-schemes
+serve-outcome-requires-clause-schemes g c = ap (λ (s : Site). s.schemes) c.new-engine.ensures.site
+
+pub returns-clause-leaves : goal.returns-clause-leaves
+returns-clause-leaves g c =
+    left_behind g.B.Base.state g.B.Base.is_clean g.B.Base.failures c.args.base c.new-engine.result c.serve-outcome.new.engine c.finish.result c.serve-outcome.result
+    c.new-engine.ensures.base c.finish.ensures c.serve-outcome.ensures.continues
+
+pub returns-clause-desk : goal.returns-clause-desk
+returns-clause-desk g c = λ clean.
+    let at : Site = site_for c.args.policy.now c.args.schemes.now c.args.stored in
+    let was = subst g.B.Base.is_clean c.finish.ensures clean in
+    let new = c.serve-outcome.new.engine in
+    let first = (g.B.Base.state c.args.base).now in
+    let left = (g.B.Base.state c.finish.result).now in
+    let sessions = sessions_of new.sessions.items in
+    let same : site_of new.rules ≡ at = ap site_of c.serve-outcome.ensures.continues.kept.rules ∙ c.new-engine.ensures.site in
+    let held : (g.B.Base.state new.base).now ≡ left = ap (λ b. (g.B.Base.state b).now) (sym c.finish.ensures) in
+    let sound : IsSound at left = subst (λ x. IsSound at x) held (subst (λ x. IsSound x (g.B.Base.state new.base).now) same (c.serve-outcome.ensures.continues.kept.ready.sound was)) in
+    let last : world_at (site_of new.rules) sessions (g.B.Base.state new.base).now ≡ world_at at sessions left = λ i. world_at (same i) sessions (held i) in
+    let distinct : AreDistinct (site_labels at) = subst (λ (s : Site). AreDistinct (site_labels s)) c.new-engine.ensures.site c.new-engine.ensures.ready.distinct in
+    let start = c.requires.sound (subst g.B.Base.is_clean c.new-engine.ensures.base (c.serve-outcome.ensures.continues.clean was)) in
+    let before = g.L.TypedLines.remaining c.args.lines.now in
+    let after = g.L.TypedLines.remaining c.serve-outcome.new.lines in
+    let Broken = g.L.TypedLines.breaks c.serve-outcome.new.lines in
+    let Wrote = IsAppended g.W.Write.contents c.args.out.now c.serve-outcome.new.out in
+    desk_at g.L.TypedLines.echo at sessions first left before after Broken Wrote c.serve-outcome.result distinct c.requires.may.read c.requires.may.certified start sound
+    (service_at g.L.TypedLines.echo before after Broken Wrote c.serve-outcome.result _ at _ (first_world at first) _ (world_at at sessions left) c.new-engine.ensures.site c.new-engine.ensures.world last (c.serve-outcome.ensures.service was))

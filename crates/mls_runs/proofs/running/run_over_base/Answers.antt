@@ -1,0 +1,35 @@
+use Rattle.std.proofs.Common.{◌≡◌, sym, ap, subst, ◌∙◌}
+use Rattle.mls_machine.specs.Site.{Site}
+use Rattle.mls_machine.specs.Observation.{EventsFit}
+use Rattle.mls_sessions.specs.World.{world_at, IsSound}
+use Rattle.mls_sessions.specs.Engine.{world_of}
+use Rattle.mls_sessions.specs.Sessions.{site_of, sessions_of}
+use Rattle.mls_host.specs.Running.{first_world, site_of as site_for}
+use Rattle.mls_host.proofs.RunningLemmas.{IsEngineRun, run_at}
+use Rattle.mls_sessions.proofs.FrameLemmas.{left_behind}
+use Rattle.mls_runs.proofs.running.run_over_base.Goals as goal
+
+pub run_to-outcome-requires-clause-fits : goal.run_to-outcome-requires-clause-fits
+run_to-outcome-requires-clause-fits g c = subst (λ at. EventsFit at c.args.events.now) (sym c.new-engine.ensures.site) c.requires.may.fits
+
+pub returns-clause-leaves : goal.returns-clause-leaves
+returns-clause-leaves g c =
+    left_behind g.B.Base.state g.B.Base.is_clean g.B.Base.failures c.args.base c.new-engine.result c.run_to-outcome.new.engine c.finish.result c.run_to-outcome.result
+    c.new-engine.ensures.base c.finish.ensures c.run_to-outcome.ensures.continues
+
+pub returns-clause-run : goal.returns-clause-run
+returns-clause-run g c = λ clean.
+    let at : Site = site_for c.args.policy.now c.args.schemes.now c.args.stored in
+    let was = subst g.B.Base.is_clean c.finish.ensures clean in
+    let new = c.run_to-outcome.new.engine in
+    let left = (g.B.Base.state c.finish.result).now in
+    let sessions = sessions_of new.sessions.items in
+    let same : site_of new.rules ≡ at = ap site_of c.run_to-outcome.ensures.continues.kept.rules ∙ c.new-engine.ensures.site in
+    let held : (g.B.Base.state new.base).now ≡ left = ap (λ b. (g.B.Base.state b).now) (sym c.finish.ensures) in
+    let sound : IsSound at left = subst (λ x. IsSound at x) held (subst (λ x. IsSound x (g.B.Base.state new.base).now) same (c.run_to-outcome.ensures.continues.kept.ready.sound was)) in
+    let last : world_at (site_of new.rules) sessions (g.B.Base.state new.base).now ≡ world_at at sessions left = λ i. world_at (same i) sessions (held i) in
+    run_at at c.args.audience sessions (g.B.Base.state c.args.base).now left c.args.events.now (g.W.Write.contents c.args.out.now) (g.W.Write.contents c.run_to-outcome.new.out) c.run_to-outcome.result sound
+    (subst (λ w. IsEngineRun at c.args.audience (first_world at (g.B.Base.state c.args.base).now) c.args.events.now (g.W.Write.contents c.args.out.now) (g.W.Write.contents c.run_to-outcome.new.out) w c.run_to-outcome.result) last
+    (subst (λ v. IsEngineRun at c.args.audience v c.args.events.now (g.W.Write.contents c.args.out.now) (g.W.Write.contents c.run_to-outcome.new.out) (world_at (site_of new.rules) sessions (g.B.Base.state new.base).now) c.run_to-outcome.result) c.new-engine.ensures.world
+    (subst (λ s. IsEngineRun s c.args.audience (world_of g.B.Base.state c.new-engine.result) c.args.events.now (g.W.Write.contents c.args.out.now) (g.W.Write.contents c.run_to-outcome.new.out) (world_at (site_of new.rules) sessions (g.B.Base.state new.base).now) c.run_to-outcome.result) c.new-engine.ensures.site
+    (record { ok = c.run_to-outcome.ensures.ok was; err = c.run_to-outcome.ensures.err was; fault = c.run_to-outcome.ensures.fault; integrity = c.run_to-outcome.ensures.integrity was; secret = c.run_to-outcome.ensures.secret was }))))

@@ -1,0 +1,46 @@
+use Rattle.std.proofs.Common.{◌≡◌, ◌∷◌, [], sym, ap, subst, ◌∙◌}
+use Rattle.mls_lattice.specs.Labels.{AreDistinct}
+use Rattle.mls_machine.specs.Site.{Site, site_labels}
+use Rattle.mls_machine.specs.Observation.{EventsFit}
+use Rattle.mls_sessions.specs.World.{world_at, IsSound}
+use Rattle.mls_sessions.specs.Sessions.{site_of, sessions_of}
+use Rattle.mls_host.specs.Hosting.{IsTold}
+use Rattle.mls_host.specs.Running.{first_world, site_of as site_for}
+use Rattle.mls_runs.specs.Shell.{opening}
+use Rattle.mls_runs.proofs.ShellEndLemmas.{opening_fits, conversation_at, shell_at}
+use Rattle.mls_sessions.proofs.FrameLemmas.{left_behind}
+use Rattle.mls_runs.proofs.shell.shell_over_base.Goals as goal
+
+pub converse-outcome-requires-clause-policy : goal.converse-outcome-requires-clause-policy
+converse-outcome-requires-clause-policy g c = ap (λ (s : Site). s.policy) c.new-engine.ensures.site
+
+pub converse-outcome-requires-clause-schemes : goal.converse-outcome-requires-clause-schemes
+converse-outcome-requires-clause-schemes g c = ap (λ (s : Site). s.schemes) c.new-engine.ensures.site
+
+pub converse-outcome-requires-clause-fits : goal.converse-outcome-requires-clause-fits
+converse-outcome-requires-clause-fits g c = subst (λ (at : Site). EventsFit at (opening c.args.seat.now ∷ [])) (sym c.new-engine.ensures.site)
+    (opening_fits (site_for c.args.policy.now c.args.schemes.now c.args.stored) c.args.seat.now c.requires.may.level c.requires.may.user)
+
+pub returns-clause-leaves : goal.returns-clause-leaves
+returns-clause-leaves g c =
+    left_behind g.B.Base.state g.B.Base.is_clean g.B.Base.failures c.args.base c.new-engine.result c.converse-outcome.new.engine c.finish.result c.converse-outcome.result
+    c.new-engine.ensures.base c.finish.ensures c.converse-outcome.ensures.continues
+
+pub returns-clause-shell : goal.returns-clause-shell
+returns-clause-shell g c = λ clean.
+    let at : Site = site_for c.args.policy.now c.args.schemes.now c.args.stored in
+    let was = subst g.B.Base.is_clean c.finish.ensures clean in
+    let new = c.converse-outcome.new.engine in
+    let first = (g.B.Base.state c.args.base).now in
+    let left = (g.B.Base.state c.finish.result).now in
+    let sessions = sessions_of new.sessions.items in
+    let same : site_of new.rules ≡ at = ap site_of c.converse-outcome.ensures.continues.kept.rules ∙ c.new-engine.ensures.site in
+    let held : (g.B.Base.state new.base).now ≡ left = ap (λ b. (g.B.Base.state b).now) (sym c.finish.ensures) in
+    let sound : IsSound at left = subst (λ x. IsSound at x) held (subst (λ x. IsSound x (g.B.Base.state new.base).now) same (c.converse-outcome.ensures.continues.kept.ready.sound was)) in
+    let last : world_at (site_of new.rules) sessions (g.B.Base.state new.base).now ≡ world_at at sessions left = λ i. world_at (same i) sessions (held i) in
+    let distinct : AreDistinct (site_labels at) = subst (λ (s : Site). AreDistinct (site_labels s)) c.new-engine.ensures.site c.new-engine.ensures.ready.distinct in
+    let start = c.requires.sound (subst g.B.Base.is_clean c.new-engine.ensures.base (c.converse-outcome.ensures.continues.clean was)) in
+    shell_at g.L.TypedLines.echo at c.args.seat.now sessions first left (g.L.TypedLines.remaining c.args.lines.now) (g.L.TypedLines.remaining c.converse-outcome.new.lines) (g.W.Write.contents c.args.out.now) (g.W.Write.contents c.converse-outcome.new.out) (g.L.TypedLines.breaks c.converse-outcome.new.lines)
+    (IsTold g.E.Write.contents c.args.err.now c.converse-outcome.new.err) c.converse-outcome.result distinct c.requires.may.read c.requires.may.certified start sound
+    (conversation_at g.L.TypedLines.echo c.args.seat.now (g.L.TypedLines.remaining c.args.lines.now) (g.L.TypedLines.remaining c.converse-outcome.new.lines) (g.W.Write.contents c.args.out.now) (g.W.Write.contents c.converse-outcome.new.out) (g.L.TypedLines.breaks c.converse-outcome.new.lines)
+    (IsTold g.E.Write.contents c.args.err.now c.converse-outcome.new.err) c.converse-outcome.result _ at _ (first_world at first) _ (world_at at sessions left) c.new-engine.ensures.site c.new-engine.ensures.world last (c.converse-outcome.ensures.conversation was))

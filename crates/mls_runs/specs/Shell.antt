@@ -1,0 +1,375 @@
+-- A shell: lines are typed, and each is answered before the next is read.
+use Rattle.std.specs.Prelude.{◌≡◌, ◌≢◌, ℕ, zero, suc, ◌+◌, ◌-◌, ◌<◌, ◌≤◌, max, nat_eq, nat_lt, Bool, true, false, not}
+use Rattle.std.specs.Prelude.{if◌then◌else◌, List, [], ◌∷◌, ◌++◌, codes, length, take, Option, is_some, ◌⊎◌, ⊤}
+use Rattle.std.specs.Prelude.{◌&&◌, ◌||◌, IfErr, OnOk, Result, Ok, Err}
+use Rattle.std.specs.List.{AllByRecursion, filter, flat_map, list_all, list_any, starts_with}
+use Rattle.std.specs.Str.{bytes_eq}
+use Rattle.std.specs.Io.KnownBytes.{Appends, Consumes, IsAtEnd}
+use Rattle.mls_lattice.specs.Name.{is_name}
+use Rattle.mls_lattice.specs.Policy.{Policy}
+use Rattle.mls_scheme.specs.Scheme.{Schemes, AreUnder}
+use Rattle.mls_filterview.specs.Content.{Content}
+use Rattle.mls_script.specs.declared.event.Event.{Event}
+use Rattle.mls_script.specs.declared.event.Command.TheVariants.{Open}
+use Rattle.mls_script.specs.declared.fault.ScriptFault.{ScriptFault}
+use Rattle.mls_script.specs.declared.fault.ScriptCause.TheVariants.{Expected}
+use Rattle.mls_script.specs.Event.{EventFits}
+use Rattle.mls_script.specs.Reading.{script_at}
+use Rattle.mls_script.specs.Script.{ReadsScript}
+use Rattle.mls_machine.specs.declared.form.Audience.{Audience}
+use Rattle.mls_machine.specs.Site.{Site}
+use Rattle.mls_machine.specs.Machine.{World, end_of}
+use Rattle.mls_machine.specs.Observation.{EventsFit, AreRead, AreCertified, run_shows, reader_of}
+use Rattle.mls_sessions.specs.declared.cause.RunCause.TheVariants.{Store}
+use Rattle.mls_sessions.specs.declared.cause.RunFault.{RunFault}
+use Rattle.mls_sessions.specs.Run.{are_done, IsWhole, IsStopped, IsFaultOf}
+use Rattle.mls_tokens.specs.Typing.{IsNext, IsLong}
+use Rattle.mls_host.specs.declared.ending.Ending.{Ending}
+use Rattle.mls_host.specs.declared.telling.Tally.{Tally}
+use Rattle.mls_runs.specs.declared.help.TheConstants.{HELP}
+use Rattle.mls_runs.specs.declared.seat.Seat.{Seat}
+use Rattle.mls_runs.specs.declared.seat.Fate.{Fate}
+use Rattle.mls_runs.specs.declared.seat.Fate.TheVariants.{Over, Blank, Help, Asked, Said, Refused, TooLong}
+use Rattle.mls_runs.specs.declared.seat.Fate.TheVariants.{Unreadable, Lost}
+use Rattle.mls_runs.specs.declared.tally.Verdict.{Verdict}
+use Rattle.mls_runs.specs.declared.tally.Verdict.TheVariants as verdicts
+use Rattle.mls_host.specs.Ending.{ending_if}
+use Rattle.mls_host.specs.Running.{first_world, form_of, IsRun}
+use Rattle.mls_host.specs.Telling.{IsMore, prompt_text, line_told, fault_told, tally_told}
+
+-- ---- who sits there
+
+-- the words that stand before each command in a script
+abbrev pub prefix_of : Seat → List ℕ
+prefix_of seat = seat.label ++ codes " " ++ seat.user ++ codes " "
+
+abbrev pub prompt_of : Seat → List ℕ
+prompt_of seat = if seat.has_prompt then prompt_text seat.label seat.user else []
+
+-- its level, which is shown tables where somebody types at a terminal
+abbrev pub audience_at : Seat → Audience
+audience_at seat = reader_of seat.level (form_of seat.has_prompt)
+
+abbrev pub opening : Seat → Event
+opening seat = record { level = seat.level; session = seat.user; command = Open seat.user }
+
+abbrev pub is_open : Seat → World → Bool
+is_open seat w = is_some (w.sessions seat.level seat.user)
+
+-- an event of the session
+abbrev pub is_own : Seat → Event → Bool
+is_own seat e = nat_eq e.level seat.level && bytes_eq e.session seat.user
+
+-- A shell may begin: what is stored was read and checked under the policy, and the first event opens the session of a
+-- user at a level.
+pub record MayTalk (site : Site) (seat : Seat) (events : List Event) : Type 0 where
+  pub under : AreUnder (length site.policy.labels) site.schemes
+  pub read : AreRead site
+  pub certified : AreCertified site
+  pub level : seat.level < length site.policy.labels
+  pub user : is_name seat.user ≡ true
+  pub first : events ≡ opening seat ∷ []
+
+-- ---- what becomes of a line, whatever the database
+
+-- events, all of the session
+abbrev pub fate_of_events : Seat → List Event → Fate
+fate_of_events seat events =
+    if list_all (is_own seat) events then Said events else Refused (record { line = 1; column = 1; cause = Expected })
+
+-- at a terminal a line asks what is declared, or for help with something
+abbrev pub is_asked : Seat → List ℕ → Bool
+is_asked seat line =
+    seat.has_prompt && (bytes_eq line (codes "describe\n") || starts_with nat_eq line (codes "help "))
+
+-- at a terminal `quit` and `exit` mean `close`
+abbrev pub meant : Seat → List ℕ → List ℕ
+meant seat line =
+    if seat.has_prompt && (bytes_eq line (codes "quit\n") || bytes_eq line (codes "exit\n")) then codes "close\n" else line
+
+-- it is no end, and asks for no help
+abbrev pub IsCommand : Seat → List ℕ → Type 0
+IsCommand seat line = (line ≢ []) × (line ≢ codes "help\n") × (is_asked seat line ≡ false)
+
+-- behind the words of the session what a line means tells events; or it tells none so, and nothing by itself; or it is
+-- refused for the first fault behind these words
+pub data IsFate (policy : Policy) (schemes : Schemes) (seat : Seat) (line : List ℕ) (fate : Fate) : Type 0 where
+  over : line ≡ [] → fate ≡ Over → IsFate policy schemes seat line fate
+  help : line ≡ codes "help\n" → fate ≡ Help → IsFate policy schemes seat line fate
+  asked : is_asked seat line ≡ true → fate ≡ Asked → IsFate policy schemes seat line fate
+  said : (events : List Event) → IsCommand seat line
+      → ReadsScript policy schemes (prefix_of seat ++ meant seat line) events
+      → fate ≡ fate_of_events seat events → IsFate policy schemes seat line fate
+  blank : IsCommand seat line
+      → ((events : List Event) → ReadsScript policy schemes (prefix_of seat ++ meant seat line) events → ⊥)
+      → ReadsScript policy schemes (meant seat line) [] → fate ≡ Blank → IsFate policy schemes seat line fate
+  refused : (fault : ScriptFault) → IsCommand seat line
+      → script_at policy schemes (prefix_of seat ++ meant seat line) ≡ Err fault
+      → (ReadsScript policy schemes (meant seat line) [] → ⊥) → fate ≡ Refused fault
+      → IsFate policy schemes seat line fate
+
+-- its events fit; and it is lost for memory or the writer, never for the store
+abbrev pub FateFits : Policy → Schemes → Fate → Type 0
+FateFits policy schemes (Said events) = AllByRecursion (EventFits policy schemes) events
+FateFits policy schemes (Lost cause) = cause ≢ Store
+FateFits policy schemes fate = ⊤
+
+abbrev pub events_of : Fate → List Event
+events_of (Said events) = events
+events_of fate = []
+
+-- the column in what was typed
+abbrev pub column_of : Seat → ℕ → ℕ
+column_of seat column = max (column - length (prefix_of seat)) 1
+
+-- what is said of it on standard error
+abbrev pub told_of : Seat → ℕ → Fate → List ℕ
+told_of seat number Help = HELP.now
+told_of seat number (Refused fault) = fault_told number (column_of seat fault.column) fault.cause
+told_of seat number TooLong = line_told number (codes "too long")
+told_of seat number Unreadable = line_told number (codes "unreadable")
+told_of seat number fate = []
+
+-- no line is read behind it
+abbrev pub is_last : Fate → Bool
+is_last Over = true
+is_last Unreadable = true
+is_last (Lost cause) = true
+is_last fate = false
+
+abbrev pub is_failed : Fate → Bool
+is_failed Unreadable = true
+is_failed fate = false
+
+-- a shell is given up there
+abbrev pub is_lost : Fate → Bool
+is_lost (Lost cause) = true
+is_lost fate = false
+
+-- it was not read or understood whole: reading failed, or it is lost, for memory or the writer, never for the store
+abbrev pub IsCut : Fate → Type 0
+IsCut Unreadable = ⊤
+IsCut (Lost cause) = cause ≢ Store
+IsCut fate = ⊥
+
+-- ---- what is counted of lines
+
+-- of a line whose events are all done, or not
+abbrev pub verdict_of : Bool → Fate → Verdict
+verdict_of done Help = verdicts.Done
+verdict_of done Asked = verdicts.Done
+verdict_of done (Said events) = if done then verdicts.Done else verdicts.Refused
+verdict_of done (Refused fault) = verdicts.Misunderstood
+verdict_of done TooLong = verdicts.Misunderstood
+verdict_of done Unreadable = verdicts.Misunderstood
+verdict_of done fate = verdicts.Silent
+
+abbrev pub says : Verdict → Bool
+says verdicts.Silent = false
+says v = true
+
+abbrev pub is_refused : Verdict → Bool
+is_refused verdicts.Refused = true
+is_refused v = false
+
+abbrev pub is_misunderstood : Verdict → Bool
+is_misunderstood verdicts.Misunderstood = true
+is_misunderstood v = false
+
+-- how many lines say something, and how many of these are refused and not understood
+abbrev pub tally : List Verdict → Tally
+tally vs = record {
+  lines = length (filter says vs);
+  refused = length (filter is_refused vs);
+  misunderstood = length (filter is_misunderstood vs);
+}
+
+-- not all of them are done
+abbrev pub is_short : Tally → Bool
+is_short t = nat_lt 0 t.refused || nat_lt 0 t.misunderstood
+
+-- what is told at the end where nobody types at a terminal
+abbrev pub end_told : Seat → Tally → List ℕ
+end_told seat t = if seat.has_prompt then [] else tally_told t
+
+-- ---- lines that are typed one after another
+
+-- a line, what the host shows of it when it is read, and what becomes of it
+pub record Turn : Type 0 where
+  pub line : List ℕ
+  pub shown : List ℕ
+  pub fate : Fate
+
+-- a line comes next, and this becomes of it; or it is too long; or it is not read or understood whole
+pub data IsShellTurn (echo : List ℕ → List ℕ) (IsFateOf : List ℕ → Fate → Type 0) (before after : Option (List ℕ))
+    (t : Turn) : Type 0 where
+  whole : IsNext before after t.line → length t.line ≤ 1048576 → t.shown ≡ echo t.line
+      → IsFateOf t.line t.fate → IsShellTurn echo IsFateOf before after t
+  long : IsLong before after t.line → t.shown ≡ [] → t.fate ≡ TooLong
+      → IsShellTurn echo IsFateOf before after t
+  cut : (line : List ℕ) (rest : List ℕ) → Consumes before after t.line → t.shown ++ rest ≡ echo line → IsCut t.fate
+      → IsShellTurn echo IsFateOf before after t
+
+abbrev pub events_in : List Turn → List Event
+events_in = flat_map (λ t. events_of t.fate)
+
+module _ (site : Site) (seat : Seat) where
+  -- what the session's level sees of the replies to events
+  abbrev pub answers : World → List Event → List ℕ
+  answers w es = run_shows site (audience_at seat) w es
+
+  -- each line as it is shown, and right behind it its answers
+  unfoldable pub dialogue : World → List Turn → List ℕ
+  dialogue w [] = []
+  dialogue w (t ∷ ts) = (t.shown ++ answers w (events_of t.fate)) ++ dialogue (end_of site w (events_of t.fate)) ts
+
+  -- the world in which the first line is read
+  abbrev pub after_opening : World → World
+  after_opening w = end_of site w (opening seat ∷ [])
+
+  abbrev pub transcript : World → List Turn → List ℕ
+  transcript w turns = answers w (opening seat ∷ []) ++ dialogue (after_opening w) turns
+
+  -- what is shown before a line: nothing before the opening, which is as a line 0
+  abbrev pub shown_to : World → List Turn → ℕ → List ℕ
+  shown_to w turns zero = []
+  shown_to w turns (suc n) = transcript w (take n turns)
+
+  -- what is counted of each line, from the world on in which the first is read
+  unfoldable pub verdicts_in : World → List Turn → List Verdict
+  verdicts_in w [] = []
+  verdicts_in w (t ∷ ts) =
+      verdict_of (are_done site w (events_of t.fate)) t.fate ∷ verdicts_in (end_of site w (events_of t.fate)) ts
+
+  abbrev pub tally_of : World → List Turn → Tally
+  tally_of w turns = tally (verdicts_in (after_opening w) turns)
+
+  -- not all is done: the opening is denied, or a line is refused or not understood
+  abbrev pub has_refused : World → List Turn → Bool
+  has_refused w turns = not (is_open seat (after_opening w)) || is_short (tally_of w turns)
+
+  -- what is told behind all lines, of a shell that is not given up
+  abbrev pub last_told : World → List Turn → Result Ending RunFault → List ℕ
+  last_told w turns (Ok ending) = end_told seat (tally_of w turns)
+  last_told w turns (Err fault) = []
+
+-- what is told where nobody reads it at a terminal, from the line of a number on: the prompt before each line, and
+-- what is said of it
+unfoldable pub told_from : Seat → ℕ → List Turn → List ℕ
+told_from seat number [] = []
+told_from seat number (t ∷ ts) = (prompt_of seat ++ told_of seat number t.fate) ++ told_from seat (number + 1) ts
+
+-- what is told, from the line of a number on: of each line the same, and behind it perhaps more
+unfoldable pub AreTold : Seat → ℕ → List Turn → List ℕ → Type 0
+AreTold seat number [] text = text ≡ []
+AreTold seat number (t ∷ ts) text = IsMore seat.is_watched (λ more.
+    (rest : List ℕ) × (text ≡ (prompt_of seat ++ (told_of seat number t.fate ++ more)) ++ rest)
+    × AreTold seat (number + 1) ts rest)
+
+-- what is told of a shell: perhaps more behind its opening, then what is told of its lines, and the last
+pub record AreAllTold (seat : Seat) (turns : List Turn) (last : List ℕ) (Told : List ℕ → Type 0) : Type 0 where
+  pub lines : List ℕ
+  pub are : AreTold seat 1 turns lines
+  pub opening : IsMore seat.is_watched (λ more. Told (more ++ lines ++ last))
+
+-- where nobody reads it, what is told of lines is what stands above
+abbrev pub PipesAreToldNoMore : Type 0
+PipesAreToldNoMore = (seat : Seat) (number : ℕ) (turns : List Turn) (text : List ℕ) → seat.is_watched ≡ false
+    → AreTold seat number turns text → text ≡ told_from seat number turns
+
+-- no line is shown
+abbrev pub IsSilent : (List ℕ → List ℕ) → Type 0
+IsSilent echo = (line : List ℕ) → echo line ≡ []
+
+-- ---- how a shell ends
+
+module _ (site : Site) (seat : Seat) (w : World) (turns : List Turn) (Wrote : List ℕ → Type 0) where
+  -- all is written; and where the session is still open, all lines were read, or a read failed
+  pub record IsWellEnded (left : Option (List ℕ)) (ending : Ending) : Type 0 where
+    pub written : Wrote (transcript site seat w turns)
+    pub status : ending ≡ ending_if (has_refused site seat w turns)
+    pub none_lost : list_any (λ t. is_lost t.fate) turns ≡ false
+    pub all : is_open seat (end_of site w (opening seat ∷ events_in turns)) ≡ true
+        → IsAtEnd left ⊎ (list_any (λ t. is_failed t.fate) turns ≡ true)
+
+  -- it is given up at the last line that was read, or, as at line 0, at the opening: at one of its events, or before
+  -- them; what is shown before it is written, and a first part of what it shows
+  pub record IsGivenUp (end : Result (Unit {0}) RunFault) (fault : RunFault) : Type 0 where
+    pub line : fault.event ≡ length turns
+    pub cause : IfErr end (λ f. (f.cause ≡ fault.cause) × (f.done ≡ fault.done))
+    pub part : List ℕ
+    pub rest : List ℕ
+    pub written : Wrote (shown_to site seat w turns fault.event ++ part)
+    pub whole : (shown_to site seat w turns fault.event ++ part) ++ rest ≡ shown_to site seat w turns (suc fault.event)
+
+  -- how the run of the events ends, by how the shell does
+  abbrev pub IsEndOf : Option (List ℕ) → Result (Unit {0}) RunFault → Result Ending RunFault → Type 0
+  IsEndOf left end (Ok ending) = (end ≡ Ok tt) × IsWellEnded left ending
+  IsEndOf left end (Err fault) = IsGivenUp end fault
+
+-- ---- the whole
+
+module _ (echo : List ℕ → List ℕ) (site : Site) (seat : Seat) where
+  -- lines are read one after another, none lost, each while the session is open, and none behind a last one
+  -- What is still to come stands between the lines, so a line, its reading, what is shown and what becomes of it are
+  -- one fact (`IsTurn`), which desks share. Of a reader that tells nothing of its bytes any line comes next.
+  unfoldable pub AreTurns : World → Option (List ℕ) → Option (List ℕ) → List Turn → Type 0
+  AreTurns w before after [] = before ≡ after
+  AreTurns w before after (t ∷ ts) =
+      (left : Option (List ℕ)) × (is_open seat w ≡ true)
+      × IsShellTurn echo (IsFate site.policy site.schemes seat) before left t
+      × (ts ≢ [] → is_last t.fate ≡ false) × AreTurns (end_of site w (events_of t.fate)) left after ts
+
+  module _ (before after : Option (List ℕ)) (Broken : Type 0) (Wrote Told : List ℕ → Type 0)
+      (end : Result Ending RunFault) where
+    -- What is typed is answered from a world on, of lines of which a read has failed where one is told as unreadable.
+    pub record IsTalk (w : World) : Type 0 where
+      pub turns : List Turn
+      pub run_end : Result (Unit {0}) RunFault
+      pub lines : AreTurns (after_opening site seat w) before after turns
+      pub broken : list_any (λ t. is_failed t.fate) turns ≡ true → Broken
+      pub told : AreAllTold seat turns (last_told site seat w turns end) Told
+      pub ended : IsEndOf site seat w turns Wrote after run_end end
+
+    -- A shell over a content, which it leaves as another. Where the host shows nothing of the lines, it is the run of
+    -- the opening and of all events that are told, for the session's level alone, and writes what that writes.
+    pub record IsShell (first left : Content) : Type 0 where
+      pub talk : IsTalk (first_world site first)
+      pub run : IsSilent echo
+          → IsRun site (audience_at seat) (opening seat ∷ events_in talk.turns) Wrote talk.run_end first left
+
+-- ---- between two lines
+
+-- events are answered from w, or not all are, for a fault that the shell tells of
+pub record IsAnswered (site : Site) (audience : Audience) (w : World) (es : List Event) (was is : Option (List ℕ))
+    (new : World) (end : Result (Unit {0}) RunFault) : Type 0 where
+  pub whole : OnOk end (IsWhole site audience w es was is new)
+  pub stopped : IfErr end (IsStopped site audience w es was is new)
+  pub fault : IfErr end (IsFaultOf es)
+
+-- at a line the shell goes on, or is given up
+pub record IsFollowed (site : Site) (audience : Audience) (w : World) (es : List Event) (was is : Option (List ℕ))
+    (new : World) (number : ℕ) (r : Result (Unit {0}) RunFault) : Type 0 where
+  pub end : Result (Unit {0}) RunFault
+  pub answered : IsAnswered site audience w es was is new end
+  pub ok : OnOk r (end ≡ Ok tt)
+  pub line : IfErr r (λ fault. fault.event ≡ number)
+  pub cause : IfErr r (λ fault. IfErr end (λ f. (f.cause ≡ fault.cause) × (f.done ≡ fault.done)))
+
+-- a line is read, and this becomes of it
+pub record IsRead (echo : List ℕ → List ℕ) (IsFateOf : List ℕ → Fate → Type 0)
+    (before after was is : Option (List ℕ)) (Broken : Type 0) (fate : Fate) : Type 0 where
+  pub turn : Turn
+  pub is_turn : IsShellTurn echo IsFateOf before after turn
+  pub same : turn.fate ≡ fate
+  pub shown : Appends was is turn.shown
+  pub over : fate ≡ Over → IsAtEnd after
+  pub broken : fate ≡ Unreadable → Broken
+
+-- a talk from a world to another
+pub record IsConversation (echo : List ℕ → List ℕ) (site : Site) (seat : Seat) (before after was is : Option (List ℕ))
+    (Broken : Type 0) (Told : List ℕ → Type 0) (end : Result Ending RunFault) (w new : World) : Type 0 where
+  pub talk : IsTalk echo site seat before after Broken (Appends was is) Told end w
+  pub fits : EventsFit site (opening seat ∷ events_in talk.turns)
+  pub run : IsSilent echo
+      → IsAnswered site (audience_at seat) w (opening seat ∷ events_in talk.turns) was is new talk.run_end

@@ -1,0 +1,95 @@
+//! What a shell tells of its commands.
+
+/// Each command, with an example.
+pub(crate) const HELP: &str = "\
+insert SOD key (\"Enterprise\") values (\"Exploration\", null)     adds a tuple at your label
+view SOD at U                                                  shows what is seen of a relation at a label
+view SOD at U highest where Objective = \"Spying\"               shows, of what holds, the rows that a condition finds
+count SOD at U class = U                                       counts the rows that a view would show
+dump SOD                                                       shows what you see of a relation as lines of a script
+update SOD key (\"Enterprise\") class U from U set Objective = \"Spying\"
+                                                               gives attributes of a tuple new values at your label
+delete SOD key (\"Enterprise\") class U                          removes your label's tuple of a key
+call Known (1, \"x\", null)                                      runs a stored transaction
+audit                                                          shows the audit list up to your label
+close                                                          ends the session, and the shell
+";
+
+const LEAVING: &str = "  close
+  It ends the session, and the shell. Or type quit or exit.
+";
+
+/// Each command, and its form, an example and what it does.
+pub(crate) static TOPICS: [(&str, &str); 13] = [
+    (
+        "view",
+        "  view RELATION at LABEL [highest] [class OP LABEL] [first N] [where CONDITION]
+  For example: view SOD at U highest where Objective = \"Spying\"
+  It shows the rows of a relation that are seen at a label.
+",
+    ),
+    (
+        "count",
+        "  count RELATION at LABEL [highest] [class OP LABEL] [where CONDITION]
+  For example: count SOD at U class = U
+  It counts the rows that a view would show.
+",
+    ),
+    (
+        "dump",
+        "  dump RELATION
+  For example: dump SOD
+  It shows the lines of a script that make again what is seen of a relation.
+",
+    ),
+    (
+        "insert",
+        "  insert RELATION key (VALUE, ..) values (VALUE, ..)
+  For example: insert SOD key (\"Enterprise\") values (\"Exploration\", null)
+  It adds a tuple at the session's label.
+",
+    ),
+    (
+        "update",
+        "  update RELATION key (VALUE, ..) class LABEL from LABEL set ATTRIBUTE = VALUE, ..
+  For example: update SOD key (\"Enterprise\") class U from U set Objective = \"Spying\"
+  It gives a tuple new values at the session's label; after class stands the class of its key, after from its own.
+",
+    ),
+    (
+        "delete",
+        "  delete RELATION key (VALUE, ..) class LABEL
+  For example: delete SOD key (\"Enterprise\") class U
+  It removes the tuple of a key, and of the class of that key, at the session's label.
+",
+    ),
+    (
+        "call",
+        "  call TRANSACTION (VALUE, ..)
+  For example: call Known (1, \"x\", null)
+  It runs a stored transaction.
+",
+    ),
+    (
+        "audit",
+        "  audit
+  It shows the audit list up to the session's label.
+",
+    ),
+    (
+        "describe",
+        "  describe
+  It shows the relations, the rights and the labels that the session sees.
+",
+    ),
+    (
+        "help",
+        "  help [COMMAND]
+  For example: help view
+  It shows all commands, or how one is typed.
+",
+    ),
+    ("close", LEAVING),
+    ("quit", LEAVING),
+    ("exit", LEAVING),
+];

@@ -1,0 +1,214 @@
+//! A shell: a session whose commands are typed, each answered before the next is read.
+ghost use Rattle.std.specs.Prelude.{◌≡◌, ◌<◌, ◌∷◌, ◌||◌, [], false, not, length, Some, is_some, OnOk, Err};
+ghost use Rattle.mls_machine.specs.Observation.{EventsFit};
+ghost use Rattle.mls_sessions.specs.Engine.{site, world_of, IsEngineReady, Continues, Leaves};
+ghost use Rattle.mls_sessions.specs.World.{IsSound};
+ghost use Rattle.mls_sessions.specs.Run.{are_done};
+ghost use Rattle.mls_host.specs.Ending.{ending_if};
+ghost use Rattle.mls_host.specs.Hosting.{IsAppended, IsTold};
+ghost use Rattle.mls_host.specs.Running.{site_of};
+ghost use Rattle.mls_runs.specs.Shell.{opening, audience_at, told_of, events_of, verdict_of, is_short, end_told, is_last, is_lost, FateFits, MayTalk, IsFollowed, IsConversation, IsShell};
+
+use crate::explaining::Listener;
+use crate::seat::{Fate, Seat};
+use crate::tally::{is_short, tally_with};
+use crate::telling::{ask, tell_end, tell_fate, tell_more};
+use crate::typed::next_fate;
+use mls_filterview::Base;
+use mls_host::{Ending, Errors, Tally, ending_if, form_of};
+use mls_lattice::{Items, Policy};
+use mls_machine::Audience;
+use mls_scheme::Schemes;
+use mls_script::Event;
+use mls_sessions::{Engine, RunCause, RunFault, Stored, run_to};
+use mls_tokens::TypedLines;
+use std::alloc::Global;
+use std::io::Write;
+
+/// Its level, which is shown tables where somebody types at a terminal.
+fn audience_at(seat: &Seat) -> Audience
+    ensures { result ≡ audience_at seat.now }
+{
+    Audience {
+        reader: Some(seat.level),
+        form: form_of(seat.has_prompt),
+    }
+}
+
+/// Answers the events of a line, for the level of the session alone. A fault is told as one of the line.
+fn answer<B: Base, W: Write>(
+    engine: &mut Engine<B>,
+    seat: &Seat,
+    line: usize,
+    events: &[Event],
+    out: &mut W,
+) -> Result<(), RunFault>
+    requires ready { IsEngineReady B.state B.is_clean engine.old }
+    requires fits { EventsFit (site engine.old) events.now }
+    requires level { seat.now.level < length (site engine.old).policy.labels }
+    ensures continues { Continues B.state B.is_clean B.failures engine.old engine.new result }
+    ensures followed { B.is_clean engine.new.base → IsFollowed (site engine.old) (audience_at seat.now)
+        (world_of B.state engine.old) events.now (W.contents out.old) (W.contents out.new)
+        (world_of B.state engine.new) line result }
+    ensures noticed { B.is_clean engine.new.base → OnOk result (is_some engine.new.notice
+        ≡ not (are_done (site engine.old) (world_of B.state engine.old) events.now)) }
+{
+    match run_to(engine, events, audience_at(seat), out) {
+        Ok(()) => Ok(()),
+        Err(fault) => Err(RunFault {
+            event: line,
+            cause: fault.cause,
+            done: fault.done,
+        }),
+    }
+}
+
+/// Does what becomes of a line.
+fn follow<B: Base, W: Write>(
+    engine: &mut Engine<B>,
+    seat: &Seat,
+    line: usize,
+    fate: &Fate,
+    out: &mut W,
+) -> Result<(), RunFault>
+    requires ready { IsEngineReady B.state B.is_clean engine.old }
+    requires fits { FateFits (site engine.old).policy (site engine.old).schemes fate.now }
+    requires level { seat.now.level < length (site engine.old).policy.labels }
+    ensures continues { Continues B.state B.is_clean B.failures engine.old engine.new result }
+    ensures followed { B.is_clean engine.new.base → IsFollowed (site engine.old) (audience_at seat.now)
+        (world_of B.state engine.old) (events_of fate.now) (W.contents out.old) (W.contents out.new)
+        (world_of B.state engine.new) line result }
+    ensures found { OnOk result (is_lost fate.now ≡ false) }
+    ensures noticed { B.is_clean engine.new.base → OnOk result (verdict_of (not (is_some engine.new.notice)) fate.now
+        ≡ verdict_of (are_done (site engine.old) (world_of B.state engine.old) (events_of fate.now)) fate.now) }
+{
+    match fate {
+        Fate::Said(events) => answer(engine, seat, line, events, out),
+        Fate::Lost(cause) => Err(RunFault {
+            event: line,
+            cause: *cause,
+            done: false,
+        }),
+        _ => Ok(()),
+    }
+}
+
+/// Whether no line is read behind it.
+pub fn is_last(fate: &Fate) -> bool
+    ensures { result ≡ is_last fate.now }
+{
+    match fate {
+        Fate::Over | Fate::Unreadable | Fate::Lost(_) => true,
+        _ => false,
+    }
+}
+
+/// Ends a shell that is not given up: tells how many lines are done, and says whether all are.
+fn finish<E: Write>(err: &mut Errors<E>, seat: &Seat, was_opened: bool, tally: &Tally) -> Ending
+    ensures told { IsTold E.contents err.old err.new (end_told seat.now tally.now) }
+    ensures is { result ≡ ending_if (not was_opened || is_short tally.now) }
+{
+    tell_end(err, seat, tally);
+    ending_if(!was_opened || is_short(tally))
+}
+
+/// Opens the session, and answers each line before it reads the next, as long as the session is open and there are lines. What is
+/// refused is explained where somebody reads that.
+fn converse<B: Base, L: TypedLines, W: Write, E: Write>(
+    alloc: Global,
+    engine: &mut Engine<B>,
+    policy: &Policy,
+    schemes: &Schemes,
+    seat: &Seat,
+    first: &[Event],
+    lines: &mut L,
+    out: &mut W,
+    err: &mut Errors<E>,
+) -> Result<Ending, RunFault>
+    requires ready { IsEngineReady B.state B.is_clean engine.old }
+    requires policy { (site engine.old).policy ≡ policy.now }
+    requires schemes { (site engine.old).schemes ≡ schemes.now }
+    requires first { first.now ≡ opening seat.now ∷ [] }
+    requires fits { EventsFit (site engine.old) (opening seat.now ∷ []) }
+    requires level { seat.now.level < length policy.now.labels }
+    ensures continues { Continues B.state B.is_clean B.failures engine.old engine.new result }
+    ensures conversation { B.is_clean engine.new.base → IsConversation L.echo (site engine.old) seat.now
+        (L.remaining lines.old) (L.remaining lines.new) (W.contents out.old) (W.contents out.new) (L.breaks lines.new)
+        (IsTold E.contents err.old err.new) result (world_of B.state engine.old) (world_of B.state engine.new) }
+{
+    let listener = Listener {
+        alloc,
+        policy,
+        schemes,
+        seat,
+    };
+    answer(engine, seat, 0, first, out)?;
+    tell_more(err, seat, listener.opening_text(first, engine.notice()));
+    let was_opened = engine.is_open(seat.level, seat.user.as_str());
+    let mut tally = Tally {
+        lines: 0,
+        refused: 0,
+        misunderstood: 0,
+    };
+    for before in 0..usize::MAX {
+        if !engine.is_open(seat.level, seat.user.as_str()) {
+            return Ok(finish(err, seat, was_opened, &tally));
+        }
+        ask(err, seat);
+        let mut heard = Vec::new(alloc);
+        let fate = next_fate(alloc, policy, schemes, seat, lines, out, &mut heard);
+        tell_fate(err, seat, before + 1, &fate);
+        follow(engine, seat, before + 1, &fate, out)?;
+        let notice = engine.notice();
+        tell_more(err, seat, listener.line_text(&heard, &fate, notice));
+        tally = tally_with(tally, &fate, notice);
+        if is_last(&fate) {
+            return Ok(finish(err, seat, was_opened, &tally));
+        }
+    }
+    Err(RunFault {
+        event: usize::MAX,
+        cause: RunCause::Memory,
+        done: false,
+    })
+}
+
+/// A shell over a base, which is given back: the opening, and then line by line the events that each tells. A line that tells none is
+/// refused on standard error, and nothing of it is done.
+///
+/// What is written is what a run writes of these events for the level of the session alone, and each answer stands before the next line
+/// is read: a host that shows each line among what is written shows it right before its answer.
+pub fn shell_over_base<B: Base, L: TypedLines, W: Write, E: Write>(
+    alloc: Global,
+    policy: &Policy,
+    schemes: &Schemes,
+    stored: Items<Stored>,
+    base: B,
+    seat: &Seat,
+    first: &[Event],
+    lines: &mut L,
+    out: &mut W,
+    err: &mut Errors<E>,
+) -> (Result<Ending, RunFault>, B)
+    requires may { MayTalk (site_of policy.now schemes.now stored) seat.now first.now }
+    requires idle { (B.state base).begun ≡ false }
+    requires sound { B.is_clean base → IsSound (site_of policy.now schemes.now stored) (B.state base).now }
+    ensures leaves { Leaves B.state B.is_clean B.failures base result.1 result.0 }
+    ensures shell { B.is_clean result.1 → IsShell L.echo (site_of policy.now schemes.now stored) seat.now
+        (L.remaining lines.old) (L.remaining lines.new) (L.breaks lines.new) (IsAppended W.contents out.old out.new)
+        (IsTold E.contents err.old err.new) result.0 (B.state base).now (B.state result.1).now }
+{
+    let mut engine = Engine::new(alloc, base, policy, schemes, stored);
+    let outcome = converse(
+        alloc,
+        &mut engine,
+        policy,
+        schemes,
+        seat,
+        first,
+        lines,
+        out,
+        err,
+    );
+    (outcome, engine.finish())
+}

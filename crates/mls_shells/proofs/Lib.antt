@@ -1,4 +1,0 @@
-pub mod ReadingLemmas
-pub mod ShellLemmas
-pub mod TalkLemmas
-pub mod ShellEndLemmas

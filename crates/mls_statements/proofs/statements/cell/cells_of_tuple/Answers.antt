@@ -1,0 +1,20 @@
+use Rattle.sqlite.specs.Held.{state}
+use Rattle.mls_statements.specs.Schema.{schema}
+use Rattle.mls_statements.proofs.Texts.{cells_of_tuple, cells_of_tuple_is}
+use Rattle.mls_statements.proofs.Finds.{finds_cells_of_tuple}
+use Rattle.mls_statements.proofs.EndLemmas.{query_ended, unchanged, was_open}
+use Rattle.mls_statements.proofs.statements.cell.cells_of_tuple.Goals as goal
+
+pub returns-clause-found : goal.returns-clause-found
+returns-clause-found g c clean ready =
+    finds_cells_of_tuple (state g.S.Store c.args.conn.now) (state g.S.Store c.query_all.new.self) ready c.args.rel c.args.ent.now c.args.kclass c.args.label c.query_all.result
+    (rw (c.params-to_sql.ensures, c.params-to_sql-2.ensures, c.params-to_sql-3.ensures, c.params-to_sql-4.ensures) at (c.query_all.ensures.ok clean))
+
+pub returns-clause-same : goal.returns-clause-same
+returns-clause-same g c clean ready = unchanged (state g.S.Store c.args.conn.now) (state g.S.Store c.query_all.new.self) (schema ready.0.others) cells_of_tuple _ c.query_all.result ready.0.is (cells_of_tuple_is ready.0.others).1 (c.query_all.ensures.ok clean)
+
+pub returns-clause-err : goal.returns-clause-err
+returns-clause-err g c clean = query_ended (state g.S.Store c.args.conn.now) (state g.S.Store c.query_all.new.self) _ _ c.query_all.result (c.query_all.ensures.err clean)
+
+pub returns-clause-open : goal.returns-clause-open
+returns-clause-open g c clean = was_open (state g.S.Store c.args.conn.now) (state g.S.Store c.query_all.new.self) _ _ c.query_all.result (c.query_all.ensures.ok clean)

@@ -1,5 +1,0 @@
-use Rattle.mls_syntax.proofs.ConditionAgain.{conditions_are_read}
-use Rattle.mls_syntax.proofs.conditions_are_read.Goals as goal
-
-pub returns : goal.returns
-returns c = conditions_are_read

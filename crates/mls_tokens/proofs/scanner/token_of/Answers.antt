@@ -1,5 +1,0 @@
-use Rattle.mls_tokens.proofs.TokenLemmas.{scan_shorter}
-use Rattle.mls_tokens.proofs.scanner.token_of.Goals as goal
-
-pub returns-clause-shorter : goal.returns-clause-shorter
-returns-clause-shorter c = scan_shorter c.args.bytes.now c.scan.result c.scan.ensures

@@ -30,10 +30,11 @@ use Rattle.sqlite.proofs.Theorems.{opens_again}
 use Rattle.sqlite.specs.Recovery.{Image}
 use Rattle.mls_statements.specs.Rows.{tables_of}
 use Rattle.mls_statements.specs.Schema.{HasTables, no_schema, schema}
-use Rattle.mls_fragments.specs.Again.{KeepsHoldings, empty, rows, IsKeptAlone, AreKept, KeptIsFound, KeptIsTaken}
+use Rattle.mls_fragments.specs.Again.{BlankIsNothing, KeepsHoldings, empty, rows, IsKeptAlone, AreKept, KeptIsFound, KeptIsTaken}
+use Rattle.mls_fragments.specs.Creating.{IsBlankImage}
 use Rattle.mls_fragments.specs.Holdings.{Holdings, holdings_of, HaveHoldings, HasHoldings, no_tables, four_tables, Takes}
 use Rattle.mls_fragments.specs.Opening.{IsFoundIn}
-use Rattle.mls_fragments.proofs.HoldingsLemmas.{has_some, have_once}
+use Rattle.mls_fragments.proofs.HoldingsLemmas.{bare_has, has_some, have_once}
 
 -- ---- schemas by the list of the objects
 
@@ -68,12 +69,13 @@ module _ (image : Image) (found : Database) (finds : IsFoundIn image found) wher
   same_trees : (db : Database) → ∥ HoldsDatabase image db.trees ∥₁ → found.trees ≡ db.trees
   same_trees db held = ∥∥₁_elim held (Trees-set found.trees db.trees) (λ h. finds.holds db.trees h)
 
-  -- of an empty file nothing is found
+  -- of blank files nothing is found
+  found_blank : IsBlankImage image → found.schema ≡ no_schema
+  found_blank blank = elim finds.reads [ inl bare ↦ without found finds.sound bare.1.1 | inr some ↦ absurd (some.0 blank) ]
+
+  -- nor of an empty file
   pub found_none : image.db ≡ [] → found.schema ≡ no_schema
-  found_none none = elim finds.reads [
-    | inl some ↦ absurd (let e = some.3.found.present in omega (arith, e, ap length none))
-    | inr bare ↦ without found finds.sound bare.1.1
-  ]
+  found_none none = found_blank (inl (ap length none))
 
   not_empty : (db : Database) → ∥ HoldsDatabase image db.trees ∥₁ → image.db ≡ [] → ⊥
   not_empty db held none = ∥∥₁_elim held (λ x y. absurd x) (λ h. let e = h.2.found.found.present in omega (arith, e, ap length none))
@@ -92,6 +94,9 @@ found_of image found finds h k (rows db held sound (four_tables ours form has)) 
 
 pub kept_is_found : KeptIsFound
 kept_is_found image h k kept found = found_of image found.0 found.1 h k kept found.2
+
+pub blank_is_nothing : BlankIsNothing
+blank_is_nothing image h blank found = bare_has found.0 h (found_blank image found.0 found.1 blank) found.2
 
 pub kept_is_taken : KeptIsTaken
 kept_is_taken policy file image h now kept taken =

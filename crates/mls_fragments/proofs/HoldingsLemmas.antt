@@ -127,7 +127,7 @@ nothing_had policy file had row now none (made none' is) =
 nothing_had policy file had row now none (as_it_was m meta texts same) = absurd (let e = sym (ap (λ (h : Holdings). h.meta) none) ∙ meta in cc)
 nothing_had policy file had row now none (widened m labels counts meta extended was wide new) = absurd (let e = sym (ap (λ (h : Holdings). h.meta) none) ∙ meta in cc)
 
-bare_has : (db : Database) (h : Holdings) → db.schema ≡ no_schema → HasHoldings db h → h ≡ no_holdings
+pub bare_has : (db : Database) (h : Holdings) → db.schema ≡ no_schema → HasHoldings db h → h ≡ no_holdings
 bare_has db h bare (no_tables bare' is) = is
 bare_has db h bare (four_tables ours form has) = absurd (has_some db ours bare)
 

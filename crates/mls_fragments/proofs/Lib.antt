@@ -1,3 +1,4 @@
+pub mod CreatingLemmas
 pub mod OpeningLemmas
 pub mod AddingLemmas
 pub mod ByteLemmas

@@ -17,14 +17,15 @@ use Rattle.mls_fragments.specs.declared.open_fault.OpenFault.{OpenFault}
 use Rattle.mls_fragments.specs.declared.open_fault.OpenFault.TheVariants.{OtherPolicy, BadRows}
 use Rattle.mls_fragments.specs.declared.reading.RowFault.{RowFault}
 use Rattle.mls_fragments.specs.declared.reading.RowFault.TheVariants as row
+use Rattle.mls_fragments.specs.Creating.{IsBlankImage}
 use Rattle.mls_fragments.specs.OpenFault.{adopting_fault, finding_fault}
 use Rattle.mls_fragments.specs.Opening.{HoldsSound, IsFoundIn, IsRefused, IsStoreOrMemory, IsUnopened, IsUntaken, not_described}
 
 -- a connection that has just been opened shows what was found
-pub found_now : (start : Image) (s : State) → Opens s → IsLive s → FindsIn start s → IsFoundIn start s.now
-found_now start s opens live finds = record {
+pub found_now : (start : Image) (s : State) → Opens s → IsLive s → ¬ IsBlankImage start → FindsIn start s → IsFoundIn start s.now
+found_now start s opens live something finds = record {
   holds = λ trees held. ap (λ db. db.trees) opens.clean ∙ finds.holds trees held;
-  reads = subst (AreFoundIn start) (sym (ap (λ db. db.trees) opens.clean)) finds.reads;
+  reads = inr (something, subst (AreFoundIn start) (sym (ap (λ db. db.trees) opens.clean)) finds.reads);
   sound = (live opens.is_open).0;
 }
 

@@ -19,6 +19,7 @@ use Rattle.mls_filterview.specs.Content.{Content}
 use Rattle.mls_statements.specs.declared.rows.MetaRow.{MetaRow}
 use Rattle.mls_statements.specs.Store.{IsClean}
 use Rattle.mls_fragments.specs.Based.{BaseState, HasRow, state_of}
+use Rattle.mls_fragments.specs.Creating.{IsBlankImage, LeavesBlank}
 use Rattle.mls_fragments.specs.Holdings.{Holdings, no_holdings, holdings_of, HasHoldings, IsTakenOf, Takes}
 use Rattle.mls_fragments.specs.Opening.{IsFoundIn, IsFoundUnadopted, IsStoreOrMemory}
 use Rattle.mls_fragments.specs.declared.open_fault.OpenFault.{OpenFault}
@@ -30,8 +31,8 @@ abbrev pub FindsHoldings : Image → Holdings → Type 0
 FindsHoldings image h = (db : Database) × IsFoundIn image db × HasHoldings db h
 
 -- The database file is empty and there is nothing, or the files hold a database, which has this. It is said of
--- bytes and not of a disk, so of every image that a crash may leave; what is left of a creation that a crash
--- cut off is nothing. That it is one thing is said where an opening finds something (`KeptIsFound`).
+-- bytes and not of a disk, so of every image that a crash may leave. That it is one thing is said where an opening
+-- finds something (`KeptIsFound`); what is left of a creation that a crash cut off is nothing (`BlankIsNothing`).
 pub data KeepsHoldings (image : Image) (h : Holdings) : Type 0 where
   empty : image.db ≡ [] → h ≡ no_holdings → KeepsHoldings image h
   rows : (db : Database) → ∥ HoldsDatabase image db.trees ∥₁ → IsDatabase db → HasHoldings db h → KeepsHoldings image h
@@ -63,13 +64,20 @@ KeptIsTaken =
     → KeepsHoldings image h → IsTakenOf (FindsHoldings image) policy file now
     → (row : MetaRow) × Takes policy file h (holdings_of row now)
 
+-- nothing is found in files in which no database was made, or in which that was cut off
+abbrev pub BlankIsNothing : Type 0
+BlankIsNothing = (image : Image) (h : Holdings) → IsBlankImage image → FindsHoldings image h → h ≡ no_holdings
+
 -- ---- files that are not opened, or not closed
 
--- files that no connection was made to: they are as they were, or what the store left of them
+-- files that no connection was made to: they are as they were, or what the store left of them, or of blank ones
 pub data AreUnopened {D : Type 0} (g : Ghosts D) (start now : Files D) : Type 0 where
   unused : now ≡ start → AreUnopened g start now
   unread : (rest : Leftover D g) → (now.log, now.db) ≡ files_left rest
       → (AreClean g now.log now.db → LeavesFiles start rest) → AreUnopened g start now
+  unmade : (rest : Leftover D g) → (now.log, now.db) ≡ files_left rest
+      → (AreClean g now.log now.db → IsBlankImage (image_of g start) × LeavesBlank start rest)
+      → AreUnopened g start now
 
 -- the files of a connection that was let go: no crash has a new outcome, and where the store was open still, each
 -- outcome holds what was committed

@@ -2,7 +2,7 @@
 use Rattle.std.specs.Prelude.{◌≡◌, ◌≢◌, ◌⊎◌, ℕ, false, List, [], ◌∷◌, IsTrue}
 use Rattle.sqlite.specs.Effect.{Database, IsDatabase}
 use Rattle.sqlite.specs.State.{State, HasCleanDisk, KeepsCommit}
-use Rattle.sqlite.specs.Files.{HoldsDatabase, AreFoundIn, file_state}
+use Rattle.sqlite.specs.Files.{HoldsDatabase, AreFoundIn, IsEmpty, file_state}
 use Rattle.sqlite.specs.Held.{Held}
 use Rattle.sqlite.specs.declared.FileStore.{FileStore}
 use Rattle.sqlite_disk.specs.declared.Disk.{Ghosts}
@@ -22,6 +22,7 @@ use Rattle.mls_statements.specs.Store.{IsClean}
 use Rattle.mls_fragments.specs.declared.open_fault.OpenFault.{OpenFault}
 use Rattle.mls_fragments.specs.declared.open_fault.OpenFault.TheVariants.{Store, OtherPolicy, BadRows, Memory}
 use Rattle.mls_fragments.specs.Based.{BaseState, state_of}
+use Rattle.mls_fragments.specs.Creating.{IsBlankImage}
 use Rattle.mls_fragments.specs.Finding.{IsSoundContent}
 use Rattle.mls_fragments.specs.Holding.{Holds}
 use Rattle.mls_fragments.specs.Migrating.{HasTexts, IsExtended, IsOther, IsSoundBefore, IsWidenedContent}
@@ -110,10 +111,11 @@ pub record IsMigrated (policy : Policy) (schemes : Schemes) (labels : ℕ) (coun
 
 -- ---- stores in files
 
--- a database whose trees are those that the files held, if they held one, and whose schema is sound for them
+-- A database whose trees are those that the files held, if they held one, and whose schema is sound for them. Of blank
+-- files it is empty; of others its trees are what they recover to.
 pub record IsFoundIn (start : Image) (db : Database) : Type 0 where
   pub holds : (trees : Trees) → HoldsDatabase start trees → db.trees ≡ trees
-  pub reads : AreFoundIn start db.trees
+  pub reads : (IsBlankImage start × IsEmpty db.trees) ⊎ ((¬ IsBlankImage start) × AreFoundIn start db.trees)
   pub sound : IsDatabase db
 
 -- what the files held was found, and no base was made of it

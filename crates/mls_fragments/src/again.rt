@@ -9,14 +9,13 @@ ghost use Rattle.sqlite.specs.State.{HasCleanDisk};
 ghost use Rattle.sqlite.specs.WalReads.{AreClean};
 ghost use Rattle.mls_scheme.specs.Scheme.{AreUnder};
 ghost use Rattle.mls_statements.specs.Store.{IsClean};
-ghost use Rattle.mls_fragments.specs.Again.{AreLetGo, AreRefused, AreUnclosed, AreUnopened, FindsHoldings, IsBaseKept};
+ghost use Rattle.mls_fragments.specs.Again.{AreLetGo, AreRefused, AreUnclosed, FindsHoldings, IsBaseKept};
 ghost use Rattle.mls_fragments.specs.Based.{IsBaseOf, state_of};
 ghost use Rattle.mls_fragments.specs.Finding.{IsSoundContent};
-ghost use Rattle.mls_fragments.specs.Opening.{IsFoundIn};
 
 use crate::base::SqlBase;
+use crate::connecting::{connected, fault_of};
 use crate::open_fault::OpenFault;
-use crate::opening::fault_of;
 use mls_lattice::Policy;
 use mls_scheme::SchemesFile;
 use sqlite::{Alter, Connection, FileStore, Files, Options};
@@ -33,28 +32,6 @@ fn is_settled<S: Alter>(conn: &Connection<S>) -> bool
     // for what it says of the database
     let _schema = conn.schema();
     conn.is_autocommit()
-}
-
-/// A connection to the store in files, which is made where the database file is empty. Files that may not be used are given back.
-pub fn connected<D: Disk + Drop>(
-    alloc: Global,
-    files: Files<D>,
-    options: Options,
-) -> Result<Connection<FileStore<D>>, (OpenFault, Files<D>)>
-    ensures found { IfOk result (λ c. HasCleanDisk (file_state c)
-        → IsFoundIn (image_of D.Disk files) (file_state c).now) }
-    ensures clean { IfOk result (λ c. HasCleanDisk (file_state c) → AreClean D.Disk files.log files.db) }
-    ensures idle { IfOk result (λ c. c.in_transaction ≡ false) }
-    ensures fault { IfErr result (λ e. (e.0 ≡ OpenFault.Store) ⊎ (e.0 ≡ OpenFault.Memory)) }
-    ensures unopened { IfErr result (λ e. AreUnopened D.Disk files e.1) }
-{
-    if !files.may_be_used() {
-        return Err((OpenFault::Store, files));
-    }
-    match Connection::open_files(alloc, files, options) {
-        Ok(conn) => Ok(conn),
-        Err((error, left)) => Err((fault_of(error), left.into_files())),
-    }
 }
 
 /// Gives the files of a store back, which has committed nothing more.

@@ -2,7 +2,7 @@
 //! again. Nothing runs here: each function is empty, and its contract is the law, which callers use by calling it.
 ghost use Rattle.mls_fragments.specs.OneContent.{RowsHoldOneContent};
 ghost use Rattle.mls_fragments.specs.Holdings.{DatabaseHasOneHoldings, GivenBackIsTaken, SoundIsTakenAsItWas};
-ghost use Rattle.mls_fragments.specs.Again.{KeptIsFound, KeptIsTaken};
+ghost use Rattle.mls_fragments.specs.Again.{BlankIsNothing, KeptIsFound, KeptIsTaken};
 
 /// The rows of a store hold one content at most: two contents that the same rows hold are equal.
 pub fn rows_hold_one_content()
@@ -28,6 +28,11 @@ pub fn kept_is_taken()
 /// Files that were closed hold what was kept and no more: the next base over them finds that alone.
 pub fn kept_is_found()
     ensures { KeptIsFound }
+{}
+
+/// Files in which a crash cut off that a database was made hold nothing.
+pub fn blank_is_nothing()
+    ensures { BlankIsNothing }
 {}
 
 /// Where policy and schemes are those that the content is sound under, nothing is widened: it is taken as it was.

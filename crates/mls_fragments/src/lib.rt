@@ -4,6 +4,7 @@
 mod again;
 mod base;
 mod comparing;
+mod connecting;
 mod entity;
 mod finding;
 mod judging;
@@ -18,11 +19,11 @@ mod recalled;
 mod refusing;
 mod writing;
 
-pub use again::connected;
 pub use base::SqlBase;
+pub use connecting::connected;
 pub use finding::tables_of;
 pub use laws::{
-    database_has_one_holdings, given_back_is_taken, kept_is_found, kept_is_taken,
+    blank_is_nothing, database_has_one_holdings, given_back_is_taken, kept_is_found, kept_is_taken,
     rows_hold_one_content, sound_is_taken_as_it_was,
 };
 pub use migrating::{Older, Standing, standing_of};

@@ -22,6 +22,7 @@ ghost use Rattle.mls_fragments.specs.Opening.{AreTexts, HoldsContent, IsFoundIn,
 
 use crate::base::SqlBase;
 use crate::comparing::{cell_rows, node_rows};
+use crate::connecting::connected_at;
 use crate::finding::Found;
 use crate::judging::judge;
 use crate::migrating::{Older, Standing, find_widened, standing_of};
@@ -32,7 +33,7 @@ use mls_lattice::Policy;
 use mls_scheme::{Schemes, SchemesFile};
 use mls_statements::statements::creation::has_nothing;
 use mls_statements::{TableStore, read_description, read_store, rewrite_store};
-use sqlite::{Alter, Connection, Error, ErrorCode, FileFrom, FileStore, Start};
+use sqlite::{Alter, Connection, FileFrom, FileStore, Start};
 use std::alloc::{AllocError, Global};
 
 /// The two texts that describe the stores of a policy and its schemes: of its labels, and of the schemes.
@@ -228,32 +229,6 @@ impl<S: Alter> SqlBase<S> {
     }
 }
 
-/// Why the files of a store are not opened.
-pub(crate) fn fault_of(error: Error) -> OpenFault
-    ensures { (result ≡ OpenFault.Store) ⊎ (result ≡ OpenFault.Memory) }
-{
-    match error {
-        Error::SqliteFailure(ErrorCode::OutOfMemory) => OpenFault::Memory,
-        _ => OpenFault::Store,
-    }
-}
-
-/// A connection to the files at a path, which are made where there are none.
-fn connected<F: Start>(
-    rt: &HostRuntime,
-    path: &str,
-    start: F,
-) -> Result<Connection<FileStore<FileFrom<F>>>, OpenFault>
-    ensures found { IfOk result (λ c. HasCleanDisk (file_state c) → IsFoundIn (image_at F.Start) (file_state c).now) }
-    ensures idle { IfOk result (λ c. c.in_transaction ≡ false) }
-    ensures fault { IfErr result (λ e. (e ≡ OpenFault.Store) ⊎ (e ≡ OpenFault.Memory)) }
-{
-    match Connection::open_from(rt, path, false, start) {
-        Ok(conn) => Ok(conn),
-        Err((error, _)) => Err(fault_of(error)),
-    }
-}
-
 impl<F: Start> SqlBase<FileStore<FileFrom<F>>> {
     /// A base over the store in the files at a path, as `adopt` opens it; they are made where there are none.
     /// `F` stands for what the files held, which nobody knows before they are read: a program passes `Unknown`.
@@ -279,7 +254,7 @@ impl<F: Start> SqlBase<FileStore<FileFrom<F>>> {
         ensures refused { IfErr result (λ e. IfSome e.1
             (IsFoundUnadopted policy.now file.now (image_at F.Start) e.0)) }
     {
-        let conn = match connected(rt, path, start) {
+        let conn = match connected_at(rt, path, start) {
             Ok(conn) => conn,
             Err(fault) => return Err((fault, None)),
         };

@@ -10,7 +10,7 @@ use crate::narrow::Narrow;
 use crate::runs::{End, Task, do_task};
 use crate::site::Site;
 use case_tables::Told;
-use mls_fragments::{OpenFault, SqlBase};
+use mls_fragments::{OpenFault, SqlBase, connected};
 use mls_lattice::LabelNo;
 use mls_machine::{Audience, Form};
 use mls_runs::{HistoryFault, Run, run_history};
@@ -184,12 +184,9 @@ fn work_in<D: Medium>(
     files: Files<D>,
     out: &mut Narrow,
 ) -> (Outcome, Files<D>) {
-    if !files.may_be_used() {
-        return (Outcome::Unopened(OpenFault::Store), files);
-    }
-    let conn = match Connection::open_files(alloc, files, options()) {
+    let conn = match connected(alloc, files, options()) {
         Ok(conn) => conn,
-        Err((error, left)) => return (Outcome::Unopened(fault_of(error)), left.into_files()),
+        Err((fault, files)) => return (Outcome::Unopened(fault), files),
     };
     let (outcome, conn) = work_over(alloc, job.work, conn, out);
     if !job.closes || !outcome.is_whole() {

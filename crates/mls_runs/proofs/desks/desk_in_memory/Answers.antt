@@ -26,7 +26,7 @@ returns-in-Err-clause-ends g c = (ap Store c.in-Err.ensures.fault, Appends-nil _
 pub returns-clause-ends : goal.returns-clause-ends
 returns-clause-ends g c =
     let at = site_of c.args.policy.now c.args.file.now.schemes c.args.stored in
-    let left = (state_of c.desk_over_base-outcome.result.1).now in
+    let left = (state_of c.desk_over_base-outcome.result.1.base).now in
     let before = g.L.TypedLines.remaining c.args.lines.now in
     let after = g.L.TypedLines.remaining c.desk_over_base-outcome.new.lines in
     let Broken = g.L.TypedLines.breaks c.desk_over_base-outcome.new.lines in

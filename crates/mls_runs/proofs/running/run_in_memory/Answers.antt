@@ -24,7 +24,7 @@ returns-in-Err-clause-ends g c = (ap Store c.in-Err.ensures.fault, Appends-nil _
 pub returns-clause-ends : goal.returns-clause-ends
 returns-clause-ends g c =
     let at = site_of c.args.policy.now c.args.file.now.schemes c.args.stored in
-    let left = (state_of c.run_over_base-outcome.result.1).now in
+    let left = (state_of c.run_over_base-outcome.result.1.base).now in
     let before = g.W.Write.contents c.args.out.now in
     let after = g.W.Write.contents c.run_over_base-outcome.new.out in
     let run = c.run_over_base-outcome.ensures.run c.close.ensures.clean in

@@ -27,7 +27,7 @@ returns-in-Err-clause-ends g c = (ap Store c.in-Err.ensures.fault, Appends-nil _
 pub returns-clause-ends : goal.returns-clause-ends
 returns-clause-ends g c =
     let at = site_of c.args.policy.now c.args.file.now.schemes c.args.stored in
-    let left = (state_of c.shell_over_base-outcome.result.1).now in
+    let left = (state_of c.shell_over_base-outcome.result.1.base).now in
     let Wrote = IsAppended g.W.Write.contents c.args.out.now c.shell_over_base-outcome.new.out in
     let Told = IsTold g.E.Write.contents c.args.err.now c.shell_over_base-outcome.new.err in
     let shell = c.shell_over_base-outcome.ensures.shell c.close.ensures.clean in

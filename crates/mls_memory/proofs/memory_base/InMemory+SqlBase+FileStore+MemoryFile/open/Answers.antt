@@ -4,7 +4,7 @@ use Rattle.mls_filterview.specs.Content.{State, no_content}
 use Rattle.mls_fragments.specs.Based.{BaseState, state_of}
 use Rattle.mls_fragments.specs.Changes.{content_of}
 use Rattle.mls_fragments.proofs.HoldingsLemmas.{new_base_has}
-use Rattle.mls_memory.proofs.memory_base.MemoryBase.open.Goals as goal
+use Rattle.mls_memory.proofs.memory_base.InMemory+SqlBase+FileStore+MemoryFile.open.Goals as goal
 
 -- outside a change nothing else is kept
 new_state : (b : BaseState) → (state_of b).begun ≡ false → (state_of b).now ≡ no_content → state_of b ≡ record { now = no_content; kept = no_content; begun = false }

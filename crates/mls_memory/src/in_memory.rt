@@ -1,0 +1,124 @@
+//! A base of which a call that fails for its store fails for want of memory.
+use mls_filterview::{Base, BaseFault, Cell, Fragment, Node};
+use mls_lattice::{Items, LabelNo};
+use mls_scheme::{Place, RelNo, Value};
+
+/// A base whose store refuses nothing but growths: where a call of it answers Store, it answers Memory. It is generic, since each method
+/// over a store whose type is known costs a proof as long as all of these.
+#[derive(Drop)]
+pub struct InMemory<B: Base> {
+    pub base: B,
+}
+
+#[tactic(auto, using(crate::proofs::MemoryLemmas::memory_calls))]
+impl<B: Base> Base for InMemory<B> {
+    ghost state = { λ b. B.state b.base };
+
+    // No call fails but for want of memory.
+    ghost failures = { λ _. 0 };
+
+    ghost is_clean = { λ b. B.is_clean b.base };
+
+    ghost settled = { λ b clean. B.settled b.base clean };
+
+    fn is_begun(&self) -> bool {
+        self.base.is_begun()
+    }
+
+    fn begin(&mut self) -> Result<(), BaseFault> {
+        match self.base.begin() {
+            Err(BaseFault::Store) => Err(BaseFault::Memory),
+            answer => answer,
+        }
+    }
+
+    fn commit(&mut self) -> Result<(), BaseFault> {
+        match self.base.commit() {
+            Err(BaseFault::Store) => Err(BaseFault::Memory),
+            answer => answer,
+        }
+    }
+
+    fn rollback(&mut self) -> Result<(), BaseFault> {
+        match self.base.rollback() {
+            Err(BaseFault::Store) => Err(BaseFault::Memory),
+            answer => answer,
+        }
+    }
+
+    fn fragment(&mut self, rel: RelNo, label: LabelNo) -> Result<Fragment, BaseFault> {
+        match self.base.fragment(rel, label) {
+            Err(BaseFault::Store) => Err(BaseFault::Memory),
+            answer => answer,
+        }
+    }
+
+    fn fragments(&mut self, rel: RelNo, labels: &[LabelNo]) -> Result<Fragment, BaseFault> {
+        match self.base.fragments(rel, labels) {
+            Err(BaseFault::Store) => Err(BaseFault::Memory),
+            answer => answer,
+        }
+    }
+
+    fn entity(&mut self, rel: RelNo, place: &Place) -> Result<Fragment, BaseFault> {
+        match self.base.entity(rel, place) {
+            Err(BaseFault::Store) => Err(BaseFault::Memory),
+            answer => answer,
+        }
+    }
+
+    fn pattern(&mut self, rel: RelNo, place: &Place) -> Result<Option<Items<LabelNo>>, BaseFault> {
+        match self.base.pattern(rel, place) {
+            Err(BaseFault::Store) => Err(BaseFault::Memory),
+            answer => answer,
+        }
+    }
+
+    fn add(&mut self, rel: RelNo, node: Node, cells: &[Cell]) -> Result<(), BaseFault> {
+        match self.base.add(rel, node, cells) {
+            Err(BaseFault::Store) => Err(BaseFault::Memory),
+            answer => answer,
+        }
+    }
+
+    fn set(
+        &mut self,
+        rel: RelNo,
+        place: &Place,
+        attr: usize,
+        value: Option<Value>,
+    ) -> Result<(), BaseFault> {
+        match self.base.set(rel, place, attr, value) {
+            Err(BaseFault::Store) => Err(BaseFault::Memory),
+            answer => answer,
+        }
+    }
+
+    fn drop_at(&mut self, rel: RelNo, place: &Place) -> Result<(), BaseFault> {
+        match self.base.drop_at(rel, place) {
+            Err(BaseFault::Store) => Err(BaseFault::Memory),
+            answer => answer,
+        }
+    }
+
+    fn audit_add(&mut self, bytes: &[u8]) -> Result<(), BaseFault> {
+        match self.base.audit_add(bytes) {
+            Err(BaseFault::Store) => Err(BaseFault::Memory),
+            answer => answer,
+        }
+    }
+
+    fn audit_clear(&mut self) -> Result<(), BaseFault> {
+        match self.base.audit_clear() {
+            Err(BaseFault::Store) => Err(BaseFault::Memory),
+            answer => answer,
+        }
+    }
+
+    fn audit_all(&mut self) -> Result<Items<Items<u8>>, BaseFault> {
+        match self.base.audit_all() {
+            Err(BaseFault::Store) => Err(BaseFault::Memory),
+            answer => answer,
+        }
+    }
+}

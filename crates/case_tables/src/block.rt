@@ -70,7 +70,7 @@ pub fn unfolded(alloc: Global, line: &str) -> Result<Vec<u8>, AllocError>
 }
 
 /// Writes a line and its end.
-pub fn push_line(out: &mut String, line: &str) -> Result<(), AllocError>
+pub(crate) fn push_line(out: &mut String, line: &str) -> Result<(), AllocError>
     ensures { OnOk result (string_bytes out.new ≡ string_bytes out.old ++ ended line.now) }
 {
     out.push_str(line)?;
@@ -89,7 +89,7 @@ pub fn joined(alloc: Global, body: &[&str]) -> Result<String, AllocError>
 }
 
 /// Writes the lines of a text, each after two blanks where it is not empty.
-pub fn indent(out: &mut String, text: &str) -> Result<(), AllocError>
+pub(crate) fn indent(out: &mut String, text: &str) -> Result<(), AllocError>
     ensures { OnOk result (string_bytes out.new ≡ string_bytes out.old ++ flat_map indented_line (lines_of text.now)) }
 {
     for line in text.lines() {

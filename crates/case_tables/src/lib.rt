@@ -4,5 +4,5 @@
 mod block;
 mod told;
 
-pub use crate::block::{Case, case_at, indent, inner, joined, push_line, text_of, unfolded};
+pub use crate::block::{Case, case_at, inner, joined, text_of, unfolded};
 pub use crate::told::Told;

@@ -1,31 +1,16 @@
 -- What evaluations begin with: an empty database, and no arguments.
-use Rattle.std.proofs.Common.{◌≡◌, ℕ, suc, true, false, List, [], ◌∷◌, ◌++◌, length, Option, Some, None, sym, subst, ◌∙◌, arith}
+use Rattle.std.proofs.Common.{◌≡◌, ℕ, suc, true, false, List, [], ◌∷◌, ◌++◌, length, Option, Some, None, sym, subst, arith}
 use Rattle.std.specs.Option.{IfSome, option_to_list}
 use Rattle.std.specs.List.{AllByRecursion, AllZip}
-use Rattle.std.specs.FinMap.{get, get-empty}
 use Rattle.mls_lattice.specs.Labels.{Labels}
-use Rattle.mls_scheme.specs.declared.tuple.Element.{Element}
-use Rattle.mls_scheme.specs.declared.place.Place.{Place}
 use Rattle.mls_scheme.specs.Scheme.{Schemes}
-use Rattle.mls_scheme.specs.Table.{Table, place_cmp}
-use Rattle.mls_filterview.specs.Content.{State, Content, no_content}
+use Rattle.mls_filterview.specs.Content.{State, no_content}
 use Rattle.mls_filterview.specs.Stored.{AreContent}
 use Rattle.mls_translang.specs.declared.tx.Parameter.{Parameter}
 use Rattle.mls_translang.specs.Tx.{Tx}
 use Rattle.mls_scheme.specs.Value.{fits_kind}
 use Rattle.mls_certcheck.specs.MeaningLaws.{ArgsFit}
-use Rattle.mls_machine.specs.declared.stored.Stored.{Stored}
-use Rattle.mls_sessions.specs.World.{IsSound}
-use Rattle.mls_lattice.specs.Policy.{Policy}
-
-nothing : {A : Type 0} (es : List Element) (p : Place) (T : Table) → get T p ≡ None → get T p ≡ Some es → A
-nothing es p T none some = let both : None ≡ Some es = sym none ∙ some in absurd cc
-
-no_tuples : (ls : Labels) (schemes : Schemes) → AreContent ls schemes no_content.db
-no_tuples ls schemes = λ rel. record {
-  stored = λ p es h. nothing es p (no_content.db rel) (get-empty place_cmp p) h;
-  fits = λ p es h. nothing es p (no_content.db rel) (get-empty place_cmp p) h;
-}
+use Rattle.mls_audit.proofs.SoundLemmas.{no_tuples}
 
 pub none_stored : (ls : Labels) (schemes : Schemes) (s : State) → s ≡ record { now = no_content; kept = no_content; begun = false } → AreContent ls schemes s.now.db
 none_stored ls schemes s is = subst (λ (x : State). AreContent ls schemes x.now.db) (sym is) (no_tuples ls schemes)
@@ -51,7 +36,3 @@ last_holds {A = A} P xs front (Some x) is h = behind front (subst (AllByRecursio
 pub all_more : {A : Type 0} (P : A → Type 0) (xs : List A) (x : A) → AllByRecursion P xs → P x → AllByRecursion P (xs ++ x ∷ [])
 all_more P [] x h k = (k, tt)
 all_more P (y ∷ ys) x h k = (h.0, all_more P ys x h.1 k)
-
--- stored transactions play no part in what content is sound
-pub sound_alike : (policy : Policy) (schemes : Schemes) (xs ys : List Stored) (c : Content) → IsSound (record { policy = policy; schemes = schemes; stored = xs }) c → IsSound (record { policy = policy; schemes = schemes; stored = ys }) c
-sound_alike policy schemes xs ys c h = record { content = h.content; entries = h.entries }

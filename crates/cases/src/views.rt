@@ -39,10 +39,10 @@ fn tell_integrity(
     requires under { AreUnder (length policy.now.labels) schemes.now }
     requires classes { AllByRecursion (HasClassesBelow (length policy.now.labels)) tuples.now }
 {
-    let Some(rel) = schemes.relation(relation) else {
+    let Some(relation) = schemes.relation(relation) else {
         return out.push("  no relation\n");
     };
-    match integrity(policy, schemes.scheme(rel), tuples) {
+    match integrity(policy, schemes.scheme(relation), tuples) {
         None => out.push("  stored\n"),
         Some(broken) => push_broken(broken, out),
     }

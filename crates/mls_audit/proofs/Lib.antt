@@ -1,2 +1,3 @@
 pub mod ReadingSteps
 pub mod EntryLemmas
+pub mod SoundLemmas

@@ -25,7 +25,7 @@ use Rattle.mls_translang.specs.Scope.{Scope, in_loop}
 use Rattle.mls_translang.specs.Fits.{BlockFits}
 use Rattle.mls_translang.specs.Tx.{Tx}
 use Rattle.mls_certcheck.specs.Expressions.{is_true, same, value_in, holds_in}
-use Rattle.mls_certcheck.specs.Meaning.{Item, Variables, Progress, set_var, set_outcome, do_write, environment, perform, for_each, run_block}
+use Rattle.mls_certcheck.specs.Meaning.{Item, Variables, Progress, set_var, set_outcome, write_in, do_write, environment, perform, for_each, run_block}
 use Rattle.mls_certcheck.specs.Secure.{AreStored, seen_items, Split}
 use Rattle.mls_certcheck.proofs.KeepingLemmas.{Extends, cond_kept, for_each_kept, perform_stored, block_stored, block_extends}
 use Rattle.mls_certcheck.specs.declared.cert.Certificate.{Certificate}
@@ -104,28 +104,28 @@ module _ (policy : Policy) (distinct : AreDistinct (labels_of policy)) (tx : Tx)
   rest_same n a b loops stmt s t h g i other l = g.values i (rest_seen policy distinct tx cert none schemes args c n a b loops stmt h i other l)
 
   -- a write of equal operands at a label that c sees
-  seen_write : (n a b : ℕ) (loops : List ℕ) (rel w : ℕ) (writing : Writing) (v wr : Write) (outcome : Option ℕ) (s t : Progress)
-      → Obeys k (record { number = n; around = a; before = b; rows = loops; node = Plain (Write_at rel w writing outcome) }) → v ≡ wr → label_of ls w ⊑ level ≡ true → Agrees k c b s t
-      → Agrees k c n (do_write ls schemes args rel w v outcome s) (do_write ls schemes brgs rel w wr outcome t)
-  seen_write n at b loops rel w writing v wr outcome s t h e seen a = record {
-    tables = λ r. elim (nat_eq r rel) as (λ b. low ls c (cond b (new v s).table (s.db r)) ≡ low ls c (cond b (new wr t).table (t.db r))) [
-      | true ↦ first.1 ∙ (λ i. (write ls (scheme_of schemes rel) w (e i) (a.tables rel i)).table) ∙ sym second.1
+  seen_write : (n a b : ℕ) (loops : List ℕ) (relation w : ℕ) (writing : Writing) (v wr : Write) (outcome : Option ℕ) (s t : Progress)
+      → Obeys k (record { number = n; around = a; before = b; rows = loops; node = Plain (Write_at relation w writing outcome) }) → v ≡ wr → label_of ls w ⊑ level ≡ true → Agrees k c b s t
+      → Agrees k c n (do_write ls schemes args relation w v outcome s) (do_write ls schemes brgs relation w wr outcome t)
+  seen_write n at b loops relation w writing v wr outcome s t h e seen a = record {
+    tables = λ r. elim (nat_eq r relation) as (λ b. low ls c (cond b (new v s).table (s.db r)) ≡ low ls c (cond b (new wr t).table (t.db r))) [
+      | true ↦ first.1 ∙ (λ i. (write ls (scheme_of schemes relation) w (e i) (a.tables relation i)).table) ∙ sym second.1
       | false ↦ a.tables r
     ];
-    values = outcome_same k c n outcome (new v s).outcome (new wr t).outcome s.vars t.vars (rest_same n at b loops (Write_at rel w writing outcome) s t h a)
-        (first.0 ∙ (λ i. (write ls (scheme_of schemes rel) w (e i) (a.tables rel i)).outcome) ∙ sym second.0);
+    values = outcome_same k c n outcome (new v s).outcome (new wr t).outcome s.vars t.vars (rest_same n at b loops (Write_at relation w writing outcome) s t h a)
+        (first.0 ∙ (λ i. (write ls (scheme_of schemes relation) w (e i) (a.tables relation i)).outcome) ∙ sym second.0);
     emitted = a.emitted;
     released = a.released;
   }
     where
       new : Write → Progress → Written
-      new x u = write ls (scheme_of schemes rel) w x (u.db rel)
+      new x u = write ls (scheme_of schemes relation) w x (u.db relation)
 
-      first : ((new v s).outcome ≡ (write ls (scheme_of schemes rel) w v (low ls c (s.db rel))).outcome) × (low ls c (new v s).table ≡ (write ls (scheme_of schemes rel) w v (low ls c (s.db rel))).table)
-      first = low_use_low ls (scheme_of schemes rel) c w (s.db rel) v (below-⊑ ls w c true seen)
+      first : ((new v s).outcome ≡ (write ls (scheme_of schemes relation) w v (low ls c (s.db relation))).outcome) × (low ls c (new v s).table ≡ (write ls (scheme_of schemes relation) w v (low ls c (s.db relation))).table)
+      first = low_use_low ls (scheme_of schemes relation) c w (s.db relation) v (below-⊑ ls w c true seen)
 
-      second : ((new wr t).outcome ≡ (write ls (scheme_of schemes rel) w wr (low ls c (t.db rel))).outcome) × (low ls c (new wr t).table ≡ (write ls (scheme_of schemes rel) w wr (low ls c (t.db rel))).table)
-      second = low_use_low ls (scheme_of schemes rel) c w (t.db rel) wr (below-⊑ ls w c true seen)
+      second : ((new wr t).outcome ≡ (write ls (scheme_of schemes relation) w wr (low ls c (t.db relation))).outcome) × (low ls c (new wr t).table ≡ (write ls (scheme_of schemes relation) w wr (low ls c (t.db relation))).table)
+      second = low_use_low ls (scheme_of schemes relation) c w (t.db relation) wr (below-⊑ ls w c true seen)
 
   -- an item at the end of both lists
   seen_item : (xs ys : List Item) (i j : Item) → seen_items ls c xs ≡ seen_items ls c ys → i ≡ j → seen_items ls c (xs ++ i ∷ []) ≡ seen_items ls c (ys ++ j ∷ [])
@@ -216,11 +216,11 @@ module _ (policy : Policy) (distinct : AreDistinct (labels_of policy)) (tx : Tx)
     emitted = g.emitted;
     released = g.released;
   })
-  related_stmt n a b loops rs qs (Write_at rel w writing outcome) s t h envs p q g =
+  related_stmt n a b loops rs qs (Write_at relation w writing outcome) s t h envs p q g =
       elim (cases_Bool (label_of ls w ⊑ level)) [
-        | inl seen ↦ inr (seen_write n a b loops rel w writing _ _ outcome s t h (write_same k c b loops (environment args rs s) (environment brgs qs t) envs (label_of ls w) seen writing (write_operands k n a b loops rel w writing outcome h)) seen g)
-        | inr out ↦ inr (quiet_both (quiet_write policy distinct tx cert none schemes args c n a b loops rel w writing _ outcome s h out p)
-            (quiet_write policy distinct tx cert none schemes brgs c n a b loops rel w writing _ outcome t h out q) g)
+        | inl seen ↦ inr (seen_write n a b loops relation w writing (write_in (environment args rs s) writing) (write_in (environment brgs qs t) writing) outcome s t h (write_same k c b loops (environment args rs s) (environment brgs qs t) envs (label_of ls w) seen writing (write_operands k n a b loops relation w writing outcome h)) seen g)
+        | inr out ↦ inr (quiet_both (quiet_write policy distinct tx cert none schemes args c n a b loops relation w writing (write_in (environment args rs s) writing) outcome s h out p)
+            (quiet_write policy distinct tx cert none schemes brgs c n a b loops relation w writing (write_in (environment brgs qs t) writing) outcome t h out q) g)
       ]
   related_stmt n a b loops rs qs (Release e to into) s t h envs p q g = related_release n a b loops rs qs e to into s t h envs g
   related_stmt n a b loops rs qs (Emit e label) s t h envs p q g =
@@ -298,13 +298,13 @@ module _ (policy : Policy) (distinct : AreDistinct (labels_of policy)) (tx : Tx)
       ] in
       related_on k c n _ s' t' _ _ (block_extends ls schemes args rest rs s') (block_extends ls schemes brgs rest qs t')
       (related_block scope rest (n + (1 + statements one + statements other)) a n loops obeys_3 f.3 rs qs ar s' t' p' q') middle
-  related_block scope (For name rel label body rest) n a b loops h f rs qs ar s t p q g =
+  related_block scope (For name relation label body rest) n a b loops h f rs qs ar s t p q g =
       let m : Pair = join (pc k n) (label_of ls label) in
       let obeys_1 = every_front (Obeys k) _ (places (n + 1) n n (label ∷ loops) body) _ h.1 refl in
       let obeys_2 = every_back (Obeys k) _ (places (n + 1) n n (label ∷ loops) body) _ h.1 refl in
-      let rows_1 = rows ls label (s.db rel) in
-      let rows_2 = rows ls label (t.db rel) in
-      let inside = in_loop scope name rel in
+      let rows_1 = rows ls label (s.db relation) in
+      let rows_2 = rows ls label (t.db relation) in
+      let inside = in_loop scope name relation in
       let f1 = λ (row : Tuple) (u : Progress). run_1 body (row ∷ rs) u in
       let f2 = λ (row : Tuple) (u : Progress). run_2 body (row ∷ qs) u in
       let k1 = λ (row : Tuple) (u : Progress) (x : AreStored ls schemes u.db). block_stored policy schemes tx.hi distinct args inside body f.2 (row ∷ rs) u x in
@@ -315,7 +315,7 @@ module _ (policy : Policy) (distinct : AreDistinct (labels_of policy)) (tx : Tx)
       let q' = for_each_kept (λ u. AreStored ls schemes u.db) f2 k2 rows_2 t q in
       let middle : Related k c n s' t' = elim (cases_Bool (label_of ls label ⊑ level)) [
         | inl seen ↦
-            let e : rows_1 ≡ rows_2 = rows_under ls c label (s.db rel) (t.db rel) (g.tables rel) (below-⊑ ls label c true seen) in
+            let e : rows_1 ≡ rows_2 = rows_under ls c label (s.db relation) (t.db relation) (g.tables relation) (below-⊑ ls label c true seen) in
             subst (λ xs. Related k c n s' (for_each f2 xs t)) e
             (related_each f1 f2 k1 k2 (λ row u. block_extends ls schemes args body (row ∷ rs) u) (λ row u. block_extends ls schemes brgs body (row ∷ qs) u)
             n (λ row u v x y z. related_keeps k c (last n (n + 1) body) n _ _ none (loop_turn k n a b loops label body h.0)

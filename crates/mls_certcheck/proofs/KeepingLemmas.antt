@@ -16,7 +16,7 @@ use Rattle.mls_filterview.specs.Stored.{IsStored}
 use Rattle.mls_filterview.specs.Content.{with_table}
 use Rattle.mls_updates.specs.Writes.{WriteFits, write}
 use Rattle.mls_updates.proofs.LawLemmas.{keep_form}
-use Rattle.mls_translang.specs.Tree.{Expr, Stmt, Assign, Writing, Inserting, Updating, Deleting, Write_at, Release, Emit, Block, End, Do, If, For}
+use Rattle.mls_translang.specs.Tree.{Expr, Stmt, Assign, Writing, Insert, Update, Delete, Write_at, Release, Emit, Block, End, Do, If, For}
 use Rattle.mls_translang.specs.Scope.{Scope, in_loop}
 use Rattle.mls_translang.specs.Fits.{IsLabel, ExprFits, WritingFits, StmtFits, BlockFits}
 use Rattle.mls_certcheck.specs.Expressions.{Environment, value_in, holds_in}
@@ -26,10 +26,10 @@ use Rattle.mls_certcheck.specs.Secure.{AreStored}
 -- ---- databases
 
 -- what holds of each relation holds of a database with one table changed
-pub table_holds : (P : ℕ → Table → Type 0) (db : Database) (rel : ℕ) (T : Table) → ((r : ℕ) → P r (db r)) → P rel T → (r : ℕ) → P r (with_table db rel T r)
-table_holds P db rel T h k r =
-    elim (nat_eq r rel) as (λ b. nat_eq r rel ≡ b → P r (cond b T (db r))) [
-      | true ↦ λ e. subst (λ q. P q T) (sym (eqb-true r rel e)) k
+pub table_holds : (P : ℕ → Table → Type 0) (db : Database) (relation : ℕ) (T : Table) → ((r : ℕ) → P r (db r)) → P relation T → (r : ℕ) → P r (with_table db relation T r)
+table_holds P db relation T h k r =
+    elim (nat_eq r relation) as (λ b. nat_eq r relation ≡ b → P r (cond b T (db r))) [
+      | true ↦ λ e. subst (λ q. P q T) (sym (eqb-true r relation e)) k
       | false ↦ λ e. h r
     ] refl
 
@@ -60,7 +60,7 @@ module _ (policy : Policy) (schemes : Schemes) (hi : ℕ) (args : List (Option V
   perform_labelled : (scope : Scope) (around : List Tuple) (stmt : Stmt) (s : Progress) → StmtFits policy schemes hi scope stmt → AreLabelled policy s → AreLabelled policy (perform_one around stmt s)
   unfolding perform
   perform_labelled scope around (Assign x e) s f h = record { emitted = h.emitted; released = h.released }
-  perform_labelled scope around (Write_at rel w writing outcome) s f h = record { emitted = h.emitted; released = h.released }
+  perform_labelled scope around (Write_at relation w writing outcome) s f h = record { emitted = h.emitted; released = h.released }
   perform_labelled scope around (Release e to into) s f h = record { emitted = h.emitted; released = all_by_recursion_push (λ i. IsLabel policy i.0) s.released (to, value_in (environment args around s) e) h.released f.1 }
   perform_labelled scope around (Emit e label) s f h = record { emitted = all_by_recursion_push (λ i. IsLabel policy i.0) s.emitted (label, value_in (environment args around s) e) h.emitted f.1; released = h.released }
 
@@ -70,9 +70,9 @@ module _ (policy : Policy) (schemes : Schemes) (hi : ℕ) (args : List (Option V
   block_labelled scope (Do stmt rest) f around s h = block_labelled scope rest f.1 around (perform_one around stmt s) (perform_labelled scope around stmt s f.0 h)
   block_labelled scope (If guard one other rest) f around s h =
       block_labelled scope rest f.3 around _ (cond_kept (AreLabelled policy) (holds_in (environment args around s) guard) _ _ (block_labelled scope one f.1 around s h) (block_labelled scope other f.2 around s h))
-  block_labelled scope (For name rel label body rest) f around s h =
+  block_labelled scope (For name relation label body rest) f around s h =
       block_labelled scope rest f.3 around _
-      (for_each_kept (AreLabelled policy) (λ row t. run_one body (row ∷ around) t) (λ row t k. block_labelled (in_loop scope name rel) body f.2 (row ∷ around) t k) (rows (labels_of policy) label (s.db rel)) s h)
+      (for_each_kept (AreLabelled policy) (λ row t. run_one body (row ∷ around) t) (λ row t k. block_labelled (in_loop scope name relation) body f.2 (row ∷ around) t k) (rows (labels_of policy) label (s.db relation)) s h)
 
 -- ---- releases
 
@@ -90,7 +90,7 @@ module _ (ls : Labels) (schemes : Schemes) (args : List (Option Value)) where
   pub perform_extends : (around : List Tuple) (stmt : Stmt) (s : Progress) → Extends s (perform ls schemes args around stmt s)
   unfolding perform
   perform_extends around (Assign x e) s = record { more = []; is = sym (append-nil s.released) }
-  perform_extends around (Write_at rel w writing outcome) s = record { more = []; is = sym (append-nil s.released) }
+  perform_extends around (Write_at relation w writing outcome) s = record { more = []; is = sym (append-nil s.released) }
   perform_extends around (Release e to into) s = record { more = _; is = refl }
   perform_extends around (Emit e label) s = record { more = []; is = sym (append-nil s.released) }
 
@@ -100,8 +100,8 @@ module _ (ls : Labels) (schemes : Schemes) (args : List (Option Value)) where
   block_extends (Do stmt rest) around s = extends_trans (perform_extends around stmt s) (block_extends rest around (perform ls schemes args around stmt s))
   block_extends (If guard one other rest) around s =
       extends_trans (cond_kept (Extends s) (holds_in (environment args around s) guard) _ _ (block_extends one around s) (block_extends other around s)) (block_extends rest around _)
-  block_extends (For name rel label body rest) around s =
-      extends_trans (for_each_kept (Extends s) (λ row t. run_block ls schemes args body (row ∷ around) t) (λ row t k. extends_trans k (block_extends body (row ∷ around) t)) (rows ls label (s.db rel)) s (extends_not s)) (block_extends rest around _)
+  block_extends (For name relation label body rest) around s =
+      extends_trans (for_each_kept (Extends s) (λ row t. run_block ls schemes args body (row ∷ around) t) (λ row t k. extends_trans k (block_extends body (row ∷ around) t)) (rows ls label (s.db relation)) s (extends_not s)) (block_extends rest around _)
 
 -- ---- the stored form
 
@@ -117,19 +117,19 @@ module _ (policy : Policy) (schemes : Schemes) (hi : ℕ) where
   sets_below scope scheme env (x ∷ xs) h = (h.0.0, sets_below scope scheme env xs h.1)
 
   pub write_fits : (scope : Scope) (w : ℕ) (scheme : Scheme) (env : Environment) (writing : Writing) → IsLabel policy w → WritingFits policy schemes hi scope scheme writing → WriteFits ls (length scheme.others) w (write_in env writing)
-  write_fits scope w scheme env (Inserting key values) l f = (declared w l, length-map values (value_in env) ∙ f.1.count)
-  write_fits scope w scheme env (Updating key key_class from sets) l f = (declared w l, subst (λ n. 0 < n) (sym (length-map sets (λ x. (x.0, value_in env x.1)))) f.3.some, sets_below scope scheme env sets f.3.each)
-  write_fits scope w scheme env (Deleting key key_class) l f = tt
+  write_fits scope w scheme env (Insert key values) l f = (declared w l, length-map values (value_in env) ∙ f.1.count)
+  write_fits scope w scheme env (Update key key_class from sets) l f = (declared w l, subst (λ n. 0 < n) (sym (length-map sets (λ x. (x.0, value_in env x.1)))) f.3.some, sets_below scope scheme env sets f.3.each)
+  write_fits scope w scheme env (Delete key key_class) l f = tt
 
   module _ (distinct : AreDistinct (labels_of policy)) (args : List (Option Value)) where
     pub perform_stored : (scope : Scope) (around : List Tuple) (stmt : Stmt) (s : Progress) → StmtFits policy schemes hi scope stmt → AreStored ls schemes s.db → AreStored ls schemes (perform ls schemes args around stmt s).db
     unfolding perform
     perform_stored scope around (Assign x e) s f h = h
-    perform_stored scope around (Write_at rel w writing outcome) s f h =
+    perform_stored scope around (Write_at relation w writing outcome) s f h =
         let wr = write_in (environment args around s) writing in
-        let n = length (scheme_of schemes rel).others in
-        table_holds (λ r T. IsStored ls (length (scheme_of schemes r).others) T) s.db rel (write ls (scheme_of schemes rel) w wr (s.db rel)).table h
-        (keep_form ls distinct (scheme_of schemes rel) n w (s.db rel) (h rel) wr (write_fits scope w (scheme_of schemes rel) (environment args around s) writing f.1 f.2))
+        let n = length (scheme_of schemes relation).others in
+        table_holds (λ r T. IsStored ls (length (scheme_of schemes r).others) T) s.db relation (write ls (scheme_of schemes relation) w wr (s.db relation)).table h
+        (keep_form ls distinct (scheme_of schemes relation) n w (s.db relation) (h relation) wr (write_fits scope w (scheme_of schemes relation) (environment args around s) writing f.1 f.2))
     perform_stored scope around (Release e to into) s f h = h
     perform_stored scope around (Emit e label) s f h = h
 
@@ -139,6 +139,6 @@ module _ (policy : Policy) (schemes : Schemes) (hi : ℕ) where
     block_stored scope (Do stmt rest) f around s h = block_stored scope rest f.1 around (perform ls schemes args around stmt s) (perform_stored scope around stmt s f.0 h)
     block_stored scope (If guard one other rest) f around s h =
         block_stored scope rest f.3 around _ (cond_kept (λ t. AreStored ls schemes t.db) (holds_in (environment args around s) guard) _ _ (block_stored scope one f.1 around s h) (block_stored scope other f.2 around s h))
-    block_stored scope (For name rel label body rest) f around s h =
+    block_stored scope (For name relation label body rest) f around s h =
         block_stored scope rest f.3 around _
-        (for_each_kept (λ t. AreStored ls schemes t.db) (λ row t. run_block ls schemes args body (row ∷ around) t) (λ row t k. block_stored (in_loop scope name rel) body f.2 (row ∷ around) t k) (rows ls label (s.db rel)) s h)
+        (for_each_kept (λ t. AreStored ls schemes t.db) (λ row t. run_block ls schemes args body (row ∷ around) t) (λ row t k. block_stored (in_loop scope name relation) body f.2 (row ∷ around) t k) (rows ls label (s.db relation)) s h)

@@ -34,7 +34,7 @@ use Rattle.mls_updates.specs.Writes.{WriteKinds, write}
 use Rattle.mls_updates.proofs.FittingLemmas.{zip_at}
 use Rattle.mls_updates.proofs.LawLemmas.{keep_content}
 use Rattle.mls_translang.specs.declared.operator.Operator.TheVariants as operators
-use Rattle.mls_translang.specs.Tree.{Expr, Known, Null, Var, Param, Field, No, Op, Writing, Inserting, Updating, Deleting, Stmt, Assign, Write_at, Release, Emit, Block, End, Do, If, For}
+use Rattle.mls_translang.specs.Tree.{Expr, Known, Null, Var, Param, Field, No, Op, Writing, Insert, Update, Delete, Stmt, Assign, Write_at, Release, Emit, Block, End, Do, If, For}
 use Rattle.mls_translang.specs.Scope.{Scope, in_loop, row_at, kind_of_var, kind_of_param}
 use Rattle.mls_translang.specs.Kinds.{Sort, Of, Truth, field_of, HasKind, HaveKinds, WritingKinds, Assigns, StmtKinds, BlockKinds}
 use Rattle.mls_translang.specs.Fits.{StmtFits, BlockFits}
@@ -72,35 +72,35 @@ not_truth k e = absurd (cc)
 
 module _ (ls : Labels) (scheme : Scheme) (p : Place) (es : List Element) (h : Fits ls scheme p es) where
   abbrev KeyFits : Attribute → Value → Type 0
-  KeyFits a v = (is_kind v a.kind ≡ true) × (in_interval ls p.key_class a ≡ true)
+  KeyFits a v = (is_kind v a.1.kind ≡ true) × (in_interval ls p.key_class a ≡ true)
 
   abbrev OtherFits : Attribute → Element → Type 0
-  OtherFits a e = (fits_kind e.value a.kind ≡ true) × (in_interval ls e.class a ≡ true)
+  OtherFits a e = (fits_kind e.value a.1.kind ≡ true) × (in_interval ls e.class a ≡ true)
 
-  element_kind : (j : ℕ) → (nat_lt j (length scheme.others) ≡ true) ⊎ (nat_lt j (length scheme.others) ≡ false) → fits_kind (at es j).value (other_of scheme j).kind ≡ true
+  element_kind : (j : ℕ) → (nat_lt j (length scheme.others) ≡ true) ⊎ (nat_lt j (length scheme.others) ≡ false) → fits_kind (at es j).value (other_of scheme j).1.kind ≡ true
   element_kind j (inl l) = (zip_at OtherFits no_attribute null_element scheme.others es h.others j (ltb-true j _ l)).0
   element_kind j (inr l) =
       let m : length scheme.others ≡ length es = sym (AllZip-long OtherFits scheme.others es h.others) in
-      ap (λ (e : Element). fits_kind e.value (other_of scheme j).kind) (get_or_past es j null_element (omega (arith, ltb-false j (length scheme.others) l)))
+      ap (λ (e : Element). fits_kind e.value (other_of scheme j).1.kind) (get_or_past es j null_element (omega (arith, ltb-false j (length scheme.others) l)))
 
   pub row_kinds : RowKinds scheme (tuple_at p es)
   row_kinds i =
       let n : length scheme.keys ≡ length p.key = sym (AllZip-long KeyFits scheme.keys p.key h.key) in
-      subst (λ m. fits_kind (cond (nat_lt i m) (slice_index_or (map Some p.key) i None) (at es (i - m)).value) (field_of scheme i).kind ≡ true) n
+      subst (λ m. fits_kind (cond (nat_lt i m) (slice_index_or (map Some p.key) i None) (at es (i - m)).value) (field_of scheme i).1.kind ≡ true) n
       (elim (nat_lt i (length scheme.keys)) as (λ b. nat_lt i (length scheme.keys) ≡ b
       → fits_kind (cond b (slice_index_or (map Some p.key) i None) (at es (i - length scheme.keys)).value)
-      (cond b (slice_index_or scheme.keys i no_attribute) (other_of scheme (i - length scheme.keys))).kind ≡ true) [
+      (cond b (slice_index_or scheme.keys i no_attribute) (other_of scheme (i - length scheme.keys))).1.kind ≡ true) [
         | true ↦ λ e.
             let l = ltb-true i (length scheme.keys) e in
             let d : Value = Int (pos 0) in
-            subst (λ o. fits_kind o (slice_index_or scheme.keys i no_attribute).kind ≡ true) (sym (get_or-map Some p.key i d None (subst (λ k. i < k) n l)))
+            subst (λ o. fits_kind o (slice_index_or scheme.keys i no_attribute).1.kind ≡ true) (sym (get_or-map Some p.key i d None (subst (λ k. i < k) n l)))
             (zip_at KeyFits no_attribute d scheme.keys p.key h.key i l).0
         | false ↦ λ e. element_kind (i - length scheme.keys) (cases_Bool (nat_lt (i - length scheme.keys) (length scheme.others)))
       ] refl)
 
 pub null_kinds : (scheme : Scheme) → RowKinds scheme no_tuple
 null_kinds scheme i =
-    elim (nat_lt i 0) as (λ b. fits_kind (cond b (slice_index_or {A = Option Value} [] i None) (at [] (i - 0)).value) (field_of scheme i).kind ≡ true) [ true ↦ refl | false ↦ refl ]
+    elim (nat_lt i 0) as (λ b. fits_kind (cond b (slice_index_or {A = Option Value} [] i None) (at [] (i - 0)).value) (field_of scheme i).1.kind ≡ true) [ true ↦ refl | false ↦ refl ]
 
 -- ---- what expressions read
 
@@ -156,29 +156,29 @@ module _ (policy : Policy) (schemes : Schemes) (hi : ℕ) where
   value_kind scope env h k (Op operators.And a b) s = absurd (not_truth k s.0)
   value_kind scope env h k (Op operators.Or a b) s = absurd (not_truth k s.0)
 
-  pub values_kinds : (scope : Scope) (env : Environment) → EnvironmentFits scope env → (attributes : List Attribute) (es : List Expr) → HaveKinds schemes scope attributes es → AllZip (λ a v. fits_kind v a.kind ≡ true) attributes (map (value_in env) es)
+  pub values_kinds : (scope : Scope) (env : Environment) → EnvironmentFits scope env → (attributes : List Attribute) (es : List Expr) → HaveKinds schemes scope attributes es → AllZip (λ a v. fits_kind v a.1.kind ≡ true) attributes (map (value_in env) es)
   values_kinds scope env h [] [] z = tt
   values_kinds scope env h [] (e ∷ es) z = absurd z
   values_kinds scope env h (a ∷ attributes) [] z = absurd z
-  values_kinds scope env h (a ∷ attributes) (e ∷ es) z = (value_kind scope env h a.kind e z.0, values_kinds scope env h attributes es z.1)
+  values_kinds scope env h (a ∷ attributes) (e ∷ es) z = (value_kind scope env h a.1.kind e z.0, values_kinds scope env h attributes es z.1)
 
-  pub sets_kinds : (scope : Scope) (env : Environment) → EnvironmentFits scope env → (scheme : Scheme) (sets : List (ℕ × Expr)) → AllByRecursion (λ x. HasKind schemes scope (other_of scheme x.0).kind x.1) sets
-      → AllByRecursion (λ s. fits_kind s.1 (other_of scheme s.0).kind ≡ true) (values_set env sets)
+  pub sets_kinds : (scope : Scope) (env : Environment) → EnvironmentFits scope env → (scheme : Scheme) (sets : List (ℕ × Expr)) → AllByRecursion (λ x. HasKind schemes scope (other_of scheme x.0).1.kind x.1) sets
+      → AllByRecursion (λ s. fits_kind s.1 (other_of scheme s.0).1.kind ≡ true) (values_set env sets)
   sets_kinds scope env h scheme [] z = tt
-  sets_kinds scope env h scheme (x ∷ xs) z = (value_kind scope env h (other_of scheme x.0).kind x.1 z.0, sets_kinds scope env h scheme xs z.1)
+  sets_kinds scope env h scheme (x ∷ xs) z = (value_kind scope env h (other_of scheme x.0).1.kind x.1 z.0, sets_kinds scope env h scheme xs z.1)
 
   pub write_kinds : (scope : Scope) (env : Environment) → EnvironmentFits scope env → (scheme : Scheme) (writing : Writing) → WritingKinds schemes scope scheme writing → WriteKinds scheme (write_in env writing)
-  write_kinds scope env h scheme (Inserting key values) z = (values_kinds scope env h scheme.keys key z.0, values_kinds scope env h scheme.others values z.1)
-  write_kinds scope env h scheme (Updating key key_class from sets) z = sets_kinds scope env h scheme sets z.1
-  write_kinds scope env h scheme (Deleting key key_class) z = tt
+  write_kinds scope env h scheme (Insert key values) z = (values_kinds scope env h scheme.keys key z.0, values_kinds scope env h scheme.others values z.1)
+  write_kinds scope env h scheme (Update key key_class from sets) z = sets_kinds scope env h scheme sets z.1
+  write_kinds scope env h scheme (Delete key key_class) z = tt
 
   pub assigned : (scope : Scope) (env : Environment) → EnvironmentFits scope env → (x : ℕ) (e : Expr) → Assigns schemes scope x e → (k : Kind) → kind_of_var scope x ≡ Some k → fits_kind (value_in env e) k ≡ true
   assigned scope env h x e a k q = subst (λ j. fits_kind (value_in env e) j ≡ true) (same_Some a.0 k (sym a.1 ∙ q)) (value_kind scope env h a.0 e a.2)
 
-  pub loop_fits : (args : List (Option Value)) (scope : Scope) (name : Name) (rel : ℕ) (row : Tuple) (around : List Tuple) → AroundFits schemes scope args around → RowKinds (scheme_of schemes rel) row → AroundFits schemes (in_loop scope name rel) args (row ∷ around)
-  loop_fits args scope name rel row around o k = record { params = o.params; rows = at_depth }
+  pub loop_fits : (args : List (Option Value)) (scope : Scope) (name : Name) (relation : ℕ) (row : Tuple) (around : List Tuple) → AroundFits schemes scope args around → RowKinds (scheme_of schemes relation) row → AroundFits schemes (in_loop scope name relation) args (row ∷ around)
+  loop_fits args scope name relation row around o k = record { params = o.params; rows = at_depth }
     where
-      at_depth : (d : ℕ) → RowKinds (scheme_of schemes (row_at (in_loop scope name rel) d).relation) (slice_index_or (row ∷ around) d no_tuple)
+      at_depth : (d : ℕ) → RowKinds (scheme_of schemes (row_at (in_loop scope name relation) d).relation) (slice_index_or (row ∷ around) d no_tuple)
       at_depth zero = k
       at_depth (suc d) = o.rows d
 
@@ -199,14 +199,14 @@ module _ (policy : Policy) (schemes : Schemes) (hi : ℕ) where
     stmt_keeps scope around (Assign x e) s f z o h =
         let env = environment args around s in
         record { content = h.content; vars = set_kind scope x (value_in env e) s.vars h.vars (assigned scope env (environment_fits scope around s o h) x e z); emitted = h.emitted; released = h.released }
-    stmt_keeps scope around (Write_at rel w writing outcome) s f z o h =
+    stmt_keeps scope around (Write_at relation w writing outcome) s f z o h =
         let env = environment args around s in
-        let scheme = scheme_of schemes rel in
+        let scheme = scheme_of schemes relation in
         let wr = write_in env writing in
-        let new = write ls scheme w wr (s.db rel) in
+        let new = write ls scheme w wr (s.db relation) in
         record {
-          content = table_holds (λ r T. IsContent ls (scheme_of schemes r) T) s.db rel new.table h.content
-              (keep_content ls distinct scheme w (s.db rel) (h.content rel) wr (write_fits policy schemes hi scope w scheme env writing f.1 f.2) (write_kinds scope env (environment_fits scope around s o h) scheme writing z.0));
+          content = table_holds (λ r T. IsContent ls (scheme_of schemes r) T) s.db relation new.table h.content
+              (keep_content ls distinct scheme w (s.db relation) (h.content relation) wr (write_fits policy schemes hi scope w scheme env writing f.1 f.2) (write_kinds scope env (environment_fits scope around s o h) scheme writing z.0));
           vars = outcome_kind scope outcome new.outcome s.vars z.1 h.vars;
           emitted = h.emitted;
           released = h.released;
@@ -229,14 +229,14 @@ module _ (policy : Policy) (schemes : Schemes) (hi : ℕ) where
           released = h.released;
         }
 
-    pub rows_kinds : (rel label : ℕ) (T : Table) → IsContent ls (scheme_of schemes rel) T → AllByRecursion (RowKinds (scheme_of schemes rel)) (rows ls label T)
-    rows_kinds rel label T h =
-        let r = (rows_are_the_view ls distinct (length (scheme_of schemes rel).others) T h.stored label).1 in
-        subst (AllByRecursion (RowKinds (scheme_of schemes rel))) (sym r.1) (each r.0 r.3)
+    pub rows_kinds : (relation label : ℕ) (T : Table) → IsContent ls (scheme_of schemes relation) T → AllByRecursion (RowKinds (scheme_of schemes relation)) (rows ls label T)
+    rows_kinds relation label T h =
+        let r = (rows_are_the_view ls distinct (length (scheme_of schemes relation).others) T h.stored label).1 in
+        subst (AllByRecursion (RowKinds (scheme_of schemes relation))) (sym r.1) (each r.0 r.3)
       where
-        each : (es : List (Place × List Element)) → AllByRecursion (λ e. get T e.0 ≡ Some e.1) es → AllByRecursion (RowKinds (scheme_of schemes rel)) (map (λ e. tuple_at e.0 e.1) es)
+        each : (es : List (Place × List Element)) → AllByRecursion (λ e. get T e.0 ≡ Some e.1) es → AllByRecursion (RowKinds (scheme_of schemes relation)) (map (λ e. tuple_at e.0 e.1) es)
         each [] k = tt
-        each (e ∷ es) k = (row_kinds ls (scheme_of schemes rel) e.0 e.1 (h.fits e.0 e.1 k.0), each es k.1)
+        each (e ∷ es) k = (row_kinds ls (scheme_of schemes relation) e.0 e.1 (h.fits e.0 e.1 k.0), each es k.1)
 
     each_keeps : (scope : Scope) (scheme : Scheme) (f : Tuple → Progress → Progress) → ((row : Tuple) (s : Progress) → RowKinds scheme row → Keeps scope s → Keeps scope (f row s)) → (rows : List Tuple) → AllByRecursion (RowKinds scheme) rows → (s : Progress) → Keeps scope s → Keeps scope (for_each f rows s)
     each_keeps scope scheme f step [] a s h = h
@@ -248,8 +248,8 @@ module _ (policy : Policy) (schemes : Schemes) (hi : ℕ) where
     block_keeps scope (Do stmt rest) f z around o s h = block_keeps scope rest f.1 z.1 around o (perform ls schemes args around stmt s) (stmt_keeps scope around stmt s f.0 z.0 o h)
     block_keeps scope (If guard one other rest) f z around o s h =
         block_keeps scope rest f.3 z.3 around o _ (cond_kept (Keeps scope) (holds_in (environment args around s) guard) _ _ (block_keeps scope one f.1 z.1 around o s h) (block_keeps scope other f.2 z.2 around o s h))
-    block_keeps scope (For name rel label body rest) f z around o s h =
-        let inner = λ (row : Tuple) (t : Progress) (k : RowKinds (scheme_of schemes rel) row) (q : Keeps scope t).
-        let r = block_keeps (in_loop scope name rel) body f.2 z.0 (row ∷ around) (loop_fits args scope name rel row around o k) t (record { content = q.content; vars = q.vars; emitted = q.emitted; released = q.released }) in
+    block_keeps scope (For name relation label body rest) f z around o s h =
+        let inner = λ (row : Tuple) (t : Progress) (k : RowKinds (scheme_of schemes relation) row) (q : Keeps scope t).
+        let r = block_keeps (in_loop scope name relation) body f.2 z.0 (row ∷ around) (loop_fits args scope name relation row around o k) t (record { content = q.content; vars = q.vars; emitted = q.emitted; released = q.released }) in
         let back : Keeps scope (run_block ls schemes args body (row ∷ around) t) = record { content = r.content; vars = r.vars; emitted = r.emitted; released = r.released } in back in
-        block_keeps scope rest f.3 z.1 around o _ (each_keeps scope (scheme_of schemes rel) (λ row t. run_block ls schemes args body (row ∷ around) t) inner (rows ls label (s.db rel)) (rows_kinds rel label (s.db rel) (h.content rel)) s h)
+        block_keeps scope rest f.3 z.1 around o _ (each_keeps scope (scheme_of schemes relation) (λ row t. run_block ls schemes args body (row ∷ around) t) inner (rows ls label (s.db relation)) (rows_kinds relation label (s.db relation) (h.content relation)) s h)

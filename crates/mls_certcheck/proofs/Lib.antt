@@ -1,5 +1,5 @@
 pub mod EachLemmas
-pub mod RowLemmas
+pub mod LoopLemmas
 pub mod LabelLemmas
 pub mod WalkLemmas
 pub mod RulesLemmas

@@ -9,7 +9,7 @@ use Rattle.mls_lattice.specs.Lattice.{Pair, Dominates, bottom, pair_of}
 use Rattle.mls_lattice.specs.Labels.{label_of}
 use Rattle.mls_lattice.specs.Policy.{Name, Policy}
 use Rattle.mls_lattice.proofs.LatticeLemmas.{Dominates-refl, Dominates-trans}
-use Rattle.mls_translang.specs.Tree.{Writing, Inserting, Updating, Deleting, Stmt, Assign, Write_at, Release, Emit, Block, End, Do, If, For, statements}
+use Rattle.mls_translang.specs.Tree.{Writing, Insert, Update, Delete, Stmt, Assign, Write_at, Release, Emit, Block, End, Do, If, For, statements}
 use Rattle.mls_translang.specs.declared.tx.Parameter.{Parameter as Given}
 use Rattle.mls_translang.specs.Tx.{Tx}
 use Rattle.mls_certcheck.specs.declared.cert.Cert.{Cert}
@@ -74,13 +74,13 @@ module _ (count : ℕ) where
     outcome_bounds w (Some x) = ((is, tt), tt)
 
     order_bounds : (w : ℕ) (writing : Writing) → AllByRecursion BoundsOf (order n w writing)
-    order_bounds w (Inserting key values) = tt
-    order_bounds w (Updating key key_class from sets) = (tt, (tt, tt))
-    order_bounds w (Deleting key key_class) = (tt, tt)
+    order_bounds w (Insert key values) = tt
+    order_bounds w (Update key key_class from sets) = (tt, (tt, tt))
+    order_bounds w (Delete key key_class) = (tt, tt)
 
     stmt_bounds : (b : ℕ) (rows : List ℕ) (stmt : Stmt) → AllByRecursion BoundsOf (stmt_lines n b rows stmt)
     stmt_bounds b rows (Assign x e) = ((is, tt), tt)
-    stmt_bounds b rows (Write_at rel w writing outcome) =
+    stmt_bounds b rows (Write_at relation w writing outcome) =
         all_both BoundsOf (write n b rows w writing outcome) (order n w writing) (tt, (tt, by_each n _ (outcome_flows n w outcome) (outcome_bounds w outcome))) (order_bounds w writing)
     stmt_bounds b rows (Release e to into) = (tt, (tt, ((is, tt), tt)))
     stmt_bounds b rows (Emit e label) = (tt, (tt, tt))
@@ -102,7 +102,7 @@ module _ (count : ℕ) where
         (all_both IsPlace (places (n + 1 + statements one) n b rows other) _ (are_places other (n + 1 + statements one) n b rows (omega (arith, least)) (omega (arith, most)))
         (are_places rest (n + (1 + statements one + statements other)) a n rows (omega (arith, least)) (omega (arith, most)))),
   )
-  are_places (For row rel label body rest) n a b rows least most = (
+  are_places (For row relation label body rest) n a b rows least most = (
     record { least = least; most = omega (arith, most) },
     all_both IsPlace (places (n + 1) n n (label ∷ rows) body) _ (are_places body (n + 1) n n (label ∷ rows) (omega (arith, least)) (omega (arith, most)))
         (are_places rest (n + (1 + statements body)) a n rows (omega (arith, least)) (omega (arith, most))),

@@ -8,7 +8,8 @@ use Rattle.mls_lattice.specs.Labels.{label_of}
 use Rattle.mls_lattice.proofs.LatticeLemmas.{join-least}
 use Rattle.mls_translang.specs.Tree.{Expr, Known, Null, Var, Param, Field, No, Op, Writing, Stmt, Assign, Write_at, Release, Emit, Block, statements}
 use Rattle.mls_certcheck.specs.Place.{Node, Plain, Place, directs, last, branching, looping}
-use Rattle.mls_certcheck.specs.Lines.{names, operands, target, stmt_lines, rest, lines_at, tx_lines, all_places}
+use Rattle.mls_scheme.specs.Writes.{operands}
+use Rattle.mls_certcheck.specs.Lines.{names, target, stmt_lines, rest, lines_at, tx_lines, all_places}
 use Rattle.mls_certcheck.specs.Rules.{Claim, hi, after, pc, param_label, source_label, IsOver, Holds, Rules}
 use Rattle.mls_certcheck.specs.declared.flow.Slot.TheVariants.{Statement}
 use Rattle.mls_certcheck.specs.declared.flow.Source.{Source}
@@ -73,17 +74,17 @@ module _ (c : Claim) where
     pub assigned : (x : ℕ) (e : Expr) → ObeysAt (Plain (Assign x e)) → Dominates (after c n x) (join (pc c n) (lab b rows e))
     assigned x e h = both_over e (after c n x) h.1.1.0.0
 
-    module _ (rel w : ℕ) (writing : Writing) where
-      pub write_context : (outcome : Option ℕ) → ObeysAt (Plain (Write_at rel w writing outcome)) → Dominates (label_of c.labels w) (pc c n)
+    module _ (relation w : ℕ) (writing : Writing) where
+      pub write_context : (outcome : Option ℕ) → ObeysAt (Plain (Write_at relation w writing outcome)) → Dominates (label_of c.labels w) (pc c n)
       write_context outcome h = h.1.1.0.0
 
-      pub write_operands : (outcome : Option ℕ) → ObeysAt (Plain (Write_at rel w writing outcome)) → AllByRecursion (λ e. Dominates (label_of c.labels w) (lab b rows e)) (operands writing)
+      pub write_operands : (outcome : Option ℕ) → ObeysAt (Plain (Write_at relation w writing outcome)) → AllByRecursion (λ e. Dominates (label_of c.labels w) (lab b rows e)) (operands writing)
       write_operands outcome h =
           let l = label_of c.labels w in
           all_map (λ e. IsOver c l (names b rows e)) (λ e. Dominates l (lab b rows e)) (λ e. over_names b rows e l) (operands writing)
           (flat_each (λ s. Dominates l (source_label c s)) (names b rows) (operands writing) h.1.1.0.1)
 
-      pub write_into : (outcome : Option ℕ) → ObeysAt (Plain (Write_at rel w writing outcome)) → IfSome outcome (λ x. Dominates (after c n x) (label_of c.labels w))
+      pub write_into : (outcome : Option ℕ) → ObeysAt (Plain (Write_at relation w writing outcome)) → IfSome outcome (λ x. Dominates (after c n x) (label_of c.labels w))
       write_into None h = tt
       write_into (Some x) h = h.1.1.1.1.0.0.0
 

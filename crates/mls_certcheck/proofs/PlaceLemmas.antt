@@ -53,7 +53,7 @@ module _ (k : Claim) where
     around_above rest (n + (1 + statements one + statements other)) a n rows
         (every_back (Obeys k) _ (places (n + 1 + statements one) n b rows other) _ (every_back (Obeys k) _ (places (n + 1) n b rows one) _ h.1 refl) refl),
   )
-  around_above (For row rel label body rest) n a b rows h =
+  around_above (For row relation label body rest) n a b rows h =
       (runs_in k n a b rows (looping n b label body) h.0, around_above rest (n + (1 + statements body)) a n rows (every_back (Obeys k) _ (places (n + 1) n n (label ∷ rows) body) _ h.1 refl))
 
 -- ---- variables

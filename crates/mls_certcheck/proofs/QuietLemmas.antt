@@ -34,7 +34,7 @@ use Rattle.mls_certcheck.proofs.PlaceLemmas.{unseen_above, seen_under, below-⊑
 
 -- two runs look alike to c so far: the low tuples, the variables of labels that it dominates after the statement n, and the items
 pub record Agrees (k : Claim) (c n : ℕ) (s t : Progress) : Type 0 where
-  pub tables : (rel : ℕ) → low k.labels c (s.db rel) ≡ low k.labels c (t.db rel)
+  pub tables : (relation : ℕ) → low k.labels c (s.db relation) ≡ low k.labels c (t.db relation)
   pub values : (i : ℕ) → after k n i ⊑ label_of k.labels c ≡ true → s.vars i ≡ t.vars i
   pub emitted : seen_items k.labels c s.emitted ≡ seen_items k.labels c t.emitted
   pub released : seen_items k.labels c s.released ≡ seen_items k.labels c t.released
@@ -52,13 +52,13 @@ pub record Quiet (k : Claim) (c m n : ℕ) (s t : Progress) : Type 0 where
   pub same : Agrees k c n s t
 
 pub quiet_end : (k : Claim) (c n : ℕ) (s : Progress) → Quiet k c n n s s
-quiet_end k c n s = record { seen = λ i v. v; same = record { tables = λ rel. refl; values = λ i v. refl; emitted = refl; released = refl } }
+quiet_end k c n s = record { seen = λ i v. v; same = record { tables = λ relation. refl; values = λ i v. refl; emitted = refl; released = refl } }
 
 pub quiet_then : {k : Claim} {c m n o : ℕ} {s t u : Progress} → Quiet k c m n s t → Quiet k c n o t u → Quiet k c m o s u
 quiet_then h g = record {
   seen = λ i v. h.seen i (g.seen i v);
   same = record {
-    tables = λ rel. h.same.tables rel ∙ g.same.tables rel;
+    tables = λ relation. h.same.tables relation ∙ g.same.tables relation;
     values = λ i v. h.same.values i (g.seen i v) ∙ g.same.values i v;
     emitted = h.same.emitted ∙ g.same.emitted;
     released = h.same.released ∙ g.same.released;
@@ -68,7 +68,7 @@ quiet_then h g = record {
 -- what agreed before two runs that c may not see agrees after them
 pub quiet_both : {k : Claim} {c m n : ℕ} {s t u v : Progress} → Quiet k c m n s u → Quiet k c m n t v → Agrees k c m s t → Agrees k c n u v
 quiet_both h g a = record {
-  tables = λ rel. sym (h.same.tables rel) ∙ a.tables rel ∙ g.same.tables rel;
+  tables = λ relation. sym (h.same.tables relation) ∙ a.tables relation ∙ g.same.tables relation;
   values = λ i l. sym (h.same.values i l) ∙ a.values i (h.seen i l) ∙ g.same.values i l;
   emitted = sym h.same.emitted ∙ a.emitted ∙ g.same.emitted;
   released = sym h.same.released ∙ a.released ∙ g.same.released;
@@ -79,7 +79,7 @@ pub keeps_seen : (k : Claim) (c m n : ℕ) → HasNoMore k → Keeps k m n → I
 keeps_seen k c m n none h i v = seen_under (label_of k.labels c) (after k m i) (after k n i) (keeps_all k none m n i (h i)) v
 
 pub quiet_keeps : (k : Claim) (c m n : ℕ) (s : Progress) → HasNoMore k → Keeps k m n → Quiet k c m n s s
-quiet_keeps k c m n s none h = record { seen = keeps_seen k c m n none h; same = record { tables = λ rel. refl; values = λ i v. refl; emitted = refl; released = refl } }
+quiet_keeps k c m n s none h = record { seen = keeps_seen k c m n none h; same = record { tables = λ relation. refl; values = λ i v. refl; emitted = refl; released = refl } }
 
 -- an item that is not seen
 pub seen_not : (ls : Labels) (c : ℕ) (items : List Item) (i : Item) → label_of ls i.0 ⊑ label_of ls c ≡ false → seen_items ls c (items ++ i ∷ []) ≡ seen_items ls c items
@@ -126,16 +126,16 @@ module _ (policy : Policy) (distinct : AreDistinct (labels_of policy)) (tx : Tx)
   outcome_out n w None h out = tt
   outcome_out n w (Some x) h out = unseen_above level (label_of ls w) (after k n x) h out
 
-  pub quiet_write : (n a b : ℕ) (loops : List ℕ) (rel w : ℕ) (writing : Writing) (wr : Write) (outcome : Option ℕ) (s : Progress)
-      → Obeys k (record { number = n; around = a; before = b; rows = loops; node = Plain (Write_at rel w writing outcome) }) → label_of ls w ⊑ level ≡ false → AreStored ls schemes s.db
-      → Quiet k c b n s (do_write ls schemes args rel w wr outcome s)
-  quiet_write n a b loops rel w writing wr outcome s h out stored =
-      let hidden = outcome_out n w outcome (write_into k n a b loops rel w writing outcome h) out in
+  pub quiet_write : (n a b : ℕ) (loops : List ℕ) (relation w : ℕ) (writing : Writing) (wr : Write) (outcome : Option ℕ) (s : Progress)
+      → Obeys k (record { number = n; around = a; before = b; rows = loops; node = Plain (Write_at relation w writing outcome) }) → label_of ls w ⊑ level ≡ false → AreStored ls schemes s.db
+      → Quiet k c b n s (do_write ls schemes args relation w wr outcome s)
+  quiet_write n a b loops relation w writing wr outcome s h out stored =
+      let hidden = outcome_out n w outcome (write_into k n a b loops relation w writing outcome h) out in
       record {
-        seen = stays n a b loops (Write_at rel w writing outcome) h hidden;
+        seen = stays n a b loops (Write_at relation w writing outcome) h hidden;
         same = record {
-          tables = λ r. elim (nat_eq r rel) as (λ b. nat_eq r rel ≡ b → low ls c (s.db r) ≡ low ls c (cond b (write ls (scheme_of schemes rel) w wr (s.db rel)).table (s.db r))) [
-            | true ↦ λ e. ap (λ x. low ls c (s.db x)) (eqb-true r rel e) ∙ sym (high_leave_low ls (scheme_of schemes rel) (length (scheme_of schemes rel).others) c w (s.db rel) (stored rel) wr (below-⊑ ls w c false out))
+          tables = λ r. elim (nat_eq r relation) as (λ b. nat_eq r relation ≡ b → low ls c (s.db r) ≡ low ls c (cond b (write ls (scheme_of schemes relation) w wr (s.db relation)).table (s.db r))) [
+            | true ↦ λ e. ap (λ x. low ls c (s.db x)) (eqb-true r relation e) ∙ sym (high_leave_low ls (scheme_of schemes relation) (length (scheme_of schemes relation).others) c w (s.db relation) (stored relation) wr (below-⊑ ls w c false out))
             | false ↦ λ e. refl
           ] refl;
           values = λ i v. sym (outcome_not outcome _ s.vars i (not_target n outcome hidden i v));
@@ -154,8 +154,8 @@ module _ (policy : Policy) (distinct : AreDistinct (labels_of policy)) (tx : Tx)
         seen = stays n a b loops (Assign x e) h hidden;
         same = record { tables = λ r. refl; values = λ i v. sym (set_not x i _ s.vars (λ same. not_target n (Some x) hidden i v (ap Some (sym same)))); emitted = refl; released = refl };
       }
-  quiet_stmt n a b loops around (Write_at rel w writing outcome) s h out stored =
-      quiet_write n a b loops rel w writing (write_in (environment args around s) writing) outcome s h (unseen_above level (pc k n) (label_of ls w) (write_context k n a b loops rel w writing outcome h) out) stored
+  quiet_stmt n a b loops around (Write_at relation w writing outcome) s h out stored =
+      quiet_write n a b loops relation w writing (write_in (environment args around s) writing) outcome s h (unseen_above level (pc k n) (label_of ls w) (write_context k n a b loops relation w writing outcome h) out) stored
   quiet_stmt n a b loops around (Release e to into) s h out stored =
       let below_to : label_of ls to ⊑ level ≡ false = unseen_above level (pc k n) (label_of ls to) (release_context k n a b loops e to into h) out in
       let hidden : after k n into ⊑ level ≡ false = unseen_above level (label_of ls to) (after k n into) (release_target k n a b loops e to into h) below_to in
@@ -202,7 +202,7 @@ module _ (policy : Policy) (distinct : AreDistinct (labels_of policy)) (tx : Tx)
       (quiet_then (quiet_block scope other (n + 1 + statements one) n b loops m obeys_2 above_2 f.2 inner around s stored) (quiet_keeps k c (last b (n + 1 + statements one) other) n _ none (branch_other k n a b loops guard one other h.0))))
       (quiet_block scope rest (n + (1 + statements one + statements other)) a n loops l obeys_3 above.1 f.3 out around _
       (cond_kept (λ t. AreStored ls schemes t.db) d _ _ (block_stored policy schemes tx.hi distinct args scope one f.1 around s stored) (block_stored policy schemes tx.hi distinct args scope other f.2 around s stored)))
-  quiet_block scope (For name rel label body rest) n a b loops l h above f out around s stored =
+  quiet_block scope (For name relation label body rest) n a b loops l h above f out around s stored =
       let m : Pair = join (pc k n) (label_of ls label) in
       let inner : m ⊑ level ≡ false = unseen_above level (pc k n) m (join-left (pc k n) (label_of ls label)) (unseen_above level l (pc k n) above.0 out) in
       let obeys_1 = every_front (Obeys k) _ (places (n + 1) n n (label ∷ loops) body) _ h.1 refl in
@@ -210,9 +210,9 @@ module _ (policy : Policy) (distinct : AreDistinct (labels_of policy)) (tx : Tx)
       let looped = for_each_kept (λ t. Quiet k c b n s t × AreStored ls schemes t.db) (λ row t. run_block ls schemes args body (row ∷ around) t)
       (λ row t p. (
         quiet_then p.0
-            (quiet_then (quiet_block (in_loop scope name rel) body (n + 1) n n (label ∷ loops) m obeys_1 (loop_body k n a b loops label body h.0) f.2 inner (row ∷ around) t p.1)
+            (quiet_then (quiet_block (in_loop scope name relation) body (n + 1) n n (label ∷ loops) m obeys_1 (loop_body k n a b loops label body h.0) f.2 inner (row ∷ around) t p.1)
             (quiet_keeps k c (last n (n + 1) body) n _ none (loop_turn k n a b loops label body h.0))),
-        block_stored policy schemes tx.hi distinct args (in_loop scope name rel) body f.2 (row ∷ around) t p.1,
+        block_stored policy schemes tx.hi distinct args (in_loop scope name relation) body f.2 (row ∷ around) t p.1,
       ))
-      (rows ls label (s.db rel)) s (quiet_keeps k c b n s none (loop_begin k n a b loops label body h.0), stored) in
+      (rows ls label (s.db relation)) s (quiet_keeps k c b n s none (loop_begin k n a b loops label body h.0), stored) in
       quiet_then looped.0 (quiet_block scope rest (n + (1 + statements body)) a n loops l obeys_2 above.1 f.3 out around _ looped.1)

@@ -7,11 +7,10 @@ use Rattle.mls_lattice.specs.Lattice.{Pair, Dominates, ◌⊑◌, join}
 use Rattle.mls_lattice.specs.Labels.{label_of}
 use Rattle.mls_lattice.proofs.LatticeLemmas.{join-left, join-right}
 use Rattle.mls_filterview.specs.Rules.{no_tuple}
-use Rattle.mls_updates.specs.Writes.{Insert, Update, Delete}
-use Rattle.mls_translang.specs.Tree.{Expr, Known, Null, Var, Param, Field, No, Op, Writing, Inserting, Updating, Deleting}
+use Rattle.mls_translang.specs.Tree.{Expr, Known, Null, Var, Param, Field, No, Op, Writing, Insert, Update, Delete}
 use Rattle.mls_certcheck.specs.Expressions.{Plain, Truth, is_true, value_of, cell_of, apply, Environment, eval, value_in}
 use Rattle.mls_certcheck.specs.Meaning.{values_set, write_in}
-use Rattle.mls_certcheck.specs.Lines.{operands}
+use Rattle.mls_scheme.specs.Writes.{operands}
 use Rattle.mls_certcheck.specs.Rules.{Claim, after, param_label}
 use Rattle.mls_certcheck.proofs.LineLemmas.{lab}
 use Rattle.mls_certcheck.proofs.PlaceLemmas.{seen_under}
@@ -60,8 +59,8 @@ module _ (k : Claim) (c m : ℕ) (loops : List ℕ) (a b : Environment) (agree :
     sets_same (s ∷ ss) h = λ i. (s.0, one_same s.1 h.0 i) ∷ sets_same ss h.1 i
 
     pub write_same : (writing : Writing) → AreUnder (operands writing) → write_in a writing ≡ write_in b writing
-    write_same (Inserting key values) h = λ i. Insert (values_same key (every_front (λ e. Dominates w (lab k m loops e)) _ key values h refl) i) (values_same values (every_back (λ e. Dominates w (lab k m loops e)) _ key values h refl) i)
-    write_same (Updating key key_class from sets) h =
+    write_same (Insert key values) h = λ i. Insert (values_same key (every_front (λ e. Dominates w (lab k m loops e)) _ key values h refl) i) (values_same values (every_back (λ e. Dominates w (lab k m loops e)) _ key values h refl) i)
+    write_same (Update key key_class from sets) h =
         λ i. Update (values_same key (every_front (λ e. Dominates w (lab k m loops e)) _ key (map (λ s. s.1) sets) h refl) i) key_class from
         (sets_same sets (every_back (λ e. Dominates w (lab k m loops e)) _ key (map (λ s. s.1) sets) h refl) i)
-    write_same (Deleting key key_class) h = λ i. Delete (values_same key h i) key_class
+    write_same (Delete key key_class) h = λ i. Delete (values_same key h i) key_class

@@ -41,14 +41,14 @@ module _ (policy : Policy) (schemes : Schemes) (hi : ℕ) (distinct : AreDistinc
         (run_block (labels_of policy) schemes args one around s) (run_block (labels_of policy) schemes args other around s)
         (block_stored policy schemes hi distinct args scope one f.1 around s h) (block_stored policy schemes hi distinct args scope other f.2 around s h)),
   )
-  block_throughout scope (For name rel label body rest) f around s h =
-      let keeps = λ (row : Tuple) (t : Progress) (k : AreStored (labels_of policy) schemes t.db). block_stored policy schemes hi distinct args (in_loop scope name rel) body f.2 (row ∷ around) t k in (
+  block_throughout scope (For name relation label body rest) f around s h =
+      let keeps = λ (row : Tuple) (t : Progress) (k : AreStored (labels_of policy) schemes t.db). block_stored policy schemes hi distinct args (in_loop scope name relation) body f.2 (row ∷ around) t k in (
         each_turn (λ t. AreStored (labels_of policy) schemes t.db) (λ row t. run_block (labels_of policy) schemes args body (row ∷ around) t)
             (λ row t. ThroughoutBlock (labels_of policy) schemes args Holds body (row ∷ around) t)
-            (λ row t k. block_throughout (in_loop scope name rel) body f.2 (row ∷ around) t k) keeps (rows (labels_of policy) label (s.db rel)) s h,
+            (λ row t k. block_throughout (in_loop scope name relation) body f.2 (row ∷ around) t k) keeps (rows (labels_of policy) label (s.db relation)) s h,
         block_throughout scope rest f.3 around _
             (for_each_kept (λ t. AreStored (labels_of policy) schemes t.db) (λ row t. run_block (labels_of policy) schemes args body (row ∷ around) t)
-            keeps (rows (labels_of policy) label (s.db rel)) s h),
+            keeps (rows (labels_of policy) label (s.db relation)) s h),
       )
 
 -- so of a whole call

@@ -11,7 +11,7 @@ use Rattle.mls_translang.specs.declared.block.Stmt.{Stmt}
 use Rattle.mls_translang.specs.declared.block.Stmt.TheVariants as stmt
 use Rattle.mls_certcheck.specs.Place.{Place, Plain, branching, looping, last, places}
 use Rattle.mls_certcheck.specs.Lines.{Line, lines_at, body_lines}
-use Rattle.mls_certcheck.specs.Rows.{rows_of}
+use Rattle.mls_certcheck.specs.Loops.{loops_of}
 use Rattle.mls_certcheck.specs.Walk.{walked_lines, here_lines, inner_of, block_lines}
 use Rattle.mls_certcheck.specs.declared.lent.Here.{Here}
 
@@ -21,15 +21,13 @@ abbrev then : Block → Block → Block
 then End after = after
 then (Do s rest) after = Do s (then rest after)
 then (If guard one other rest) after = If guard one other (then rest after)
-then (For row rel label body rest) after = For row rel label body (then rest after)
+then (For row relation label body rest) after = For row relation label body (then rest after)
 
 first_then : (s : Stmt) (rest : List Stmt) → block_of (s ∷ rest) ≡ then (block_of (s ∷ [])) (block_of rest)
 first_then (stmt.Assign x e) rest = refl
 first_then (stmt.If guard one other) rest = refl
-first_then (stmt.For row rel label body) rest = refl
-first_then (stmt.Insert rel key values w outcome) rest = refl
-first_then (stmt.Update rel key key_class from w sets outcome) rest = refl
-first_then (stmt.Delete rel key key_class w outcome) rest = refl
+first_then (stmt.For row relation label body) rest = refl
+first_then (stmt.Write relation w writing outcome) rest = refl
 first_then (stmt.Release e to into) rest = refl
 first_then (stmt.Emit e label) rest = refl
 
@@ -37,10 +35,8 @@ first_then (stmt.Emit e label) rest = refl
 last_one : (before n : ℕ) (s : Stmt) → last before n (block_of (s ∷ [])) ≡ n
 last_one before n (stmt.Assign x e) = refl
 last_one before n (stmt.If guard one other) = refl
-last_one before n (stmt.For row rel label body) = refl
-last_one before n (stmt.Insert rel key values w outcome) = refl
-last_one before n (stmt.Update rel key key_class from w sets outcome) = refl
-last_one before n (stmt.Delete rel key key_class w outcome) = refl
+last_one before n (stmt.For row relation label body) = refl
+last_one before n (stmt.Write relation w writing outcome) = refl
 last_one before n (stmt.Release e to into) = refl
 last_one before n (stmt.Emit e label) = refl
 
@@ -48,13 +44,13 @@ statements-then : (b d : Block) → statements (then b d) ≡ statements b + sta
 statements-then End d = omega arith
 statements-then (Do s rest) d = omega (arith, statements-then rest d)
 statements-then (If guard one other rest) d = omega (arith, statements-then rest d)
-statements-then (For row rel label body rest) d = omega (arith, statements-then rest d)
+statements-then (For row relation label body rest) d = omega (arith, statements-then rest d)
 
 depth-then : (b d : Block) → (depth b ≤ depth (then b d)) × (depth d ≤ depth (then b d))
 depth-then End d = (omega arith, omega arith)
 depth-then (Do s rest) d = let h = depth-then rest d in (omega (arith, h.0, h.1), omega (arith, h.0, h.1))
 depth-then (If guard one other rest) d = let h = depth-then rest d in (omega (arith, h.0, h.1), omega (arith, h.0, h.1))
-depth-then (For row rel label body rest) d = let h = depth-then rest d in (omega (arith, h.0, h.1), omega (arith, h.0, h.1))
+depth-then (For row relation label body rest) d = let h = depth-then rest d in (omega (arith, h.0, h.1), omega (arith, h.0, h.1))
 
 -- the number after which each turn of the loop n begins, where the loop itself begins after another
 abbrev pub turn : ℕ → ℕ → ℕ
@@ -77,7 +73,7 @@ places-then n around before rows (If guard one other rest) d =
     ap (λ (ps : List Place). record { number = n; around = around; before = before; rows = rows; node = branching n before guard one other } ∷ ps) (
     ap (λ (ps : List Place). a ++ (b ++ ps)) after ∙ ap (λ (ps : List Place). a ++ ps) (sym (append_assoc b r z)) ∙ sym (append_assoc a (b ++ r) z)
     )
-places-then n around before rows (For row rel label body rest) d =
+places-then n around before rows (For row relation label body rest) d =
     let m = n + (1 + statements body) in
     let a = places (n + 1) n (turn n before) (label ∷ rows) body in
     let r = places m around n rows rest in
@@ -148,14 +144,14 @@ module _ (h : Here) where
   unfolding walked_lines
   if_whole guard one other =
       let f = lines_at h.vars in
-      let p = places (h.number + 1) h.number h.before (rows_of h.rows) one in
-      let q = places (h.number + 1 + statements one) h.number h.before (rows_of h.rows) other in
+      let p = places (h.number + 1) h.number h.before (loops_of h.loops) one in
+      let q = places (h.number + 1 + statements one) h.number h.before (loops_of h.loops) other in
       ap (λ (l : List Line). here_lines h (If guard one other End) ++ l) (sym (flat_map-append f p q) ∙ ap (λ (ps : List Place). flat_map f (p ++ ps)) (sym (append-nil q)))
 
-  for_whole : (row : List ℕ) (rel label : ℕ) (body : Block) → here_lines h (For row rel label body End) ++ inner_of h (For row rel label body End) ≡ block_lines h (For row rel label body End)
+  for_whole : (row : List ℕ) (relation label : ℕ) (body : Block) → here_lines h (For row relation label body End) ++ inner_of h (For row relation label body End) ≡ block_lines h (For row relation label body End)
   unfolding walked_lines
-  for_whole row rel label body =
-      ap (λ (ps : List Place). here_lines h (For row rel label body End) ++ flat_map (lines_at h.vars) ps) (sym (append-nil (places (h.number + 1) h.number (turn h.number h.before) (label ∷ rows_of h.rows) body)))
+  for_whole row relation label body =
+      ap (λ (ps : List Place). here_lines h (For row relation label body End) ++ flat_map (lines_at h.vars) ps) (sym (append-nil (places (h.number + 1) h.number (turn h.number h.before) (label ∷ loops_of h.loops) body)))
 
   do_whole : (s : Simple) → here_lines h (Do s End) ++ [] ≡ block_lines h (Do s End)
   unfolding walked_lines
@@ -164,19 +160,15 @@ module _ (h : Here) where
   pub stmt_whole : (s : Stmt) → here_lines h (block_of (s ∷ [])) ++ inner_of h (block_of (s ∷ [])) ≡ block_lines h (block_of (s ∷ []))
   stmt_whole (stmt.Assign x value) = do_whole _
   stmt_whole (stmt.If guard one other) = if_whole guard one other
-  stmt_whole (stmt.For row rel label body) = for_whole row rel label body
-  stmt_whole (stmt.Insert rel key values w outcome) = do_whole _
-  stmt_whole (stmt.Update rel key key_class from w sets outcome) = do_whole _
-  stmt_whole (stmt.Delete rel key key_class w outcome) = do_whole _
+  stmt_whole (stmt.For row relation label body) = for_whole row relation label body
+  stmt_whole (stmt.Write relation w writing outcome) = do_whole _
   stmt_whole (stmt.Release value to into) = do_whole _
   stmt_whole (stmt.Emit value label) = do_whole _
 
-  pub none_inside : (s : Stmt) (not_if : (guard : Expr) (one other : Block) → s ≡ stmt.If guard one other → ⊥) (not_for : (row : List ℕ) (rel label : ℕ) (body : Block) → s ≡ stmt.For row rel label body → ⊥) → [] ≡ inner_of h (block_of (s ∷ []))
+  pub none_inside : (s : Stmt) (not_if : (guard : Expr) (one other : Block) → s ≡ stmt.If guard one other → ⊥) (not_for : (row : List ℕ) (relation label : ℕ) (body : Block) → s ≡ stmt.For row relation label body → ⊥) → [] ≡ inner_of h (block_of (s ∷ []))
   none_inside (stmt.Assign x value) not_if not_for = refl
   none_inside (stmt.If guard one other) not_if not_for = absurd (not_if guard one other refl)
-  none_inside (stmt.For row rel label body) not_if not_for = absurd (not_for row rel label body refl)
-  none_inside (stmt.Insert rel key values w outcome) not_if not_for = refl
-  none_inside (stmt.Update rel key key_class from w sets outcome) not_if not_for = refl
-  none_inside (stmt.Delete rel key key_class w outcome) not_if not_for = refl
+  none_inside (stmt.For row relation label body) not_if not_for = absurd (not_for row relation label body refl)
+  none_inside (stmt.Write relation w writing outcome) not_if not_for = refl
   none_inside (stmt.Release value to into) not_if not_for = refl
   none_inside (stmt.Emit value label) not_if not_for = refl

@@ -13,7 +13,7 @@ use Rattle.mls_certcheck.specs.Meaning.{Variables}
 
 -- each attribute of a row has its kind
 abbrev pub RowKinds : Scheme → Tuple → Type 0
-RowKinds scheme t = (i : ℕ) → fits_kind (cell_of t i) (field_of scheme i).kind ≡ true
+RowKinds scheme t = (i : ℕ) → fits_kind (cell_of t i) (field_of scheme i).1.kind ≡ true
 
 -- each variable has its kind
 abbrev pub VarsFit : Scope → Variables → Type 0

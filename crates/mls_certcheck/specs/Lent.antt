@@ -1,10 +1,11 @@
 -- What is said by a line that the walk lends.
 use Rattle.std.specs.Prelude.{List, [], ◌∷◌, ◌++◌, map, Option, Some, None}
 use Rattle.std.specs.List.{flat_map}
+use Rattle.mls_scheme.specs.Writes.{operands}
 use Rattle.mls_translang.specs.Tree.{Expr}
 use Rattle.mls_certcheck.specs.Place.{directs}
 use Rattle.mls_certcheck.specs.Lines.{Line, names, variables}
-use Rattle.mls_certcheck.specs.Rows.{rows_of}
+use Rattle.mls_certcheck.specs.Loops.{loops_of}
 use Rattle.mls_certcheck.specs.declared.flow.Slot.{Slot}
 use Rattle.mls_certcheck.specs.declared.flow.Slot.TheVariants.{Statement}
 use Rattle.mls_certcheck.specs.declared.flow.Source.{Source}
@@ -15,7 +16,7 @@ use Rattle.mls_certcheck.specs.declared.lent.Here.{Here}
 use Rattle.mls_certcheck.specs.declared.lent.Targets.{Targets}
 use Rattle.mls_certcheck.specs.declared.lent.Targets.TheVariants.{One, Inside, Either}
 use Rattle.mls_certcheck.specs.declared.lent.More.{More}
-use Rattle.mls_certcheck.specs.declared.lent.More.TheVariants.{Nothing, Label, Variables, Names, Each, Values, Sets}
+use Rattle.mls_certcheck.specs.declared.lent.More.TheVariants.{Nothing, Label, Variables, Names, Operands}
 use Rattle.mls_certcheck.specs.declared.lent.LentFlow.{LentFlow}
 use Rattle.mls_certcheck.specs.declared.lent.LentFlow.TheVariants.{Into, Kept, Within, Under}
 use Rattle.mls_certcheck.specs.declared.refusal.Rule.{Rule}
@@ -28,16 +29,14 @@ slots_of (Either one other) = map (λ m. Statement m) (directs one.first one.blo
 module _ (h : Here) where
   -- the names in expressions
   abbrev pub names_here : List Expr → List Source
-  names_here es = flat_map (names h.before (rows_of h.rows)) es
+  names_here es = flat_map (names h.before (loops_of h.loops)) es
 
   abbrev pub more_of : More → List Source
   more_of Nothing = []
   more_of (Label label) = Declared label ∷ []
   more_of (Variables count) = variables h.number count
-  more_of (Names e) = names h.before (rows_of h.rows) e.now
-  more_of (Each key) = names_here key.now
-  more_of (Values key values) = names_here (key.now ++ values.now)
-  more_of (Sets key sets) = names_here (key.now ++ map (λ s. s.1) sets.now)
+  more_of (Names e) = names h.before (loops_of h.loops) e.now
+  more_of (Operands writing) = names_here (operands writing.now)
 
   abbrev pub sources_of : Option Source → More → List Source
   sources_of None more = more_of more

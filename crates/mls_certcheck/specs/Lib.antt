@@ -4,7 +4,7 @@ pub mod Place
 pub mod Lines
 pub mod Rules
 pub mod Checks
-pub mod Rows
+pub mod Loops
 pub mod Lent
 pub mod Walk
 pub mod Visited

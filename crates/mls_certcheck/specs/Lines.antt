@@ -1,7 +1,8 @@
 -- What the rules ask of a transaction, as lines: each says what flows where, by a rule, at a statement.
 use Rattle.std.specs.Prelude.{ℕ, zero, suc, List, [], ◌∷◌, ◌++◌, length, map, slice_index, Option, Some, None}
 use Rattle.std.specs.List.{flat_map}
-use Rattle.mls_translang.specs.Tree.{Expr, Known, Null, Var, Param, Field, No, Op, Writing, Inserting, Updating, Deleting, Stmt, Assign, Write_at, Release, Emit}
+use Rattle.mls_scheme.specs.Writes.{operands}
+use Rattle.mls_translang.specs.Tree.{Expr, Known, Null, Var, Param, Field, No, Op, Writing, Insert, Update, Delete, Stmt, Assign, Write_at, Release, Emit}
 use Rattle.mls_translang.specs.Tx.{Tx}
 use Rattle.mls_certcheck.specs.Place.{Node, Plain, Branching, Looping, Place, places}
 use Rattle.mls_certcheck.specs.declared.flow.Slot.TheVariants.{Variable, Statement}
@@ -35,16 +36,10 @@ abbrev pub variables : ℕ → ℕ → List Source
 variables n zero = []
 variables n (suc x) = Held (Variable n x) ∷ variables n x
 
--- the expressions of a write
-abbrev pub operands : Writing → List Expr
-operands (Inserting key values) = key ++ values
-operands (Updating key key_class from sets) = key ++ map (λ s. s.1) sets
-operands (Deleting key key_class) = key
-
 -- the variable that a statement gives another value
 abbrev pub target : Stmt → Option ℕ
 target (Assign x e) = Some x
-target (Write_at rel w writing outcome) = outcome
+target (Write_at relation w writing outcome) = outcome
 target (Release e to into) = Some into
 target (Emit e label) = None
 
@@ -93,9 +88,9 @@ write n b rows w writing outcome =
 
 -- order (own): a write finds its entity and its tuple among those at its label
 abbrev pub order : ℕ → ℕ → Writing → List Line
-order n w (Inserting key values) = []
-order n w (Updating key key_class from sets) = by n rule.Order (Within from (Declared key_class ∷ []) ∷ Within w (Declared from ∷ []) ∷ [])
-order n w (Deleting key key_class) = by n rule.Order (Within w (Declared key_class ∷ []) ∷ [])
+order n w (Insert key values) = []
+order n w (Update key key_class from sets) = by n rule.Order (Within from (Declared key_class ∷ []) ∷ Within w (Declared from ∷ []) ∷ [])
+order n w (Delete key key_class) = by n rule.Order (Within w (Declared key_class ∷ []) ∷ [])
 
 -- release (own): it takes a value below the ceiling down to a label, but not that the statement runs
 abbrev pub release : ℕ → ℕ → List ℕ → Expr → ℕ → ℕ → List Line
@@ -118,7 +113,7 @@ within_ends label = Within label (Held (Statement 0) ∷ []) ∷ Under (Declared
 
 abbrev pub stmt_lines : ℕ → ℕ → List ℕ → Stmt → List Line
 stmt_lines n b rows (Assign x e) = assignment n b rows x e
-stmt_lines n b rows (Write_at rel w writing outcome) = write n b rows w writing outcome ++ order n w writing
+stmt_lines n b rows (Write_at relation w writing outcome) = write n b rows w writing outcome ++ order n w writing
 stmt_lines n b rows (Release e to into) = release n b rows e to into
 stmt_lines n b rows (Emit e label) = emit n b rows e label
 

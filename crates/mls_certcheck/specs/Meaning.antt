@@ -11,7 +11,7 @@ use Rattle.mls_filterview.specs.Content.{with_table}
 use Rattle.mls_updates.specs.declared.outcome.Outcome.{Outcome}
 use Rattle.mls_updates.specs.Outcome.{code_of}
 use Rattle.mls_updates.specs.Writes.{Sets, Write, Insert, Update, Delete, write}
-use Rattle.mls_translang.specs.Tree.{Expr, Stmt, Assign, Writing, Inserting, Updating, Deleting, Write_at, Release, Emit, Block, End, Do, If, For}
+use Rattle.mls_translang.specs.Tree.{Expr, Stmt, Assign, Writing, Write_at, Release, Emit, Block, End, Do, If, For}
 use Rattle.mls_translang.specs.Tx.{Tx}
 use Rattle.mls_certcheck.specs.Expressions.{Environment, value_in, holds_in}
 
@@ -55,9 +55,9 @@ abbrev pub values_set : Environment → List (ℕ × Expr) → Sets
 values_set env sets = map (λ x. (x.0, value_in env x.1)) sets
 
 abbrev pub write_in : Environment → Writing → Write
-write_in env (Inserting key values) = Insert (map (value_in env) key) (map (value_in env) values)
-write_in env (Updating key key_class from sets) = Update (map (value_in env) key) key_class from (values_set env sets)
-write_in env (Deleting key key_class) = Delete (map (value_in env) key) key_class
+write_in env (Insert key values) = Insert (map (value_in env) key) (map (value_in env) values)
+write_in env (Update key key_class from sets) = Update (map (value_in env) key) key_class from (values_set env sets)
+write_in env (Delete key key_class) = Delete (map (value_in env) key) key_class
 
 -- the rows one after another
 abbrev pub for_each : (Tuple → Progress → Progress) → List Tuple → Progress → Progress
@@ -67,13 +67,13 @@ for_each f (row ∷ rest) s = for_each f rest (f row s)
 module _ (ls : Labels) (schemes : Schemes) (args : List (Option Value)) where
   -- a write that is refused changes nothing and goes on
   abbrev pub do_write : ℕ → ℕ → Write → Option ℕ → Progress → Progress
-  do_write rel w wr outcome s =
-      let new = write ls (scheme_of schemes rel) w wr (s.db rel) in
-      record s { db = with_table s.db rel new.table; vars = set_outcome outcome new.outcome s.vars }
+  do_write relation w wr outcome s =
+      let new = write ls (scheme_of schemes relation) w wr (s.db relation) in
+      record s { db = with_table s.db relation new.table; vars = set_outcome outcome new.outcome s.vars }
 
   unfoldable pub perform : List Tuple → Stmt → Progress → Progress
   perform around (Assign x e) s = record s { vars = set_var x (value_in (environment args around s) e) s.vars }
-  perform around (Write_at rel w writing outcome) s = do_write rel w (write_in (environment args around s) writing) outcome s
+  perform around (Write_at relation w writing outcome) s = do_write relation w (write_in (environment args around s) writing) outcome s
   perform around (Release e to into) s =
       let v = value_in (environment args around s) e in
       record s { vars = set_var into v s.vars; released = s.released ++ (to, v) ∷ [] }
@@ -85,8 +85,8 @@ module _ (ls : Labels) (schemes : Schemes) (args : List (Option Value)) where
   run_block (Do stmt rest) around s = run_block rest around (perform around stmt s)
   run_block (If guard one other rest) around s =
       run_block rest around (cond (holds_in (environment args around s) guard) (run_block one around s) (run_block other around s))
-  run_block (For name rel label body rest) around s =
-      run_block rest around (for_each (λ row t. run_block body (row ∷ around) t) (rows ls label (s.db rel)) s)
+  run_block (For name relation label body rest) around s =
+      run_block rest around (for_each (λ row t. run_block body (row ∷ around) t) (rows ls label (s.db relation)) s)
 
 -- a whole call
 abbrev pub run_tx : Labels → Schemes → Tx → List (Option Value) → Database → Progress

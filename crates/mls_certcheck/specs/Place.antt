@@ -21,14 +21,14 @@ abbrev pub directs : ℕ → Block → List ℕ
 directs n End = []
 directs n (Do stmt rest) = n ∷ directs (n + 1) rest
 directs n (If guard one other rest) = n ∷ directs (n + (1 + statements one + statements other)) rest
-directs n (For row rel label body rest) = n ∷ directs (n + (1 + statements body)) rest
+directs n (For row relation label body rest) = n ∷ directs (n + (1 + statements body)) rest
 
 -- the number of the last of them, or that after which the block begins
 abbrev pub last : ℕ → ℕ → Block → ℕ
 last before n End = before
 last before n (Do stmt rest) = last n (n + 1) rest
 last before n (If guard one other rest) = last n (n + (1 + statements one + statements other)) rest
-last before n (For row rel label body rest) = last n (n + (1 + statements body)) rest
+last before n (For row relation label body rest) = last n (n + (1 + statements body)) rest
 
 -- a branch begins both blocks after what it begins after itself, and ends after one of them
 abbrev pub branching : ℕ → ℕ → Expr → Block → Block → Node
@@ -47,6 +47,6 @@ places n around before rows (Do stmt rest) =
 places n around before rows (If guard one other rest) =
     record { number = n; around = around; before = before; rows = rows; node = branching n before guard one other }
     ∷ (places (n + 1) n before rows one ++ (places (n + 1 + statements one) n before rows other ++ places (n + (1 + statements one + statements other)) around n rows rest))
-places n around before rows (For row rel label body rest) =
+places n around before rows (For row relation label body rest) =
     record { number = n; around = around; before = before; rows = rows; node = looping n before label body }
     ∷ (places (n + 1) n n (label ∷ rows) body ++ places (n + (1 + statements body)) around n rows rest)

@@ -15,7 +15,7 @@ use Rattle.mls_certcheck.specs.Meaning.{Item, Progress, run_tx}
 
 -- each relation of a database is of the stored form; kinds and intervals play no part
 abbrev pub AreStored : Labels → Schemes → Database → Type 0
-AreStored ls schemes db = (rel : ℕ) → IsStored ls (length (scheme_of schemes rel).others) (db rel)
+AreStored ls schemes db = (relation : ℕ) → IsStored ls (length (scheme_of schemes relation).others) (db relation)
 
 -- ---- what a level sees
 
@@ -25,7 +25,7 @@ seen_items ls c items = filter (λ i. below ls i.0 c) items
 
 -- the view at c of each relation is the same
 abbrev pub SameViews : Labels → ℕ → Database → Database → Type 0
-SameViews ls c d e = (rel : ℕ) (t : Tuple) → View ls (IsIn (d rel)) c t ↔ View ls (IsIn (e rel)) c t
+SameViews ls c d e = (relation : ℕ) (t : Tuple) → View ls (IsIn (d relation)) c t ↔ View ls (IsIn (e relation)) c t
 
 -- the labels of the parameters, in order
 abbrev pub param_labels : Tx → List ℕ

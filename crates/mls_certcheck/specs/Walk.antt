@@ -7,7 +7,7 @@ use Rattle.mls_translang.specs.Tree.{Block, End, Do, If, For, statements}
 use Rattle.mls_certcheck.specs.Place.{Plain, branching, looping, places}
 use Rattle.mls_certcheck.specs.Lines.{Line, ceiling, context, own_lines, lines_at}
 use Rattle.mls_certcheck.specs.Rules.{Claim}
-use Rattle.mls_certcheck.specs.Rows.{rows_of}
+use Rattle.mls_certcheck.specs.Loops.{loops_of}
 use Rattle.mls_certcheck.specs.Checks.{is_over, verdict}
 use Rattle.mls_certcheck.specs.declared.flow.Source.{Source}
 use Rattle.mls_certcheck.specs.declared.lent.Here.{Here}
@@ -42,9 +42,9 @@ module _ (h : Here) where
   -- of what the first statement of a block is
   abbrev pub own_of : Block → List Line
   own_of End = []
-  own_of (Do stmt rest) = own_lines h.number h.before (rows_of h.rows) (Plain stmt)
-  own_of (If guard one other rest) = own_lines h.number h.before (rows_of h.rows) (branching h.number h.before guard one other)
-  own_of (For row rel label body rest) = own_lines h.number h.before (rows_of h.rows) (looping h.number h.before label body)
+  own_of (Do stmt rest) = own_lines h.number h.before (loops_of h.loops) (Plain stmt)
+  own_of (If guard one other rest) = own_lines h.number h.before (loops_of h.loops) (branching h.number h.before guard one other)
+  own_of (For row relation label body rest) = own_lines h.number h.before (loops_of h.loops) (looping h.number h.before label body)
 
   abbrev pub here_lines : Block → List Line
   here_lines block = entry_lines ++ own_of block
@@ -52,11 +52,11 @@ module _ (h : Here) where
   -- of the statements inside it
   abbrev pub inner_of : Block → List Line
   inner_of (If guard one other rest) =
-      walked_lines h.vars (h.number + 1) h.number h.before (rows_of h.rows) one
-      ++ walked_lines h.vars (h.number + 1 + statements one) h.number h.before (rows_of h.rows) other
-  inner_of (For row rel label body rest) = walked_lines h.vars (h.number + 1) h.number h.number (label ∷ rows_of h.rows) body
+      walked_lines h.vars (h.number + 1) h.number h.before (loops_of h.loops) one
+      ++ walked_lines h.vars (h.number + 1 + statements one) h.number h.before (loops_of h.loops) other
+  inner_of (For row relation label body rest) = walked_lines h.vars (h.number + 1) h.number h.number (label ∷ loops_of h.loops) body
   inner_of _ = []
 
   -- of all statements of a block that begins here
   abbrev pub block_lines : Block → List Line
-  block_lines block = walked_lines h.vars h.number h.around h.before (rows_of h.rows) block
+  block_lines block = walked_lines h.vars h.number h.around h.before (loops_of h.loops) block

@@ -5,7 +5,7 @@ ghost use Rattle.mls_lattice.specs.Labels.{label_of};
 ghost use Rattle.mls_certcheck.specs.declared.cert.Certificate.TheVariants.{Two};
 ghost use Rattle.mls_certcheck.specs.Lines.{names};
 ghost use Rattle.mls_certcheck.specs.Rules.{hi, pc, after, param_label, pc_labels, row_after};
-ghost use Rattle.mls_certcheck.specs.Rows.{rows_of};
+ghost use Rattle.mls_certcheck.specs.Loops.{loops_of};
 ghost use Rattle.mls_certcheck.specs.Walk.{IsJoin, claim_of};
 
 use crate::lent::Here;
@@ -137,13 +137,13 @@ impl Checker<'_> {
     /// The join of the labels of the names in an expression: it flows just where each of them does.
     #[tactic(auto, using(crate::proofs::LabelLemmas::joins))]
     pub(crate) fn label(&self, here: &Here, expr: &Expr) -> Label
-        ensures { IsJoin (claim_of self.now) (names here.now.before (rows_of here.now.rows) expr.now) (pair_of result) }
+        ensures { IsJoin (claim_of self.now) (names here.now.before (loops_of here.now.loops) expr.now) (pair_of result) }
     {
         match &expr.term {
             Term::Known(_) | Term::Null => lowest(),
             Term::Variable(place) => self.after(here.before, usize::from(*place)),
             Term::Parameter(place) => self.parameter(*place),
-            Term::Field { depth, .. } => self.declared(here.rows.label(*depth)),
+            Term::Field { depth, .. } => self.declared(here.loops.label(*depth)),
             Term::Not(expr) => self.label(here, expr),
             Term::Op(_, left, right) => self.label(here, left).join(self.label(here, right)),
         }

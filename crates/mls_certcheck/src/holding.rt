@@ -2,6 +2,7 @@
 ghost use Rattle.std.specs.Prelude.{◌≡◌, ◌<◌, ◌+◌, ◌^◌, map};
 ghost use Rattle.std.specs.List.{list_all};
 ghost use Rattle.mls_lattice.specs.Lattice.{pair_of, ◌⊑◌};
+ghost use Rattle.mls_scheme.specs.Writes.{operands};
 ghost use Rattle.mls_translang.specs.Tree.{statements};
 ghost use Rattle.mls_certcheck.specs.Place.{directs};
 ghost use Rattle.mls_certcheck.specs.Lines.{variables};
@@ -17,6 +18,7 @@ use crate::lent::{Here, LentFlow, More, Targets};
 use crate::refusal::{Refusal, Rule};
 use crate::visit::Visit;
 use mls_lattice::Label;
+use mls_scheme::Write;
 use mls_translang::{Block, Expr};
 
 impl Checker<'_> {
@@ -46,7 +48,7 @@ impl Checker<'_> {
 
     /// That of the names in the new values of an update.
     #[tactic(auto, using(crate::proofs::LabelLemmas::joins))]
-    fn new_names(&self, here: &Here, sets: &[(u8, Expr)]) -> Label
+    fn new_names(&self, here: &Here, sets: &[(usize, Expr)]) -> Label
         ensures { IsJoin (claim_of self.now) (names_here here.now (map (λ s. s.1) sets.now)) (pair_of result) }
     {
         let mut bound = lowest();
@@ -54,6 +56,19 @@ impl Checker<'_> {
             bound = bound.join(self.label(here, &set.1));
         }
         bound
+    }
+
+    /// That of the names in the operands of a write.
+    #[tactic(auto, using(crate::proofs::LabelLemmas::joins))]
+    fn operands(&self, here: &Here, write: &Write<Expr>) -> Label
+        ensures { IsJoin (claim_of self.now) (names_here here.now (operands write.now)) (pair_of result) }
+    {
+        let key = self.names(here, write.key());
+        match write {
+            Write::Insert { values, .. } => key.join(self.names(here, values)),
+            Write::Update { sets, .. } => key.join(self.new_names(here, sets)),
+            Write::Delete { .. } => key,
+        }
     }
 
     #[tactic(auto, using(crate::proofs::LabelLemmas::joins))]
@@ -65,9 +80,7 @@ impl Checker<'_> {
             More::Label(label) => self.declared(*label),
             More::Variables(count) => self.variables(here.number, *count),
             More::Names(expr) => self.label(here, expr),
-            More::Each(key) => self.names(here, key),
-            More::Values(key, values) => self.names(here, key).join(self.names(here, values)),
-            More::Sets(key, sets) => self.names(here, key).join(self.new_names(here, sets)),
+            More::Operands(write) => self.operands(here, write),
         }
     }
 

@@ -3,8 +3,9 @@ ghost use Rattle.std.specs.Prelude.{◌+◌, ◌<◌, ◌^◌};
 ghost use Rattle.mls_translang.specs.Tree.{statements};
 
 use crate::flow::{Slot, Source};
-use crate::rows::Rows;
+use crate::loops::Loops;
 use mls_lattice::LabelNo;
+use mls_scheme::Write;
 use mls_translang::{Block, Expr};
 
 /// Where a statement stands, among so many variables: its number, those of what is around it and of the
@@ -15,7 +16,7 @@ pub struct Here {
     pub number: usize,
     pub around: usize,
     pub before: usize,
-    pub rows: Rows,
+    pub loops: Loops,
 }
 
 /// A block, with the number of its first statement.
@@ -48,12 +49,8 @@ pub enum More<'a> {
     Variables(usize),
     /// The names in an expression.
     Names(&'a Expr),
-    /// Those in each of these.
-    Each(&'a [Expr]),
-    /// Those in a key and in values.
-    Values(&'a [Expr], &'a [Expr]),
-    /// Those in a key and in the new values of an update.
-    Sets(&'a [Expr], &'a [(u8, Expr)]),
+    /// Those in the operands of a write.
+    Operands(&'a Write<Expr>),
 }
 
 /// What flows, as in a `Flow`, at a statement.

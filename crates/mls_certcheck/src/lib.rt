@@ -19,11 +19,11 @@ mod laws;
 mod lent;
 mod line;
 mod lines;
+mod loops;
 mod meaning;
 mod own;
 mod reading;
 mod refusal;
-mod rows;
 mod run;
 mod visit;
 mod walking;
@@ -37,12 +37,12 @@ pub use flow::{Flow, Line, Slot, Source};
 pub use keeping::is_target;
 pub use laws::{flat_certificates_lift, rules_make_secure};
 pub use lent::{Here, LentFlow, More, Numbered, Targets};
+pub use loops::Loops;
 pub use meaning::{
     calls_give_items, calls_keep_content, calls_keep_form, calls_keep_form_throughout,
 };
 pub use reading::certs_read;
 pub use refusal::{Refusal, Rule};
-pub use rows::Rows;
 pub use run::Run;
 pub use visit::Visit;
 pub use walking::walk;

@@ -1,14 +1,16 @@
 //! The lines of one statement, but for those of the statements inside it.
-ghost use Rattle.std.specs.Prelude.{◌≡◌, ◌<◌, ◌+◌, ◌^◌, ◌∷◌, [], map, Some, None};
-ghost use Rattle.mls_translang.specs.Tree.{statements, Assign, Write_at, Inserting, Updating, Deleting, Release, Emit, End, Do, If, For};
+ghost use Rattle.std.specs.Prelude.{◌≡◌, ◌<◌, ◌+◌, ◌^◌, ◌∷◌, ◌++◌, [], map, Some, None};
+ghost use Rattle.mls_translang.specs.Tree.{statements, Assign, Write_at, Release, Emit, End, Do, If, For};
 ghost use Rattle.mls_translang.specs.Blocks.{block_of};
 ghost use Rattle.mls_certcheck.specs.Lent.{line_of};
+ghost use Rattle.mls_certcheck.specs.Lines.{write as write_lines, order, rest};
+ghost use Rattle.mls_certcheck.specs.Loops.{loops_of};
 ghost use Rattle.mls_certcheck.specs.Walk.{entry_lines, own_of, here_lines};
 ghost use Rattle.mls_certcheck.specs.declared.flow.Slot.TheVariants.{Variable, Statement};
 ghost use Rattle.mls_certcheck.specs.declared.flow.Source.TheVariants.{Held, Declared};
 ghost use Rattle.mls_certcheck.specs.declared.lent.Targets.TheVariants.{One};
 ghost use Rattle.mls_certcheck.specs.declared.lent.More.TheVariants.{Nothing};
-ghost use Rattle.mls_certcheck.specs.declared.lent.LentFlow.TheVariants.{Into, Kept};
+ghost use Rattle.mls_certcheck.specs.declared.lent.LentFlow.TheVariants.{Into, Kept, Within};
 ghost use Rattle.mls_certcheck.specs.declared.refusal.Rule.TheVariants as rule;
 
 use crate::flow::{Slot, Source};
@@ -17,6 +19,7 @@ use crate::lent::{Here, LentFlow, More, Numbered, Targets};
 use crate::refusal::Rule;
 use crate::visit::Visit;
 use mls_lattice::LabelNo;
+use mls_scheme::Write;
 use mls_translang::{Block, Expr, Stmt};
 
 /// What is declared to have a label.
@@ -31,6 +34,14 @@ fn kept(by: Rule, from: usize) -> (Rule, LentFlow<'static>)
     ensures { result ≡ (by, Kept from None) }
 {
     (by, LentFlow::Kept { from, but: None })
+}
+
+/// A class that a write names, and a label that has to dominate it.
+fn ordered(low: LabelNo, high: LabelNo) -> (Rule, LentFlow<'static>)
+    ensures { result ≡ (rule.Order, Within high (Some (Declared low)) Nothing) }
+{
+    let within = LentFlow::Within(high, declared(low), More::Nothing);
+    (Rule::Order, within)
 }
 
 impl Here {
@@ -108,93 +119,66 @@ impl Here {
         (Rule::Write, into)
     }
 
-    fn insert<'x, V: Visit>(
+    /// What flows into the relation of a write, and out of it.
+    fn written<V: Visit>(
         &self,
         visitor: &mut V,
-        key: &'x [Expr],
-        values: &'x [Expr],
         at: LabelNo,
+        write: &Write<Expr>,
         outcome: Option<u8>,
     ) -> Result<(), V::Stop>
-        ensures { V.visits visitor.old (own_of self.now
-            (Do (Write_at 0 at (Inserting key.now values.now) outcome) End)) result visitor.new }
+        ensures { V.visits visitor.old (write_lines self.now.number self.now.before (loops_of self.now.loops) at write.now
+            outcome) result visitor.new }
     {
-        let within = (
-            Rule::Write,
-            LentFlow::Within(at, self.runs(), More::Values(key, values)),
-        );
-        let under = (Rule::Write, LentFlow::Under(declared(at), More::Nothing));
-        let rest = self.rest(outcome);
+        let into = LentFlow::Within(at, self.runs(), More::Operands(write));
+        let into = (Rule::Write, into);
+        let under = LentFlow::Under(declared(at), More::Nothing);
+        let under = (Rule::Write, under);
         match outcome {
-            None => self.lend(visitor, &[within, under, rest]),
-            Some(place) => self.lend(visitor, &[within, under, self.gives(at, place), rest]),
+            None => self.lend(visitor, &[into, under]),
+            Some(place) => self.lend(visitor, &[into, under, self.gives(at, place)]),
         }
     }
 
-    fn update<'x, V: Visit>(
+    /// Where a write finds its entity and its tuple, and what it leaves.
+    fn found<V: Visit>(
         &self,
         visitor: &mut V,
-        key: &'x [Expr],
-        sets: &'x [(u8, Expr)],
-        classes: (LabelNo, LabelNo, LabelNo),
+        at: LabelNo,
+        write: &Write<Expr>,
         outcome: Option<u8>,
     ) -> Result<(), V::Stop>
-        ensures { V.visits visitor.old (own_of self.now
-            (Do (Write_at 0 classes.2 (Updating key.now classes.0 classes.1 sets.now) outcome) End))
-            result visitor.new }
+        ensures { V.visits visitor.old (order self.now.number at write.now
+            ++ rest self.now.number self.now.before (Write_at 0 at write.now outcome)) result visitor.new }
     {
-        let (key_class, from, at) = classes;
-        let within = (
-            Rule::Write,
-            LentFlow::Within(at, self.runs(), More::Sets(key, sets)),
-        );
-        let under = (Rule::Write, LentFlow::Under(declared(at), More::Nothing));
-        let entity = (
-            Rule::Order,
-            LentFlow::Within(from, declared(key_class), More::Nothing),
-        );
-        let tuple = (
-            Rule::Order,
-            LentFlow::Within(at, declared(from), More::Nothing),
-        );
         let rest = self.rest(outcome);
-        match outcome {
-            None => self.lend(visitor, &[within, under, entity, tuple, rest]),
-            Some(place) => {
-                let gives = self.gives(at, place);
-                self.lend(visitor, &[within, under, gives, entity, tuple, rest])
+        match write {
+            Write::Insert { .. } => self.lend(visitor, &[rest]),
+            Write::Update {
+                key_class,
+                from,
+                ..
+            } => {
+                let entity = ordered(*key_class, *from);
+                self.lend(visitor, &[entity, ordered(*from, at), rest])
+            }
+            Write::Delete { key_class, .. } => {
+                self.lend(visitor, &[ordered(*key_class, at), rest])
             }
         }
     }
 
-    fn delete<V: Visit>(
+    fn write<V: Visit>(
         &self,
         visitor: &mut V,
-        key: &[Expr],
-        classes: (LabelNo, LabelNo),
+        at: LabelNo,
+        write: &Write<Expr>,
         outcome: Option<u8>,
     ) -> Result<(), V::Stop>
-        ensures { V.visits visitor.old (own_of self.now
-            (Do (Write_at 0 classes.1 (Deleting key.now classes.0) outcome) End)) result visitor.new }
+        ensures { V.visits visitor.old (own_of self.now (Do (Write_at 0 at write.now outcome) End)) result visitor.new }
     {
-        let (key_class, at) = classes;
-        let within = (
-            Rule::Write,
-            LentFlow::Within(at, self.runs(), More::Each(key)),
-        );
-        let under = (Rule::Write, LentFlow::Under(declared(at), More::Nothing));
-        let entity = (
-            Rule::Order,
-            LentFlow::Within(at, declared(key_class), More::Nothing),
-        );
-        let rest = self.rest(outcome);
-        match outcome {
-            None => self.lend(visitor, &[within, under, entity, rest]),
-            Some(place) => {
-                let gives = self.gives(at, place);
-                self.lend(visitor, &[within, under, gives, entity, rest])
-            }
-        }
+        self.written(visitor, at, write, outcome)?;
+        self.found(visitor, at, write, outcome)
     }
 
     fn release<V: Visit>(
@@ -292,29 +276,12 @@ impl Here {
             Stmt::Assign { variable, value } => self.assign(visitor, *variable, value),
             Stmt::If { guard, one, other } => self.branch(visitor, guard, one, other),
             Stmt::For { label, body, .. } => self.turns(visitor, *label, body),
-            Stmt::Insert {
-                key,
-                values,
+            Stmt::Write {
                 at,
+                write,
                 outcome,
                 ..
-            } => self.insert(visitor, key, values, *at, *outcome),
-            Stmt::Update {
-                key,
-                key_class,
-                from,
-                at,
-                sets,
-                outcome,
-                ..
-            } => self.update(visitor, key, sets, (*key_class, *from, *at), *outcome),
-            Stmt::Delete {
-                key,
-                key_class,
-                at,
-                outcome,
-                ..
-            } => self.delete(visitor, key, (*key_class, *at), *outcome),
+            } => self.write(visitor, *at, write, *outcome),
             Stmt::Release { value, to, into } => self.release(visitor, value, *to, *into),
             Stmt::Emit { value, label } => self.emit(visitor, value, *label),
         }

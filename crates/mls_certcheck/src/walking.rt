@@ -7,7 +7,7 @@ ghost use Rattle.mls_certcheck.specs.Lines.{body_lines};
 ghost use Rattle.mls_certcheck.specs.Walk.{block_lines};
 
 use crate::lent::Here;
-use crate::rows::Rows;
+use crate::loops::Loops;
 use crate::visit::Visit;
 use mls_translang::{Block, Stmt, Tx};
 
@@ -16,7 +16,7 @@ impl Here {
     #[cycle(walk)]
     fn block<V: Visit>(&self, visitor: &mut V, block: &Block) -> Result<(), V::Stop>
         requires few { self.now.number + statements block.now < 2 ^ 63 }
-        requires shallow { self.now.rows.count + depth block.now ≤ 16 }
+        requires shallow { self.now.loops.count + depth block.now ≤ 16 }
         ensures { V.visits visitor.old (block_lines self.now block.now) result visitor.new }
     {
         let mut number = self.number;
@@ -37,7 +37,7 @@ impl Here {
     #[cycle(walk)]
     fn stmt<V: Visit>(&self, visitor: &mut V, stmt: &Stmt) -> Result<(), V::Stop>
         requires few { self.now.number + statements (block_of (stmt.now ∷ [])) < 2 ^ 63 }
-        requires shallow { self.now.rows.count + depth (block_of (stmt.now ∷ [])) ≤ 16 }
+        requires shallow { self.now.loops.count + depth (block_of (stmt.now ∷ [])) ≤ 16 }
         ensures { V.visits visitor.old (block_lines self.now (block_of (stmt.now ∷ []))) result visitor.new }
     {
         self.lines(visitor, stmt)?;
@@ -64,7 +64,7 @@ impl Here {
                     number,
                     around,
                     before: around,
-                    rows: self.rows.inside(*label),
+                    loops: self.loops.inside(*label),
                 };
                 first.block(visitor, body)
             }
@@ -84,7 +84,7 @@ pub fn walk<V: Visit>(tx: &Tx, visitor: &mut V) -> Result<(), V::Stop>
         number: 1,
         around: 0,
         before: 0,
-        rows: Rows::outside(),
+        loops: Loops::outside(),
     };
     start.block(visitor, tx.body())
 }

@@ -14,15 +14,15 @@ use Rattle.mls_host.specs.declared.ending.Ending.{Ending}
 use Rattle.mls_host.specs.declared.ending.Ending.TheVariants.{Well}
 use Rattle.mls_host.specs.declared.job.Inputs.{Inputs}
 use Rattle.mls_host.specs.declared.reason.Reason.{Reason}
-use Rattle.mls_host.specs.declared.refusal.Refusal.{Refusal}
-use Rattle.mls_host.specs.declared.refusal.Refusal.TheVariants.{Before, Run, NotClosed, Output, Served, Unread, Turned}
+use Rattle.mls_host.specs.declared.stop.Stop.{Stop}
+use Rattle.mls_host.specs.declared.stop.Stop.TheVariants.{Before, Run, NotClosed, Output, Served, Unread, Turned}
 use Rattle.mls_host.specs.Deed.{Deed, IsQuiet, end_text}
 use Rattle.mls_host.specs.declared.errors.Errors.{Errors}
 use Rattle.mls_host.specs.Hosting.{Hosted, KeepsStores, IsTold}
 use Rattle.mls_host.proofs.HostingLemmas.{told_more}
 use Rattle.mls_host.specs.Causes.{IsNotBegun}
 use Rattle.mls_host.specs.Reading.{AreInputsRefused}
-use Rattle.mls_host.specs.Refusal.{IsEnd, refusal_text}
+use Rattle.mls_host.specs.Stop.{IsEnd, stop_text}
 use Rattle.mls_host.specs.Stopping.{IsCaused}
 use Rattle.mls_command.specs.Printing.{IsPrinting}
 use Rattle.mls_command.proofs.PrintingLemmas.{printing_told}
@@ -42,14 +42,14 @@ module _ (h : Hosted) (inputs : Inputs) (store : Option (List ℕ)) where
   for_task d task same is k = subst (λ t. IsTaskDeed h inputs store t d) (sym is) k
 
   module _ (at : Option (Bor (List ℕ))) (is_table : Bool) (wrote told : List ℕ → Type 0) where
-    abbrev IsRunEnd : Result (Unit {0}) Refusal → Type 0
+    abbrev IsRunEnd : Result (Unit {0}) Stop → Type 0
     IsRunEnd r = IsCaused h store r × IsEnd (IsScriptRun h inputs store is_table wrote) (λ reason. IsNotBegun h.before inputs.setting.policy inputs.setting.file store reason × wrote []) r
 
     -- one that ended
-    pub run_done : (r : Result (Unit {0}) Refusal) → r ≡ Ok tt → IsRunEnd r → told [] → IsRunDeed h inputs store (tasks.Run at is_table) (record { wrote = wrote; told = told; end = Ok Well })
+    pub run_done : (r : Result (Unit {0}) Stop) → r ≡ Ok tt → IsRunEnd r → told [] → IsRunDeed h inputs store (tasks.Run at is_table) (record { wrote = wrote; told = told; end = Ok Well })
     run_done r is k quiet = let ended : IsRunEnd (Ok tt) = subst IsRunEnd is k in (ended.0, (refl, quiet, ended.1))
 
-    run_ended : (e : Refusal) → IsRunEnd (Err e) → told [] → IsRunDeed h inputs store (tasks.Run at is_table) (record { wrote = wrote; told = told; end = Err e })
+    run_ended : (e : Stop) → IsRunEnd (Err e) → told [] → IsRunDeed h inputs store (tasks.Run at is_table) (record { wrote = wrote; told = told; end = Err e })
     run_ended (Before reason) k quiet = (k.0, (k.1.0, (k.1.1, quiet)))
     run_ended (Run fault) k quiet = (k.0, (quiet, k.1))
     run_ended NotClosed k quiet = (k.0, (Well, (refl, quiet, k.1.1)))
@@ -59,14 +59,14 @@ module _ (h : Hosted) (inputs : Inputs) (store : Option (List ℕ)) where
     run_ended (Turned cause) k quiet = absurd k.1
 
     -- one that was given up, at the exit of a `?`
-    pub run_given_up : (r : Result (Unit {0}) Refusal) (e : Refusal) → r ≡ Err e → IsRunEnd r → told [] → (end : Result Ending Refusal) → IsErrAnd end (λ x. x ≡ e)
+    pub run_given_up : (r : Result (Unit {0}) Stop) (e : Stop) → r ≡ Err e → IsRunEnd r → told [] → (end : Result Ending Stop) → IsErrAnd end (λ x. x ≡ e)
         → IsRunDeed h inputs store (tasks.Run at is_table) (record { wrote = wrote; told = told; end = end })
     run_given_up r e is k quiet (Ok end) same = absurd same
     run_given_up r e is k quiet (Err x) same =
-        subst (λ (y : Refusal). IsRunDeed h inputs store (tasks.Run at is_table) (record { wrote = wrote; told = told; end = Err y })) (sym same) (run_ended e (subst IsRunEnd is k) quiet)
+        subst (λ (y : Stop). IsRunDeed h inputs store (tasks.Run at is_table) (record { wrote = wrote; told = told; end = Err y })) (sym same) (run_ended e (subst IsRunEnd is k) quiet)
 
   -- a shell that ended, or was given up
-  pub shell_ended : (label user : Bor (List ℕ)) (wrote told : List ℕ → Type 0) (r : Result Ending Refusal) → IsCaused h store r
+  pub shell_ended : (label user : Bor (List ℕ)) (wrote told : List ℕ → Type 0) (r : Result Ending Stop) → IsCaused h store r
       → IsEnd (IsShellRun h inputs store label.now user.now wrote told) (λ reason. IsShellRefused h.before inputs.setting store reason × wrote [] × told []) r
       → IsRunDeed h inputs store (tasks.Shell label user) (record { wrote = wrote; told = told; end = r })
   shell_ended label user wrote told (Ok end) caused k = (caused, k)
@@ -79,7 +79,7 @@ module _ (h : Hosted) (inputs : Inputs) (store : Option (List ℕ)) where
   shell_ended label user wrote told (Err (Turned cause)) caused k = absurd k
 
   -- a desk that ended, or was given up
-  pub desk_ended : (wrote told : List ℕ → Type 0) (r : Result Ending Refusal) → IsCaused h store r
+  pub desk_ended : (wrote told : List ℕ → Type 0) (r : Result Ending Stop) → IsCaused h store r
       → IsEnd (IsDeskRun h inputs store wrote) (λ reason. IsNotBegun h.before inputs.setting.policy inputs.setting.file store reason × wrote []) r → told []
       → IsRunDeed h inputs store tasks.Serve (record { wrote = wrote; told = told; end = r })
   desk_ended wrote told (Ok end) caused k quiet = (caused, (quiet, k))
@@ -94,11 +94,11 @@ module _ (h : Hosted) (inputs : Inputs) (store : Option (List ℕ)) where
 -- ---- jobs
 
 -- at the exit of a `?`
-pub job_before : (h : Hosted) (job : Job) (wrote told : List ℕ → Type 0) (r : Result Ending Refusal) (reason : Reason) → IsErrAnd r (λ e. e ≡ Before reason) → AreInputsRefused h.before job reason → KeepsStores h
+pub job_before : (h : Hosted) (job : Job) (wrote told : List ℕ → Type 0) (r : Result Ending Stop) (reason : Reason) → IsErrAnd r (λ e. e ≡ Before reason) → AreInputsRefused h.before job reason → KeepsStores h
     → wrote [] → told [] → IsDeedOf h job (record { wrote = wrote; told = told; end = r })
 job_before h job wrote told (Ok end) reason is refused kept w t = absurd is
 job_before h job wrote told (Err e) reason is refused kept w t =
-    subst (λ (x : Refusal). IsDeedOf h job (record { wrote = wrote; told = told; end = Err x })) (sym is) (inl (reason, refl, refused, kept, (w, t)))
+    subst (λ (x : Stop). IsDeedOf h job (record { wrote = wrote; told = told; end = Err x })) (sym is) (inl (reason, refl, refused, kept, (w, t)))
 
 -- ---- more is told
 
@@ -122,7 +122,7 @@ module _ (h : Hosted) (wrote told more : List ℕ → Type 0) (f : (text : List 
       };
     }
 
-    shell_end_told : (label user : Bor (List ℕ)) (end : Result Ending Refusal) → IsRunDeed h inputs store (tasks.Shell label user) (record { wrote = wrote; told = told; end = end })
+    shell_end_told : (label user : Bor (List ℕ)) (end : Result Ending Stop) → IsRunDeed h inputs store (tasks.Shell label user) (record { wrote = wrote; told = told; end = end })
         → IsRunDeed h inputs store (tasks.Shell label user) (record { wrote = wrote; told = more; end = end })
     shell_end_told label user (Ok end) k = (k.0, shell_told label.now user.now (Ok end) k.1)
     shell_end_told label user (Err (Before reason)) k = (k.0, (k.1.0, (k.1.1.0, f [] k.1.1.1)))
@@ -133,7 +133,7 @@ module _ (h : Hosted) (wrote told more : List ℕ → Type 0) (f : (text : List 
     shell_end_told label user (Err Unread) k = k
     shell_end_told label user (Err (Turned cause)) k = k
 
-    desk_end_told : (end : Result Ending Refusal) → IsRunDeed h inputs store tasks.Serve (record { wrote = wrote; told = told; end = end })
+    desk_end_told : (end : Result Ending Stop) → IsRunDeed h inputs store tasks.Serve (record { wrote = wrote; told = told; end = end })
         → IsRunDeed h inputs store tasks.Serve (record { wrote = wrote; told = more; end = end })
     desk_end_told (Ok end) k = (k.0, (f [] k.1.0, k.1.1))
     desk_end_told (Err (Before reason)) k = (k.0, (k.1.0, (k.1.1.0, f [] k.1.1.1)))
@@ -144,7 +144,7 @@ module _ (h : Hosted) (wrote told more : List ℕ → Type 0) (f : (text : List 
     desk_end_told (Err Unread) k = k
     desk_end_told (Err (Turned cause)) k = k
 
-    run_end_told : (at : Option (Bor (List ℕ))) (is_table : Bool) (end : Result Ending Refusal) → IsRunDeed h inputs store (tasks.Run at is_table) (record { wrote = wrote; told = told; end = end })
+    run_end_told : (at : Option (Bor (List ℕ))) (is_table : Bool) (end : Result Ending Stop) → IsRunDeed h inputs store (tasks.Run at is_table) (record { wrote = wrote; told = told; end = end })
         → IsRunDeed h inputs store (tasks.Run at is_table) (record { wrote = wrote; told = more; end = end })
     run_end_told at is_table (Ok end) k = (k.0, (k.1.0, f [] k.1.1, k.1.2))
     run_end_told at is_table (Err (Before reason)) k = (k.0, (k.1.0, (k.1.1.0, f [] k.1.1.1)))
@@ -155,11 +155,11 @@ module _ (h : Hosted) (wrote told more : List ℕ → Type 0) (f : (text : List 
     run_end_told at is_table (Err Unread) k = k
     run_end_told at is_table (Err (Turned cause)) k = k
 
-    printed_told : (task : Task) (end : Result Ending Refusal) → KeepsStores h × IsPrinting (Prints inputs task) (IsTaskRefused h inputs store task) (record { wrote = wrote; told = told; end = end })
+    printed_told : (task : Task) (end : Result Ending Stop) → KeepsStores h × IsPrinting (Prints inputs task) (IsTaskRefused h inputs store task) (record { wrote = wrote; told = told; end = end })
         → KeepsStores h × IsPrinting (Prints inputs task) (IsTaskRefused h inputs store task) (record { wrote = wrote; told = more; end = end })
     printed_told task end k = (k.0, printing_told (Prints inputs task) (IsTaskRefused h inputs store task) wrote told more f end k.1)
 
-    task_told : (end : Result Ending Refusal) (task : Task) → IsTaskDeed h inputs store task (record { wrote = wrote; told = told; end = end })
+    task_told : (end : Result Ending Stop) (task : Task) → IsTaskDeed h inputs store task (record { wrote = wrote; told = told; end = end })
         → IsTaskDeed h inputs store task (record { wrote = wrote; told = more; end = end })
     task_told end (tasks.Run at is_table) k = run_end_told at is_table end k
     task_told end (tasks.Shell label user) k = shell_end_told label user end k
@@ -171,7 +171,7 @@ module _ (h : Hosted) (wrote told more : List ℕ → Type 0) (f : (text : List 
     task_told end tasks.Check k = printed_told tasks.Check end k
     task_told end (tasks.Explain name) k = printed_told (tasks.Explain name) end k
 
-  pub deed_told : (job : Job) (end : Result Ending Refusal) → IsDeedOf h job (record { wrote = wrote; told = told; end = end }) → IsDeedOf h job (record { wrote = wrote; told = more; end = end })
+  pub deed_told : (job : Job) (end : Result Ending Stop) → IsDeedOf h job (record { wrote = wrote; told = told; end = end }) → IsDeedOf h job (record { wrote = wrote; told = more; end = end })
   deed_told job end (inl k) = inl (k.0, k.1, k.2, k.3, (k.4.0, f [] k.4.1))
   deed_told job end (inr u) = inr (u.0, u.1, task_told u.0 (named job.files.store) end job.task u.2)
 
@@ -179,7 +179,7 @@ module _ (h : Hosted) (wrote told more : List ℕ → Type 0) (f : (text : List 
   module _ (status : ℕ) where
     -- a deed whose told texts can be told otherwise
     abbrev Retells : (Deed → Type 0) → Type 1
-    Retells Does = (t m : List ℕ → Type 0) → ((text : List ℕ) → t text → m text) → (end : Result Ending Refusal) → Does (record { wrote = wrote; told = t; end = end }) → Does (record { wrote = wrote; told = m; end = end })
+    Retells Does = (t m : List ℕ → Type 0) → ((text : List ℕ) → t text → m text) → (end : Result Ending Stop) → Does (record { wrote = wrote; told = t; end = end }) → Does (record { wrote = wrote; told = m; end = end })
 
     finished_told : (is_watched : Bool) (Does : Deed → Type 0) → Retells Does → IsFinished is_watched Does wrote told status → IsFinished is_watched Does wrote more status
     finished_told is_watched Does retell x = record {

@@ -1,5 +1,5 @@
 -- What is told of a file.
-use Rattle.std.proofs.Common.{◌≡◌, ℕ, List, [], ◌++◌, append_assoc, append-nil, Option, Some, None, Result, Ok, Err, IfOk, inl, inr, refl, sym, ap, ◌∙◌}
+use Rattle.std.proofs.Common.{ℕ, List, ◌++◌, append_assoc, Option, Some, None, Result, Ok, Err, IfOk, inl, inr, ap, ◌∙◌}
 use Rattle.mls_advice.specs.Excerpt.{Begins}
 use Rattle.mls_command.specs.declared.paths.Place.{Place}
 use Rattle.mls_command.specs.Telling.{IsPlaceTold}
@@ -7,13 +7,6 @@ use Rattle.mls_command.specs.Telling.{IsPlaceTold}
 -- a text that begins so still does with more behind it
 pub begins_more : (front text more : List ℕ) → Begins front text → Begins front (text ++ more)
 begins_more front text more b = (b.0 ++ more, ap (λ t. t ++ more) b.1 ∙ append_assoc front b.0 more)
-
-pub begins_with : (front more : List ℕ) → Begins front (front ++ more)
-begins_with front more = (more, refl)
-
--- a text begins with itself
-pub begins_same : (front text : List ℕ) → text ≡ front → Begins front text
-begins_same front text e = ([], e ∙ sym (append-nil front))
 
 pub place_told_more : (source : Option (List ℕ)) (place : Option Place) (lines more : List ℕ) → IsPlaceTold source place lines → IsPlaceTold source place (lines ++ more)
 place_told_more None place lines more is = tt

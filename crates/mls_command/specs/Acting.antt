@@ -12,12 +12,12 @@ use Rattle.mls_host.specs.declared.ending.Ending.TheVariants.{Well}
 use Rattle.mls_host.specs.declared.job.Inputs.{Inputs}
 use Rattle.mls_host.specs.declared.reason.Reason.{Reason}
 use Rattle.mls_host.specs.declared.reason.Reason.TheVariants.{Memory}
-use Rattle.mls_host.specs.declared.refusal.Refusal.TheVariants.{Before}
+use Rattle.mls_host.specs.declared.stop.Stop.TheVariants.{Before}
 use Rattle.mls_host.specs.Hosting.{Hosted, KeepsStores}
 use Rattle.mls_host.specs.Stopping.{IsCaused}
 use Rattle.mls_host.specs.Deed.{Deed, IsQuiet}
-use Rattle.mls_host.specs.declared.refusal.Refusal.{Refusal}
-use Rattle.mls_host.specs.Refusal.{IsEnd, served, turned}
+use Rattle.mls_host.specs.declared.stop.Stop.{Stop}
+use Rattle.mls_host.specs.Stop.{IsEnd, served, turned}
 use Rattle.mls_host.specs.Causes.{IsBarred, IsNotBegun}
 use Rattle.mls_host.specs.Reading.{AreInputs, AreInputsRefused}
 use Rattle.mls_command.specs.Printing.{IsPrinting}
@@ -74,13 +74,13 @@ module _ (h : Hosted) (inputs : Inputs) (store : Option (List ℕ)) where
   -- of a desk it is told without a number how it ended
   abbrev pub IsDeskDeed : Deed → Type 0
   IsDeskDeed d =
-      (end : Result Ending Refusal) × (d.end ≡ served end)
+      (end : Result Ending Stop) × (d.end ≡ served end)
       × IsRunDeed Serve (record { wrote = d.wrote; told = d.told; end = end })
 
   -- an audit list is turned, or that is given up; it is told without a number why
   abbrev pub IsTurnDeed : Deed → Type 0
   IsTurnDeed d =
-      (end : Result (Unit {0}) Refusal) × (d.end ≡ turned end) × IsCaused h store end × d.told []
+      (end : Result (Unit {0}) Stop) × (d.end ≡ turned end) × IsCaused h store end × d.told []
       × IsEnd (λ e. IsTurnRun inputs.setting d.wrote e h store)
       (λ reason. IsBarred h.before inputs.setting.policy inputs.setting.file store reason × d.wrote []) end
 

@@ -6,7 +6,7 @@ use Rattle.mls_host.specs.declared.usage.Usage.{Usage}
 use Rattle.mls_host.specs.Words.{Asks, AskNothing, usage_text, usage_status}
 use Rattle.mls_command.specs.Explained.{explained_of}
 use Rattle.mls_host.specs.declared.ending.Ending.{Ending}
-use Rattle.mls_host.specs.declared.refusal.Refusal.{Refusal}
+use Rattle.mls_host.specs.declared.stop.Stop.{Stop}
 use Rattle.mls_host.specs.Deed.{Deed, end_text, end_status}
 use Rattle.mls_host.specs.Hosting.{Hosting, Hosted, KeepsStores}
 use Rattle.mls_command.specs.Acting.{IsDeedOf}
@@ -15,7 +15,7 @@ use Rattle.mls_command.specs.Accounting.{IsAccountOf}
 -- A deed was done; where it was given up, the line of that was told behind all else, and, where somebody reads standard
 -- error at a terminal, more of it; and the status is that of its end.
 pub record IsFinished (is_watched : Bool) (Does : Deed → Type 0) (wrote told : List ℕ → Type 0) (status : ℕ) : Type 0 where
-  pub end : Result Ending Refusal
+  pub end : Result Ending Stop
   pub more : List ℕ
   pub does : Does (record { wrote = wrote; told = λ text. told ((text ++ end_text end) ++ more); end = end })
   pub plain : is_watched ≡ false → more ≡ []

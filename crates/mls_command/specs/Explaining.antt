@@ -27,7 +27,7 @@ abbrev pub AreExplained : Policy → Schemes → List Tx → List Explained → 
 AreExplained policy schemes = AllZip (IsExplanation policy schemes)
 
 abbrev pub lacks_labels : Explained → Bool
-lacks_labels e = not (has_labels e.outcome)
+lacks_labels e = not (has_labels e.labelling)
 
 -- what came of each transaction is told, one behind the other, and nothing on standard error
 pub record IsExplained (policy : Policy) (schemes : Schemes) (txs : List Tx) (name : Option Name) (text told : List ℕ)

@@ -13,7 +13,7 @@ use crate::listing::Listing;
 use crate::looking::store_account;
 use crate::opening::{denied_text, opening_denial};
 use crate::telling::told_of;
-use mls_host::{Ending, Errors, Host, Inputs, Job, Reason, Refusal, inputs_of};
+use mls_host::{Ending, Errors, Host, Inputs, Job, Reason, Stop, inputs_of};
 use std::alloc::{AllocError, Global};
 use std::io::Write;
 
@@ -89,7 +89,7 @@ fn print_account<H: Host, W: Write, E: Write>(
     job: Job,
     out: &mut W,
     err: &mut Errors<E>,
-) -> Result<Ending, Refusal>
+) -> Result<Ending, Stop>
     ensures { IsAccountOf (H.hosting host.now) job.entry (deed W.contents out.old out.new E.contents err.old err.new result) }
 {
     account(alloc, host, job)?.print(out, err)
@@ -108,9 +108,9 @@ pub(crate) fn finish_account<H: Host, W: Write, E: Write>(
 {
     match print_account(alloc, host, job, out, err) {
         Ok(ending) => ending.status(),
-        Err(refusal) => {
-            err.tell_refusal(&refusal);
-            refusal.status()
+        Err(stop) => {
+            err.tell_stop(&stop);
+            stop.status()
         }
     }
 }

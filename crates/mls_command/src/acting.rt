@@ -15,9 +15,9 @@ use crate::explained::explained_of;
 use crate::explaining::explained;
 use crate::listing::print_made;
 use crate::showing::texts;
-use crate::telling::explain_refusal;
+use crate::telling::explain_stop;
 use mls_host::{
-    Ending, Errors, Host, Inputs, Job, Refusal, Task, Usage, inputs_of, job_of, served, turned,
+    Ending, Errors, Host, Inputs, Job, Stop, Task, Usage, inputs_of, job_of, served, turned,
 };
 use mls_runs::{run_desk, run_script, run_shell, turn_store};
 use std::alloc::Global;
@@ -35,7 +35,7 @@ fn perform_task<H: Host, W: Write, E: Write>(
     job: Job,
     out: &mut W,
     err: &mut Errors<E>,
-) -> Result<Ending, Refusal>
+) -> Result<Ending, Stop>
     requires ready { AreReady inputs }
     requires user { HasUser job.task }
     ensures { IsTaskDeed (hosted H.hosting H.Lines.echo host.old host.new) inputs (named job.entry.files.store) job.entry.task
@@ -83,7 +83,7 @@ fn perform<H: Host, W: Write, E: Write>(
     host: &mut H,
     out: &mut W,
     err: &mut Errors<E>,
-) -> Result<Ending, Refusal>
+) -> Result<Ending, Stop>
     ensures { IsDeedOf (hosted H.hosting H.Lines.echo host.old host.new) job.entry
         (deed W.contents out.old out.new E.contents err.old err.new result) }
 {
@@ -106,10 +106,10 @@ fn finish<H: Host, W: Write, E: Write>(
     let is_watched = host.is_watched();
     match perform(alloc, job, host, out, err) {
         Ok(ending) => ending.status(),
-        Err(refusal) => {
-            err.tell_refusal(&refusal);
-            explain_refusal(alloc, host, job, &refusal, is_watched, err);
-            refusal.status()
+        Err(stop) => {
+            err.tell_stop(&stop);
+            explain_stop(alloc, host, job, &stop, is_watched, err);
+            stop.status()
         }
     }
 }

@@ -1,7 +1,7 @@
 //! Stores that are closed, and what their files keep then.
 ghost use Rattle.std.specs.Prelude.{◌≡◌, ◌↔◌, false, IsErr};
-ghost use Rattle.mls_statements.specs.Store.{IsClean};
-ghost use Rattle.mls_statements.specs.declared.rows.MetaRow.{MetaRow};
+ghost use Rattle.mls_tables.specs.Store.{IsClean};
+ghost use Rattle.mls_tables.specs.declared.rows.MetaRow.{MetaRow};
 ghost use Rattle.mls_fragments.specs.Based.{state_of};
 ghost use Rattle.mls_fragments.specs.Holdings.{Holdings, holdings_of};
 ghost use Rattle.mls_fragments.specs.declared.open_fault.OpenFault.{OpenFault};

@@ -70,7 +70,7 @@ fn text_of(alloc: Global, explained: &[Explained]) -> Result<Vec<u8>, AllocError
 fn lacks_labels(one: &Explained) -> bool
     ensures { result ≡ lacks_labels one.now }
 {
-    !one.outcome.has_labels()
+    !one.labelling.has_labels()
 }
 
 fn lacks_some(explained: &[Explained]) -> bool

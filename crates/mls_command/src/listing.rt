@@ -5,7 +5,7 @@ ghost use Rattle.mls_host.specs.Deed.{deed};
 ghost use Rattle.mls_host.specs.declared.reason.Reason.TheVariants.{Memory};
 ghost use Rattle.mls_command.specs.Printing.{IsListed, IsPrinting};
 
-use mls_host::{Ending, Errors, Reason, Refusal};
+use mls_host::{Ending, Errors, Reason, Stop};
 use mls_sessions::write_whole;
 use std::alloc::AllocError;
 use std::io::Write;
@@ -26,13 +26,13 @@ impl Listing {
         &self,
         out: &mut W,
         err: &mut Errors<E>,
-    ) -> Result<Ending, Refusal>
+    ) -> Result<Ending, Stop>
         ensures print { IsPrinting (IsListed self.now) (λ reason. ⊥)
             (deed W.contents out.old out.new E.contents err.old err.new result) }
         ensures quiet { OnErr result (err.new ≡ err.old) }
     {
         if write_whole(out, &self.text).is_err() {
-            return Err(Refusal::Output);
+            return Err(Stop::Output);
         }
         err.tell(self.told.as_bytes());
         Ok(self.ending)
@@ -46,12 +46,12 @@ pub(crate) fn print_made<W: Write, E: Write>(
     made: Result<Listing, AllocError>,
     out: &mut W,
     err: &mut Errors<E>,
-) -> Result<Ending, Refusal>
+) -> Result<Ending, Stop>
     ensures { IsPrinting (λ text told end. IsOkAnd made (λ l. IsListed l text told end)) (λ reason. reason ≡ Memory)
         (deed W.contents out.old out.new E.contents err.old err.new result) }
 {
     match made {
         Ok(listing) => listing.print(out, err),
-        Err(_) => Err(Refusal::Before(Reason::Memory)),
+        Err(_) => Err(Stop::Before(Reason::Memory)),
     }
 }

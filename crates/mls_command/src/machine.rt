@@ -1,8 +1,8 @@
 //! Files, the standard input and stores, as the program has them.
 ghost use Rattle.std.specs.Prelude.{◌≡◌, ◌↔◌, false, length, IfOk, IfErr, IsErr};
 ghost use Rattle.mls_scheme.specs.Scheme.{AreUnder};
-ghost use Rattle.mls_statements.specs.declared.rows.MetaRow.{MetaRow};
-ghost use Rattle.mls_fragments.specs.Finding.{IsSoundContent};
+ghost use Rattle.mls_audit.specs.Sound.{IsSoundContent};
+ghost use Rattle.mls_tables.specs.declared.rows.MetaRow.{MetaRow};
 ghost use Rattle.mls_fragments.specs.Again.{FindsHoldings};
 ghost use Rattle.mls_fragments.specs.Holdings.{holdings_of, IsTakenOf};
 ghost use Rattle.sqlite.specs.Recovery.{Image};

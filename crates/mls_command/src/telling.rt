@@ -15,7 +15,7 @@ use mls_advice::{
     advice_of, declared_names, excerpt, file_line, form_at, kinds_at, nearest_line, refused_lines,
     token_at,
 };
-use mls_host::{Errors, Host, Job, Reason, Refusal, policy_or_sample, schemes_or_sample};
+use mls_host::{Errors, Host, Job, Reason, Stop, policy_or_sample, schemes_or_sample};
 use mls_lattice::{Policy, Refused, Str};
 use mls_scheme::SchemesFile;
 use std::alloc::{AllocError, Global};
@@ -32,7 +32,7 @@ const NO_USER: &str = "  What stands for the user is no name.\n  Name a user of 
 
 const NO_TRANSACTION: &str = "  No transaction has this name.\n  Name one that the file has.\n";
 
-/// What a refusal means, and what to do; that of a policy and of schemes stands with the field.
+/// What a stop means, and what to do; that of a policy and of schemes stands with the field.
 fn advice(reason: &Reason) -> &'static str {
     match reason {
         Reason::Unreadable(_) => UNREADABLE,
@@ -151,7 +151,7 @@ fn file_lines<H: Host>(
     }
 }
 
-/// All that is told behind the line of a refusal: where it is, what it means, what to do, and which fields nobody reads.
+/// All that is told behind the line of a stop: where it is, what it means, what to do, and which fields nobody reads.
 fn lines_of<H: Host>(
     alloc: Global,
     host: &H,
@@ -175,7 +175,7 @@ pub(crate) fn push_reason(text: &mut Vec<u8>, reason: &Reason) -> Result<(), All
     }
 }
 
-/// The line that tells a refusal; where it is; and what it means.
+/// The line that tells a stop; where it is; and what it means.
 pub(crate) fn told_of<H: Host>(
     alloc: Global,
     host: &H,
@@ -192,25 +192,25 @@ pub(crate) fn told_of<H: Host>(
 }
 
 /// What is told behind the line of a refusal of a command.
-fn refusal_lines<H: Host>(
+fn stop_lines<H: Host>(
     alloc: Global,
     host: &H,
     job: Job,
-    refusal: &Refusal,
+    stop: &Stop,
 ) -> Result<Vec<u8>, AllocError> {
-    match refusal {
-        Refusal::Before(Reason::Store(_)) => store_lines(alloc, host, job),
-        Refusal::Before(reason) => Ok(lines_of(alloc, host, job, reason)?.into_bytes()),
+    match stop {
+        Stop::Before(Reason::Store(_)) => store_lines(alloc, host, job),
+        Stop::Before(reason) => Ok(lines_of(alloc, host, job, reason)?.into_bytes()),
         _ => Ok(Vec::new(alloc)),
     }
 }
 
-/// Explains a refusal, where somebody reads it at a terminal; want of memory leaves it as it was told.
-pub(crate) fn explain_refusal<H: Host, E: Write>(
+/// Explains a stop, where somebody reads it at a terminal; want of memory leaves it as it was told.
+pub(crate) fn explain_stop<H: Host, E: Write>(
     alloc: Global,
     host: &H,
     job: Job,
-    refusal: &Refusal,
+    stop: &Stop,
     is_watched: bool,
     err: &mut Errors<E>,
 )
@@ -219,7 +219,7 @@ pub(crate) fn explain_refusal<H: Host, E: Write>(
     if !is_watched {
         return;
     }
-    if let Ok(text) = refusal_lines(alloc, host, job, refusal) {
+    if let Ok(text) = stop_lines(alloc, host, job, stop) {
         err.tell(&text);
     }
 }

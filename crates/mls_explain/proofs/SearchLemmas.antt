@@ -18,7 +18,7 @@ use Rattle.mls_explain.specs.declared.chain.Chain.{Chain}
 use Rattle.mls_explain.specs.declared.search.Tail.{Tail}
 use Rattle.mls_explain.specs.declared.step.Step.{Step}
 use Rattle.mls_explain.specs.Steps.{step}
-use Rattle.mls_explain.specs.Chains.{is_root, Leads, end_of, Outlet, outlet, IsBroken, IsChain, IsShortestChain}
+use Rattle.mls_explain.specs.Chains.{is_root, Leads, end_of, Sink, sink, IsBroken, IsChain, IsShortestChain}
 use Rattle.mls_explain.specs.Search.{chain_of, tails_out, steps_out, IsAt, IsTaken, IsRound, IsAhead, IsBack, IsUnderway}
 
 -- ---- what lists contain
@@ -130,7 +130,7 @@ module _ (tails more : List Tail) (left rest : List (ℕ × Step)) (round : IsRo
 -- ---- the search
 
 module _ (p : Policy) (tx : Tx) (steps : List Step) where
-  module _ (Ends : Outlet → Type 0) (size : ℕ) (tails : List Tail) (left : List (ℕ × Step)) (h : IsUnderway p tx steps Ends size tails left) where
+  module _ (Ends : Sink → Type 0) (size : ℕ) (tails : List Tail) (left : List (ℕ × Step)) (h : IsUnderway p tx steps Ends size tails left) where
     even : (a : Tail) → Contains tails a → length a.slots ≡ size
     even a among = (h.back a among).2.size
 
@@ -189,20 +189,20 @@ module _ (p : Policy) (tx : Tx) (steps : List Step) where
               omega (arith, m, y, z);
         }
 
-  pub none_found : (Ends : Outlet → Type 0) (size : ℕ) (tails : List Tail) (left : List (ℕ × Step)) → IsUnderway p tx steps Ends size tails left → length tails ≡ 0 → (c : Chain) → IsChain p tx steps Ends c → ⊥
+  pub none_found : (Ends : Sink → Type 0) (size : ℕ) (tails : List Tail) (left : List (ℕ × Step)) → IsUnderway p tx steps Ends size tails left → length tails ≡ 0 → (c : Chain) → IsChain p tx steps Ends c → ⊥
   none_found Ends size tails left h none c d = let x = h.ahead c d.0 d.1 d.2 in let lt = x.among.1 in absurd (omega (arith, lt, none))
 
 -- ---- where it begins
 
 module _ (steps : List Step) where
-  -- what an outlet adds are ends of chains
-  tails_back : (out : Option Outlet) (a : Tail) → Contains (tails_out out) a → (o : Outlet) × (out ≡ Some o) × IsBack steps 0 a o
+  -- what a sink adds are ends of chains
+  tails_back : (out : Option Sink) (a : Tail) → Contains (tails_out out) a → (o : Sink) × (out ≡ Some o) × IsBack steps 0 a o
   tails_back None a k = absurd (none_in a k)
   tails_back (Some o) a k =
       let m = from_map _ o.sources a k in
       (o, refl, subst (λ (a : Tail). IsBack steps 0 a o) m.2 (record { limit = refl; leads = tt; ends = m.1; size = refl }))
 
-  steps_back : (out : Option Outlet) (l : ℕ × Step) → Contains (steps_out steps out) l → Contains steps l.1
+  steps_back : (out : Option Sink) (l : ℕ × Step) → Contains (steps_out steps out) l → Contains steps l.1
   steps_back None l k = absurd (none_in l k)
   steps_back (Some o) l k = let m = from_map _ steps l k in subst (λ (l : ℕ × Step). Contains steps l.1) m.2 m.1
 
@@ -218,7 +218,7 @@ module _ (p : Policy) (tx : Tx) (steps : List Step) (hi : ℕ) (broken : Refusal
   }
 
   module _ (seen : List Line) (l : Line) (tails : List Tail) (left : List (ℕ × Step)) (h : IsBegunBy seen tails left) where
-    earlier : (a : Tail) → Contains tails a → (o : Outlet) × IsBroken hi (seen ++ l ∷ []) broken o × IsBack steps 0 a o
+    earlier : (a : Tail) → Contains tails a → (o : Sink) × IsBroken hi (seen ++ l ∷ []) broken o × IsBack steps 0 a o
     earlier a k = let t = h.back a k in (t.0, (t.1.0, Contains-append_left seen (l ∷ []) t.1.0 t.1.1, t.1.2, t.1.3), t.2)
 
     pub start_other : (l.refusal ≡ broken → ⊥) → IsBegunBy (seen ++ l ∷ []) tails left
@@ -233,19 +233,19 @@ module _ (p : Policy) (tx : Tx) (steps : List Step) (hi : ℕ) (broken : Refusal
     }
 
     abbrev more : List Tail
-    more = tails_out (outlet hi l.flow)
+    more = tails_out (sink hi l.flow)
 
     abbrev all : List (ℕ × Step)
-    all = steps_out steps (outlet hi l.flow)
+    all = steps_out steps (sink hi l.flow)
 
     start_same : l.refusal ≡ broken → IsBegunBy (seen ++ l ∷ []) (tails ++ more) (left ++ all)
     start_same same = record {
       back = λ a k.
           elim (Contains-append_cases tails more a k) [
             | inl old ↦ earlier a old
-            | inr new ↦ let t = tails_back steps (outlet hi l.flow) a new in (t.0, (l, Contains-push seen l, same, t.1), t.2)
+            | inr new ↦ let t = tails_back steps (sink hi l.flow) a new in (t.0, (l, Contains-push seen l, same, t.1), t.2)
           ];
-      own = λ m k. elim (Contains-append_cases left all m k) [ inl old ↦ h.own m old | inr new ↦ steps_back steps (outlet hi l.flow) m new ];
+      own = λ m k. elim (Contains-append_cases left all m k) [ inl old ↦ h.own m old | inr new ↦ steps_back steps (sink hi l.flow) m new ];
       ahead = λ c o end w.
           elim (Contains-push_cases seen l end.0 end.1) [
             | inl among ↦
@@ -260,7 +260,7 @@ module _ (p : Policy) (tx : Tx) (steps : List Step) (hi : ℕ) (broken : Refusal
                   within = x.within;
                 }
             | inr e ↦
-                let is = sym (ap (λ (m : Line). outlet hi m.flow) e ∙ end.3) in
+                let is = sym (ap (λ (m : Line). sink hi m.flow) e ∙ end.3) in
                 let tail = subst (λ out. (s : Source) → Contains o.sources s → Contains (tails_out out) (record { limit = o.limit; root = s; slots = [] })) is (in_map _ o.sources) in
                 let step = subst (λ out. (s : Step) → Contains steps s → Contains (steps_out steps out) (o.limit, s)) is (in_map _ steps) in
                 record {

@@ -42,39 +42,39 @@ is_root p tx limit (Parameter i) = is_above p limit (slice_index (map (λ p. p.1
 is_root p tx limit (Declared label) = is_above p limit label
 
 -- these sources flow out to where a label has to dominate them
-pub record Outlet : Type 0 where
+pub record Sink : Type 0 where
   pub limit : ℕ
   pub sources : List Source
 
 -- of a flow, where hi is the ceiling
-abbrev pub outlet : ℕ → Flow → Option Outlet
-outlet hi (Into targets sources) = None
-outlet hi (Kept m n but) = None
-outlet hi (Within limit sources) = Some (record { limit = limit; sources = sources })
-outlet hi (Under sources) = Some (record { limit = hi; sources = sources })
+abbrev pub sink : ℕ → Flow → Option Sink
+sink hi (Into targets sources) = None
+sink hi (Kept m n but) = None
+sink hi (Within limit sources) = Some (record { limit = limit; sources = sources })
+sink hi (Under sources) = Some (record { limit = hi; sources = sources })
 
 -- by a line of the rule at the statement
-abbrev pub IsBroken : ℕ → List Line → Refusal → Outlet → Type 0
-IsBroken hi lines broken o = (l : Line) × Contains lines l × (l.refusal ≡ broken) × (outlet hi l.flow ≡ Some o)
+abbrev pub IsBroken : ℕ → List Line → Refusal → Sink → Type 0
+IsBroken hi lines broken o = (l : Line) × Contains lines l × (l.refusal ≡ broken) × (sink hi l.flow ≡ Some o)
 
 module _ (p : Policy) (tx : Tx) (steps : List Step) where
   -- something of the root comes along steps to where it must not be
-  pub record IsWay (o : Outlet) (c : Chain) : Type 0 where
+  pub record IsWay (o : Sink) (c : Chain) : Type 0 where
     pub root : is_root p tx o.limit c.root ≡ true
     pub leads : Leads (Contains steps) c.root c.slots
     pub ends : Contains o.sources (end_of c.root c.slots)
 
   -- to one of these ends
-  abbrev pub IsChain : (Outlet → Type 0) → Chain → Type 0
-  IsChain Ends c = (o : Outlet) × Ends o × IsWay o c
+  abbrev pub IsChain : (Sink → Type 0) → Chain → Type 0
+  IsChain Ends c = (o : Sink) × Ends o × IsWay o c
 
   -- there is no chain of fewer slots
-  pub record IsShortestChain (Ends : Outlet → Type 0) (c : Chain) : Type 0 where
+  pub record IsShortestChain (Ends : Sink → Type 0) (c : Chain) : Type 0 where
     pub chain : IsChain Ends c
     pub least : (d : Chain) → IsChain Ends d → length c.slots ≤ length d.slots
 
   -- a shortest chain, if there is any
-  abbrev pub Finds : (Outlet → Type 0) → Option Chain → Type 0
+  abbrev pub Finds : (Sink → Type 0) → Option Chain → Type 0
   Finds Ends None = (d : Chain) → IsChain Ends d → ⊥
   Finds Ends (Some c) = IsShortestChain Ends c
 

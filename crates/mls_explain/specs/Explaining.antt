@@ -11,8 +11,8 @@ use Rattle.mls_labeller.specs.Least.{IsOf, IsLeast}
 use Rattle.mls_labeller.specs.Fault.{IsFirst}
 use Rattle.mls_labeller.specs.declared.fault.LabelFault.TheVariants.{NoLabels}
 use Rattle.mls_explain.specs.Chains.{IsChainTo}
-use Rattle.mls_explain.specs.declared.outcome.Outcome.{Outcome}
-use Rattle.mls_explain.specs.declared.outcome.Outcome.TheVariants.{Labelled, Refused}
+use Rattle.mls_explain.specs.declared.labelling.Labelling.{Labelling}
+use Rattle.mls_explain.specs.declared.labelling.Labelling.TheVariants.{Labelled, Refused}
 
 -- no certificate of a version passes
 abbrev pub NonePasses : Version → Policy → Tx → Type 0
@@ -20,13 +20,13 @@ NonePasses v p tx = (cert : Certificate) → IsOf v cert → Rules (claim p tx c
 
 -- what came of the least labels: those of version 1 pass; or only those of version 2; or none, this is the first rule that those of
 -- version 2 break, and this a shortest chain of flows by which something came there that must not
-abbrev pub IsOutcome : Policy → Tx → Outcome → Type 0
-IsOutcome p tx (Labelled (One cert)) = Rules (claim p tx (One cert)) × IsLeast version.First p tx (One cert)
-IsOutcome p tx (Labelled (Two cert)) =
+abbrev pub IsLabelling : Policy → Tx → Labelling → Type 0
+IsLabelling p tx (Labelled (One cert)) = Rules (claim p tx (One cert)) × IsLeast version.First p tx (One cert)
+IsLabelling p tx (Labelled (Two cert)) =
     NonePasses version.First p tx × Rules (claim p tx (Two cert)) × IsLeast version.Second p tx (Two cert)
-IsOutcome p tx (Refused stmt r chain) =
+IsLabelling p tx (Refused stmt r chain) =
     NonePasses version.First p tx × NonePasses version.Second p tx × IsFirst version.Second p tx (NoLabels stmt r) × IsChainTo p tx (record { stmt = stmt; rule = r }) chain
 
-abbrev pub has_labels : Outcome → Bool
+abbrev pub has_labels : Labelling → Bool
 has_labels (Labelled cert) = true
 has_labels (Refused stmt r chain) = false

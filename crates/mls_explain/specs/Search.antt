@@ -10,7 +10,7 @@ use Rattle.mls_explain.specs.declared.chain.Chain.{Chain}
 use Rattle.mls_explain.specs.declared.search.Tail.{Tail}
 use Rattle.mls_explain.specs.declared.search.Search.{Search}
 use Rattle.mls_explain.specs.declared.step.Step.{Step}
-use Rattle.mls_explain.specs.Chains.{Leads, end_of, Outlet, IsWay}
+use Rattle.mls_explain.specs.Chains.{Leads, end_of, Sink, IsWay}
 
 abbrev pub chain_of : Tail → Chain
 chain_of a = record { root = a.root; slots = a.slots }
@@ -21,12 +21,12 @@ tails_of limit sources = map (λ s. record { limit = limit; root = s; slots = []
 abbrev pub limited : ℕ → List Step → List (ℕ × Step)
 limited limit steps = map (λ s. (limit, s)) steps
 
--- what an outlet adds at the start
-abbrev pub tails_out : Option Outlet → List Tail
+-- what a sink adds at the start
+abbrev pub tails_out : Option Sink → List Tail
 tails_out None = []
 tails_out (Some o) = tails_of o.limit o.sources
 
-abbrev pub steps_out : List Step → Option Outlet → List (ℕ × Step)
+abbrev pub steps_out : List Step → Option Sink → List (ℕ × Step)
 steps_out steps None = []
 steps_out steps (Some o) = limited o.limit steps
 
@@ -66,14 +66,14 @@ pub record IsAhead (tails : List Tail) (left : List (ℕ × Step)) (limit : ℕ)
   pub within : length slots + length tail.slots ≤ n
 
 -- the end of a chain, over so many slots
-pub record IsBack (steps : List Step) (n : ℕ) (a : Tail) (o : Outlet) : Type 0 where
+pub record IsBack (steps : List Step) (n : ℕ) (a : Tail) (o : Sink) : Type 0 where
   pub limit : a.limit ≡ o.limit
   pub leads : Leads (Contains steps) a.root a.slots
   pub ends : Contains o.sources (end_of a.root a.slots)
   pub size : length a.slots ≡ n
 
 -- after so many rounds all chains are ahead
-pub record IsUnderway (p : Policy) (tx : Tx) (steps : List Step) (Ends : Outlet → Type 0) (n : ℕ) (tails : List Tail) (left : List (ℕ × Step)) : Type 0 where
-  pub back : (a : Tail) → Contains tails a → (o : Outlet) × Ends o × IsBack steps n a o
+pub record IsUnderway (p : Policy) (tx : Tx) (steps : List Step) (Ends : Sink → Type 0) (n : ℕ) (tails : List Tail) (left : List (ℕ × Step)) : Type 0 where
+  pub back : (a : Tail) → Contains tails a → (o : Sink) × Ends o × IsBack steps n a o
   pub own : (l : ℕ × Step) → Contains left l → Contains steps l.1
-  pub ahead : (c : Chain) (o : Outlet) → Ends o → IsWay p tx steps o c → IsAhead tails left o.limit c.root (length c.slots)
+  pub ahead : (c : Chain) (o : Sink) → Ends o → IsWay p tx steps o c → IsAhead tails left o.limit c.root (length c.slots)

@@ -16,10 +16,10 @@ use Rattle.mls_certcheck.specs.declared.cert.Certificate.{Certificate}
 use Rattle.mls_certcheck.specs.declared.cert.Certificate.TheVariants.{One, Two}
 use Rattle.mls_certcheck.specs.declared.refusal.Rule.{Rule}
 use Rattle.mls_certcheck.specs.Refusal.{text_of}
-use Rattle.mls_explain.specs.declared.outcome.Outcome.{Outcome}
-use Rattle.mls_explain.specs.declared.outcome.Outcome.TheVariants.{Labelled, Refused}
+use Rattle.mls_explain.specs.declared.labelling.Labelling.{Labelling}
+use Rattle.mls_explain.specs.declared.labelling.Labelling.TheVariants.{Labelled, Refused}
 use Rattle.mls_explain.specs.declared.explaining.Explained.{Explained}
-use Rattle.mls_explain.specs.Explaining.{IsOutcome}
+use Rattle.mls_explain.specs.Explaining.{IsLabelling}
 
 -- ---- labels by name
 
@@ -75,7 +75,7 @@ abbrev pub refused_line : Name → ℕ → Rule → List ℕ
 refused_line name stmt r = refused_front name ++ decimal stmt ++ codes " " ++ text_of r ++ codes "\n"
 
 -- what came of the least labels
-abbrev pub head : Policy → Tx → Outcome → List ℕ
+abbrev pub head : Policy → Tx → Labelling → List ℕ
 head p tx (Labelled cert) = label_lines p tx.vars cert
 head p tx (Refused stmt r chain) = refused_line tx.name stmt r
 
@@ -90,12 +90,12 @@ abbrev pub IsListing : List (List ℕ) → List ℕ → Type 0
 IsListing ls text =
     (parts : List (List ℕ)) × AllZip (λ line part. (n : Option ℕ) × (part ≡ shown n line)) ls parts × (text ≡ concat parts)
 
-pub record IsTold (p : Policy) (schemes : Schemes) (tx : Tx) (outcome : Outcome) (text : List ℕ) : Type 0 where
+pub record IsTold (p : Policy) (schemes : Schemes) (tx : Tx) (labelling : Labelling) (text : List ℕ) : Type 0 where
   pub listing : List ℕ
   pub lists : IsListing (lines (utf8_lossy (printed p schemes tx))) listing
   pub advice : List ℕ
-  pub text_is : text ≡ listing ++ head p tx outcome ++ advice
+  pub text_is : text ≡ listing ++ head p tx labelling ++ advice
 
 -- what came of a transaction, and a text that tells it
 abbrev pub IsExplanation : Policy → Schemes → Tx → Explained → Type 0
-IsExplanation p schemes tx e = IsOutcome p tx e.outcome × IsTold p schemes tx e.outcome (string_bytes e.text)
+IsExplanation p schemes tx e = IsLabelling p tx e.labelling × IsTold p schemes tx e.labelling (string_bytes e.text)

@@ -10,7 +10,7 @@ use mls_advice::{difference_to, relations_to};
 use mls_fragments::{OpenFault, texts_of};
 use mls_lattice::Policy;
 use mls_scheme::SchemesFile;
-use mls_statements::read_description;
+use mls_tables::read_description;
 use mls_tokens::escape;
 use sqlite::{Alter, Connection};
 use std::alloc::{AllocError, Global};

@@ -3,8 +3,8 @@ ghost use Rattle.std.specs.Prelude.{◌≡◌, string_bytes, IfOk};
 ghost use Rattle.mls_translang.specs.Fits.{IsReadUnder};
 ghost use Rattle.mls_explain.specs.Telling.{IsTold, IsExplanation};
 
+use crate::labelling::{Labelling, labelling_of};
 use crate::numbering::numbered;
-use crate::outcome::{Outcome, outcome_of};
 use crate::statements::block_to;
 use crate::teller::Teller;
 use mls_lattice::Policy;
@@ -16,7 +16,7 @@ use std::alloc::{AllocError, Global};
 #[derive(Drop)]
 pub struct Explained {
     pub text: String,
-    pub outcome: Outcome,
+    pub labelling: Labelling,
 }
 
 /// The canonical text of a transaction with the number of each statement, and what came of its least labels.
@@ -25,10 +25,10 @@ fn text_of(
     policy: &Policy,
     schemes: &Schemes,
     tx: &Tx,
-    outcome: &Outcome,
+    labelling: &Labelling,
 ) -> Result<String, AllocError>
     requires { IsReadUnder policy.now schemes.now tx.now }
-    ensures { IfOk result (λ s. IsTold policy.now schemes.now tx.now outcome.now (string_bytes s)) }
+    ensures { IfOk result (λ s. IsTold policy.now schemes.now tx.now labelling.now (string_bytes s)) }
 {
     let printed = print(alloc, policy, schemes, tx)?;
     let printed = String::from_utf8_lossy(alloc, &printed)?;
@@ -43,8 +43,8 @@ fn text_of(
         statements: &statements,
         lines: &lines,
     };
-    teller.head_to(&mut text, outcome)?;
-    let advice = teller.advice_of(outcome)?;
+    teller.head_to(&mut text, labelling)?;
+    let advice = teller.advice_of(labelling)?;
     text.push_str(&advice)?;
     Ok(text)
 }
@@ -61,7 +61,7 @@ pub fn explain(
     requires { IsReadUnder policy.now schemes.now tx.now }
     ensures { IfOk result (IsExplanation policy.now schemes.now tx.now) }
 {
-    let outcome = outcome_of(alloc, policy, tx)?;
-    let text = text_of(alloc, policy, schemes, tx, &outcome)?;
-    Ok(Explained { text, outcome })
+    let labelling = labelling_of(alloc, policy, tx)?;
+    let text = text_of(alloc, policy, schemes, tx, &labelling)?;
+    Ok(Explained { text, labelling })
 }

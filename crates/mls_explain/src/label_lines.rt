@@ -3,9 +3,9 @@ ghost use Rattle.std.specs.Prelude.{◌≡◌, ◌++◌, ◌+◌, ◌<◌, ◌^�
 ghost use Rattle.std.specs.Option.{unwrap_or};
 ghost use Rattle.mls_explain.specs.Telling.{variable_line, variable_lines, at_line, statement_line, statement_lines, label_lines, refused_front, refused_line, head};
 
+use crate::labelling::Labelling;
 use crate::naming::words_of;
 use crate::numbering::four_to;
-use crate::outcome::Outcome;
 use crate::teller::{Teller, Told};
 use mls_certcheck::{Certificate, Rule};
 use mls_labeller::{Told as Release, ranges_of, whole, words};
@@ -98,13 +98,13 @@ impl Teller<'_> {
     }
 
     /// The labels of a certificate, or the place and the rule of a refusal.
-    pub(crate) fn head_to(&self, text: &mut String, outcome: &Outcome) -> Told
+    pub(crate) fn head_to(&self, text: &mut String, labelling: &Labelling) -> Told
         ensures { OnOk result (string_bytes text.new ≡ string_bytes text.old
-            ++ head self.now.policy.now self.now.tx.now outcome.now) }
+            ++ head self.now.policy.now self.now.tx.now labelling.now) }
     {
-        match outcome {
-            Outcome::Labelled(cert) => self.labels_to(text, cert),
-            Outcome::Refused { stmt, rule, .. } => refused_to(text, self.tx.name(), *stmt, *rule),
+        match labelling {
+            Labelling::Labelled(cert) => self.labels_to(text, cert),
+            Labelling::Refused { stmt, rule, .. } => refused_to(text, self.tx.name(), *stmt, *rule),
         }
     }
 

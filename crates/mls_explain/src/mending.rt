@@ -1,7 +1,7 @@
 //! How a transaction is mended, so that it has labels.
 
+use crate::paths::Path;
 use crate::teller::{Teller, Told};
-use crate::ways::Way;
 use mls_certcheck::{Slot, Source};
 use mls_lattice::LabelNo;
 use mls_translang::Stmt;
@@ -9,27 +9,27 @@ use std::alloc::AllocError;
 
 /// How something comes out of a statement.
 #[derive(Clone, Copy, PartialEq, Eq)]
-pub(crate) enum Deed {
+pub(crate) enum SinkKind {
     Emit,
     Write,
     Release,
 }
 
-impl Deed {
+impl SinkKind {
     pub(crate) fn verb(self) -> &'static str {
         match self {
-            Deed::Emit => "emit",
-            Deed::Write => "write",
-            Deed::Release => "release",
+            SinkKind::Emit => "emit",
+            SinkKind::Write => "write",
+            SinkKind::Release => "release",
         }
     }
 }
 
 /// How something comes out of the statement of a number, and the label at which it does.
 #[derive(Clone, Copy)]
-pub(crate) struct Outlet {
+pub(crate) struct Sink {
     pub number: usize,
-    pub deed: Deed,
+    pub kind: SinkKind,
     pub label: LabelNo,
 }
 
@@ -73,9 +73,9 @@ impl Teller<'_> {
     }
 
     /// Ends them with a release behind a loop or a branch. Where nothing is read, a number of turns stands for what comes out.
-    fn behind_way_to(&self, text: &mut String, around: usize, out: &Outlet, way: &Way) -> Told {
-        let is_write = out.deed == Deed::Write;
-        let how = if self.turns(way) && !is_write && self.names_at(out.number)?.is_empty() {
+    fn behind_way_to(&self, text: &mut String, around: usize, out: &Sink, path: &Path) -> Told {
+        let is_write = out.kind == SinkKind::Write;
+        let how = if self.turns(path) && !is_write && self.names_at(out.number)?.is_empty() {
             "count in a variable"
         } else {
             "set a variable here"
@@ -85,49 +85,49 @@ impl Teller<'_> {
             _ => "`if`",
         };
         let label = self.label(out.label);
-        let (release, to, then) = match out.deed {
-            Deed::Release => ("and release that", "", ""),
-            Deed::Emit => ("release that to ", label, ", and emit it there"),
-            Deed::Write => ("release that to ", label, ", and write there"),
+        let (release, to, then) = match out.kind {
+            SinkKind::Release => ("and release that", "", ""),
+            SinkKind::Emit => ("release that to ", label, ", and emit it there"),
+            SinkKind::Write => ("release that to ", label, ", and write there"),
         };
         write!(text, "; or {how}, {release}{to} behind the {kind}")?;
         writeln!(text, " at {around}{then}.")
     }
 
     /// Ends them with a release of the value in front of the statement.
-    fn before_way_to(&self, text: &mut String, out: &Outlet, end: Source) -> Told {
-        let (what, into) = match (out.deed, end) {
-            (Deed::Emit, _) => ("the value", "a variable"),
-            (Deed::Write, Source::Held(Slot::Variable { place, .. })) => {
+    fn before_way_to(&self, text: &mut String, out: &Sink, end: Source) -> Told {
+        let (what, into) = match (out.kind, end) {
+            (SinkKind::Emit, _) => ("the value", "a variable"),
+            (SinkKind::Write, Source::Held(Slot::Variable { place, .. })) => {
                 (self.variable(place), "another variable")
             }
-            (Deed::Write, Source::Parameter(place)) => {
+            (SinkKind::Write, Source::Parameter(place)) => {
                 (self.parameter(usize::from(place)), "a variable")
             }
             _ => return text.push_str(".\n"),
         };
         let label = self.label(out.label);
-        let verb = out.deed.verb();
+        let verb = out.kind.verb();
         write!(text, "; or release {what} to {label} into {into}")?;
         writeln!(text, ", and {verb} that.")
     }
 
     /// Adds how what comes out of a statement at a label is mended.
-    pub(crate) fn out_ways_to(&self, text: &mut String, out: &Outlet, way: &Way) -> Told {
-        let verb = out.deed.verb();
-        let to = match out.deed {
-            Deed::Release => "to",
-            Deed::Emit | Deed::Write => "at",
+    pub(crate) fn out_ways_to(&self, text: &mut String, out: &Sink, path: &Path) -> Told {
+        let verb = out.kind.verb();
+        let to = match out.kind {
+            SinkKind::Release => "to",
+            SinkKind::Emit | SinkKind::Write => "at",
         };
-        let over = self.lowest_that_sees(out.label, way.root);
+        let over = self.lowest_that_sees(out.label, path.root);
         let higher = self.label(over.unwrap_or(self.tx.hi()));
         write!(text, "   To mend it: {verb} {to} {higher}")?;
-        if way.cause == Some(0) {
+        if path.cause == Some(0) {
             return self.floor_way_to(text, out.label);
         }
-        match self.outermost(out.number, out.label, way.cause)? {
-            Some(around) => self.behind_way_to(text, around, out, way),
-            None => self.before_way_to(text, out, way.end),
+        match self.outermost(out.number, out.label, path.cause)? {
+            Some(around) => self.behind_way_to(text, around, out, path),
+            None => self.before_way_to(text, out, path.end),
         }
     }
 }

@@ -3,6 +3,7 @@
 use crate::teller::{Teller, Told};
 use mls_certcheck::{Slot, Source};
 use mls_lattice::LabelNo;
+use mls_scheme::Write;
 use mls_translang::{Expr, Stmt, Term};
 use std::alloc::AllocError;
 
@@ -26,9 +27,16 @@ fn all_names_to<'a>(names: &mut Vec<&'a Term>, exprs: &'a [Expr]) -> Told {
     Ok(())
 }
 
-fn sets_names_to<'a>(names: &mut Vec<&'a Term>, sets: &'a [(u8, Expr)]) -> Told {
-    for set in sets {
-        names_to(names, &set.1)?;
+fn operands_to<'a>(names: &mut Vec<&'a Term>, write: &'a Write<Expr>) -> Told {
+    all_names_to(names, write.key())?;
+    match write {
+        Write::Insert { values, .. } => all_names_to(names, values)?,
+        Write::Update { sets, .. } => {
+            for set in sets.as_slice() {
+                names_to(names, &set.1)?;
+            }
+        }
+        Write::Delete { .. } => {}
     }
     Ok(())
 }
@@ -42,15 +50,7 @@ impl<'a> Teller<'a> {
                 Stmt::Assign { value, .. } | Stmt::Release { value, .. } | Stmt::Emit { value, .. },
             ) => names_to(&mut names, value)?,
             Some(Stmt::If { guard, .. }) => names_to(&mut names, guard)?,
-            Some(Stmt::Insert { key, values, .. }) => {
-                all_names_to(&mut names, key)?;
-                all_names_to(&mut names, values)?;
-            }
-            Some(Stmt::Update { key, sets, .. }) => {
-                all_names_to(&mut names, key)?;
-                sets_names_to(&mut names, sets)?;
-            }
-            Some(Stmt::Delete { key, .. }) => all_names_to(&mut names, key)?,
+            Some(Stmt::Write { write, .. }) => operands_to(&mut names, write)?,
             Some(Stmt::For { .. }) | None => {}
         }
         Ok(names)

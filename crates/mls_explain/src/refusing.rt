@@ -1,12 +1,13 @@
 //! Why a transaction is refused, in sentences.
 
 use crate::chain::Chain;
-use crate::mending::{Deed, Outlet};
-use crate::outcome::Outcome;
+use crate::labelling::Labelling;
+use crate::mending::{Sink, SinkKind};
+use crate::paths::Path;
 use crate::teller::{Teller, Told};
-use crate::ways::Way;
 use mls_certcheck::{Rule, Slot, Source};
 use mls_lattice::LabelNo;
+use mls_scheme::Write;
 use mls_translang::Stmt;
 use std::alloc::AllocError;
 
@@ -29,18 +30,16 @@ fn purpose(rule: Rule) -> &'static str {
 }
 
 /// How something comes out of the statement of a number, if it does.
-fn outlet_of(number: usize, stmt: &Stmt) -> Option<Outlet> {
-    let (deed, label) = match stmt {
-        Stmt::Emit { label, .. } => (Deed::Emit, *label),
-        Stmt::Insert { at, .. } | Stmt::Update { at, .. } | Stmt::Delete { at, .. } => {
-            (Deed::Write, *at)
-        }
-        Stmt::Release { to, .. } => (Deed::Release, *to),
+fn sink_of(number: usize, stmt: &Stmt) -> Option<Sink> {
+    let (kind, label) = match stmt {
+        Stmt::Emit { label, .. } => (SinkKind::Emit, *label),
+        Stmt::Write { at, .. } => (SinkKind::Write, *at),
+        Stmt::Release { to, .. } => (SinkKind::Release, *to),
         Stmt::Assign { .. } | Stmt::If { .. } | Stmt::For { .. } => return None,
     };
-    Some(Outlet {
+    Some(Sink {
         number,
-        deed,
+        kind,
         label,
     })
 }
@@ -131,11 +130,14 @@ impl Teller<'_> {
 
     /// Adds that an update or a delete names a class that it does not see, and how it is mended.
     fn classes_to(&self, text: &mut String, stmt: &Stmt) -> Told {
-        match stmt {
-            Stmt::Update {
+        let Stmt::Write { at, write, .. } = stmt else {
+            return Ok(());
+        };
+        match write {
+            Write::Insert { .. } => Ok(()),
+            Write::Update {
                 key_class,
                 from,
-                at,
                 ..
             } => {
                 if self.is_seen(*key_class, *from) {
@@ -144,38 +146,35 @@ impl Teller<'_> {
                     self.order_to(text, true, true, *from, *key_class)
                 }
             }
-            Stmt::Delete { key_class, at, .. } => {
-                self.order_to(text, false, true, *at, *key_class)
-            }
-            _ => Ok(()),
+            Write::Delete { key_class, .. } => self.order_to(text, false, true, *at, *key_class),
         }
     }
 
     // ---- what comes out
 
     /// Adds what is known, and at which label.
-    fn known_to(&self, text: &mut String, way: &Way, number: usize) -> Told {
-        let root = self.label(way.root);
-        match way.end {
+    fn known_to(&self, text: &mut String, path: &Path, number: usize) -> Told {
+        let root = self.label(path.root);
+        match path.end {
             Source::Parameter(place) => {
                 let name = self.parameter(usize::from(place));
                 write!(text, "The parameter {name} is at {root}")
             }
             Source::Declared(_) => {
-                self.field_to(text, number, way.root)?;
+                self.field_to(text, number, path.root)?;
                 write!(text, " is of a row that {root} sees")
             }
             Source::Held(Slot::Variable { place, .. }) => {
                 let name = self.variable(place);
                 write!(text, "{name} may hold here what is known at {root}")
             }
-            Source::Held(Slot::Statement(_)) if way.cause == Some(0) => {
+            Source::Held(Slot::Statement(_)) if path.cause == Some(0) => {
                 let tx = self.tx.name();
                 write!(text, "That this runs is known at {root}")?;
                 write!(text, ", where the levels of {tx} begin")
             }
             Source::Held(Slot::Statement(_)) => {
-                text.push_str(if self.turns(way) {
+                text.push_str(if self.turns(path) {
                     "How often"
                 } else {
                     "Whether"
@@ -186,12 +185,12 @@ impl Teller<'_> {
     }
 
     /// What whoever sees it could do with it.
-    fn harm(&self, deed: Deed, way: &Way) -> &'static str {
-        let is_one_loop = self.turns(way) && way.steps.len() == 1;
-        match deed {
-            Deed::Write if is_one_loop => "could tell whether there are any",
-            Deed::Emit | Deed::Release if is_one_loop => "could count them",
-            Deed::Release if way.cause != Some(0) => {
+    fn harm(&self, kind: SinkKind, path: &Path) -> &'static str {
+        let is_one_loop = self.turns(path) && path.steps.len() == 1;
+        match kind {
+            SinkKind::Write if is_one_loop => "could tell whether there are any",
+            SinkKind::Emit | SinkKind::Release if is_one_loop => "could count them",
+            SinkKind::Release if path.cause != Some(0) => {
                 "would learn it, also where nothing is released"
             }
             _ => "would learn it",
@@ -199,39 +198,39 @@ impl Teller<'_> {
     }
 
     /// Adds what comes out of a statement that must not, and how it is mended.
-    fn out_to(&self, text: &mut String, out: &Outlet, chain: &Chain) -> Told {
+    fn out_to(&self, text: &mut String, out: &Sink, chain: &Chain) -> Told {
         if !self.is_seen(out.label, self.tx.hi()) {
-            return self.above_to(text, out.deed.verb(), out.label);
+            return self.above_to(text, out.kind.verb(), out.label);
         }
-        let way = self.way_of(chain, out.number)?;
+        let path = self.path_of(chain, out.number)?;
         text.push_str("   ")?;
-        self.known_to(text, &way, out.number)?;
-        self.one_reason_to(text, &way)?;
+        self.known_to(text, &path, out.number)?;
+        self.one_reason_to(text, &path)?;
         let at = self.label(out.label);
-        let harm = self.harm(out.deed, &way);
+        let harm = self.harm(out.kind, &path);
         write!(text, " Whoever sees {at} {harm}.")?;
-        self.steps_to(text, &way)?;
-        self.out_ways_to(text, out, &way)
+        self.steps_to(text, &path)?;
+        self.out_ways_to(text, out, &path)
     }
 
     /// Adds a variable that may hold what the ceiling does not see, and how it is mended.
     fn held_above_to(&self, text: &mut String, number: usize, chain: &Chain) -> Told {
-        let way = self.way_of(chain, number)?;
+        let path = self.path_of(chain, number)?;
         text.push_str("   ")?;
-        self.unseen_to(text, way.root)?;
-        let root = self.label(way.root);
-        match way.end {
+        self.unseen_to(text, path.root)?;
+        let root = self.label(path.root);
+        match path.end {
             Source::Held(Slot::Variable { place, .. }) => {
                 let name = self.variable(place);
                 write!(text, " After this {name} may hold what is known at {root}")?;
             }
             _ => write!(text, " Whether this runs is known at {root}")?,
         }
-        self.one_reason_to(text, &way)?;
-        self.steps_to(text, &way)?;
+        self.one_reason_to(text, &path)?;
+        self.steps_to(text, &path)?;
         let high = self.label(self.tx.hi());
         write!(text, "   To mend it: read and write only what {high} sees")?;
-        self.ceiling_way_to(text, way.root)
+        self.ceiling_way_to(text, path.root)
     }
 
     /// Adds why a rule is broken at a statement, and how it is mended.
@@ -244,7 +243,7 @@ impl Teller<'_> {
             }
             (Rule::AboveCeiling, _, Some(chain)) => self.held_above_to(text, number, chain),
             (Rule::Write | Rule::Release | Rule::Emit, Some(stmt), Some(chain)) => {
-                match outlet_of(number, stmt) {
+                match sink_of(number, stmt) {
                     Some(out) => self.out_to(text, &out, chain),
                     None => Ok(()),
                 }
@@ -257,11 +256,11 @@ impl Teller<'_> {
     }
 
     /// What each release tells to which label; or why a rule is broken, with the line of the statement, and how that is mended.
-    pub(crate) fn advice_of(&self, outcome: &Outcome) -> Result<String, AllocError> {
+    pub(crate) fn advice_of(&self, labelling: &Labelling) -> Result<String, AllocError> {
         let mut text = String::new(self.alloc);
-        match outcome {
-            Outcome::Labelled(_) => self.releases_to(&mut text)?,
-            Outcome::Refused { stmt, rule, chain } => {
+        match labelling {
+            Labelling::Labelled(_) => self.releases_to(&mut text)?,
+            Labelling::Refused { stmt, rule, chain } => {
                 self.line_to(&mut text, *stmt)?;
                 text.push_str("\n")?;
                 self.why_to(&mut text, *stmt, *rule, chain)?;

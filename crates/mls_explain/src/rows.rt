@@ -8,7 +8,7 @@ use mls_audit::{EntryFault, entry_of};
 use mls_fragments::{OpenFault, Step, Where, bad_row, tables_of};
 use mls_lattice::Policy;
 use mls_scheme::{RelNo, SchemesFile};
-use mls_statements::{AdoptFault, AllRows, AuditRow, CellRow, NodeRow, read_description};
+use mls_tables::{AdoptFault, AllRows, AuditRow, CellRow, NodeRow, read_description};
 use sqlite::{Alter, Connection};
 use std::alloc::{AllocError, Global};
 
@@ -41,20 +41,26 @@ fn tell_cell(text: &mut String, names: &Names, step: Step, cell: &CellRow) -> To
 }
 
 /// Tells of the tuple of a relation that has so many before it.
-fn tell_tuple(text: &mut String, names: &Names, rel: RelNo, before: usize, rows: &AllRows) -> Told {
+fn tell_tuple(
+    text: &mut String,
+    names: &Names,
+    relation: RelNo,
+    before: usize,
+    rows: &AllRows,
+) -> Told {
     let mut at = Where::start();
     let count = names.schemes.count();
     let Ok(tables) = tables_of(names.alloc, count, &rows.nodes, &rows.cells, &mut at) else {
         return Err(AllocError);
     };
-    if let Some(table) = tables.get(rel.index())
+    if let Some(table) = tables.get(relation.index())
         && let Some((place, _)) = table.iter().nth(before)
     {
         let key = names.values_of(&place.key)?;
-        let rel = u32::from(rel.byte());
+        let relation = u32::from(relation.byte());
         let key_class = u32::from(place.key_class.byte());
         let class = u32::from(place.class.byte());
-        names.row_to(text, "node", rel, &key, key_class, class)?;
+        names.row_to(text, "node", relation, &key, key_class, class)?;
         text.push_str(
             ".\n  A value or a class of it does not fit, or another tuple of its key is missing or differs.\n",
         )?;
@@ -113,7 +119,7 @@ fn tell_row(text: &mut String, names: &Names, at: &Where, rows: &AllRows) -> Tol
         (Step::Number | Step::Entry, _, _, Some(entry)) => {
             tell_entry(names.alloc, text, at.step, entry)
         }
-        (Step::Tuple(rel), _, _, _) => tell_tuple(text, names, rel, at.row, rows),
+        (Step::Tuple(relation), _, _, _) => tell_tuple(text, names, relation, at.row, rows),
         (Step::MissingCell, _, _, _) => tell_missing(text, names, rows),
         _ => Ok(()),
     }

@@ -6,7 +6,7 @@ ghost use Rattle.std.specs.List.{AllByRecursion, Contains};
 ghost use Rattle.mls_lattice.specs.Policy.{Policy};
 ghost use Rattle.mls_translang.specs.Tx.{Tx as SpecTx};
 ghost use Rattle.mls_certcheck.specs.declared.flow.Source.TheVariants.{Held};
-ghost use Rattle.mls_explain.specs.Chains.{is_above, is_root, outlet, IsBroken};
+ghost use Rattle.mls_explain.specs.Chains.{is_above, is_root, sink, IsBroken};
 ghost use Rattle.mls_explain.specs.Search.{longer, IsAt};
 
 use crate::step::Step;
@@ -153,9 +153,9 @@ impl Search {
 
     /// Adds what flows out by a line, over no slot, and all steps for its limit.
     fn line_to(&mut self, alloc: Global, steps: &[Step], line: &Line, hi: LabelNo) -> Told
-        ensures tails { OnOk result (self.new.tails.items ≡ self.old.tails.items ++ tails_out (outlet hi line.now.flow)) }
+        ensures tails { OnOk result (self.new.tails.items ≡ self.old.tails.items ++ tails_out (sink hi line.now.flow)) }
         ensures left { OnOk result (self.new.left.items ≡ self.old.left.items
-            ++ steps_out steps.now (outlet hi line.now.flow)) }
+            ++ steps_out steps.now (sink hi line.now.flow)) }
     {
         match &line.flow {
             Flow::Within { limit, sources } => {

@@ -1,20 +1,12 @@
 -- Calls over a base, one after another.
-use Rattle.std.proofs.Common.{◌≡◌, ℕ, ◌≤◌, arith, true, false, cond, Result, Err, refl, sym, ap, ◌∙◌, subst}
+use Rattle.std.proofs.Common.{◌≡◌, ℕ, ◌≤◌, arith, true, cond, Result, Err, refl, sym, ap, ◌∙◌, subst}
 use Rattle.mls_filterview.specs.Content.{State, after, failed, ended}
 use Rattle.mls_filterview.specs.Calls.{begun_after, IsCall, IsRead, IsServed}
 use Rattle.mls_filterview.specs.declared.base.BaseFault.{BaseFault}
-use Rattle.mls_filterview.specs.declared.base.BaseFault.TheVariants.{Store, Memory, NotBegun, Begun}
 
 -- what ends a change goes back to the last commit
 failed_begun : (s : State) → s.begun ≡ true → failed s ≡ ended s
 failed_begun s h = ap (λ b. cond b (ended s) s) h
-
--- a fault after a step of a change is one of the whole
-pub after_step : (e : BaseFault) (s t : State) → IsServed e → s.begun ≡ true → t.begun ≡ true → t.kept ≡ s.kept → after e t ≡ after e s
-after_step Store s t h b c k = failed_begun t c ∙ (λ i. record { now = k i; kept = k i; begun = false }) ∙ sym (failed_begun s b)
-after_step Memory s t h b c k = failed_begun t c ∙ (λ i. record { now = k i; kept = k i; begun = false }) ∙ sym (failed_begun s b)
-after_step NotBegun s t h b c k = absurd (h.0 refl)
-after_step Begun s t h b c k = absurd (h.1 refl)
 
 module _ {Self : Type 0} (is_clean : Self → Type 0) (failures : Self → ℕ) (state : Self → State) where
   -- a fault after steps that leave what it goes back to
@@ -47,9 +39,3 @@ module _ {Self : Type 0} (is_clean : Self → Type 0) (failures : Self → ℕ) 
   fault_read old mid new e r clean count mode same last served is =
       subst (IsRead is_clean failures state old new) (sym is)
       (record { call = fault_after_reads old mid new e (Err e) clean count mode same last served refl; served = served; mode = tt; same = λ h. tt })
-
-  -- after steps of a change
-  pub fault_after_steps : {A C : Type 0} (old mid new : Self) (e : BaseFault) (r : Result C BaseFault) → (is_clean mid → is_clean old) → failures old ≤ failures mid → (state old).begun ≡ true → (state mid).begun ≡ true
-      → (is_clean mid → (state mid).kept ≡ (state old).kept) → IsCall is_clean failures state {A = A} mid new (Err e) → IsServed e → r ≡ Err e → IsCall is_clean failures state old new r
-  fault_after_steps old mid new e r clean count begun mode kept last served is =
-      fault_after old mid new e r clean count (mode ∙ sym begun) (λ h. after_step e (state old) (state mid) served begun mode (kept h)) last served is

@@ -25,6 +25,7 @@ pub mod RuleLemmas
 pub mod CheckingLemmas
 pub mod RowRuleLemmas
 pub mod RecoveringLemmas
+pub mod MapLemmas
 pub mod ContentLemmas
 pub mod PlaceLemmas
 pub mod WidenLemmas

@@ -1,5 +1,5 @@
 -- The parts of one entity, put together.
-use Rattle.std.proofs.Common.{◌≡◌, ◌+◌, ◌<◌, ℕ, Bool, true, false, cond, List, [], ◌++◌, length, map, Some, None, refl, sym, ap, subst, ◌∙◌, inl, inr, arith}
+use Rattle.std.proofs.Common.{◌≡◌, ◌+◌, ◌<◌, ℕ, Bool, true, false, cond, List, ◌++◌, length, map, Some, None, refl, sym, ap, subst, ◌∙◌, inl, inr, arith}
 use Rattle.std.specs.Prelude.{◌&&◌, ◌↔◌, ◌⊎◌}
 use Rattle.std.specs.FinMap.{get, entries, retain_keys}
 use Rattle.std.proofs.lemmas.Bool.{true≢false, and_from, cases_lt}
@@ -44,9 +44,6 @@ parts_same In Same to from ns ds a = record {
   cells = λ d. ((λ i. (let h = (a.cells d).0 i in (h.0, to h.0 h.1, h.2))), (λ h. (a.cells d).1 (h.0, from h.0 h.1, h.2)));
 }
 
-pub parts_none : (In : Entry → Type 0) → ((e : Entry) → In e → ⊥) → AreOf In [] []
-parts_none In empty = record { nodes = λ n. ((λ i. absurd i), (λ h. absurd (empty h.0 h.1))); cells = λ d. ((λ i. absurd i), (λ h. absurd (empty h.0 h.1))) }
-
 -- ---- the part of one place
 
 in_place : (T : Table) (p : Place) (e : Entry) → IsAmong e (at_place p T) ↔ ((get T e.0 ≡ Some e.1) × (e.0 ≡ p))
@@ -72,9 +69,6 @@ part_of T p f is = record {
 module _ (ls : Labels) (T : Table) (c : ℕ) (key : List Value) where
   abbrev pub OfEntity : ℕ → ℕ → Entry → Type 0
   OfEntity kc m = IsOfEntity ls T c key kc m
-
-  pub entity_none : (kc : ℕ) → AreOf (OfEntity kc 0) [] []
-  entity_none kc = parts_none (OfEntity kc 0) (λ e h. let l = h.class in absurd (omega (arith, l)))
 
   module _ (kc m : ℕ) where
     wider : (e : Entry) → OfEntity kc m e → OfEntity kc (m + 1) e

@@ -64,10 +64,6 @@ one_permuted x [] h = absurd (let n = length_permutation (x ∷ []) [] h in cc)
 one_permuted x (y ∷ []) h = ap (λ z. z ∷ []) (elim ((among_permutation (x ∷ []) (y ∷ []) h y).1 (inl refl)) [ inl q ↦ q | inr r ↦ absurd r ])
 one_permuted x (y ∷ z ∷ ys) h = absurd (let n = length_permutation (x ∷ []) (y ∷ z ∷ ys) h in cc)
 
-permuted : (p : Place) (o : Option (List Element)) (ns : List Node) → IsPermutation (map node_of (tuples p o)) ns → ns ≡ map node_of (tuples p o)
-permuted p None ns h = nil_permuted ns h
-permuted p (Some es) ns h = one_permuted (node_of (p, es)) ns h
-
 -- ---- the parts of the tuple at a place
 
 -- its node alone, where there is a tuple
@@ -85,10 +81,7 @@ these_cells : (p : Place) (o : Option (List Element)) → flat_map cells_of (tup
 these_cells p None = refl
 these_cells p (Some es) = append-nil (cells_of (p, es))
 
-pub entity_nodes : (T : Table) (p : Place) (f : Fragment) → IsEntityPart T p f → f.nodes ≡ node_there p (get T p)
-entity_nodes T p f is = permuted p (get T p) f.nodes (subst (λ es. IsPermutation (map node_of es) f.nodes) (at_place-get T p) is.nodes) ∙ these_nodes p (get T p)
-
-same_permuted : {X : Type 0} (xs ys : List X) → ys ≡ xs → IsPermutation xs ys
+pub same_permuted : {X : Type 0} (xs ys : List X) → ys ≡ xs → IsPermutation xs ys
 same_permuted xs ys e = subst (IsPermutation xs) (sym e) (IsPermutation-refl xs)
 
 pub entity_part : (T : Table) (p : Place) (f : Fragment) → f.nodes ≡ node_there p (get T p) → f.cells ≡ cells_there p (get T p) → IsEntityPart T p f

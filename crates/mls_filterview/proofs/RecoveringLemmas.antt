@@ -1,5 +1,5 @@
 -- Rows put together from all nodes and all cells of a table are the table.
-use Rattle.std.proofs.Common.{◌≡◌, ℕ, List, map, Option, Some, None, refl, sym, ◌∙◌}
+use Rattle.std.proofs.Common.{◌≡◌, ℕ, List, map, Option, Some, sym, ◌∙◌}
 use Rattle.std.specs.Prelude.{◌↔◌, IsPermutation}
 use Rattle.std.specs.List.{flat_map}
 use Rattle.std.specs.List.Sorted.{IsStrictlySortedBy}
@@ -8,8 +8,6 @@ use Rattle.std.specs.BTreeMap.{is_at}
 use Rattle.std.specs.FinMap.{get, entries, entries-from_sorted, get-from_sorted, same_entries_map}
 use Rattle.mls_lattice.specs.Labels.{Labels}
 use Rattle.mls_scheme.specs.declared.value.Value.{Value}
-use Rattle.mls_scheme.specs.declared.tuple.Element.{Element}
-use Rattle.mls_scheme.specs.declared.place.Place.{Place}
 use Rattle.mls_scheme.specs.Table.{place_cmp, Table}
 use Rattle.mls_filterview.specs.declared.fragment.Node.{Node}
 use Rattle.mls_filterview.specs.declared.fragment.Cell.{Cell}
@@ -41,16 +39,8 @@ module _ (es : List Entry) (sorted : IsStrictlySortedBy place_cmp (keys_of es)) 
 
 -- ---- rows put together from all nodes and all cells
 
-same_answer : (o p : Option (List Element)) → ((es : List Element) → (o ≡ Some es) ↔ (p ≡ Some es)) → o ≡ p
-same_answer None None h = refl
-same_answer None (Some es) h = (h es).1 refl
-same_answer (Some es) p h = sym ((h es).0 refl)
-
 module _ (ls : Labels) (n : ℕ) (T : Table) (stored : IsStored ls n T) (ns : List Node) (ds : List Cell) (nodes : IsPermutation (map node_of (entries T)) ns) (cells : IsPermutation (flat_map cells_of (entries T)) ds)
     (held : CellPlace → Option (Option Value)) (values : AreValues ds held) where
-  pub found_all : (found : Place → Option (List Element)) → AreRows held ns found → (p : Place) → found p ≡ get T p
-  found_all found rows p = same_answer (found p) (get T p) (λ es. rows_all ls n T stored ns ds (all_of T ns ds nodes cells) held values found rows (p, es))
-
   -- so are the entries of a map of them, and its table
   module _ (es : List Entry) (sorted : IsStrictlySortedBy place_cmp (keys_of es)) (rows : AreRows held ns (λ q. lookup (is_at (place_cmp q)) es)) where
     pub entries_all : es ≡ entries T

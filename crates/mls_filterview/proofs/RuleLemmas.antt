@@ -104,14 +104,14 @@ zip-from p P f (x ∷ xs) (y ∷ ys) h = and_from _ _ (f x y h.0) (zip-from p P 
 module _ (ls : Labels) (scheme : Scheme) (t : Tuple) where
   pub fits-true : fits_scheme ls scheme t ≡ true → Fits ls scheme (place_of 0 t) t.elements
   fits-true h = record {
-    key = zip-true (fits_value ls t.key_class) (λ a v. (is_kind v a.kind ≡ true) × (in_interval ls t.key_class a ≡ true)) (λ a v b. and_parts _ _ b) scheme.keys t.key (and_parts _ _ h).0;
-    others = zip-true (fits_element ls) (λ a e. (fits_kind e.value a.kind ≡ true) × (in_interval ls e.class a ≡ true)) (λ a e b. and_parts _ _ b) scheme.others t.elements (and_parts _ _ h).1;
+    key = zip-true (fits_value ls t.key_class) (λ a v. (is_kind v a.1.kind ≡ true) × (in_interval ls t.key_class a ≡ true)) (λ a v b. and_parts _ _ b) scheme.keys t.key (and_parts _ _ h).0;
+    others = zip-true (fits_element ls) (λ a e. (fits_kind e.value a.1.kind ≡ true) × (in_interval ls e.class a ≡ true)) (λ a e b. and_parts _ _ b) scheme.others t.elements (and_parts _ _ h).1;
   }
 
   pub fits-from : Fits ls scheme (place_of 0 t) t.elements → fits_scheme ls scheme t ≡ true
   fits-from f =
-      and_from _ _ (zip-from (fits_value ls t.key_class) (λ a v. (is_kind v a.kind ≡ true) × (in_interval ls t.key_class a ≡ true)) (λ a v b. and_from _ _ b.0 b.1) scheme.keys t.key f.key)
-      (zip-from (fits_element ls) (λ a e. (fits_kind e.value a.kind ≡ true) × (in_interval ls e.class a ≡ true)) (λ a e b. and_from _ _ b.0 b.1) scheme.others t.elements f.others)
+      and_from _ _ (zip-from (fits_value ls t.key_class) (λ a v. (is_kind v a.1.kind ≡ true) × (in_interval ls t.key_class a ≡ true)) (λ a v b. and_from _ _ b.0 b.1) scheme.keys t.key f.key)
+      (zip-from (fits_element ls) (λ a e. (fits_kind e.value a.1.kind ≡ true) × (in_interval ls e.class a ≡ true)) (λ a e b. and_from _ _ b.0 b.1) scheme.others t.elements f.others)
 
 -- ---- agreement with the first tuple of a class
 

@@ -59,14 +59,14 @@ class_among (d ∷ es) e (inr h) = let r = class_among es e h in (suc r.0, omega
 -- ---- labels that agree on the classes of a table
 
 abbrev FitsKey : Labels → ℕ → Attribute → Value → Type 0
-FitsKey ls class a v = (is_kind v a.kind ≡ true) × (in_interval ls class a ≡ true)
+FitsKey ls class a v = (is_kind v a.1.kind ≡ true) × (in_interval ls class a ≡ true)
 
 abbrev FitsElement : Labels → Attribute → Element → Type 0
-FitsElement ls a e = (fits_kind e.value a.kind ≡ true) × (in_interval ls e.class a ≡ true)
+FitsElement ls a e = (fits_kind e.value a.1.kind ≡ true) × (in_interval ls e.class a ≡ true)
 
 module _ (ls ms : Labels) (k : ℕ) (same : (a b : ℕ) → a < k → b < k → below ls a b ≡ below ms a b) (counted : (m : ℕ) → m < k → m < length ls → m < length ms) where
   same_interval : (class : ℕ) (a : Attribute) → class < k → IsAmongLabels k a → in_interval ls class a ≡ true → in_interval ms class a ≡ true
-  same_interval class a l among h = sym (λ i. same a.low class among.low l i && same class a.high l among.high i) ∙ h
+  same_interval class a l among h = sym (λ i. same a.1.low class among.low l i && same class a.1.high l among.high i) ∙ h
 
   module _ (scheme : Scheme) (under : IsUnder k scheme) (T : Table) (classes : AreClassesBelow k T) (content : IsContent ls scheme T) where
     same_stored : (p : Place) (es : List Element) → get T p ≡ Some es → IsStoredTuple ms (length scheme.others) T p es
@@ -158,7 +158,7 @@ nulls_fit ls scheme class h [] (suc n) l around = absurd (omega arith)
 nulls_fit ls scheme class h (a ∷ more) zero l around = absurd (omega arith)
 nulls_fit ls scheme class h (a ∷ more) (suc n) l around =
     let b = and_parts _ _ h in (
-      (refl, and_from _ _ (below-trans ls a.low (first_key scheme).low class around.0.0 b.0) (below-trans ls class (first_key scheme).high a.high b.1 around.0.1)),
+      (refl, and_from _ _ (below-trans ls a.1.low (first_key scheme).1.low class around.0.0 b.0) (below-trans ls class (first_key scheme).1.high a.1.high b.1 around.0.1)),
       nulls_fit ls scheme class h more n (omega arith) around.1,
     )
 

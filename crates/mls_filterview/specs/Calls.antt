@@ -72,28 +72,28 @@ module _ {Self : Type 0} (is_clean : Self → Type 0) (failures : Self → ℕ) 
 
 -- ---- what may be asked of a base
 
-module _ {Self : Type 0} (is_clean : Self → Type 0) (state : Self → State) (base : Self) (rel : ℕ) where
+module _ {Self : Type 0} (is_clean : Self → Type 0) (state : Self → State) (base : Self) (relation : ℕ) where
   -- a declared label looks at a relation of the stored form
   pub record CanSee (policy : Policy) (c : ℕ) : Type 0 where
     pub label : c < length policy.labels
-    pub stored : is_clean base → (n : ℕ) × IsStored (labels_of policy) n ((state base).now.db rel)
+    pub stored : is_clean base → (n : ℕ) × IsStored (labels_of policy) n ((state base).now.db relation)
 
   -- a tuple is added where none is, with the cells of its class, and its other elements in the tuples there
   pub record CanAdd (n : Node) (ds : List Cell) : Type 0 where
     pub key : IsSpelledKey n.key
     pub cells : AllByRecursion (IsCellOf n) ds
-    pub absent : is_clean base → get ((state base).now.db rel) (place_of_node n) ≡ None
-    pub made : is_clean base → (es : List Element) × IsMadeOf ((state base).now.db rel) n ds es
+    pub absent : is_clean base → get ((state base).now.db relation) (place_of_node n) ≡ None
+    pub made : is_clean base → (es : List Element) × IsMadeOf ((state base).now.db relation) n ds es
 
   -- a cell is set that a tuple has
   pub record CanSet (p : Place) (i : ℕ) (v : Option Value) : Type 0 where
     pub key : IsSpelledKey p.key
     pub attr : i < 15
     pub value : IfSome v HasSpelling
-    pub there : is_clean base → HasCell ((state base).now.db rel) p i
+    pub there : is_clean base → HasCell ((state base).now.db relation) p i
 
   -- a tuple is dropped whose cells no other has
   pub record CanDrop (p : Place) : Type 0 where
     pub key : IsSpelledKey p.key
-    pub there : is_clean base → get ((state base).now.db rel) p ≢ None
-    pub alone : is_clean base → IsAlone ((state base).now.db rel) p
+    pub there : is_clean base → get ((state base).now.db relation) p ≢ None
+    pub alone : is_clean base → IsAlone ((state base).now.db relation) p

@@ -32,10 +32,10 @@ has_nulls_at_key t = list_all (λ e. is_some e.value || nat_eq e.class t.key_cla
 -- ---- intervals
 
 abbrev pub fits_value : Labels → ℕ → Attribute → Value → Bool
-fits_value ls class a v = is_kind v a.kind && in_interval ls class a
+fits_value ls class a v = is_kind v a.1.kind && in_interval ls class a
 
 abbrev pub fits_element : Labels → Attribute → Element → Bool
-fits_element ls a e = fits_kind e.value a.kind && in_interval ls e.class a
+fits_element ls a e = fits_kind e.value a.1.kind && in_interval ls e.class a
 
 -- a test of the items of two lists, place by place
 abbrev pub all_zip : {A B : Type 0} → (A → B → Bool) → List A → List B → Bool
@@ -121,7 +121,3 @@ is_closed ls found e = all_classes (λ m. agrees_with_found ls m e.1 (found (wit
 
 abbrev pub is_stored_row : ℕ → Labels → Scheme → (Place → Option (List Element)) → Place × List Element → Bool
 is_stored_row count ls scheme found e = is_placed count ls e && is_right_alone ls scheme (tuple_at e.0 e.1) && is_closed ls found e
-
--- the classes of a tuple and of its place are below count
-abbrev pub is_below : ℕ → Place × List Element → Bool
-is_below count e = nat_lt e.0.class count && nat_lt e.0.key_class count && are_declared count e.1

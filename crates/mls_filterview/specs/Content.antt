@@ -10,11 +10,11 @@ pub record Content : Type 0 where
   pub audit : List (List ℕ)
 
 abbrev pub no_content : Content
-no_content = record { db = λ rel. empty; audit = [] }
+no_content = record { db = λ relation. empty; audit = [] }
 
 -- a database with one relation changed
 abbrev pub with_table : Database → ℕ → Table → Database
-with_table db rel T r = if nat_eq r rel then T else db r
+with_table db relation T r = if nat_eq r relation then T else db r
 
 -- the content now, as of the last commit, and whether a change is begun
 pub record State : Type 0 where
@@ -33,7 +33,7 @@ abbrev pub ended : State → State
 ended s = record { now = s.kept; kept = s.kept; begun = false }
 
 abbrev pub with_relation : State → ℕ → Table → State
-with_relation s rel T = record s { now = record { db = with_table s.now.db rel T; audit = s.now.audit } }
+with_relation s relation T = record s { now = record { db = with_table s.now.db relation T; audit = s.now.audit } }
 
 abbrev pub with_entry : State → List ℕ → State
 with_entry s bytes = record s { now = record { db = s.now.db; audit = s.now.audit ++ bytes ∷ [] } }

@@ -1,5 +1,5 @@
 -- What one label holds of a relation, and of one entity: tuples without values, and the elements of that class in them.
-use Rattle.std.specs.Prelude.{◌≡◌, ◌≢◌, ℕ, suc, ◌<◌, true, ◌&&◌, if◌then◌else◌, nat_eq, List, [], ◌∷◌, map, length, Option, Some, IfSome, IsPermutation}
+use Rattle.std.specs.Prelude.{◌≡◌, ◌≢◌, ℕ, suc, ◌<◌, Bool, true, ◌&&◌, if◌then◌else◌, nat_eq, List, [], ◌∷◌, map, length, Option, Some, IfSome, IsPermutation}
 use Rattle.std.specs.List.{filter, flat_map, list_any}
 use Rattle.std.specs.Ordering.{eq_by_cmp}
 use Rattle.std.specs.FinMap.{get, entries}
@@ -18,9 +18,13 @@ use Rattle.mls_filterview.specs.declared.fragment.Fragment.{Fragment}
 abbrev pub of_class : ℕ → Table → List (Place × List Element)
 of_class m T = filter (λ e. nat_eq e.0.class m) (entries T)
 
+-- a tuple is of one of these classes
+abbrev pub is_of_any : List ℕ → Place × List Element → Bool
+is_of_any ms e = list_any (λ m. nat_eq e.0.class m) ms
+
 -- the tuples of these classes, in the order of places
 abbrev pub of_classes : List ℕ → Table → List (Place × List Element)
-of_classes ms T = filter (λ e. list_any (λ m. nat_eq e.0.class m) ms) (entries T)
+of_classes ms T = filter (is_of_any ms) (entries T)
 
 -- the tuple of an entity and a class, where there is one
 abbrev pub at_place : Place → Table → List (Place × List Element)

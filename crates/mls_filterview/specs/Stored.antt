@@ -48,4 +48,4 @@ pub record IsContent (ls : Labels) (scheme : Scheme) (T : Table) : Type 0 where
 
 -- so in each relation of a database
 abbrev pub AreContent : Labels → Schemes → Database → Type 0
-AreContent ls schemes db = (rel : ℕ) → IsContent ls (scheme_of schemes rel) (db rel)
+AreContent ls schemes db = (relation : ℕ) → IsContent ls (scheme_of schemes relation) (db relation)

@@ -42,7 +42,7 @@ AreClassesBelow k T = (p : Place) (es : List Element) → get T p ≡ Some es �
 
 -- the interval of an attribute contains that of the keys
 abbrev pub ContainsKeys : Labels → Scheme → Attribute → Type 0
-ContainsKeys ls scheme a = (below ls a.low (first_key scheme).low ≡ true) × (below ls (first_key scheme).high a.high ≡ true)
+ContainsKeys ls scheme a = (below ls a.1.low (first_key scheme).1.low ≡ true) × (below ls (first_key scheme).1.high a.1.high ≡ true)
 
 -- new has the attributes of old and behind them n more, whose intervals contain that of the keys
 pub record IsWiderScheme (ls : Labels) (n : ℕ) (old new : Scheme) : Type 0 where

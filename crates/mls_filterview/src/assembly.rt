@@ -1,37 +1,20 @@
 //! Tuples put together from fragments.
 ghost use Rattle.std.specs.Prelude.{◌≡◌, OnOk, IfOk, Some, None};
 ghost use Rattle.std.specs.Option.{unwrap_or};
-ghost use Rattle.std.specs.BTreeMap.{Updates, IsOrdered, get, insert_entry};
+ghost use Rattle.std.specs.BTreeMap.{Updates, IsOrdered, get};
 ghost use Rattle.mls_scheme.specs.Table.{place_cmp};
 ghost use Rattle.mls_filterview.specs.Assembly.{cell_place_cmp, AreValues, AreRows, elements_of};
 ghost use Rattle.mls_filterview.specs.Fragment.{place_of_node};
 
-use crate::fragment::{Cell, Fragment, Node};
-use crate::row::PlacedTuple;
+use crate::fragment::{Cell, Node};
+use crate::tuple_map::{TupleMap, put_tuple};
 use mls_lattice::Items;
 use mls_scheme::{Element, Place, Value};
 use std::alloc::{AllocError, AllocFailed, Global};
 use std::collections::BTreeMap;
 
-/// Elements by the places of their tuples.
-pub type Rows = BTreeMap<Place, Items<Element>>;
-
 /// Values by the places of their tuples and the numbers of their attributes.
 pub type Values = BTreeMap<(Place, usize), Option<Value>>;
-
-/// Puts elements at a place.
-pub(crate) fn put_row(
-    rows: &mut Rows,
-    place: Place,
-    elements: Items<Element>,
-) -> Result<(), AllocFailed<(Place, Items<Element>)>>
-    ensures updates { OnOk result (Updates place_cmp rows.old rows.new place (Some elements)) }
-    ensures entries { OnOk result (rows.new.entries ≡ insert_entry place_cmp rows.old.entries place elements) }
-    ensures ordered { OnOk result (IsOrdered place_cmp rows.new) }
-{
-    rows.insert(place, elements)?;
-    Ok(())
-}
 
 /// Puts a value at a place and an attribute.
 fn put_value(
@@ -99,27 +82,14 @@ fn row_of(alloc: Global, values: &Values, node: Node) -> Result<(Place, Items<El
 }
 
 /// The tuples of nodes, by their places.
-pub fn rows_of(alloc: Global, nodes: Items<Node>, values: &Values) -> Result<Rows, AllocError>
+pub fn rows_of(alloc: Global, nodes: Items<Node>, values: &Values) -> Result<TupleMap, AllocError>
     ensures rows { IfOk result (λ rows. AreRows (get cell_place_cmp values.now) nodes (get place_cmp rows)) }
     ensures ordered { IfOk result (IsOrdered place_cmp) }
 {
     let mut rows = BTreeMap::new(alloc);
     for node in nodes.into_vec() {
         let (place, elements) = row_of(alloc, values, node)?;
-        put_row(&mut rows, place, elements)?;
+        put_tuple(&mut rows, place, elements)?;
     }
     Ok(rows)
-}
-
-/// The entries of a map, in the order of places.
-pub(crate) fn entries_of(alloc: Global, rows: Rows) -> Result<Vec<PlacedTuple>, AllocError>
-    ensures items { IfOk result (λ entries. entries.items ≡ rows.entries) }
-    ensures ordered { IsOrdered place_cmp rows }
-{
-    let pairs: Vec<(Place, Items<Element>)> = rows.into_iter().collect(alloc)?;
-    let mut entries = Vec::new(alloc);
-    for (place, elements) in pairs {
-        entries.push(PlacedTuple { place, elements })?;
-    }
-    Ok(entries)
 }

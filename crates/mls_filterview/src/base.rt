@@ -88,62 +88,66 @@ pub trait Base {
         ensures done { is_clean self.new → OnOk result (state self.new ≡ ended (state self.old)) };
 
     /// What a label holds of a relation.
-    fn fragment(&mut self, rel: RelNo, label: LabelNo) -> Result<Fragment, BaseFault>
+    fn fragment(&mut self, relation: RelNo, label: LabelNo) -> Result<Fragment, BaseFault>
         ensures read { IsRead is_clean failures state self.old self.new result }
-        ensures found { is_clean self.new → IfOk result (IsFragment ((state self.old).now.db rel) label) };
+        ensures found { is_clean self.new → IfOk result (IsFragment ((state self.old).now.db relation) label) };
 
     /// What these labels hold of a relation, as one. Each of them is below 64.
-    fn fragments(&mut self, rel: RelNo, labels: &[LabelNo]) -> Result<Fragment, BaseFault>
+    fn fragments(&mut self, relation: RelNo, labels: &[LabelNo]) -> Result<Fragment, BaseFault>
         requires few { AllByRecursion (λ m. m < 64) labels.now }
         ensures read { IsRead is_clean failures state self.old self.new result }
-        ensures found { is_clean self.new → IfOk result (AreFragments ((state self.old).now.db rel) labels.now) };
+        ensures found { is_clean self.new → IfOk result (AreFragments ((state self.old).now.db relation) labels.now) };
 
     /// What the class of a place holds of the place's entity: the part of the fragment that belongs to it.
-    fn entity(&mut self, rel: RelNo, place: &Place) -> Result<Fragment, BaseFault>
+    fn entity(&mut self, relation: RelNo, place: &Place) -> Result<Fragment, BaseFault>
         requires key { IsSpelledKey place.now.key }
         ensures read { IsRead is_clean failures state self.old self.new result }
-        ensures found { is_clean self.new → IfOk result (IsEntityPart ((state self.old).now.db rel) place.now) };
+        ensures found { is_clean self.new → IfOk result (IsEntityPart ((state self.old).now.db relation) place.now) };
 
     /// The classes of the elements of the tuple at a place, where there is one. Nothing of the tuple is read but its node.
-    fn pattern(&mut self, rel: RelNo, place: &Place) -> Result<Option<Items<LabelNo>>, BaseFault>
+    fn pattern(
+        &mut self,
+        relation: RelNo,
+        place: &Place,
+    ) -> Result<Option<Items<LabelNo>>, BaseFault>
         requires key { IsSpelledKey place.now.key }
         ensures read { IsRead is_clean failures state self.old self.new result }
         ensures found { is_clean self.new → IfOk result (λ pattern. pattern
-            ≡ option_map classes (get ((state self.old).now.db rel) place.now)) };
+            ≡ option_map classes (get ((state self.old).now.db relation) place.now)) };
 
     /// Adds a tuple: its node, and the cells of its class in the order of attributes. The node's pattern says
     /// which these are, so a base sorts nothing and looks for no cell. An element of another class stands at
     /// its place in the entity's tuple of that class, which is long enough to have it: else it would have no
     /// row. `NotBegun` where no change is begun.
-    fn add(&mut self, rel: RelNo, node: Node, cells: &[Cell]) -> Result<(), BaseFault>
-        requires { CanAdd is_clean state self.old rel node cells.now }
+    fn add(&mut self, relation: RelNo, node: Node, cells: &[Cell]) -> Result<(), BaseFault>
+        requires { CanAdd is_clean state self.old relation node cells.now }
         ensures change { IsChange is_clean failures state (state self.old).begun self.old self.new result }
         ensures done { is_clean self.new → (es : List SpecElement)
-            → IsMadeOf ((state self.old).now.db rel) node cells.now es
+            → IsMadeOf ((state self.old).now.db relation) node cells.now es
             → OnOk result (state self.new
-            ≡ with_relation (state self.old) rel (insert ((state self.old).now.db rel) (place_of_node node) es)) };
+            ≡ with_relation (state self.old) relation (insert ((state self.old).now.db relation) (place_of_node node) es)) };
 
     /// Sets the value of a cell, in every tuple of the entity that has it. `place` names the entity and the cell's class;
     /// `attr` is below 15. `NotBegun` where no change is begun.
     fn set(
         &mut self,
-        rel: RelNo,
+        relation: RelNo,
         place: &Place,
         attr: usize,
         value: Option<Value>,
     ) -> Result<(), BaseFault>
-        requires { CanSet is_clean state self.old rel place.now attr value }
+        requires { CanSet is_clean state self.old relation place.now attr value }
         ensures change { IsChange is_clean failures state (state self.old).begun self.old self.new result }
         ensures done { is_clean self.new → OnOk result (state self.new
-            ≡ with_relation (state self.old) rel
-            (change (set_in place.now attr value) ((state self.old).now.db rel))) };
+            ≡ with_relation (state self.old) relation
+            (change (set_in place.now attr value) ((state self.old).now.db relation))) };
 
     /// Removes the tuple at a place and its cells, which no other tuple may have. `NotBegun` where no change is begun.
-    fn drop_at(&mut self, rel: RelNo, place: &Place) -> Result<(), BaseFault>
-        requires { CanDrop is_clean state self.old rel place.now }
+    fn drop_at(&mut self, relation: RelNo, place: &Place) -> Result<(), BaseFault>
+        requires { CanDrop is_clean state self.old relation place.now }
         ensures change { IsChange is_clean failures state (state self.old).begun self.old self.new result }
         ensures done { is_clean self.new → OnOk result (state self.new
-            ≡ with_relation (state self.old) rel (remove ((state self.old).now.db rel) place.now)) };
+            ≡ with_relation (state self.old) relation (remove ((state self.old).now.db relation) place.now)) };
 
     /// Adds an entry at the end of the audit list. `NotBegun` where no change is begun.
     fn audit_add(&mut self, bytes: &[u8]) -> Result<(), BaseFault>

@@ -7,7 +7,7 @@ use mls_lattice::LabelNo;
 use mls_scheme::{Place, Tuple, Value, same_key};
 
 /// Whether two keys, each with its class, are one entity.
-pub fn is_same_entity(
+fn is_same_entity(
     left: &[Value],
     left_class: LabelNo,
     right: &[Value],

@@ -53,7 +53,7 @@ fn fits_key(policy: &Policy, attributes: &Attributes, key: &[Value], class: Labe
         return false;
     }
     for (place, value) in key.iter().enumerate() {
-        if !fits_value(policy, value, class, attributes.get(place)) {
+        if !fits_value(policy, value, class, *attributes.get(place)) {
             return false;
         }
     }
@@ -71,7 +71,7 @@ fn fits_others(policy: &Policy, attributes: &Attributes, elements: &[Element]) -
         return false;
     }
     for (place, element) in elements.iter().enumerate() {
-        if !fits_element(policy, element, attributes.get(place)) {
+        if !fits_element(policy, element, *attributes.get(place)) {
             return false;
         }
     }

@@ -20,13 +20,14 @@ mod rule;
 mod shared;
 mod splitting;
 mod subsumption;
+mod tuple_map;
 mod viewing;
 mod widening;
 
-pub use assembly::{Rows, Values, rows_of, values_of};
+pub use assembly::{Values, rows_of, values_of};
 pub use base::{Base, BaseFault, abandon, settle};
 pub use checking::integrity;
-pub use entity::{is_entity, is_same_entity};
+pub use entity::is_entity;
 pub use entity_rules::is_same_label;
 pub use filtering::{class_number, filter};
 pub use fragment::{Cell, Fragment, Node};
@@ -38,10 +39,12 @@ pub use laws::{
 pub use mending::mend;
 pub use parts::{entity_parts, gather};
 pub use recovering::is_content;
-pub use row::tuple_at;
 pub use rule::{Broken, Rule};
 pub use shared::{SharedTuple, SharedView};
 pub use splitting::{add_cells, cells_of, classes_of, node_of, nodes_of};
 pub use subsumption::subsumes;
+pub use tuple_map::{
+    TupleMap, add_parts, elements_at, fragment_of, put_tuple, remove_tuple, with_cell,
+};
 pub use viewing::{low_tuples, view};
-pub use widening::{are_below, widened};
+pub use widening::widened;

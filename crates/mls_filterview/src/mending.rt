@@ -67,21 +67,21 @@ fn own_rows<B: Base>(
     alloc: Global,
     base: &mut B,
     policy: &Policy,
-    rel: RelNo,
+    relation: RelNo,
     label: LabelNo,
     place: &mut Place,
 ) -> Result<Vec<Tuple>, BaseFault>
-    requires see { CanSee B.is_clean B.state base.old rel policy.now label }
+    requires see { CanSee B.is_clean B.state base.old relation policy.now label }
     requires key_class { place.old.key_class < length policy.now.labels }
     requires key { IsSpelledKey place.old.key }
     ensures read { IsRead B.is_clean B.failures B.state base.old base.new result }
     ensures rows { B.is_clean base.new → IfOk result (λ v. v.items ≡ rows (labels_of policy.now) label
-        (of_entity place.old ((B.state base.old).now.db rel))) }
+        (of_entity place.old ((B.state base.old).now.db relation))) }
     ensures key { place.new.key ≡ place.old.key }
     ensures entity { OnOk result (place.new.key_class ≡ place.old.key_class) }
 {
     let key_class = place.key_class;
-    let parts = entity_parts(alloc, base, policy, rel, label, key_class, place)?;
+    let parts = entity_parts(alloc, base, policy, relation, label, key_class, place)?;
     let own = settle(base, tuples_of(alloc, parts))?;
     Ok(own)
 }
@@ -94,20 +94,20 @@ pub fn mend<B: Base>(
     alloc: Global,
     base: &mut B,
     policy: &Policy,
-    rel: RelNo,
+    relation: RelNo,
     label: LabelNo,
     place: Place,
     seen: Vec<Tuple>,
 ) -> Result<Vec<Tuple>, BaseFault>
-    requires see { CanSee B.is_clean B.state base.old rel policy.now label }
+    requires see { CanSee B.is_clean B.state base.old relation policy.now label }
     requires key_class { place.key_class < length policy.now.labels }
     requires key { IsSpelledKey place.key }
     ensures read { IsRead B.is_clean B.failures B.state base.old base.new result }
     ensures rows { B.is_clean base.new → IfOk result (λ v. v.items ≡ mended place (rows (labels_of policy.now) label
-        (of_entity place ((B.state base.old).now.db rel))) seen.items) }
+        (of_entity place ((B.state base.old).now.db relation))) seen.items) }
 {
     let mut place = place;
-    let own = own_rows(alloc, base, policy, rel, label, &mut place)?;
+    let own = own_rows(alloc, base, policy, relation, label, &mut place)?;
     let mended = settle(base, put_own(alloc, &place, own, seen))?;
     Ok(mended)
 }

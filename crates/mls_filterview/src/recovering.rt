@@ -9,11 +9,11 @@ ghost use Rattle.mls_filterview.specs.Stored.{IsContent};
 ghost use Rattle.mls_filterview.specs.Assembly.{table_of};
 ghost use Rattle.mls_filterview.specs.Checking.{are_declared, is_placed, agrees_with_found, is_closed, is_stored_row};
 
-use crate::assembly::Rows;
 use crate::checking::is_right_alone;
 use crate::entity_rules::has_below;
 use crate::filtering::greatest_class;
 use crate::row::tuple_at;
+use crate::tuple_map::TupleMap;
 use mls_lattice::{Items, Policy};
 use mls_scheme::{Element, Place, Scheme, copy_key};
 use std::alloc::{AllocError, Global};
@@ -46,7 +46,7 @@ fn is_placed(policy: &Policy, place: &Place, elements: &[Element]) -> bool
 }
 
 /// Whether there is a tuple at a place, and it has these elements wherever the class of the place dominates theirs.
-fn is_agreed(policy: &Policy, rows: &Rows, place: &Place, elements: &[Element]) -> bool
+fn is_agreed(policy: &Policy, rows: &TupleMap, place: &Place, elements: &[Element]) -> bool
     requires class { place.now.class < length policy.now.labels }
     requires classes { AllByRecursion (λ e. e.class < length policy.now.labels) elements.now }
     ensures { result ≡ agrees_with_found (labels_of policy.now) place.now.class elements.now
@@ -61,7 +61,7 @@ fn is_agreed(policy: &Policy, rows: &Rows, place: &Place, elements: &[Element]) 
 /// Whether for each class of a tuple its entity has a tuple of that class that agrees with it.
 fn is_closed(
     policy: &Policy,
-    rows: &Rows,
+    rows: &TupleMap,
     place: &Place,
     elements: &[Element],
 ) -> Result<bool, AllocError>
@@ -91,7 +91,7 @@ fn is_closed(
 fn is_stored_row(
     policy: &Policy,
     scheme: &Scheme,
-    rows: &Rows,
+    rows: &TupleMap,
     place: &Place,
     elements: &Items<Element>,
 ) -> Result<bool, AllocError>
@@ -118,7 +118,7 @@ pub fn is_content(
     alloc: Global,
     policy: &Policy,
     scheme: &Scheme,
-    rows: &Rows,
+    rows: &TupleMap,
     at: &mut usize,
 ) -> Result<bool, AllocError>
     requires under { IsUnder (length policy.now.labels) scheme.now }

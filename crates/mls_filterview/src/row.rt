@@ -53,7 +53,7 @@ impl PlacedTuple {
 }
 
 /// A copy of the tuple at a place.
-pub fn tuple_at(place: &Place, elements: &Items<Element>) -> Result<Tuple, AllocError>
+pub(crate) fn tuple_at(place: &Place, elements: &Items<Element>) -> Result<Tuple, AllocError>
     ensures { IfOk result (λ t. t ≡ tuple_at place.now elements.now) }
 {
     Ok(Tuple {

@@ -3,8 +3,8 @@ ghost use Rattle.std.specs.Prelude.{◌≡◌, ◌++◌, IfOk, OnOk, map};
 ghost use Rattle.std.specs.List.{flat_map};
 ghost use Rattle.mls_filterview.specs.Fragment.{classes, node_of, cells_of};
 
-use crate::assembly::Rows;
 use crate::fragment::{Cell, Node};
+use crate::tuple_map::TupleMap;
 use mls_lattice::{Items, LabelNo};
 use mls_scheme::{Element, Place, copy_key};
 use std::alloc::{AllocError, Global};
@@ -56,7 +56,7 @@ pub fn add_cells(
 }
 
 /// The nodes of tuples, in the order of their places.
-pub fn nodes_of(alloc: Global, rows: &Rows) -> Result<Vec<Node>, AllocError>
+pub fn nodes_of(alloc: Global, rows: &TupleMap) -> Result<Vec<Node>, AllocError>
     ensures { IfOk result (λ nodes. nodes.items ≡ map node_of rows.now.entries) }
 {
     let mut nodes = Vec::new(alloc);
@@ -67,7 +67,7 @@ pub fn nodes_of(alloc: Global, rows: &Rows) -> Result<Vec<Node>, AllocError>
 }
 
 /// The cells of tuples, in the order of their places.
-pub fn cells_of(alloc: Global, rows: &Rows) -> Result<Vec<Cell>, AllocError>
+pub fn cells_of(alloc: Global, rows: &TupleMap) -> Result<Vec<Cell>, AllocError>
     ensures { IfOk result (λ cells. cells.items ≡ flat_map cells_of rows.now.entries) }
 {
     let mut cells = Vec::new(alloc);

@@ -1,5 +1,5 @@
 //! What a level sees of a relation, read from the fragments of the labels that it dominates.
-ghost use Rattle.std.specs.Prelude.{◌≡◌, ◌↔◌, ◌<◌, ℕ, length, IfOk, OnOk};
+ghost use Rattle.std.specs.Prelude.{◌≡◌, ◌↔◌, ◌<◌, ℕ, length, IfOk};
 ghost use Rattle.std.specs.List.{filter, AllByRecursion};
 ghost use Rattle.mls_lattice.specs.Labels.{Labels, AreDistinct, below};
 ghost use Rattle.mls_lattice.specs.Policy.{labels_of};
@@ -11,11 +11,12 @@ ghost use Rattle.mls_filterview.specs.Calls.{IsRead, CanSee};
 ghost use Rattle.mls_filterview.specs.Assembly.{AreLow};
 ghost use Rattle.mls_filterview.specs.Reach.{numbers, low_tuples};
 
-use crate::assembly::{entries_of, rows_of, values_of};
+use crate::assembly::{rows_of, values_of};
 use crate::base::{Base, BaseFault, settle};
 use crate::fragment::Fragment;
 use crate::maximal::maximal_tuples;
 use crate::reach::in_order_of_reach;
+use crate::tuple_map::entries_of;
 use mls_lattice::{LabelNo, Policy};
 use mls_scheme::{RelNo, Tuple};
 use std::alloc::{AllocError, Global};
@@ -42,20 +43,20 @@ fn low_fragment<B: Base>(
     alloc: Global,
     base: &mut B,
     policy: &Policy,
-    rel: RelNo,
+    relation: RelNo,
     label: LabelNo,
 ) -> Result<Fragment, BaseFault>
     requires { label < length policy.now.labels }
     ensures distinct { AreDistinct (labels_of policy.now) }
     ensures read { IsRead B.is_clean B.failures B.state base.old base.new result }
     ensures low { B.is_clean base.new → IfOk result
-        (λ f. AreLow (labels_of policy.now) ((B.state base.old).now.db rel) label
+        (λ f. AreLow (labels_of policy.now) ((B.state base.old).now.db relation) label
         (length policy.now.labels) f.nodes f.cells) }
 {
     // That the labels of a policy are distinct.
     let _count = policy.label_count();
     let labels = settle(base, low_labels(alloc, policy, label))?;
-    base.fragments(rel, &labels)
+    base.fragments(relation, &labels)
 }
 
 /// What a level sees of the relation whose low fragments these are.
@@ -90,15 +91,15 @@ pub fn low_tuples<B: Base>(
     alloc: Global,
     base: &mut B,
     policy: &Policy,
-    rel: RelNo,
+    relation: RelNo,
     label: LabelNo,
 ) -> Result<Vec<Tuple>, BaseFault>
-    requires { CanSee B.is_clean B.state base.old rel policy.now label }
+    requires { CanSee B.is_clean B.state base.old relation policy.now label }
     ensures read { IsRead B.is_clean B.failures B.state base.old base.new result }
     ensures tuples { B.is_clean base.new → IfOk result (λ v. v.items
-        ≡ low_tuples (labels_of policy.now) label ((B.state base.old).now.db rel)) }
+        ≡ low_tuples (labels_of policy.now) label ((B.state base.old).now.db relation)) }
 {
-    let low = low_fragment(alloc, base, policy, rel, label)?;
+    let low = low_fragment(alloc, base, policy, relation, label)?;
     let tuples = settle(base, tuples_by_reach(alloc, policy, low))?;
     Ok(tuples)
 }
@@ -111,18 +112,18 @@ pub fn view<B: Base>(
     alloc: Global,
     base: &mut B,
     policy: &Policy,
-    rel: RelNo,
+    relation: RelNo,
     label: LabelNo,
 ) -> Result<Vec<Tuple>, BaseFault>
-    requires { CanSee B.is_clean B.state base.old rel policy.now label }
+    requires { CanSee B.is_clean B.state base.old relation policy.now label }
     ensures read { IsRead B.is_clean B.failures B.state base.old base.new result }
     ensures rows { B.is_clean base.new → IfOk result (λ v. v.items
-        ≡ rows (labels_of policy.now) label ((B.state base.old).now.db rel)) }
+        ≡ rows (labels_of policy.now) label ((B.state base.old).now.db relation)) }
     ensures seen { B.is_clean base.new → IfOk result (λ v. (t : SpecTuple)
-        → IsAmong t v.items ↔ View (labels_of policy.now) (IsIn ((B.state base.old).now.db rel)) label t) }
-    ensures ordered { B.is_clean base.new → IfOk result (λ v. AreInOrder ((B.state base.old).now.db rel) v.items) }
+        → IsAmong t v.items ↔ View (labels_of policy.now) (IsIn ((B.state base.old).now.db relation)) label t) }
+    ensures ordered { B.is_clean base.new → IfOk result (λ v. AreInOrder ((B.state base.old).now.db relation) v.items) }
 {
-    let low = low_fragment(alloc, base, policy, rel, label)?;
+    let low = low_fragment(alloc, base, policy, relation, label)?;
     let tuples = settle(base, tuples_of(alloc, low))?;
     Ok(tuples)
 }

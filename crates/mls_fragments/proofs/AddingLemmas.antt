@@ -28,9 +28,9 @@ use Rattle.mls_filterview.specs.View.{IsAmong}
 use Rattle.mls_filterview.proofs.AmongLemmas.{all_at}
 use Rattle.mls_filterview.proofs.EntryLemmas.{Entry}
 use Rattle.mls_filterview.proofs.FragmentLemmas.{cell_among}
-use Rattle.mls_statements.specs.declared.rows.AuditRow.{AuditRow}
-use Rattle.mls_statements.specs.Rows.{Tables, described, numbered}
-use Rattle.mls_statements.specs.Statements.{AddsEntry, ClearsEntries}
+use Rattle.mls_tables.specs.declared.rows.AuditRow.{AuditRow}
+use Rattle.mls_tables.specs.Rows.{Tables, described, numbered}
+use Rattle.mls_tables.specs.Statements.{AddsEntry, ClearsEntries}
 use Rattle.mls_fragments.specs.Holding.{Holds, HoldsTable, IsSharedTuple, AddsTuple, node_row, cell_row, nodes_in, cells_in}
 use Rattle.mls_fragments.proofs.WrittenLemmas.{holds_same, holds_with}
 

@@ -28,8 +28,8 @@ use Rattle.sqlite.specs.WalReads.{AreClean, are_clean}
 use Rattle.sqlite.proofs.OpenLemmas.{pool_files}
 use Rattle.sqlite.proofs.Theorems.{opens_again}
 use Rattle.sqlite.specs.Recovery.{Image}
-use Rattle.mls_statements.specs.Rows.{tables_of}
-use Rattle.mls_statements.specs.Schema.{HasTables, no_schema, schema}
+use Rattle.mls_tables.specs.Rows.{tables_of}
+use Rattle.mls_tables.specs.Schema.{HasTables, no_schema, schema}
 use Rattle.mls_fragments.specs.Again.{BlankIsNothing, KeepsHoldings, empty, rows, IsKeptAlone, AreKept, KeptIsFound, KeptIsTaken}
 use Rattle.mls_fragments.specs.Creating.{IsBlankImage}
 use Rattle.mls_fragments.specs.Holdings.{Holdings, holdings_of, HaveHoldings, HasHoldings, no_tables, four_tables, Takes}
@@ -76,9 +76,6 @@ module _ (image : Image) (found : Database) (finds : IsFoundIn image found) wher
   -- nor of an empty file
   pub found_none : image.db ≡ [] → found.schema ≡ no_schema
   found_none none = found_blank (inl (ap length none))
-
-  not_empty : (db : Database) → ∥ HoldsDatabase image db.trees ∥₁ → image.db ≡ [] → ⊥
-  not_empty db held none = ∥∥₁_elim held (λ x y. absurd x) (λ h. let e = h.2.found.found.present in omega (arith, e, ap length none))
 
 -- what files keep is what is found in them
 found_of : (image : Image) (found : Database) → IsFoundIn image found → (h k : Holdings) → KeepsHoldings image h → HasHoldings found k → h ≡ k

@@ -5,7 +5,7 @@ use Rattle.std.specs.Int.{w64}
 use Rattle.std.specs.List.{list_any, AllByRecursion}
 use Rattle.std.proofs.lemmas.Bool.{true≢false, eqb-true, eq-eqb, false_from_ne_true}
 use Rattle.std.proofs.lemmas.Nat.Bits.{bit_at_set_same, bit_at_set_other, bit_at_above}
-use Rattle.mls_statements.specs.Rows.{has_bit}
+use Rattle.mls_tables.specs.Rows.{has_bit}
 
 or_true : (b : Bool) → (b || true) ≡ true
 or_true true = refl

@@ -21,12 +21,13 @@ use Rattle.mls_filterview.specs.Fragment.{node_of, cells_of, place_of_node, set_
 use Rattle.mls_filterview.specs.Stored.{AreContent}
 use Rattle.mls_filterview.specs.View.{IsAmong}
 use Rattle.mls_filterview.specs.declared.fragment.Node.{Node}
+use Rattle.mls_filterview.specs.declared.fragment.Cell.{Cell}
 use Rattle.mls_filterview.proofs.AmongLemmas.{each_among, among_map, among_filter, filter_among, among_flat_map, among_permutation}
 use Rattle.mls_filterview.proofs.EntryLemmas.{among_entries}
 use Rattle.mls_filterview.proofs.FragmentLemmas.{cell_found}
-use Rattle.mls_statements.specs.declared.rows.NodeRow.{NodeRow}
-use Rattle.mls_statements.specs.declared.rows.CellRow.{CellRow}
-use Rattle.mls_statements.specs.Rows.{Tables}
+use Rattle.mls_tables.specs.declared.rows.NodeRow.{NodeRow}
+use Rattle.mls_tables.specs.declared.rows.CellRow.{CellRow}
+use Rattle.mls_tables.specs.Rows.{Tables}
 use Rattle.mls_fragments.specs.Finding.{HasByteClasses, IsNodeRow, IsCellRow}
 use Rattle.mls_fragments.specs.Holding.{Holds, IsSpelledCell, node_row, cell_row, nodes_in, cells_in}
 use Rattle.mls_fragments.proofs.DroppingLemmas.{left_cases}
@@ -35,7 +36,7 @@ use Rattle.mls_fragments.proofs.WrittenLemmas.{spelled_keys}
 -- ---- rows that are read
 
 module _ (t : Tables) (c : Content) (holds : Holds t c) (bytes : HasByteClasses c) where
-  reads_node : (r : NodeRow) → IsAmong r t.nodes → IsNodeRow r
+  pub reads_node : (r : NodeRow) → IsAmong r t.nodes → IsNodeRow r
   reads_node r i =
       let T = c.db r.rel in
       let held = holds.tables r.rel in
@@ -45,19 +46,21 @@ module _ (t : Tables) (c : Content) (holds : Holds t c) (bytes : HasByteClasses 
       let small = bytes r.rel e.0.0 e.0.1 (among_entries T e.0 e.1) in
       record { node = node_of e.0; spelled = spelled_keys t r.rel T held e.0 e.1; key_class = small.0; label = small.1; is = n.2 ∙ ap (node_row r.rel) e.2 }
 
-  reads_cell : (r : CellRow) → IsAmong r t.cells → IsCellRow r
+  pub cell_reads : (rel : ℕ) (d : Cell) → IsAmong d (cells_in (c.db rel)) → IsSpelledCell d × (d.key_class < 256) × (d.label < 256)
+  cell_reads rel d k =
+      let e = among_flat_map cells_of (entries (c.db rel)) d k in
+      let f = cell_found 0 e.0.0 e.0.1 d e.2 in
+      let there = among_entries (c.db rel) e.0 e.1 in
+      let shared = (holds.tables rel).shared e.0.0 e.0.1 there in
+      let small = bytes rel e.0.0 e.0.1 there in
+      subst (λ x. IsSpelledCell x × (x.key_class < 256) × (x.label < 256)) (sym f.1.1) ((shared.key, shared.values f.0 f.1.0), small.0, subst (λ m. m < 256) (sym f.1.2) small.1)
+
+  pub reads_cell : (r : CellRow) → IsAmong r t.cells → IsCellRow r
   reads_cell r i =
-      let T = c.db r.rel in
       let held = holds.tables r.rel in
       let here = filter_among (λ d. nat_eq d.rel r.rel) t.cells r i (eq-eqb r.rel r.rel refl) in
-      let d = among_map (cell_row r.rel) (cells_in T) r ((among_permutation _ _ held.cells r).1 here) in
-      let e = among_flat_map cells_of (entries T) d.0 d.1 in
-      let f = cell_found 0 e.0.0 e.0.1 d.0 e.2 in
-      let there = among_entries T e.0 e.1 in
-      let shared = held.shared e.0.0 e.0.1 there in
-      let small = bytes r.rel e.0.0 e.0.1 there in
-      let reads : IsSpelledCell d.0 × (d.0.key_class < 256) × (d.0.label < 256)
-      = subst (λ x. IsSpelledCell x × (x.key_class < 256) × (x.label < 256)) (sym f.1.1) ((shared.key, shared.values f.0 f.1.0), small.0, subst (λ m. m < 256) (sym f.1.2) small.1) in
+      let d = among_map (cell_row r.rel) (cells_in (c.db r.rel)) r ((among_permutation _ _ held.cells r).1 here) in
+      let reads = cell_reads r.rel d.0 d.1 in
       record { cell = d.0; spelled = reads.0; key_class = reads.1; label = reads.2; is = d.2 }
 
   pub read_nodes : (p : NodeRow → Bool) (rows : List NodeRow) → IsPermutation (filter p t.nodes) rows → AllByRecursion IsNodeRow rows

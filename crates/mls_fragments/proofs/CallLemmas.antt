@@ -1,5 +1,5 @@
 -- Calls of the store that write, one after another.
-use Rattle.std.proofs.Common.{◌≡◌, ℕ, List, [], ◌∷◌, ◌++◌, map, filter, not, Result, OnOk, IsPermutation, refl, sym, ap, subst₂, ◌∙◌}
+use Rattle.std.proofs.Common.{◌≡◌, ℕ, List, [], ◌∷◌, ◌++◌, map, filter, not, Result, OnOk, IsPermutation, refl, sym, ap, subst, subst₂, ◌∙◌}
 use Rattle.std.specs.Prelude.{IfSome}
 use Rattle.std.specs.List.{AllByRecursion}
 use Rattle.std.proofs.lemmas.Result.{on_ok_weaker}
@@ -8,13 +8,14 @@ use Rattle.mls_scheme.specs.Spelling.{key_spelling, HasSpelling}
 use Rattle.mls_filterview.specs.declared.fragment.Node.{Node}
 use Rattle.mls_filterview.specs.declared.fragment.Cell.{Cell}
 use Rattle.mls_filterview.specs.Fragment.{IsCellOf}
-use Rattle.mls_statements.specs.declared.rows.NodeRow.{NodeRow}
-use Rattle.mls_statements.specs.declared.rows.OwnCell.{OwnCell}
-use Rattle.mls_statements.specs.declared.store.StoreFault.{StoreFault}
-use Rattle.mls_statements.specs.Rows.{Tables, is_cell_in, cell_beside}
-use Rattle.mls_statements.specs.Statements.{AddsNode, DropsNode, AddsCells, DropsCells}
-use Rattle.mls_statements.specs.Store.{TableState, Writes}
-use Rattle.mls_fragments.specs.Holding.{node_row, cell_row, own_cell, value_bytes, AddsTuple, DropsTuple}
+use Rattle.mls_tables.specs.declared.rows.NodeRow.{NodeRow}
+use Rattle.mls_tables.specs.declared.rows.OwnCell.{OwnCell}
+use Rattle.mls_tables.specs.declared.rows.TupleKey.{TupleKey}
+use Rattle.mls_tables.specs.declared.store.StoreFault.{StoreFault}
+use Rattle.mls_tables.specs.Rows.{Tables, is_cell_in, cell_beside}
+use Rattle.mls_tables.specs.Statements.{AddsNode, DropsNode, AddsCells, DropsCells}
+use Rattle.mls_tables.specs.Store.{TableState, Writes}
+use Rattle.mls_fragments.specs.Holding.{node_row, cell_row, own_cell, value_bytes, AddsTuple, DropsTuple, tuple_key}
 
 -- ---- rows that are added
 
@@ -52,12 +53,13 @@ adds_both rel n cells node own s m t result is beside first =
 
 -- ---- rows that are dropped
 
-drops_tuple : (rel : ℕ) (p : Place) (s m t : Tables) → DropsNode rel (key_spelling p.key) p.key_class p.class s m → DropsCells rel (key_spelling p.key) p.key_class p.class m t → DropsTuple rel p s t
+drops_tuple : (rel : ℕ) (p : Place) (s m t : Tables) → DropsNode (tuple_key rel p) s m → DropsCells (tuple_key rel p) m t → DropsTuple rel p s t
 drops_tuple rel p s m t first next =
-    next ∙ ap {A = Tables} (λ x. record x { cells = filter (λ c. not (is_cell_in rel (key_spelling p.key) p.key_class p.class c)) x.cells }) first
+    next ∙ ap {A = Tables} (λ x. record x { cells = filter (λ c. not (is_cell_in (tuple_key rel p) c)) x.cells }) first
 
 -- the node of a place, and then its cells
-pub drops_both : {B : Type 0} (rel : ℕ) (p : Place) (r k l : ℕ) (ent again : List ℕ) (s m t : TableState) (result : Result B StoreFault) → r ≡ rel → k ≡ p.key_class → l ≡ p.class → ent ≡ key_spelling p.key → again ≡ key_spelling p.key
-    → Writes (DropsNode r ent k l) s m → OnOk result (Writes (DropsCells r again k l) m t) → OnOk result (Writes (DropsTuple rel p) s t)
-drops_both rel p r k l ent again s m t result rel_is class_is label_is ent_is again_is first =
-    rw (rel_is, class_is, label_is, again_is) (on_ok_weaker result (λ next. (drops_tuple rel p s.now m.now t.now (rw (rel_is, class_is, label_is, ent_is) at first.0) next.0, next.1 ∙ first.1)))
+pub drops_both : {B : Type 0} (rel : ℕ) (p : Place) (key : TupleKey) (s m t : TableState) (result : Result B StoreFault) → key ≡ tuple_key rel p
+    → Writes (DropsNode key) s m → OnOk result (Writes (DropsCells key) m t) → OnOk result (Writes (DropsTuple rel p) s t)
+drops_both rel p key s m t result is =
+    subst (λ k. Writes (DropsNode k) s m → OnOk result (Writes (DropsCells k) m t) → OnOk result (Writes (DropsTuple rel p) s t)) (sym is)
+    (λ first. on_ok_weaker result (λ next. (drops_tuple rel p s.now m.now t.now first.0 next.0, next.1 ∙ first.1)))

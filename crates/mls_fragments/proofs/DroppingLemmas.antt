@@ -8,10 +8,11 @@ use Rattle.std.proofs.lemmas.Option.{none-some}
 use Rattle.sqlite_trees.proofs.ListLemmas.{filter-map, filter_same, IsPermutation-filter, IsPermutation-same}
 use Rattle.mls_scheme.specs.declared.tuple.Element.{Element}
 use Rattle.mls_scheme.specs.declared.place.Place.{Place}
-use Rattle.mls_scheme.specs.Spelling.{key_spelling, IsSpelledKey}
+use Rattle.mls_scheme.specs.Spelling.{IsSpelledKey}
 use Rattle.mls_scheme.specs.Tuple.{at}
 use Rattle.mls_scheme.specs.Table.{Table}
 use Rattle.mls_scheme.proofs.OrderLemmas.{place_total, is_place, is_place-true, is_place-same}
+use Rattle.mls_filterview.proofs.FilteredLemmas.{filter_turned}
 use Rattle.mls_filterview.specs.Stored.{with_class}
 use Rattle.mls_filterview.specs.Fragment.{node_of, cells_of, IsAlone}
 use Rattle.mls_filterview.specs.Content.{Content, with_table}
@@ -19,12 +20,12 @@ use Rattle.mls_filterview.specs.View.{IsAmong}
 use Rattle.mls_filterview.proofs.AmongLemmas.{among_filter, filter_among, each_among}
 use Rattle.mls_filterview.proofs.EntityTests.{entity_decides}
 use Rattle.mls_filterview.proofs.EntryLemmas.{Entry, among_entries, entries_among, entries_are, sorted_filter, so_true, so_from}
-use Rattle.mls_statements.specs.declared.rows.NodeRow.{NodeRow}
-use Rattle.mls_statements.specs.declared.rows.CellRow.{CellRow}
-use Rattle.mls_statements.specs.Rows.{Tables, is_node, is_cell_in}
-use Rattle.mls_statements.specs.Statements.{DropsNode, DropsCells}
-use Rattle.mls_fragments.specs.Holding.{Holds, HoldsTable, IsSharedTuple, node_row, cell_row, nodes_in, cells_in}
-use Rattle.mls_fragments.proofs.WrittenLemmas.{filter_turned, entity_test, place_test, of_entity, cells_where, spelled_keys, others_stay, holds_same, holds_with}
+use Rattle.mls_tables.specs.declared.rows.NodeRow.{NodeRow}
+use Rattle.mls_tables.specs.declared.rows.CellRow.{CellRow}
+use Rattle.mls_tables.specs.Rows.{Tables, is_node, is_cell_in}
+use Rattle.mls_tables.specs.Statements.{DropsNode, DropsCells}
+use Rattle.mls_fragments.specs.Holding.{Holds, HoldsTable, IsSharedTuple, node_row, cell_row, nodes_in, cells_in, tuple_key}
+use Rattle.mls_fragments.proofs.WrittenLemmas.{entity_test, place_test, of_entity, cells_where, spelled_keys, others_stay, holds_same, holds_with}
 
 -- ---- a table with a tuple less
 
@@ -51,10 +52,10 @@ entries-remove T p = sym (entries_are (remove T p) (filter elsewhere (entries T)
 
 -- the rows that go
 abbrev is_gone_node : ℕ → Place → NodeRow → Bool
-is_gone_node rel p = is_node rel (key_spelling p.key) p.key_class p.class
+is_gone_node rel p = is_node (tuple_key rel p)
 
 abbrev is_gone_cell : ℕ → Place → CellRow → Bool
-is_gone_cell rel p = is_cell_in rel (key_spelling p.key) p.key_class p.class
+is_gone_cell rel p = is_cell_in (tuple_key rel p)
 
 abbrev without : ℕ → Place → Tables → Tables
 without rel p t = record t { nodes = filter (λ n. not (is_gone_node rel p n)) t.nodes; cells = filter (λ x. not (is_gone_cell rel p x)) t.cells }
@@ -102,7 +103,7 @@ module _ (t : Tables) (rel : ℕ) (T : Table) (p : Place) (held : HoldsTable t r
 
 pub holds_rest : (t u : Tables) (c : Content) (rel : ℕ) (p : Place)
     → Holds t c → IsSpelledKey p.key → get (c.db rel) p ≢ None → IsAlone (c.db rel) p
-    → (s : Tables) → DropsNode rel (key_spelling p.key) p.key_class p.class t s → DropsCells rel (key_spelling p.key) p.key_class p.class s u
+    → (s : Tables) → DropsNode (tuple_key rel p) t s → DropsCells (tuple_key rel p) s u
     → Holds u (record c { db = with_table c.db rel (remove (c.db rel) p) })
 holds_rest t u c rel p held spelled there alone s node cells =
     let is : u ≡ without rel p t = cells ∙ ap (λ (w : Tables). record w { cells = filter (λ x. not (is_gone_cell rel p x)) w.cells }) node in

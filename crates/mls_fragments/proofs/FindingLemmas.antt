@@ -3,8 +3,7 @@ use Rattle.std.proofs.Common.{◌≡◌, ◌⊎◌, inl, inr, ℕ, zero, suc, �
 use Rattle.std.specs.Prelude.{nat_eq, slice_index_or, IfSome}
 use Rattle.std.specs.List.{AllByRecursion}
 use Rattle.std.specs.Option.{unwrap_or}
-use Rattle.std.specs.FinMap.{empty, get, entries, get-empty}
-use Rattle.std.proofs.lemmas.Option.{none-some}
+use Rattle.std.specs.FinMap.{get, entries}
 use Rattle.std.specs.List.Sorted.{IsStrictlySortedBy}
 use Rattle.std.specs.Map.{keys_of}
 use Rattle.std.proofs.lemmas.Bool.{ne_eqb, eq-eqb}
@@ -13,7 +12,6 @@ use Rattle.std.proofs.lemmas.List.Elements.{filter-append}
 use Rattle.std.proofs.lemmas.List.Sorted.{IsPermutation-trans, IsPermutation-sym}
 use Rattle.sqlite_trees.proofs.ListLemmas.{IsPermutation-filter}
 use Rattle.mls_lattice.specs.Labels.{Labels}
-use Rattle.mls_lattice.specs.Policy.{Policy}
 use Rattle.mls_lattice.proofs.LatticeLemmas.{below-refl}
 use Rattle.mls_scheme.specs.declared.value.Value.{Value}
 use Rattle.mls_scheme.specs.declared.tuple.Element.{Element}
@@ -24,20 +22,20 @@ use Rattle.mls_scheme.specs.Tuple.{at}
 use Rattle.mls_scheme.specs.Table.{place_cmp, Table}
 use Rattle.mls_filterview.specs.Assembly.{CellPlace, elements_from, table_of}
 use Rattle.mls_filterview.specs.Stored.{with_class, IsStored, IsContent, AreContent}
-use Rattle.mls_filterview.specs.Content.{no_content}
 use Rattle.mls_filterview.specs.Fragment.{node_of, cells_of, place_of_node}
 use Rattle.mls_filterview.specs.View.{IsAmong}
 use Rattle.mls_filterview.proofs.AmongLemmas.{each_among, all_at, among_flat_map}
 use Rattle.mls_filterview.proofs.FragmentLemmas.{cell_found}
 use Rattle.mls_filterview.proofs.ListedLemmas.{in_map}
 use Rattle.mls_filterview.proofs.RecoveringLemmas.{entries-table_of, in_table_of}
-use Rattle.mls_statements.specs.declared.rows.NodeRow.{NodeRow}
-use Rattle.mls_statements.specs.declared.rows.CellRow.{CellRow}
-use Rattle.mls_statements.specs.declared.adopting.AllRows.{AllRows}
-use Rattle.mls_statements.specs.Adopting.{AreAll}
-use Rattle.mls_statements.specs.Rows.{Tables, numbered}
+use Rattle.mls_filterview.proofs.MapLemmas.{none_sorted}
+use Rattle.mls_tables.specs.declared.rows.NodeRow.{NodeRow}
+use Rattle.mls_tables.specs.declared.rows.CellRow.{CellRow}
+use Rattle.mls_tables.specs.declared.adopting.AllRows.{AllRows}
+use Rattle.mls_tables.specs.Adopting.{AreAll}
+use Rattle.mls_tables.specs.Rows.{Tables, numbered}
 use Rattle.mls_fragments.specs.Changes.{Entries, table_in, found}
-use Rattle.mls_fragments.specs.Finding.{IsAssembled, AreAssembled, AreTables, IsSoundContent, IsSpelledEntry, node_rows, cell_rows}
+use Rattle.mls_fragments.specs.Finding.{IsAssembled, AreAssembled, AreTables, IsSpelledEntry, node_rows, cell_rows}
 use Rattle.mls_fragments.specs.Holding.{Holds, IsSharedTuple, node_row, cell_row, IsSpelledCell}
 
 -- ---- what is put together has spellings
@@ -229,10 +227,6 @@ at_each P none [] h rel = none
 at_each P none (es ∷ tables) h zero = h 0 (omega arith)
 at_each P none (es ∷ tables) h (suc rel) = at_each P none tables (λ r l. h (suc r) (omega (arith, l))) rel
 
-pub none_sorted : IsStrictlySortedBy place_cmp (keys_of {K = Place} {X = List Element} [])
-unfolding IsStrictlySortedBy
-none_sorted = tt
-
 pub nothing : (p : Place) (es : List Element) → get (table_of []) p ≡ Some es → ⊥
 nothing p es h = (in_table_of [] none_sorted (p, es)).1 h
 
@@ -241,16 +235,6 @@ empty_content ls scheme = record {
   stored = λ p es h. absurd (nothing p es h);
   fits = λ p es h. absurd (nothing p es h);
 }
-
--- where there is nothing, all is as it should be
-pub nothing_sound : (policy : Policy) (schemes : Schemes) → IsSoundContent policy schemes no_content
-nothing_sound policy schemes = record {
-  content = λ rel. record { stored = λ p es h. absurd (in_empty p es h); fits = λ p es h. absurd (in_empty p es h) };
-  entries = tt;
-}
-  where
-    in_empty : (p : Place) (es : List Element) → get (empty {X = List Element} {R = place_cmp}) p ≡ Some es → ⊥
-    in_empty p es h = none-some es (sym (get-empty place_cmp p) ∙ h)
 
 -- a number of a table, or one past all of them
 pub within : (rel : ℕ) (tables : List Entries) → (rel < length tables) ⊎ ((length tables ≤ rel) × (slice_index_or tables rel [] ≡ []))

@@ -19,12 +19,12 @@ use Rattle.mls_scheme.specs.Scheme.{Schemes, scheme_of}
 use Rattle.mls_scheme.proofs.OrderLemmas.{place_exact, place_total}
 use Rattle.mls_filterview.specs.Content.{Content, no_content}
 use Rattle.mls_filterview.specs.Widen.{nulls}
-use Rattle.mls_statements.specs.declared.rows.MetaRow.{MetaRow}
-use Rattle.mls_statements.specs.Adopting.{IsDescribed, IsVersion}
-use Rattle.mls_statements.specs.Rows.{Tables, described, tables_of}
-use Rattle.mls_statements.specs.Schema.{HasTables, no_schema}
+use Rattle.mls_audit.specs.Sound.{IsSoundContent}
+use Rattle.mls_tables.specs.declared.rows.MetaRow.{MetaRow}
+use Rattle.mls_tables.specs.Adopting.{IsDescribed, IsVersion}
+use Rattle.mls_tables.specs.Rows.{Tables, described, tables_of}
+use Rattle.mls_tables.specs.Schema.{HasTables, no_schema}
 use Rattle.mls_fragments.specs.Based.{BaseState, state_of, HasRow, IsBaseOf}
-use Rattle.mls_fragments.specs.Finding.{IsSoundContent}
 use Rattle.mls_fragments.specs.Holding.{Holds}
 use Rattle.mls_fragments.specs.Holdings.{Holdings, no_holdings, holdings_of, HaveOneMeta, HaveHoldings, HasHoldings, no_tables, four_tables, DatabaseHasOneHoldings, row_of, Takes, made, as_it_was, widened, IsTakenOf, GivenBackIsTaken, SoundIsTakenAsItWas}
 use Rattle.mls_fragments.specs.Migrating.{HasTexts, IsExtended, more, IsSoundBefore, IsWidenedContent}

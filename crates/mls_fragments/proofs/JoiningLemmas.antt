@@ -1,9 +1,9 @@
 -- Rows of two parts hold together what each holds, and that is sound where each is.
-use Rattle.std.proofs.Common.{◌≡◌, ◌⊎◌, inl, inr, ℕ, ◌<◌, Bool, true, false, cond, List, [], ◌∷◌, ◌++◌, map, filter, length, Option, None, Some, refl, sym, ap, subst, ◌∙◌, true≢false, IsPermutation}
+use Rattle.std.proofs.Common.{◌≡◌, ◌⊎◌, inl, inr, ℕ, Bool, true, false, cond, List, [], ◌∷◌, ◌++◌, map, filter, Option, None, Some, refl, sym, ap, subst, ◌∙◌, true≢false, IsPermutation}
 use Rattle.std.specs.Prelude.{nat_eq}
 use Rattle.std.specs.List.{flat_map, AllByRecursion}
 use Rattle.std.specs.Ordering.{is_lt}
-use Rattle.std.specs.FinMap.{get, insert, entries, entries_sorted, is_sorted}
+use Rattle.std.specs.FinMap.{get, entries, entries_sorted, is_sorted}
 use Rattle.std.specs.FinMap.Entries.{below_all}
 use Rattle.std.proofs.lemmas.Bool.{and_parts}
 use Rattle.std.proofs.lemmas.Cmp.{tied_itself}
@@ -25,12 +25,12 @@ use Rattle.mls_scheme.proofs.TableLemmas.{get_put}
 use Rattle.mls_filterview.specs.Fragment.{node_of, cells_of}
 use Rattle.mls_filterview.specs.Stored.{with_class, IsStoredTuple, IsContent}
 use Rattle.mls_filterview.specs.View.{IsAmong}
-use Rattle.mls_filterview.proofs.AmongLemmas.{all_at, among_filter, among_map, map_among, among_permutation}
+use Rattle.mls_filterview.proofs.AmongLemmas.{all_at, among_filter, map_among, among_permutation}
 use Rattle.mls_filterview.proofs.EntryLemmas.{Entry, among_entries, entries_among, so_true}
-use Rattle.mls_statements.specs.Rows.{Tables}
+use Rattle.mls_tables.specs.Rows.{Tables}
 use Rattle.mls_fragments.specs.Changes.{Entries, with_entries}
 use Rattle.mls_fragments.specs.Finding.{AreWithin}
-use Rattle.mls_fragments.specs.Holding.{HoldsTable, IsSharedTuple, node_row, cell_row, nodes_in, cells_in}
+use Rattle.mls_fragments.specs.Holding.{HoldsTable, IsSharedTuple, node_row, cell_row, nodes_in}
 use Rattle.mls_fragments.specs.Parts.{Part}
 use Rattle.mls_fragments.proofs.AddingLemmas.{entries_new, get_new, get_old}
 

@@ -1,5 +1,5 @@
 -- Rows that are judged part by part: what is found of each is joined, and sound rows are refused at no part.
-use Rattle.std.proofs.Common.{◌≡◌, ℕ, ◌<◌, Bool, true, false, not, ◌&&◌, List, [], map, filter, flat_map, length, Some, refl, sym, ap, subst, ◌∙◌, arith, IsPermutation}
+use Rattle.std.proofs.Common.{◌≡◌, ℕ, Bool, true, false, not, ◌&&◌, List, [], map, filter, flat_map, refl, sym, ap, subst, ◌∙◌, arith, IsPermutation}
 use Rattle.std.specs.Prelude.{nat_eq}
 use Rattle.std.specs.List.{AllByRecursion}
 use Rattle.std.specs.FinMap.{entries-from_sorted}
@@ -7,21 +7,19 @@ use Rattle.std.proofs.lemmas.Bool.{and_parts, not-true}
 use Rattle.std.proofs.lemmas.List.Sorted.{IsPermutation-refl, IsPermutation-trans, IsPermutation-sym}
 use Rattle.sqlite_trees.proofs.ListLemmas.{all_of, filter_all, filter_none, IsPermutation-filter, IsPermutation-same}
 use Rattle.mls_lattice.specs.Policy.{Policy, labels_of}
-use Rattle.mls_scheme.specs.declared.tuple.Element.{Element}
-use Rattle.mls_scheme.specs.declared.place.Place.{Place}
 use Rattle.mls_scheme.specs.Scheme.{Schemes, scheme_of}
 use Rattle.mls_scheme.specs.Table.{place_cmp}
 use Rattle.mls_filterview.specs.Content.{Content}
 use Rattle.mls_filterview.specs.Fragment.{node_of, cells_of}
 use Rattle.mls_filterview.proofs.AmongLemmas.{each_among, among_filter}
 use Rattle.mls_audit.specs.Spelling.{IsEntryOf}
-use Rattle.mls_statements.specs.declared.rows.NodeRow.{NodeRow}
-use Rattle.mls_statements.specs.declared.rows.CellRow.{CellRow}
-use Rattle.mls_statements.specs.declared.adopting.AllRows.{AllRows}
-use Rattle.mls_statements.specs.Adopting.{AreAll}
-use Rattle.mls_statements.specs.Rows.{Tables, numbered}
+use Rattle.mls_tables.specs.declared.rows.NodeRow.{NodeRow}
+use Rattle.mls_tables.specs.declared.rows.CellRow.{CellRow}
+use Rattle.mls_tables.specs.declared.adopting.AllRows.{AllRows}
+use Rattle.mls_tables.specs.Adopting.{AreAll}
+use Rattle.mls_tables.specs.Rows.{Tables, numbered}
 use Rattle.mls_fragments.specs.Changes.{Entries, table_in, found, with_tables}
-use Rattle.mls_fragments.specs.Finding.{AreWithin, IsSoundWithin}
+use Rattle.mls_fragments.specs.Finding.{IsSoundWithin}
 use Rattle.mls_fragments.specs.Holding.{Holds, HoldsTable, node_row, cell_row}
 use Rattle.mls_fragments.specs.Parts as parts
 use Rattle.mls_fragments.specs.Parts.{Part, outside, both, other, nodes_of, rows_of, rows_in, AreNodesInOrder, AreCellsInOrder, IsTakenOff, IsJudged}

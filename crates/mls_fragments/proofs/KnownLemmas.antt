@@ -3,7 +3,6 @@ use Rattle.std.proofs.Common.{◌≡◌, inl, inr, ℕ, zero, suc, ◌<◌, ◌�
 use Rattle.std.specs.Prelude.{nat_eq, slice_index_or}
 use Rattle.std.specs.List.{AllByRecursion, AllZip}
 use Rattle.std.specs.FinMap.{entries}
-use Rattle.std.proofs.lemmas.Bool.{eq-eqb}
 use Rattle.std.proofs.lemmas.List.Sorted.{IsPermutation-trans}
 use Rattle.sqlite_trees.proofs.ListLemmas.{all-map, IsPermutation-filter}
 use Rattle.mls_lattice.specs.Labels.{Labels}
@@ -13,25 +12,21 @@ use Rattle.mls_scheme.specs.Value.{is_kind}
 use Rattle.mls_scheme.specs.Fits.{Fits, in_interval}
 use Rattle.mls_scheme.specs.Scheme.{Attribute, Schemes, scheme_of, no_scheme}
 use Rattle.mls_scheme.specs.Table.{Table}
-use Rattle.mls_scheme.specs.Tuple.{at}
 use Rattle.mls_filterview.specs.Assembly.{table_of}
 use Rattle.mls_filterview.specs.Content.{Content}
 use Rattle.mls_filterview.specs.Fragment.{node_of, cells_of}
 use Rattle.mls_filterview.specs.Stored.{IsContent, AreContent}
 use Rattle.mls_filterview.specs.View.{IsAmong}
-use Rattle.mls_filterview.proofs.AmongLemmas.{each_among, among_map, filter_among, among_flat_map, among_permutation}
+use Rattle.mls_filterview.proofs.AmongLemmas.{each_among, among_permutation}
 use Rattle.mls_filterview.proofs.EntryLemmas.{Entry, among_entries}
-use Rattle.mls_filterview.proofs.FragmentLemmas.{cell_found, IsCellOf}
 use Rattle.mls_filterview.proofs.RecoveringLemmas.{entries_all, table_all}
-use Rattle.mls_filterview.specs.declared.fragment.Cell.{Cell}
-use Rattle.mls_statements.specs.declared.rows.NodeRow.{NodeRow}
-use Rattle.mls_statements.specs.declared.rows.CellRow.{CellRow}
-use Rattle.mls_statements.specs.declared.adopting.AllRows.{AllRows}
-use Rattle.mls_statements.specs.Adopting.{AreAll}
-use Rattle.mls_statements.specs.Rows.{Tables}
+use Rattle.mls_tables.specs.declared.adopting.AllRows.{AllRows}
+use Rattle.mls_tables.specs.Adopting.{AreAll}
+use Rattle.mls_tables.specs.Rows.{Tables}
 use Rattle.mls_fragments.specs.Changes.{Entries}
-use Rattle.mls_fragments.specs.Finding.{IsNodeRow, IsCellRow, IsAssembled, AreAssembled, AreTables, node_rows, cell_rows}
+use Rattle.mls_fragments.specs.Finding.{HasByteClasses, IsNodeRow, IsCellRow, IsAssembled, AreAssembled, AreTables, node_rows, cell_rows}
 use Rattle.mls_fragments.specs.Holding.{Holds, HoldsTable, IsSpelledNode, IsSpelledCell, node_row, cell_row, nodes_in, cells_in}
+use Rattle.mls_fragments.proofs.ByteLemmas.{content_bytes, cell_reads, reads_node, reads_cell}
 use Rattle.mls_fragments.proofs.FindingLemmas.{nodes_of_rel, cells_of_rel, within}
 use Rattle.mls_fragments.proofs.ShownLemmas.{same_node, same_cell, reflects}
 use Rattle.mls_fragments.proofs.WrittenLemmas.{spelled_keys}
@@ -53,49 +48,14 @@ no_key P (v ∷ key) h l = h
 module _ (ls : Labels) (few : length ls ≤ 256) (schemes : Schemes) (t : Tables) (rows : AllRows) (all : AreAll t rows) (c : Content) (holds : Holds t c) (content : AreContent ls schemes c.db) where
   -- ---- each row reads
 
-  node_reads : (rel : ℕ) (e : Entry) → IsAmong e (entries (c.db rel)) → IsSpelledNode (node_of e) × (e.0.key_class < 256) × (e.0.class < 256)
-  node_reads rel e i =
-      let st = (content rel).stored e.0 e.1 (among_entries (c.db rel) e i) in
-      let key_class = st.declared e.0.key_class (inl refl) in
-      let class = st.declared e.0.class st.own in
-      (spelled_keys t rel (c.db rel) (holds.tables rel) e i, omega (arith, key_class, few), omega (arith, class, few))
-
-  reads_node : (r : NodeRow) → IsAmong r rows.nodes.items → IsNodeRow r
-  reads_node r i =
-      let T = c.db r.rel in
-      let held = holds.tables r.rel in
-      let here = filter_among (λ n. nat_eq n.rel r.rel) t.nodes r ((among_permutation t.nodes rows.nodes.items all.0 r).1 i) (eq-eqb r.rel r.rel refl) in
-      let n = among_map (node_row r.rel) (nodes_in T) r ((among_permutation _ _ held.nodes r).1 here) in
-      let e = among_map node_of (entries T) n.0 n.1 in
-      let reads = node_reads r.rel e.0 e.1 in
-      record { node = node_of e.0; spelled = reads.0; key_class = reads.1; label = reads.2; is = n.2 ∙ ap (node_row r.rel) e.2 }
+  bytes : HasByteClasses c
+  bytes = content_bytes ls schemes c few content
 
   pub node_rows_read : AllByRecursion IsNodeRow rows.nodes.items
-  node_rows_read = each_among IsNodeRow rows.nodes.items reads_node
-
-  cell_reads : (rel : ℕ) (d : Cell) → IsAmong d (cells_in (c.db rel)) → IsSpelledCell d × (d.key_class < 256) × (d.label < 256)
-  cell_reads rel d k = let e = among_flat_map cells_of (entries (c.db rel)) d k in go e.0 e.1 (cell_found 0 e.0.0 e.0.1 d e.2)
-    where
-      go : (e : Entry) → IsAmong e (entries (c.db rel)) → (i : ℕ) × IsCellOf 0 e.0 e.1 d i → IsSpelledCell d × (d.key_class < 256) × (d.label < 256)
-      go e i f =
-          let there = among_entries (c.db rel) e i in
-          let shared = (holds.tables rel).shared e.0 e.1 there in
-          let st = (content rel).stored e.0 e.1 there in
-          let key_class = st.declared e.0.key_class (inl refl) in
-          let class = st.declared (at e.1 f.0).class (inr (f.0, f.1.0, refl)) in
-          subst (λ x. IsSpelledCell x × (x.key_class < 256) × (x.label < 256)) (sym f.1.1) ((shared.key, shared.values f.0 f.1.0), omega (arith, key_class, few), omega (arith, class, few))
-
-  reads_cell : (r : CellRow) → IsAmong r rows.cells.items → IsCellRow r
-  reads_cell r i =
-      let T = c.db r.rel in
-      let held = holds.tables r.rel in
-      let here = filter_among (λ n. nat_eq n.rel r.rel) t.cells r ((among_permutation t.cells rows.cells.items all.1.0 r).1 i) (eq-eqb r.rel r.rel refl) in
-      let d = among_map (cell_row r.rel) (cells_in T) r ((among_permutation _ _ held.cells r).1 here) in
-      let reads = cell_reads r.rel d.0 d.1 in
-      record { cell = d.0; spelled = reads.0; key_class = reads.1; label = reads.2; is = d.2 }
+  node_rows_read = each_among IsNodeRow rows.nodes.items (λ r i. reads_node t c holds bytes r ((among_permutation t.nodes rows.nodes.items all.0 r).1 i))
 
   pub cell_rows_read : AllByRecursion IsCellRow rows.cells.items
-  cell_rows_read = each_among IsCellRow rows.cells.items reads_cell
+  cell_rows_read = each_among IsCellRow rows.cells.items (λ r i. reads_cell t c holds bytes r ((among_permutation t.cells rows.cells.items all.1.0 r).1 i))
 
   -- ---- what is put together is the table
 
@@ -110,7 +70,7 @@ module _ (ls : Labels) (few : length ls ≤ 256) (schemes : Schemes) (t : Tables
     nodes_spelled = all-map IsSpelledNode node_of (entries T) (each_among (λ e. IsSpelledKey e.0.key) (entries T) (λ e i. spelled_keys t rel T held e i))
 
     cells_spelled : AllByRecursion IsSpelledCell (cells_in T)
-    cells_spelled = each_among IsSpelledCell (cells_in T) (λ d k. (cell_reads rel d k).0)
+    cells_spelled = each_among IsSpelledCell (cells_in T) (λ d k. (cell_reads t c holds bytes rel d k).0)
 
     same_nodes : IsPermutation (nodes_in T) made.ns
     same_nodes = reflects IsSpelledNode (node_row rel) (same_node rel) (nodes_in T) made.ns nodes_spelled made.nodes_spelled
@@ -139,7 +99,7 @@ module _ (ls : Labels) (few : length ls ≤ 256) (schemes : Schemes) (t : Tables
       let there = among_entries (c.db rel) e i in
       let key = (holds.tables rel).shared e.0 e.1 there in
       let fits = subst (λ s. Fits ls s e.0 e.1) (no_scheme_at schemes rel l) ((content rel).fits e.0 e.1 there) in
-      no_key (λ a v. (is_kind v a.kind ≡ true) × (in_interval ls e.0.key_class a ≡ true)) e.0.key fits.key key.key.count.some)
+      no_key (λ a v. (is_kind v a.1.kind ≡ true) × (in_interval ls e.0.key_class a ≡ true)) e.0.key fits.key key.key.count.some)
 
   module _ (tables : List Entries) (count : length tables ≡ length schemes) (made : AreAssembled rows.nodes.items rows.cells.items tables) where
     pub tables_are : AreTables ls schemes tables

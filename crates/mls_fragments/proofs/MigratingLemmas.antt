@@ -1,10 +1,10 @@
 -- Content of older stores, widened: it is sound, and the rows of its tables hold it.
-use Rattle.std.proofs.Common.{◌≡◌, ℕ, zero, suc, ◌+◌, ◌<◌, ◌≤◌, List, [], ◌∷◌, ◌++◌, map, length, drop, refl, sym, ap, subst, ◌∙◌, arith}
+use Rattle.std.proofs.Common.{◌≡◌, ℕ, zero, suc, ◌+◌, ◌<◌, ◌≤◌, List, [], ◌∷◌, ◌++◌, map, length, drop, append_assoc, refl, sym, ap, subst, ◌∙◌, arith}
 use Rattle.std.specs.Prelude.{slice_index_or, IfSome}
 use Rattle.std.specs.List.{AllByRecursion}
 use Rattle.std.specs.List.Sorted.{IsStrictlySortedBy}
 use Rattle.std.specs.Map.{keys_of}
-use Rattle.std.proofs.lemmas.List.{length-drop, take-append-drop, take_all}
+use Rattle.std.proofs.lemmas.List.{length-drop, map-append, take-append-drop, take_all}
 use Rattle.mls_lattice.specs.Policy.{Policy, labels_of}
 use Rattle.mls_scheme.specs.declared.tuple.Element.{Element}
 use Rattle.mls_scheme.specs.Spelling.{HasSpelling}
@@ -99,3 +99,14 @@ scheme_each P (s ∷ schemes) h (suc rel) l = scheme_each P schemes h.1 rel (ome
 pub entries_more : (k n : ℕ) → k ≤ n → (audit : List (List ℕ)) → AllByRecursion (IsEntryOf k) audit → AllByRecursion (IsEntryOf n) audit
 entries_more k n few [] h = tt
 entries_more k n few (b ∷ audit) h = let d = h.0.declared in (record { entry = h.0.entry; spelled = h.0.spelled; declared = omega (arith, d, few); is = h.0.is }, entries_more k n few audit h.1)
+
+-- one table more is widened
+pub table_wide : {T : Type 0} (entries : T → Entries) (schemes : Schemes) (counts : List ℕ) (k : ℕ) (wide : List T) (t u : T) (rest : List T)
+    → entries u ≡ map (widened_entry (more schemes counts k)) (entries t)
+    → map entries (wide ++ u ∷ []) ++ wide_tables schemes counts (k + 1) (map entries rest) ≡ map entries wide ++ wide_tables schemes counts k (map entries (t ∷ rest))
+table_wide entries schemes counts k wide t u rest same =
+    let next : k + 1 ≡ suc k = omega arith in
+    ap (λ es. es ++ wide_tables schemes counts (k + 1) (map entries rest)) (map-append entries wide (u ∷ []))
+    ∙ append_assoc (map entries wide) (entries u ∷ []) (wide_tables schemes counts (k + 1) (map entries rest))
+    ∙ ap (λ es. map entries wide ++ es ∷ wide_tables schemes counts (k + 1) (map entries rest)) same
+    ∙ ap (λ n. map entries wide ++ map (widened_entry (more schemes counts k)) (entries t) ∷ wide_tables schemes counts n (map entries rest)) next

@@ -15,9 +15,9 @@ use Rattle.mls_filterview.specs.declared.fragment.Cell.{Cell}
 use Rattle.mls_filterview.specs.Content.{Content, with_table, with_relation}
 use Rattle.mls_filterview.specs.Fragment.{place_of_node, IsMadeOf, IsCellOf, HasCell, IsAlone}
 use Rattle.mls_filterview.proofs.MadeLemmas.{elements_made}
-use Rattle.mls_statements.specs.Rows.{Tables, described}
-use Rattle.mls_statements.specs.Statements.{SetsCell, AddsEntry, ClearsEntries}
-use Rattle.mls_statements.specs.Store.{TableState, IsClean}
+use Rattle.mls_tables.specs.Rows.{Tables, described}
+use Rattle.mls_tables.specs.Statements.{SetsCell, AddsEntry, ClearsEntries}
+use Rattle.mls_tables.specs.Store.{TableState, IsClean}
 use Rattle.mls_fragments.specs.declared.noted.Noted.{Noted}
 use Rattle.mls_fragments.specs.Changes.{Change, Entries, found, content_of}
 use Rattle.mls_fragments.specs.Changes.Change.{Finds, Adds, Sets, Drops, Appends, Clears}

@@ -1,5 +1,5 @@
 -- Rows hold one content: the nodes have the places and the classes, each value has one cell, and the entries are numbered.
-use Rattle.std.proofs.Common.{◌≡◌, ◌+◌, ℕ, ◌<◌, List, [], ◌∷◌, map, length, get_or, Some, refl, sym, ap, subst, ◌∙◌, arith, zero-add, IsPermutation}
+use Rattle.std.proofs.Common.{◌≡◌, ℕ, ◌<◌, List, map, length, get_or, Some, sym, ap, subst, ◌∙◌, arith, zero-add, IsPermutation}
 use Rattle.std.specs.List.{AllByRecursion}
 use Rattle.std.specs.FinMap.{get, entries, entries_sorted, same_entries_map}
 use Rattle.std.proofs.lemmas.List.{ext_get_or, get_or-map, length-map}
@@ -20,8 +20,9 @@ use Rattle.mls_filterview.specs.View.{IsAmong}
 use Rattle.mls_filterview.proofs.AmongLemmas.{each_among, among_map, map_among, among_flat_map, flat_map_among, among_permutation}
 use Rattle.mls_filterview.proofs.EntryLemmas.{among_entries, entries_among, entries_are}
 use Rattle.mls_filterview.proofs.FragmentLemmas.{cell_found, cell_among}
-use Rattle.mls_statements.specs.Rows.{Tables, numbered}
-use Rattle.mls_statements.proofs.NumberedLemmas.{in_order, rising}
+use Rattle.mls_tables.specs.Rows.{Tables, numbered}
+use Rattle.mls_tables.proofs.NumberedLemmas.{in_order, rising}
+use Rattle.mls_fragments.proofs.RowLemmas.{texts_of}
 use Rattle.mls_fragments.specs.Holding.{Holds, HoldsTable, IsSpelledNode, IsSpelledCell, node_row, cell_row, nodes_in, cells_in}
 use Rattle.mls_fragments.specs.OneContent.{RowsHoldOneContent}
 use Rattle.mls_fragments.proofs.ShownLemmas.{same_node, same_cell, reflects}
@@ -102,15 +103,11 @@ one_table t rel T U h k = same_entries_map T U (entries_are U (entries T) (entri
 
 -- ---- entries
 
-texts_numbered : (k : ℕ) (list : List (List ℕ)) → map (λ r. r.bytes) (numbered k list) ≡ list
-texts_numbered k [] = refl
-texts_numbered k (b ∷ list) = ap (λ l. b ∷ l) (texts_numbered (k + 1) list)
-
 one_list : (t : Tables) (c d : Content) → Holds t c → Holds t d → c.audit ≡ d.audit
 one_list t c d h k =
-    sym (texts_numbered 1 c.audit)
+    sym (texts_of 1 c.audit)
     ∙ ap (map (λ r. r.bytes)) (sym (in_order c.audit t.audit (numbered 1 d.audit) h.audit (IsPermutation-sym _ _ k.audit) (rising 1 d.audit)))
-    ∙ texts_numbered 1 d.audit
+    ∙ texts_of 1 d.audit
 
 pub one_content : RowsHoldOneContent
 one_content t c d h k =

@@ -8,11 +8,11 @@ use Rattle.sqlite.specs.Start.{FindsIn}
 use Rattle.mls_lattice.specs.Policy.{Policy}
 use Rattle.mls_scheme.specs.declared.file.SchemesFile.{SchemesFile}
 use Rattle.mls_filterview.specs.Content.{Content}
-use Rattle.mls_statements.specs.declared.adopting.AdoptFault.{AdoptFault}
-use Rattle.mls_statements.specs.declared.adopting.AdoptFault.TheVariants as adopt
-use Rattle.mls_statements.specs.declared.adopting.AllRows.{AllRows}
-use Rattle.mls_statements.specs.Adopting.{Blames, HasDescription, HasReadRows, IsAdopted}
-use Rattle.mls_statements.specs.Store.{HasEnded}
+use Rattle.mls_tables.specs.declared.adopting.AdoptFault.{AdoptFault}
+use Rattle.mls_tables.specs.declared.adopting.AdoptFault.TheVariants as adopt
+use Rattle.mls_tables.specs.declared.adopting.AllRows.{AllRows}
+use Rattle.mls_tables.specs.Adopting.{Blames, HasDescription, HasReadRows, IsAdopted}
+use Rattle.mls_tables.specs.Store.{HasEnded}
 use Rattle.mls_fragments.specs.declared.open_fault.OpenFault.{OpenFault}
 use Rattle.mls_fragments.specs.declared.open_fault.OpenFault.TheVariants.{OtherPolicy, BadRows}
 use Rattle.mls_fragments.specs.declared.reading.RowFault.{RowFault}

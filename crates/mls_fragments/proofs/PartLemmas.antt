@@ -1,5 +1,5 @@
 -- The rows of a part hold the content of the part, and that of sound content is sound.
-use Rattle.std.proofs.Common.{◌≡◌, ℕ, ◌<◌, Bool, true, List, [], map, filter, length, Some, refl, sym, ap, subst, ◌∙◌, IsPermutation}
+use Rattle.std.proofs.Common.{◌≡◌, ℕ, Bool, true, List, [], map, filter, length, Some, sym, ap, subst, ◌∙◌}
 use Rattle.std.specs.Prelude.{nat_eq}
 use Rattle.std.specs.List.{flat_map}
 use Rattle.std.specs.FinMap.{get, entries, entries_sorted, entries-from_sorted}
@@ -13,6 +13,7 @@ use Rattle.mls_scheme.specs.Spelling.{key_spelling}
 use Rattle.mls_scheme.specs.Scheme.{Scheme, Schemes}
 use Rattle.mls_scheme.specs.Tuple.{at}
 use Rattle.mls_scheme.specs.Table.{Table, place_cmp}
+use Rattle.mls_filterview.proofs.FilteredLemmas.{filter_turned}
 use Rattle.mls_filterview.specs.Assembly.{table_of}
 use Rattle.mls_filterview.specs.Content.{Content}
 use Rattle.mls_filterview.specs.Fragment.{node_of, cells_of}
@@ -21,13 +22,11 @@ use Rattle.mls_filterview.specs.View.{IsAmong}
 use Rattle.mls_filterview.proofs.AmongLemmas.{among_filter, filter_among}
 use Rattle.mls_filterview.proofs.EntryLemmas.{Entry, among_entries, entries_among, sorted_filter, so_true, so_from}
 use Rattle.mls_filterview.proofs.FragmentLemmas.{cell_found}
-use Rattle.mls_statements.specs.declared.rows.NodeRow.{NodeRow}
-use Rattle.mls_statements.specs.declared.rows.CellRow.{CellRow}
-use Rattle.mls_statements.specs.Rows.{Tables}
-use Rattle.mls_fragments.specs.Finding.{AreWithin, IsSoundWithin}
+use Rattle.mls_tables.specs.Rows.{Tables}
+use Rattle.mls_fragments.specs.Finding.{IsSoundWithin}
 use Rattle.mls_fragments.specs.Holding.{Holds, HoldsTable, IsSharedTuple, node_row, cell_row, nodes_in, cells_in}
 use Rattle.mls_fragments.specs.Parts.{Part, rows_of, content_of}
-use Rattle.mls_fragments.proofs.WrittenLemmas.{filter_turned, filter_each}
+use Rattle.mls_fragments.proofs.WrittenLemmas.{filter_each}
 
 -- ---- one relation
 

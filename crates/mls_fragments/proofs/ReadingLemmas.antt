@@ -3,20 +3,19 @@ use Rattle.std.proofs.Common.{◌≡◌, ℕ, List, map, filter, Bool, true, ◌
 use Rattle.std.specs.Prelude.{nat_eq}
 use Rattle.std.specs.List.{AllByRecursion, list_any}
 use Rattle.std.specs.FinMap.{entries}
-use Rattle.mls_filterview.proofs.FilteredLemmas.{filter_same}
+use Rattle.mls_filterview.proofs.FilteredLemmas.{filter_same, filter_turned}
 use Rattle.std.proofs.lemmas.Bool.{and_parts}
 use Rattle.sqlite_trees.proofs.ListLemmas.{filter-filter, IsPermutation-filter}
 use Rattle.mls_scheme.specs.declared.place.Place.{Place}
-use Rattle.mls_scheme.specs.Spelling.{key_spelling, IsSpelledKey}
+use Rattle.mls_scheme.specs.Spelling.{IsSpelledKey}
 use Rattle.mls_filterview.specs.Content.{Content}
 use Rattle.mls_filterview.specs.Fragment.{IsFragment, AreFragments, ArePartsOf, IsEntityPart}
 use Rattle.mls_filterview.specs.declared.fragment.Fragment.{Fragment}
-use Rattle.mls_statements.specs.declared.rows.NodeRow.{NodeRow}
-use Rattle.mls_statements.specs.declared.rows.CellRow.{CellRow}
-use Rattle.mls_statements.specs.Rows.{Tables, has_bit, is_node_at, is_node_among, is_cell_at, is_cell_among, is_node, is_cell_in}
-use Rattle.mls_fragments.specs.Holding.{Holds, node_row, cell_row, IsSpelledNode, IsSpelledCell}
+use Rattle.mls_tables.specs.declared.rows.NodeRow.{NodeRow}
+use Rattle.mls_tables.specs.declared.rows.CellRow.{CellRow}
+use Rattle.mls_tables.specs.Rows.{Tables, has_bit, is_node_at, is_node_among, is_cell_at, is_cell_among, is_node, is_cell_in}
+use Rattle.mls_fragments.specs.Holding.{Holds, node_row, cell_row, IsSpelledNode, IsSpelledCell, tuple_key}
 use Rattle.mls_fragments.proofs.ShownLemmas.{shows_labels, shows_entity}
-use Rattle.mls_fragments.proofs.WrittenLemmas.{filter_turned}
 
 -- what passes a test passes a weaker one too
 passes : {R : Type 0} (p q : R → Bool) → ((r : R) → p r ≡ true → q r ≡ true) → (all rows shown : List R) → IsPermutation (filter p all) rows → shown ≡ filter q rows → IsPermutation (filter p all) shown
@@ -44,10 +43,10 @@ module _ (t : Tables) (c : Content) (rel : ℕ) (f : Fragment) (nodes : List Nod
       (found_labels (has_bit bits) some_nodes some_cells)
 
 pub found_entity : (t : Tables) (c : Content) (rel : ℕ) (p : Place) (f : Fragment) (nodes : List NodeRow) (cells : List CellRow) → Holds t c → IsSpelledKey p.key
-    → IsPermutation (filter (is_node rel (key_spelling p.key) p.key_class p.class) t.nodes) nodes → IsPermutation (filter (is_cell_in rel (key_spelling p.key) p.key_class p.class) t.cells) cells
+    → IsPermutation (filter (is_node (tuple_key rel p)) t.nodes) nodes → IsPermutation (filter (is_cell_in (tuple_key rel p)) t.cells) cells
     → map (node_row rel) f.nodes ≡ filter (λ r. nat_eq r.rel rel) nodes → map (cell_row rel) f.cells ≡ filter (λ r. nat_eq r.rel rel) cells
     → AllByRecursion IsSpelledNode f.nodes → AllByRecursion IsSpelledCell f.cells → IsEntityPart (c.db rel) p f
 found_entity t c rel p f nodes cells holds spelled some_nodes some_cells shown_nodes shown_cells nodes_spelled cells_spelled =
     shows_entity t c rel p f holds spelled nodes_spelled cells_spelled
-    (passes (is_node rel (key_spelling p.key) p.key_class p.class) (λ r. nat_eq r.rel rel) (λ r h. (and_parts _ _ h).0) t.nodes nodes (map (node_row rel) f.nodes) some_nodes shown_nodes)
-    (passes (is_cell_in rel (key_spelling p.key) p.key_class p.class) (λ r. nat_eq r.rel rel) (λ r h. (and_parts _ _ h).0) t.cells cells (map (cell_row rel) f.cells) some_cells shown_cells)
+    (passes (is_node (tuple_key rel p)) (λ r. nat_eq r.rel rel) (λ r h. (and_parts _ _ h).0) t.nodes nodes (map (node_row rel) f.nodes) some_nodes shown_nodes)
+    (passes (is_cell_in (tuple_key rel p)) (λ r. nat_eq r.rel rel) (λ r h. (and_parts _ _ h).0) t.cells cells (map (cell_row rel) f.cells) some_cells shown_cells)

@@ -1,6 +1,6 @@
 -- Entries and their rows.
 use Rattle.std.proofs.Common.{◌≡◌, ℕ, ◌+◌, List, [], ◌∷◌, map, refl, ap}
-use Rattle.mls_statements.specs.Rows.{numbered}
+use Rattle.mls_tables.specs.Rows.{numbered}
 
 pub texts_of : (k : ℕ) (list : List (List ℕ)) → map (λ r. r.bytes) (numbered k list) ≡ list
 texts_of k [] = refl

@@ -10,11 +10,11 @@ use Rattle.std.proofs.lemmas.Cmp.{on_total, then_total, nat_cmp_total, int_cmp_t
 use Rattle.std.proofs.lemmas.Int.{ints}
 use Rattle.std.proofs.lemmas.List.Sorted.{IsPermutation-trans, IsPermutation-sym}
 use Rattle.mls_scheme.proofs.OrderLemmas.{then_ties}
-use Rattle.mls_statements.specs.declared.rows.NodeRow.{NodeRow}
-use Rattle.mls_statements.specs.declared.rows.CellRow.{CellRow}
-use Rattle.mls_statements.specs.declared.rows.AuditRow.{AuditRow}
-use Rattle.mls_statements.specs.Rows.{numbered, are_numbered}
-use Rattle.mls_statements.proofs.NumberedLemmas.{spelled}
+use Rattle.mls_tables.specs.declared.rows.NodeRow.{NodeRow}
+use Rattle.mls_tables.specs.declared.rows.CellRow.{CellRow}
+use Rattle.mls_tables.specs.declared.rows.AuditRow.{AuditRow}
+use Rattle.mls_tables.specs.Rows.{numbered, are_numbered}
+use Rattle.mls_tables.proofs.NumberedLemmas.{spelled}
 use Rattle.mls_fragments.proofs.SortedLemmas.{one_sorted}
 
 abbrev bytes_cmp : List ℕ → List ℕ → Ordering

@@ -10,7 +10,7 @@ use lib.Dec.{T as IsSo}
 use Rattle.std.proofs.lemmas.Bool.{cond-true, cond-false, cond_both, and_parts, eqb-true, eq-eqb, ne_eqb}
 use Rattle.std.proofs.lemmas.Option.{none-some, same_Some}
 use Rattle.std.proofs.lemmas.List.{map-append, append-nil}
-use Rattle.std.proofs.lemmas.List.Sorted.{IsPermutation-refl, IsPermutation-cons, IsPermutation-trans, IsPermutation-sym, IsPermutation-map, IsPermutation-filter_both, length_permutation}
+use Rattle.std.proofs.lemmas.List.Sorted.{IsPermutation-refl, IsPermutation-cons, IsPermutation-trans, IsPermutation-sym, IsPermutation-map, IsPermutation-filter_both}
 use Rattle.sqlite_trees.proofs.ListLemmas.{map-map, filter-filter, IsPermutation-filter}
 use Rattle.mls_scheme.specs.declared.value.Value.{Value}
 use Rattle.mls_scheme.specs.declared.tuple.Element.{Element}
@@ -20,18 +20,20 @@ use Rattle.mls_scheme.specs.Tuple.{at}
 use Rattle.mls_scheme.specs.Table.{place_cmp, Table, change}
 use Rattle.mls_scheme.proofs.OrderLemmas.{is_place, is_place-true, is_place-same}
 use Rattle.mls_scheme.proofs.TableLemmas.{get_change}
+use Rattle.mls_filterview.proofs.PlaceLemmas.{one_permuted}
+use Rattle.mls_filterview.proofs.FilteredLemmas.{filter_turned}
 use Rattle.mls_filterview.specs.Stored.{is_entity, with_class}
 use Rattle.mls_filterview.specs.Fragment.{node_of, cell_at, cells_from, cells_of, set_from, set_in, HasCell}
 use Rattle.mls_filterview.specs.Content.{Content, with_table}
 use Rattle.mls_filterview.specs.View.{IsAmong}
-use Rattle.mls_filterview.proofs.AmongLemmas.{among_filter, filter_among, among_permutation}
+use Rattle.mls_filterview.proofs.AmongLemmas.{among_filter, filter_among}
 use Rattle.mls_filterview.proofs.EntityTests.{entity_decides}
 use Rattle.mls_filterview.proofs.EntryLemmas.{Entry, among_entries, entries_among, same_lists, sorted_filter, so_true}
-use Rattle.mls_statements.specs.declared.rows.CellRow.{CellRow}
-use Rattle.mls_statements.specs.Rows.{Tables, is_cell_in}
-use Rattle.mls_statements.specs.Statements.{SetsCell, IsOne, has_key_of}
-use Rattle.mls_fragments.specs.Holding.{Holds, HoldsTable, IsSharedTuple, cell_row, nodes_in, cells_in}
-use Rattle.mls_fragments.proofs.WrittenLemmas.{filter_turned, entity_test, cells_where, spelled_keys, others_stay, holds_same, holds_with}
+use Rattle.mls_tables.specs.declared.rows.CellRow.{CellRow}
+use Rattle.mls_tables.specs.Rows.{Tables, is_cell_in}
+use Rattle.mls_tables.specs.Statements.{SetsCell, IsOne, has_key_of}
+use Rattle.mls_fragments.specs.Holding.{Holds, HoldsTable, IsSharedTuple, cell_row, nodes_in, cells_in, tuple_key}
+use Rattle.mls_fragments.proofs.WrittenLemmas.{entity_test, cells_where, spelled_keys, others_stay, holds_same, holds_with}
 
 -- ---- lists
 
@@ -56,11 +58,6 @@ set_one {X} test c x xs one =
 
     parts : map put (filter test xs ++ filter (λ d. not (test d)) xs) ≡ c ∷ filter (λ d. not (test d)) xs
     parts = map-append put (filter test xs) _ ∙ (λ i. map put (one i) ++ unset xs i) ∙ ap (λ b. cond b c x ∷ filter (λ d. not (test d)) xs) passes
-
-only_one : {X : Type 0} (x : X) (ys : List X) → IsPermutation (x ∷ []) ys → ys ≡ x ∷ []
-only_one x [] p = absurd (omega (arith, length_permutation _ _ p))
-only_one x (y ∷ []) p = elim ((among_permutation _ _ p x).0 (inl refl)) [ inl e ↦ ap (λ z. z ∷ []) (sym e) | inr n ↦ absurd n ]
-only_one x (y ∷ z ∷ ys) p = absurd (omega (arith, length_permutation _ _ p))
 
 -- ---- the entries of a table
 
@@ -257,7 +254,7 @@ module _ (p : Place) (attr : ℕ) (v : Option Value) where
       in_relation : (x : CellRow) → has_key_of set_row x ≡ true → nat_eq x.rel rel ≡ true
       in_relation x h = (and_parts _ _ h).0
 
-      in_tuple : (x : CellRow) → has_key_of set_row x ≡ true → is_cell_in rel (key_spelling p.key) p.key_class p.class x ≡ true
+      in_tuple : (x : CellRow) → has_key_of set_row x ≡ true → is_cell_in (tuple_key rel p) x ≡ true
       in_tuple x h = first_four (nat_eq x.rel rel) (bytes_eq x.ent (key_spelling p.key)) (nat_eq x.kclass p.key_class) (nat_eq x.label p.class) (nat_eq x.attr attr) h
 
       -- the tuple of the element's class has the cell
@@ -269,7 +266,7 @@ module _ (p : Place) (attr : ℕ) (v : Option Value) where
           let place : with_class q (at has.1 attr).class ≡ p = λ i. record { key = sym same.0 i; key_class = sym same.1 i; class = has.5 i } in
           let class : (at own.0 attr).class ≡ p.class = ap (λ e. e.class) own.3 ∙ has.5 in (
             cell_row rel (cell_at p attr (at own.0 attr)),
-            sym (filter-filter (has_key_of set_row) (is_cell_in rel (key_spelling p.key) p.key_class p.class) in_tuple (map (cell_row rel) (cells_in T)))
+            sym (filter-filter (has_key_of set_row) (is_cell_in (tuple_key rel p)) in_tuple (map (cell_row rel) (cells_in T)))
                 ∙ ap (filter (has_key_of set_row)) (cells_where rel T p spelled keys (λ b. b)
                 ∙ ap (λ es. map (cell_row rel) (flat_map cells_of es)) (entries-at T p own.0 (sym (ap (get T) place) ∙ own.1))
                 ∙ ap (map (cell_row rel)) (append-nil (cells_from 0 p own.0)))
@@ -281,7 +278,7 @@ module _ (p : Place) (attr : ℕ) (v : Option Value) where
           let it = cell_there has in (
             it.0,
             sym (filter-filter (has_key_of set_row) (λ x. nat_eq x.rel rel) in_relation t.cells)
-                ∙ only_one it.0 _ (subst (λ l. IsPermutation l (filter (has_key_of set_row) (filter (λ x. nat_eq x.rel rel) t.cells))) it.1 (IsPermutation-filter (has_key_of set_row) _ _ held.cells)),
+                ∙ one_permuted it.0 _ (subst (λ l. IsPermutation l (filter (has_key_of set_row) (filter (λ x. nat_eq x.rel rel) t.cells))) it.1 (IsPermutation-filter (has_key_of set_row) _ _ held.cells)),
           )
 
       cells_put : HasCell T p attr → (cells : List CellRow) → IsPermutation (set_row ∷ filter (λ d. not (has_key_of set_row d)) t.cells) cells

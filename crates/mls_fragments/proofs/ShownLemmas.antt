@@ -9,7 +9,7 @@ use Rattle.std.proofs.lemmas.List.Sorted.{IsPermutation-refl, IsPermutation-map,
 use Rattle.sqlite_trees.proofs.ListLemmas.{filter-map, filter-filter, filter_same, all-map, all-permutation, pull_back, IsPermutation-filter}
 use Rattle.mls_scheme.specs.declared.value.Value.{Value}
 use Rattle.mls_scheme.specs.declared.value.Value.TheVariants.{Int, Text}
-use Rattle.mls_scheme.specs.Spelling.{key_spelling, value_spelling, HasSpelling, IsSpelledKey}
+use Rattle.mls_scheme.specs.Spelling.{value_spelling, HasSpelling, IsSpelledKey}
 use Rattle.mls_scheme.specs.declared.tuple.Element.{Element}
 use Rattle.mls_scheme.specs.declared.place.Place.{Place}
 use Rattle.mls_scheme.specs.Table.{Table}
@@ -25,9 +25,9 @@ use Rattle.mls_filterview.proofs.AmongLemmas.{each_among, among_filter, among_fl
 use Rattle.mls_filterview.proofs.EntryLemmas.{Entry, among_entries}
 use Rattle.mls_filterview.proofs.FragmentLemmas.{cell_found}
 use Rattle.mls_filterview.proofs.PlaceLemmas.{tuples, at_place-get, nil_permuted, one_permuted}
-use Rattle.mls_statements.specs.declared.rows.NodeRow.{NodeRow}
-use Rattle.mls_statements.specs.Rows.{Tables, is_node, is_cell_in}
-use Rattle.mls_fragments.specs.Holding.{Holds, HoldsTable, IsSpelledNode, IsSpelledCell, value_bytes, node_row, cell_row}
+use Rattle.mls_tables.specs.declared.rows.NodeRow.{NodeRow}
+use Rattle.mls_tables.specs.Rows.{Tables, is_node, is_cell_in}
+use Rattle.mls_fragments.specs.Holding.{Holds, HoldsTable, IsSpelledNode, IsSpelledCell, value_bytes, node_row, cell_row, tuple_key}
 use Rattle.mls_fragments.proofs.WrittenLemmas.{filter_each, spelled_keys, entity_test, place_test, cells_where}
 
 -- ---- rows that are the same
@@ -143,27 +143,27 @@ module _ (t : Tables) (rel : ℕ) (p : Place) (spelled : IsSpelledKey p.key) (T 
   keys : (e : Entry) → IsAmong e (entries T) → IsSpelledKey e.0.key
   keys = spelled_keys t rel T held
 
-  there_nodes : IsPermutation (map (node_row rel) (map node_of (at_place p T))) (filter (is_node rel (key_spelling p.key) p.key_class p.class) t.nodes)
+  there_nodes : IsPermutation (map (node_row rel) (map node_of (at_place p T))) (filter (is_node (tuple_key rel p)) t.nodes)
   there_nodes =
-      subst (IsPermutation (map (node_row rel) (map node_of (at_place p T)))) (filter-filter (is_node rel (key_spelling p.key) p.key_class p.class) (λ n. nat_eq n.rel rel) (λ n h. (and_parts _ _ h).0) t.nodes)
-      (subst (λ l. IsPermutation l (filter (is_node rel (key_spelling p.key) p.key_class p.class) (filter (λ n. nat_eq n.rel rel) t.nodes)))
+      subst (IsPermutation (map (node_row rel) (map node_of (at_place p T)))) (filter-filter (is_node (tuple_key rel p)) (λ n. nat_eq n.rel rel) (λ n h. (and_parts _ _ h).0) t.nodes)
+      (subst (λ l. IsPermutation l (filter (is_node (tuple_key rel p)) (filter (λ n. nat_eq n.rel rel) t.nodes)))
       (filter-map _ (node_row rel) (map node_of (entries T))
       ∙ ap (map (node_row rel)) (filter-map _ node_of (entries T)
       ∙ ap (map node_of) (filter_same _ (λ e. is_place e.0 p) (entries T) (each_among _ (entries T) (λ e i.
       entity_test rel p e.0 (nat_eq e.0.class p.class) spelled (keys e i) ∙ place_test p e.0)))))
       (IsPermutation-filter _ _ _ held.nodes))
 
-  there_cells : IsPermutation (map (cell_row rel) (flat_map cells_of (at_place p T))) (filter (is_cell_in rel (key_spelling p.key) p.key_class p.class) t.cells)
+  there_cells : IsPermutation (map (cell_row rel) (flat_map cells_of (at_place p T))) (filter (is_cell_in (tuple_key rel p)) t.cells)
   there_cells =
-      subst (IsPermutation (map (cell_row rel) (flat_map cells_of (at_place p T)))) (filter-filter (is_cell_in rel (key_spelling p.key) p.key_class p.class) (λ x. nat_eq x.rel rel) (λ x h. (and_parts _ _ h).0) t.cells)
-      (subst (λ l. IsPermutation l (filter (is_cell_in rel (key_spelling p.key) p.key_class p.class) (filter (λ x. nat_eq x.rel rel) t.cells)))
+      subst (IsPermutation (map (cell_row rel) (flat_map cells_of (at_place p T)))) (filter-filter (is_cell_in (tuple_key rel p)) (λ x. nat_eq x.rel rel) (λ x h. (and_parts _ _ h).0) t.cells)
+      (subst (λ l. IsPermutation l (filter (is_cell_in (tuple_key rel p)) (filter (λ x. nat_eq x.rel rel) t.cells)))
       (cells_where rel T p spelled keys (λ b. b))
       (IsPermutation-filter _ _ _ held.cells))
 
 pub shows_entity : (t : Tables) (c : Content) (rel : ℕ) (p : Place) (f : Fragment) → Holds t c → IsSpelledKey p.key
     → AllByRecursion IsSpelledNode f.nodes → AllByRecursion IsSpelledCell f.cells
-    → IsPermutation (filter (is_node rel (key_spelling p.key) p.key_class p.class) t.nodes) (map (node_row rel) f.nodes)
-    → IsPermutation (filter (is_cell_in rel (key_spelling p.key) p.key_class p.class) t.cells) (map (cell_row rel) f.cells)
+    → IsPermutation (filter (is_node (tuple_key rel p)) t.nodes) (map (node_row rel) f.nodes)
+    → IsPermutation (filter (is_cell_in (tuple_key rel p)) t.cells) (map (cell_row rel) f.cells)
     → IsEntityPart (c.db rel) p f
 shows_entity t c rel p f holds spelled ns cs nodes cells =
     let T = c.db rel in
@@ -177,7 +177,7 @@ pattern_there rel p None patterns h = ap (λ l. slice_get l 0) (nil_permuted pat
 pattern_there rel p (Some es) patterns h = ap (λ l. slice_get l 0) (one_permuted (classes es) patterns h)
 
 pub shows_pattern : (t : Tables) (c : Content) (rel : ℕ) (p : Place) → Holds t c → IsSpelledKey p.key → (patterns : List (List ℕ))
-    → IsPermutation (map (λ n. n.pattern) (filter (is_node rel (key_spelling p.key) p.key_class p.class) t.nodes)) patterns
+    → IsPermutation (map (λ n. n.pattern) (filter (is_node (tuple_key rel p)) t.nodes)) patterns
     → slice_get patterns 0 ≡ option_map classes (get (c.db rel) p)
 shows_pattern t c rel p holds spelled patterns h =
     let T = c.db rel in
@@ -192,7 +192,7 @@ no_tuple rel (e ∷ es) none = absurd (let long = length_permutation _ _ none in
 
 -- where a place has no node, it has no tuple, and so no cells
 pub shows_nothing : (t : Tables) (c : Content) (rel : ℕ) (p : Place) (f : Fragment) → Holds t c → IsSpelledKey p.key
-    → IsPermutation (filter (is_node rel (key_spelling p.key) p.key_class p.class) t.nodes) [] → f.nodes ≡ [] → f.cells ≡ [] → IsEntityPart (c.db rel) p f
+    → IsPermutation (filter (is_node (tuple_key rel p)) t.nodes) [] → f.nodes ≡ [] → f.cells ≡ [] → IsEntityPart (c.db rel) p f
 shows_nothing t c rel p f holds spelled none no_nodes no_cells =
     let T = c.db rel in
     let gone : at_place p T ≡ [] = no_tuple rel (at_place p T) (IsPermutation-trans _ _ _ (there_nodes t rel p spelled T (holds.tables rel)) none) in

@@ -1,5 +1,5 @@
 -- The classes that occur in content are those of its rows.
-use Rattle.std.proofs.Common.{◌≡◌, inl, inr, ℕ, ◌<◌, true, Bool, List, [], ◌∷◌, map, length, refl, sym, ap, subst, ◌∙◌}
+use Rattle.std.proofs.Common.{◌≡◌, inl, inr, ℕ, ◌<◌, true, List, map, length, refl, sym, ap, subst, ◌∙◌}
 use Rattle.std.specs.Prelude.{nat_eq, nat_lt, Some}
 use Rattle.std.specs.List.{list_all}
 use Rattle.std.specs.FinMap.{get, entries}
@@ -13,13 +13,15 @@ use Rattle.mls_scheme.specs.Tuple.{at, null_element}
 use Rattle.mls_filterview.specs.Content.{Content}
 use Rattle.mls_filterview.specs.Fragment.{node_of}
 use Rattle.mls_filterview.specs.View.{IsAmong}
+use Rattle.mls_filterview.proofs.ContentLemmas.{all-among, among-all}
 use Rattle.mls_filterview.proofs.AmongLemmas.{among_map, map_among, among_filter, filter_among, among_permutation}
 use Rattle.mls_filterview.proofs.RuleLemmas.{all-each, each-all}
 use Rattle.mls_filterview.proofs.EntryLemmas.{Entry, among_entries, entries_among}
-use Rattle.mls_statements.specs.declared.adopting.AllRows.{AllRows}
-use Rattle.mls_statements.specs.Adopting.{AreAll}
-use Rattle.mls_statements.specs.Rows.{Tables}
-use Rattle.mls_fragments.specs.Finding.{is_within, AreWithin, IsSoundWithin, IsSoundContent}
+use Rattle.mls_audit.specs.Sound.{IsSoundContent}
+use Rattle.mls_tables.specs.declared.adopting.AllRows.{AllRows}
+use Rattle.mls_tables.specs.Adopting.{AreAll}
+use Rattle.mls_tables.specs.Rows.{Tables}
+use Rattle.mls_fragments.specs.Finding.{is_within, AreWithin, IsSoundWithin}
 use Rattle.mls_fragments.specs.Holding.{Holds, node_row, nodes_in}
 
 -- the classes of elements, by their places
@@ -30,15 +32,6 @@ class_at labels es h i l =
 each_class : (labels : ℕ) (es : List Element) → ((i : ℕ) → i < length es → (at es i).class < labels) → list_all (λ m. nat_lt m labels) (map (λ x. x.class) es) ≡ true
 each_class labels es h =
     list_all-map (λ m. nat_lt m labels) (λ x. x.class) es ∙ each-all (λ e. nat_lt e.class labels) null_element es (λ i l. lt-ltb (at es i).class labels (h i l))
-
-all-among : {A : Type 0} (p : A → Bool) (xs : List A) → list_all p xs ≡ true → (x : A) → IsAmong x xs → p x ≡ true
-all-among p [] h x i = absurd i
-all-among p (y ∷ xs) h x (inl e) = ap p e ∙ (and_parts _ _ h).0
-all-among p (y ∷ xs) h x (inr i) = all-among p xs (and_parts _ _ h).1 x i
-
-among-all : {A : Type 0} (p : A → Bool) (xs : List A) → ((x : A) → IsAmong x xs → p x ≡ true) → list_all p xs ≡ true
-among-all p [] h = refl
-among-all p (y ∷ xs) h = and_from _ _ (h y (inl refl)) (among-all p xs (λ x i. h x (inr i)))
 
 module _ (labels : ℕ) (t : Tables) (rows : AllRows) (all : AreAll t rows) (c : Content) (holds : Holds t c) where
   row_of : (rel : ℕ) (e : Entry) → get (c.db rel) e.0 ≡ Some e.1 → IsAmong (node_row rel (node_of e)) rows.nodes.items

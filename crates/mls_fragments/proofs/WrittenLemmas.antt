@@ -4,7 +4,7 @@ use Rattle.std.specs.Prelude.{nat_eq, bytes_eq}
 use Rattle.std.specs.List.{filter, flat_map}
 use Rattle.std.specs.Cmp.Lexicographic.{bytes_decides}
 use Rattle.std.specs.FinMap.{entries}
-use Rattle.std.proofs.lemmas.Bool.{cases_Bool, and_parts, and_from, eqb-true, eq-eqb, false_from_ne_true, not_from_false}
+use Rattle.std.proofs.lemmas.Bool.{and_parts, and_from, eqb-true, eq-eqb, false_from_ne_true, not_from_false}
 use Rattle.std.proofs.lemmas.Bool.Decides.{same_from_decides}
 use Rattle.std.proofs.lemmas.List.Elements.{filter-append}
 use Rattle.std.proofs.lemmas.List.Sorted.{IsPermutation-trans}
@@ -24,23 +24,10 @@ use Rattle.mls_filterview.proofs.AmongLemmas.{each_among}
 use Rattle.mls_filterview.proofs.EntityTests.{entity_decides, entity_is}
 use Rattle.mls_filterview.proofs.EntryLemmas.{Entry, among_entries}
 use Rattle.mls_filterview.proofs.FragmentLemmas.{cell_found}
-use Rattle.mls_statements.specs.Rows.{Tables, numbered, is_cell_in}
-use Rattle.mls_fragments.specs.Holding.{Holds, HoldsTable, cell_row, cells_in}
+use Rattle.mls_tables.specs.Rows.{Tables, numbered, is_cell_in}
+use Rattle.mls_fragments.specs.Holding.{Holds, HoldsTable, cell_row, cells_in, tuple_key}
 
 -- ---- lists
-
-pub filter_turned : {A : Type 0} (p q : A → Bool) (xs : List A) → filter p (filter q xs) ≡ filter q (filter p xs)
-filter_turned p q [] = refl
-filter_turned p q (x ∷ xs) = elim (cases_Bool (p x)) [
-  | inl a ↦ elim (cases_Bool (q x)) [
-    | inl b ↦ rw (a, b, a, filter_turned p q xs)
-    | inr b ↦ rw (a, b, filter_turned p q xs)
-  ]
-  | inr a ↦ elim (cases_Bool (q x)) [
-    | inl b ↦ rw (a, b, a, filter_turned p q xs)
-    | inr b ↦ rw (a, b, filter_turned p q xs)
-  ]
-]
 
 -- a test that goes by the item that gave the items
 pub filter_each : {A B : Type 0} (f : A → List B) (test : B → Bool) (q : A → Bool) (xs : List A)
@@ -91,10 +78,10 @@ place_test p q = same_from_decides {P = q ≡ p} _ _ (
 -- ---- the cells of one tuple
 
 module _ (rel : ℕ) (T : Table) (p : Place) (spelled : IsSpelledKey p.key) (keys : (e : Entry) → IsAmong e (entries T) → IsSpelledKey e.0.key) where
-  cell_test : (e : Entry) → IsAmong e (entries T) → (d : Cell) → IsAmong d (cells_of e) → is_cell_in rel (key_spelling p.key) p.key_class p.class (cell_row rel d) ≡ is_place e.0 p
+  cell_test : (e : Entry) → IsAmong e (entries T) → (d : Cell) → IsAmong d (cells_of e) → is_cell_in (tuple_key rel p) (cell_row rel d) ≡ is_place e.0 p
   cell_test e i d k =
       let f = cell_found 0 e.0 e.1 d k in
-      let about : Cell → Bool = λ d. is_cell_in rel (key_spelling p.key) p.key_class p.class (cell_row rel d) in
+      let about : Cell → Bool = λ d. is_cell_in (tuple_key rel p) (cell_row rel d) in
       ap about f.1.1
       ∙ ap (λ m. about (cell_at e.0 (0 + f.0) (record { value = (at e.1 f.0).value; class = m }))) f.1.2
       ∙ entity_test rel p e.0 (nat_eq e.0.class p.class) spelled (keys e i)
@@ -102,7 +89,7 @@ module _ (rel : ℕ) (T : Table) (p : Place) (spelled : IsSpelledKey p.key) (key
 
   -- of the rows of cells, those of some places are those of the tuples there
   pub cells_where : (keep : Bool → Bool)
-      → filter (λ x. keep (is_cell_in rel (key_spelling p.key) p.key_class p.class x)) (map (cell_row rel) (cells_in T)) ≡ map (cell_row rel) (flat_map cells_of (filter (λ e. keep (is_place e.0 p)) (entries T)))
+      → filter (λ x. keep (is_cell_in (tuple_key rel p) x)) (map (cell_row rel) (cells_in T)) ≡ map (cell_row rel) (flat_map cells_of (filter (λ e. keep (is_place e.0 p)) (entries T)))
   cells_where keep =
       filter-map _ (cell_row rel) (cells_in T)
       ∙ ap (map (cell_row rel)) (filter_each cells_of _ (λ e. keep (is_place e.0 p)) (entries T) (λ e i d k. ap keep (cell_test e i d k)))

@@ -16,8 +16,8 @@ use Rattle.sqlite.specs.declared.file.Leftover.{Leftover}
 use Rattle.mls_lattice.specs.Policy.{Policy}
 use Rattle.mls_scheme.specs.declared.file.SchemesFile.{SchemesFile}
 use Rattle.mls_filterview.specs.Content.{Content}
-use Rattle.mls_statements.specs.declared.rows.MetaRow.{MetaRow}
-use Rattle.mls_statements.specs.Store.{IsClean}
+use Rattle.mls_tables.specs.declared.rows.MetaRow.{MetaRow}
+use Rattle.mls_tables.specs.Store.{IsClean}
 use Rattle.mls_fragments.specs.Based.{BaseState, HasRow, state_of}
 use Rattle.mls_fragments.specs.Creating.{IsBlankImage, LeavesBlank}
 use Rattle.mls_fragments.specs.Holdings.{Holdings, no_holdings, holdings_of, HasHoldings, IsTakenOf, Takes}

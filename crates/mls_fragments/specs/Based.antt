@@ -6,11 +6,11 @@ use Rattle.mls_scheme.specs.declared.file.SchemesFile.{SchemesFile}
 use Rattle.mls_filterview.specs.Content.{Content, State}
 use Rattle.mls_filterview.specs.declared.base.BaseFault.{BaseFault}
 use Rattle.mls_filterview.specs.declared.base.BaseFault.TheVariants as base
-use Rattle.mls_statements.specs.declared.store.StoreFault.{StoreFault}
-use Rattle.mls_statements.specs.declared.store.StoreFault.TheVariants.{Store, Memory}
-use Rattle.mls_statements.specs.declared.rows.MetaRow.{MetaRow}
-use Rattle.mls_statements.specs.Rows.{Tables}
-use Rattle.mls_statements.specs.Store.{TableState, IsClean}
+use Rattle.mls_tables.specs.declared.store.StoreFault.{StoreFault}
+use Rattle.mls_tables.specs.declared.store.StoreFault.TheVariants.{Store, Memory}
+use Rattle.mls_tables.specs.declared.rows.MetaRow.{MetaRow}
+use Rattle.mls_tables.specs.Rows.{Tables}
+use Rattle.mls_tables.specs.Store.{TableState, IsClean}
 use Rattle.mls_fragments.specs.declared.noted.Noted.{Noted}
 use Rattle.mls_fragments.specs.Changes.{Change, content_of}
 use Rattle.mls_fragments.specs.Finding.{HasByteClasses}

@@ -7,10 +7,10 @@ use Rattle.mls_scheme.specs.Spelling.{HasSpelling, IsSpelledKey}
 use Rattle.mls_filterview.specs.declared.fragment.Node.{Node}
 use Rattle.mls_filterview.specs.declared.fragment.Cell.{Cell}
 use Rattle.mls_filterview.specs.Fragment.{IsCellOf}
-use Rattle.mls_statements.specs.declared.rows.CellRow.{CellRow}
-use Rattle.mls_statements.specs.declared.store.StoreFault.{StoreFault}
-use Rattle.mls_statements.specs.Statements.{IsOne, has_key_of}
-use Rattle.mls_statements.specs.Store.{TableState, IsClean, IsStoreCall, IsSame}
+use Rattle.mls_tables.specs.declared.rows.CellRow.{CellRow}
+use Rattle.mls_tables.specs.declared.store.StoreFault.{StoreFault}
+use Rattle.mls_tables.specs.Statements.{IsOne, has_key_of}
+use Rattle.mls_tables.specs.Store.{TableState, IsClean, IsStoreCall, IsSame}
 use Rattle.mls_fragments.specs.Holding.{value_row}
 
 -- a call that reads: an answer leaves the rows, and whether a change is begun

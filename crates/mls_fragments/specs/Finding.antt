@@ -21,11 +21,11 @@ use Rattle.mls_filterview.specs.Assembly.{CellPlace, AreValues, AreRows}
 use Rattle.mls_filterview.specs.Stored.{Occurs, IsContent, AreContent}
 use Rattle.mls_audit.specs.Spelling.{IsEntryOf}
 use Rattle.mls_filterview.specs.Content.{Content}
-use Rattle.mls_statements.specs.declared.rows.NodeRow.{NodeRow}
-use Rattle.mls_statements.specs.declared.rows.CellRow.{CellRow}
-use Rattle.mls_statements.specs.declared.adopting.AllRows.{AllRows}
-use Rattle.mls_statements.specs.Adopting.{AreAll}
-use Rattle.mls_statements.specs.Rows.{Tables}
+use Rattle.mls_tables.specs.declared.rows.NodeRow.{NodeRow}
+use Rattle.mls_tables.specs.declared.rows.CellRow.{CellRow}
+use Rattle.mls_tables.specs.declared.adopting.AllRows.{AllRows}
+use Rattle.mls_tables.specs.Adopting.{AreAll}
+use Rattle.mls_tables.specs.Rows.{Tables}
 use Rattle.mls_fragments.specs.declared.reading.RowFault.{RowFault}
 use Rattle.mls_fragments.specs.declared.reading.RowFault.TheVariants.{Memory}
 use Rattle.mls_fragments.specs.declared.finding.Found.{Found}
@@ -90,11 +90,6 @@ AreAssembled nodes cells tables = (rel : ℕ) → rel < length tables
 abbrev pub AreTables : Labels → Schemes → List Entries → Type 0
 AreTables ls schemes tables = (rel : ℕ) → rel < length tables
     → IsContent ls (scheme_of schemes rel) (table_in tables rel)
-
--- relations of the stored form under their schemes, and an audit list of entries of declared labels
-pub record IsSoundContent (policy : Policy) (schemes : Schemes) (c : Content) : Type 0 where
-  pub content : AreContent (labels_of policy) schemes c.db
-  pub entries : AllByRecursion (IsEntryOf (length policy.labels)) c.audit
 
 -- ---- stores of older schemes
 

@@ -14,10 +14,11 @@ use Rattle.mls_filterview.specs.declared.fragment.Cell.{Cell}
 use Rattle.mls_filterview.specs.Stored.{with_class}
 use Rattle.mls_filterview.specs.Fragment.{node_of, cells_of, cell_at}
 use Rattle.mls_filterview.specs.Content.{Content}
-use Rattle.mls_statements.specs.declared.rows.NodeRow.{NodeRow}
-use Rattle.mls_statements.specs.declared.rows.CellRow.{CellRow}
-use Rattle.mls_statements.specs.declared.rows.OwnCell.{OwnCell}
-use Rattle.mls_statements.specs.Rows.{Tables, numbered, is_node, is_cell_in}
+use Rattle.mls_tables.specs.declared.rows.NodeRow.{NodeRow}
+use Rattle.mls_tables.specs.declared.rows.CellRow.{CellRow}
+use Rattle.mls_tables.specs.declared.rows.OwnCell.{OwnCell}
+use Rattle.mls_tables.specs.declared.rows.TupleKey.{TupleKey}
+use Rattle.mls_tables.specs.Rows.{Tables, numbered, is_node, is_cell_in}
 
 -- a value's bytes, and 0 for null
 abbrev pub value_bytes : Option Value → List ℕ
@@ -39,6 +40,10 @@ cell_row rel c =
       value =
           value_bytes c.value;
     }
+
+-- the key of the tuple at a place
+abbrev pub tuple_key : ℕ → Place → TupleKey
+tuple_key rel p = record { rel = rel; ent = key_spelling p.key; kclass = p.key_class; label = p.class }
 
 -- a cell of a tuple's own class, beside the tuple's node
 abbrev pub own_cell : Cell → OwnCell
@@ -90,6 +95,6 @@ pub record AddsTuple (n : NodeRow) (own : List CellRow) (old new : Tables) : Typ
 -- the node of a place and the elements of its class
 abbrev pub DropsTuple : ℕ → Place → Tables → Tables → Type 0
 DropsTuple rel p old new = new ≡ record old {
-  nodes = filter (λ n. not (is_node rel (key_spelling p.key) p.key_class p.class n)) old.nodes;
-  cells = filter (λ c. not (is_cell_in rel (key_spelling p.key) p.key_class p.class c)) old.cells;
+  nodes = filter (λ n. not (is_node (tuple_key rel p) n)) old.nodes;
+  cells = filter (λ c. not (is_cell_in (tuple_key rel p) c)) old.cells;
 }

@@ -7,12 +7,12 @@ use Rattle.mls_lattice.specs.Version.{version_number, later}
 use Rattle.mls_scheme.specs.Canon as scheme
 use Rattle.mls_scheme.specs.declared.file.SchemesFile.{SchemesFile}
 use Rattle.mls_filterview.specs.Content.{Content, no_content}
-use Rattle.mls_statements.specs.declared.rows.MetaRow.{MetaRow}
-use Rattle.mls_statements.specs.Adopting.{IsVersion}
-use Rattle.mls_statements.specs.Rows.{Tables, first_meta, is_meta_row, tables_of}
-use Rattle.mls_statements.specs.Schema.{HasTables, no_schema}
-use Rattle.mls_statements.specs.Statements.{AreRows}
-use Rattle.mls_fragments.specs.Finding.{IsSoundContent}
+use Rattle.mls_audit.specs.Sound.{IsSoundContent}
+use Rattle.mls_tables.specs.declared.rows.MetaRow.{MetaRow}
+use Rattle.mls_tables.specs.Adopting.{IsVersion}
+use Rattle.mls_tables.specs.Rows.{Tables, first_meta, is_meta_row, tables_of}
+use Rattle.mls_tables.specs.Schema.{HasTables, no_schema}
+use Rattle.mls_tables.specs.Statements.{AreRows}
 use Rattle.mls_fragments.specs.Holding.{Holds}
 use Rattle.mls_fragments.specs.Migrating.{HasTexts, IsExtended, IsSoundBefore, IsWidenedContent}
 

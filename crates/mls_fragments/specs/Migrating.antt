@@ -11,15 +11,16 @@ use Rattle.mls_scheme.specs.Canon as scheme
 use Rattle.mls_scheme.specs.Extending as older_schemes
 use Rattle.mls_filterview.specs.Content.{Content}
 use Rattle.mls_filterview.specs.Widen.{IsWidened, widened_entry}
-use Rattle.mls_statements.specs.declared.rows.MetaRow.{MetaRow}
-use Rattle.mls_statements.specs.declared.adopting.AllRows.{AllRows}
-use Rattle.mls_statements.specs.Adopting.{AreAll}
-use Rattle.mls_statements.specs.Rows.{Tables, numbered}
-use Rattle.mls_fragments.specs.declared.migrating.Standing.{Standing}
-use Rattle.mls_fragments.specs.declared.migrating.Standing.TheVariants.{Same, Older}
+use Rattle.mls_audit.specs.Sound.{IsSoundContent}
+use Rattle.mls_tables.specs.declared.rows.MetaRow.{MetaRow}
+use Rattle.mls_tables.specs.declared.adopting.AllRows.{AllRows}
+use Rattle.mls_tables.specs.Adopting.{AreAll}
+use Rattle.mls_tables.specs.Rows.{Tables, numbered}
+use Rattle.mls_fragments.specs.declared.migrating.Lineage.{Lineage}
+use Rattle.mls_fragments.specs.declared.migrating.Lineage.TheVariants.{Same, Older}
 use Rattle.mls_fragments.specs.Changes.{Entries}
 use Rattle.mls_fragments.specs.declared.finding.Found.{Found}
-use Rattle.mls_fragments.specs.Finding.{HasByteClasses, IsSoundContent, IsSoundWithin, IsSpelledEntry, content_found, node_rows, cell_rows}
+use Rattle.mls_fragments.specs.Finding.{HasByteClasses, IsSoundWithin, IsSpelledEntry, content_found, node_rows, cell_rows}
 use Rattle.mls_fragments.specs.Holding.{Holds}
 
 -- ---- what the description of a store says to a policy and schemes
@@ -43,9 +44,9 @@ pub record IsOther (policy : Policy) (file : SchemesFile) (m : MetaRow) : Type 0
   pub other : ¬ HasTexts policy file m
   pub not_older : (labels : ℕ) (counts : List ℕ) → ¬ IsExtended policy file m labels counts
 
-abbrev pub IsStanding : Policy → SchemesFile → MetaRow → Standing → Type 0
-IsStanding policy file m Same = HasTexts policy file m
-IsStanding policy file m (Older older) = IsExtended policy file m older.labels older.counts.items
+abbrev pub IsLineage : Policy → SchemesFile → MetaRow → Lineage → Type 0
+IsLineage policy file m Same = HasTexts policy file m
+IsLineage policy file m (Older older) = IsExtended policy file m older.labels older.counts.items
 
 -- ---- content under more attributes
 

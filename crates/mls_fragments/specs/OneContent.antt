@@ -1,7 +1,7 @@
 -- Rows hold one content.
 use Rattle.std.specs.Prelude.{◌≡◌}
 use Rattle.mls_filterview.specs.Content.{Content}
-use Rattle.mls_statements.specs.Rows.{Tables}
+use Rattle.mls_tables.specs.Rows.{Tables}
 use Rattle.mls_fragments.specs.Holding.{Holds}
 
 -- all tables and all entries of two contents that the same rows hold are the same, whatever the labels and

@@ -1,9 +1,9 @@
 -- The numbers and names of the causes for which stores are not opened.
 use Rattle.std.specs.Prelude.{ℕ, List, codes}
-use Rattle.mls_statements.specs.declared.store.StoreFault.{StoreFault}
-use Rattle.mls_statements.specs.declared.store.StoreFault.TheVariants as store
-use Rattle.mls_statements.specs.declared.adopting.AdoptFault.{AdoptFault}
-use Rattle.mls_statements.specs.declared.adopting.AdoptFault.TheVariants as adopt
+use Rattle.mls_tables.specs.declared.store.StoreFault.{StoreFault}
+use Rattle.mls_tables.specs.declared.store.StoreFault.TheVariants as store
+use Rattle.mls_tables.specs.declared.adopting.AdoptFault.{AdoptFault}
+use Rattle.mls_tables.specs.declared.adopting.AdoptFault.TheVariants as adopt
 use Rattle.mls_fragments.specs.declared.reading.RowFault.{RowFault}
 use Rattle.mls_fragments.specs.declared.reading.RowFault.TheVariants as row
 use Rattle.mls_fragments.specs.declared.open_fault.OpenFault.{OpenFault}

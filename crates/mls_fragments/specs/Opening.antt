@@ -14,16 +14,16 @@ use Rattle.mls_scheme.specs.Canon as scheme
 use Rattle.mls_scheme.specs.Scheme.{Schemes}
 use Rattle.mls_scheme.specs.declared.file.SchemesFile.{SchemesFile}
 use Rattle.mls_filterview.specs.Content.{Content}
-use Rattle.mls_statements.specs.declared.rows.MetaRow.{MetaRow}
-use Rattle.mls_statements.specs.Adopting.{IsDescribed, HasDescription, HasReadRows}
-use Rattle.mls_statements.specs.Rows.{tables_of}
-use Rattle.mls_statements.specs.Schema.{no_schema}
-use Rattle.mls_statements.specs.Store.{IsClean}
+use Rattle.mls_audit.specs.Sound.{IsSoundContent}
+use Rattle.mls_tables.specs.declared.rows.MetaRow.{MetaRow}
+use Rattle.mls_tables.specs.Adopting.{IsDescribed, HasDescription, HasReadRows}
+use Rattle.mls_tables.specs.Rows.{tables_of}
+use Rattle.mls_tables.specs.Schema.{no_schema}
+use Rattle.mls_tables.specs.Store.{IsClean}
 use Rattle.mls_fragments.specs.declared.open_fault.OpenFault.{OpenFault}
 use Rattle.mls_fragments.specs.declared.open_fault.OpenFault.TheVariants.{Store, OtherPolicy, BadRows, Memory}
 use Rattle.mls_fragments.specs.Based.{BaseState, state_of}
 use Rattle.mls_fragments.specs.Creating.{IsBlankImage}
-use Rattle.mls_fragments.specs.Finding.{IsSoundContent}
 use Rattle.mls_fragments.specs.Holding.{Holds}
 use Rattle.mls_fragments.specs.Migrating.{HasTexts, IsExtended, IsOther, IsSoundBefore, IsWidenedContent}
 

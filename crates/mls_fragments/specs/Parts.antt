@@ -1,20 +1,19 @@
 -- Parts of what a store holds: entities are told apart by relation and key.
-use Rattle.std.specs.Prelude.{◌≡◌, ℕ, ◌≤◌, Bool, ◌&&◌, not, List, [], length, take, drop, IsPermutation}
+use Rattle.std.specs.Prelude.{◌≡◌, ℕ, ◌≤◌, Bool, ◌&&◌, not, List, [], length, take, drop}
 use Rattle.std.specs.List.{filter}
 use Rattle.std.specs.List.Sorted.{IsPartitionedBy}
 use Rattle.std.specs.Cmp.Lexicographic.{slice_cmp}
 use Rattle.std.specs.Ordering.{nat_cmp, ordering_then, is_lt}
-use Rattle.std.specs.FinMap.{empty, entries}
+use Rattle.std.specs.FinMap.{entries}
 use Rattle.mls_lattice.specs.Policy.{Policy}
 use Rattle.mls_scheme.specs.Spelling.{key_spelling}
 use Rattle.mls_scheme.specs.Scheme.{Schemes}
-use Rattle.mls_scheme.specs.Table.{Table}
 use Rattle.mls_filterview.specs.Assembly.{table_of}
 use Rattle.mls_filterview.specs.Content.{Content}
-use Rattle.mls_statements.specs.declared.rows.NodeRow.{NodeRow}
-use Rattle.mls_statements.specs.declared.rows.CellRow.{CellRow}
-use Rattle.mls_statements.specs.declared.adopting.AllRows.{AllRows}
-use Rattle.mls_statements.specs.Rows.{Tables}
+use Rattle.mls_tables.specs.declared.rows.NodeRow.{NodeRow}
+use Rattle.mls_tables.specs.declared.rows.CellRow.{CellRow}
+use Rattle.mls_tables.specs.declared.adopting.AllRows.{AllRows}
+use Rattle.mls_tables.specs.Rows.{Tables}
 use Rattle.mls_fragments.specs.Finding.{IsSoundWithin}
 use Rattle.mls_fragments.specs.Holding.{HoldsTable}
 

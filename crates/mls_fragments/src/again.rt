@@ -8,10 +8,10 @@ ghost use Rattle.sqlite.specs.Held.{state};
 ghost use Rattle.sqlite.specs.State.{HasCleanDisk};
 ghost use Rattle.sqlite.specs.WalReads.{AreClean};
 ghost use Rattle.mls_scheme.specs.Scheme.{AreUnder};
-ghost use Rattle.mls_statements.specs.Store.{IsClean};
+ghost use Rattle.mls_audit.specs.Sound.{IsSoundContent};
+ghost use Rattle.mls_tables.specs.Store.{IsClean};
 ghost use Rattle.mls_fragments.specs.Again.{AreLetGo, AreRefused, AreUnclosed, FindsHoldings, IsBaseKept};
 ghost use Rattle.mls_fragments.specs.Based.{IsBaseOf, state_of};
-ghost use Rattle.mls_fragments.specs.Finding.{IsSoundContent};
 
 use crate::base::SqlBase;
 use crate::connecting::{connected, fault_of};

@@ -5,10 +5,10 @@ ghost use Rattle.sqlite.specs.Held.{state};
 ghost use Rattle.mls_filterview.specs.Content.{no_content};
 ghost use Rattle.mls_lattice.specs.Version.{version_number};
 ghost use Rattle.mls_lattice.specs.declared.version.Version.{Version};
-ghost use Rattle.mls_statements.specs.declared.rows.MetaRow.{MetaRow};
-ghost use Rattle.mls_statements.specs.Rows.{described, tables_of};
-ghost use Rattle.mls_statements.specs.Statements.{IsSchemaReady};
-ghost use Rattle.mls_statements.specs.Store.{IsClean};
+ghost use Rattle.mls_tables.specs.declared.rows.MetaRow.{MetaRow};
+ghost use Rattle.mls_tables.specs.Rows.{described, tables_of};
+ghost use Rattle.mls_tables.specs.Statements.{IsSchemaReady};
+ghost use Rattle.mls_tables.specs.Store.{IsClean};
 ghost use Rattle.mls_fragments.specs.Based.{HasRow, IsNoted, state_of};
 ghost use Rattle.mls_fragments.specs.Changes.{content_of};
 ghost use Rattle.mls_fragments.specs.Holding.{Holds};
@@ -21,7 +21,7 @@ use crate::writing::{add_entry, add_tuple, drop_tuple, set_value};
 use mls_filterview::{Base, BaseFault, Cell, Fragment, Node};
 use mls_lattice::{Items, LabelNo};
 use mls_scheme::{Place, RelNo, Value};
-use mls_statements::TableStore;
+use mls_tables::TableStore;
 use sqlite::{Alter, Connection};
 use std::alloc::Global;
 use std::marker::Model;
@@ -112,8 +112,28 @@ impl<S: Alter> SqlBase<S> {
     }
 }
 
+/// What a call over the tables of a base answers: after a fault they hold what they held at the last commit.
+macro_rules! settle {
+    ($base:expr, $found:pat => $answer:expr, $call:expr) => {
+        match $call {
+            Ok($found) => Ok($answer),
+            Err(fault) => Err(abandon_changes(&mut $base.now, &$base.kept, fault)),
+        }
+    };
+}
+
+/// The same of a step of a change, which is noted.
+macro_rules! change {
+    ($base:expr, $done:pat => $noted:expr, $call:expr) => {{
+        if !$base.store.is_begun() {
+            return Err(BaseFault::NotBegun);
+        }
+        settle!($base, $done => $noted, $call)
+    }};
+}
+
 impl<S: Alter> Base for SqlBase<S> {
-    ghost use Rattle.mls_statements.specs.Store.{IsClean};
+    ghost use Rattle.mls_tables.specs.Store.{IsClean};
     ghost use Rattle.mls_fragments.specs.Based.{state_of, settled};
 
     ghost state = { state_of };
@@ -132,77 +152,39 @@ impl<S: Alter> Base for SqlBase<S> {
         if self.store.is_begun() {
             return Err(BaseFault::Begun);
         }
-        match self.store.begin() {
-            Ok(_) => Ok(()),
-            Err(fault) => Err(abandon_changes(&mut self.now, &self.kept, fault)),
-        }
+        settle!(self, _ => (), self.store.begin())
     }
 
     fn commit(&mut self) -> Result<(), BaseFault> {
-        if !self.store.is_begun() {
-            return Err(BaseFault::NotBegun);
-        }
-        match self.store.commit() {
-            Ok(_) => {
-                self.kept.copy(&self.now);
-                Ok(())
-            }
-            Err(fault) => Err(abandon_changes(&mut self.now, &self.kept, fault)),
-        }
+        change!(self, _ => self.kept.copy(&self.now), self.store.commit())
     }
 
     fn rollback(&mut self) -> Result<(), BaseFault> {
-        if !self.store.is_begun() {
-            return Err(BaseFault::NotBegun);
-        }
-        match self.store.rollback() {
-            Ok(_) => {
-                self.now.copy(&self.kept);
-                Ok(())
-            }
-            Err(fault) => Err(abandon_changes(&mut self.now, &self.kept, fault)),
-        }
+        change!(self, _ => self.now.copy(&self.kept), self.store.rollback())
     }
 
     fn fragment(&mut self, rel: RelNo, label: LabelNo) -> Result<Fragment, BaseFault> {
-        match read_fragment(&mut self.store, self.alloc, rel, label) {
-            Ok(fragment) => Ok(fragment),
-            Err(fault) => Err(abandon_changes(&mut self.now, &self.kept, fault)),
-        }
+        settle!(self, found => found, read_fragment(&mut self.store, self.alloc, rel, label))
     }
 
     fn fragments(&mut self, rel: RelNo, labels: &[LabelNo]) -> Result<Fragment, BaseFault> {
-        match read_fragments(&mut self.store, self.alloc, rel, labels) {
-            Ok(fragment) => Ok(fragment),
-            Err(fault) => Err(abandon_changes(&mut self.now, &self.kept, fault)),
-        }
+        settle!(self, found => found, read_fragments(&mut self.store, self.alloc, rel, labels))
     }
 
     fn entity(&mut self, rel: RelNo, place: &Place) -> Result<Fragment, BaseFault> {
-        match read_entity(&mut self.store, self.alloc, rel, place) {
-            Ok(fragment) => Ok(fragment),
-            Err(fault) => Err(abandon_changes(&mut self.now, &self.kept, fault)),
-        }
+        settle!(self, found => found, read_entity(&mut self.store, self.alloc, rel, place))
     }
 
     fn pattern(&mut self, rel: RelNo, place: &Place) -> Result<Option<Items<LabelNo>>, BaseFault> {
-        match read_pattern(&mut self.store, self.alloc, rel, place) {
-            Ok(pattern) => Ok(pattern),
-            Err(fault) => Err(abandon_changes(&mut self.now, &self.kept, fault)),
-        }
+        settle!(self, found => found, read_pattern(&mut self.store, self.alloc, rel, place))
     }
 
     fn add(&mut self, rel: RelNo, node: Node, cells: &[Cell]) -> Result<(), BaseFault> {
-        if !self.store.is_begun() {
-            return Err(BaseFault::NotBegun);
-        }
-        match add_tuple(&mut self.store, self.alloc, rel, &node, cells) {
-            Ok(_) => {
-                self.now.content.add(rel, &node, cells);
-                Ok(())
-            }
-            Err(fault) => Err(abandon_changes(&mut self.now, &self.kept, fault)),
-        }
+        change!(
+            self,
+            _ => self.now.content.add(rel, &node, cells),
+            add_tuple(&mut self.store, self.alloc, rel, &node, cells)
+        )
     }
 
     fn set(
@@ -212,61 +194,34 @@ impl<S: Alter> Base for SqlBase<S> {
         attr: usize,
         value: Option<Value>,
     ) -> Result<(), BaseFault> {
-        if !self.store.is_begun() {
-            return Err(BaseFault::NotBegun);
-        }
-        match set_value(&mut self.store, self.alloc, rel, place, attr, &value) {
-            Ok(_) => {
-                self.now.content.set(rel, place, attr, &value);
-                Ok(())
-            }
-            Err(fault) => Err(abandon_changes(&mut self.now, &self.kept, fault)),
-        }
+        change!(
+            self,
+            _ => self.now.content.set(rel, place, attr, &value),
+            set_value(&mut self.store, self.alloc, rel, place, attr, &value)
+        )
     }
 
     fn drop_at(&mut self, rel: RelNo, place: &Place) -> Result<(), BaseFault> {
-        if !self.store.is_begun() {
-            return Err(BaseFault::NotBegun);
-        }
-        match drop_tuple(&mut self.store, self.alloc, rel, place) {
-            Ok(_) => {
-                self.now.content.drop_at(rel, place);
-                Ok(())
-            }
-            Err(fault) => Err(abandon_changes(&mut self.now, &self.kept, fault)),
-        }
+        change!(
+            self,
+            _ => self.now.content.drop_at(rel, place),
+            drop_tuple(&mut self.store, self.alloc, rel, place)
+        )
     }
 
     fn audit_add(&mut self, bytes: &[u8]) -> Result<(), BaseFault> {
-        if !self.store.is_begun() {
-            return Err(BaseFault::NotBegun);
-        }
-        match add_entry(&mut self.store, self.alloc, self.now.last, bytes) {
-            Ok(number) => {
-                self.now.append(number, bytes);
-                Ok(())
-            }
-            Err(fault) => Err(abandon_changes(&mut self.now, &self.kept, fault)),
-        }
+        change!(
+            self,
+            number => self.now.append(number, bytes),
+            add_entry(&mut self.store, self.alloc, self.now.last, bytes)
+        )
     }
 
     fn audit_clear(&mut self) -> Result<(), BaseFault> {
-        if !self.store.is_begun() {
-            return Err(BaseFault::NotBegun);
-        }
-        match self.store.clear_entries() {
-            Ok(_) => {
-                self.now.clear();
-                Ok(())
-            }
-            Err(fault) => Err(abandon_changes(&mut self.now, &self.kept, fault)),
-        }
+        change!(self, _ => self.now.clear(), self.store.clear_entries())
     }
 
     fn audit_all(&mut self) -> Result<Items<Items<u8>>, BaseFault> {
-        match read_entries(&mut self.store, self.alloc) {
-            Ok(entries) => Ok(entries),
-            Err(fault) => Err(abandon_changes(&mut self.now, &self.kept, fault)),
-        }
+        settle!(self, found => found, read_entries(&mut self.store, self.alloc))
     }
 }

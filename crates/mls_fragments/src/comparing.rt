@@ -8,9 +8,9 @@ ghost use Rattle.mls_fragments.specs.Holding.{node_row, cell_row};
 use crate::place::{Step, Where};
 use crate::reading::RowFault;
 use crate::writing::{row_of_cell, row_of_node};
-use mls_filterview::{Rows, cells_of, nodes_of};
+use mls_filterview::{TupleMap, cells_of, nodes_of};
 use mls_scheme::RelNo;
-use mls_statements::{CellRow, NodeRow};
+use mls_tables::{CellRow, NodeRow};
 use std::alloc::{AllocError, Global};
 
 /// Puts the rows of the nodes of a relation behind others.
@@ -18,7 +18,7 @@ fn push_nodes(
     alloc: Global,
     rows: &mut Vec<NodeRow>,
     rel: RelNo,
-    table: &Rows,
+    table: &TupleMap,
 ) -> Result<(), RowFault>
     requires spelled { AllByRecursion IsSpelledEntry table.now.entries }
     ensures pushed { OnOk result (rows.new.items ≡ rows.old.items
@@ -37,7 +37,7 @@ fn push_cells(
     alloc: Global,
     rows: &mut Vec<CellRow>,
     rel: RelNo,
-    table: &Rows,
+    table: &TupleMap,
 ) -> Result<(), RowFault>
     requires spelled { AllByRecursion IsSpelledEntry table.now.entries }
     ensures pushed { OnOk result (rows.new.items ≡ rows.old.items
@@ -52,7 +52,7 @@ fn push_cells(
 }
 
 /// The rows of the nodes of tables.
-pub(crate) fn node_rows(alloc: Global, tables: &[Rows]) -> Result<Vec<NodeRow>, RowFault>
+pub(crate) fn node_rows(alloc: Global, tables: &[TupleMap]) -> Result<Vec<NodeRow>, RowFault>
     requires few { length tables.now ≤ 256 }
     requires spelled { AllByRecursion (λ t. AllByRecursion IsSpelledEntry t.entries) tables.now }
     ensures rows { IfOk result (λ rows. rows.items ≡ node_rows 0 (map (λ t. t.entries) tables.now)) }
@@ -66,7 +66,7 @@ pub(crate) fn node_rows(alloc: Global, tables: &[Rows]) -> Result<Vec<NodeRow>, 
 }
 
 /// The rows of the cells of tables.
-pub(crate) fn cell_rows(alloc: Global, tables: &[Rows]) -> Result<Vec<CellRow>, RowFault>
+pub(crate) fn cell_rows(alloc: Global, tables: &[TupleMap]) -> Result<Vec<CellRow>, RowFault>
     requires few { length tables.now ≤ 256 }
     requires spelled { AllByRecursion (λ t. AllByRecursion IsSpelledEntry t.entries) tables.now }
     ensures rows { IfOk result (λ rows. rows.items ≡ cell_rows 0 (map (λ t. t.entries) tables.now)) }
@@ -118,7 +118,7 @@ fn have_same_cells(
 /// Whether the nodes and the cells of tables are these.
 pub(crate) fn have_rows(
     alloc: Global,
-    tables: &[Rows],
+    tables: &[TupleMap],
     nodes: Vec<NodeRow>,
     cells: Vec<CellRow>,
     at: &mut Where,

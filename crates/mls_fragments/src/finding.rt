@@ -8,8 +8,8 @@ ghost use Rattle.mls_scheme.specs.Scheme.{AreSchemes, AreUnder};
 ghost use Rattle.mls_scheme.specs.Table.{place_cmp};
 ghost use Rattle.mls_audit.specs.Spelling.{IsEntryOf};
 ghost use Rattle.mls_filterview.specs.Content.{Content};
-ghost use Rattle.mls_statements.specs.Adopting.{AreAll};
-ghost use Rattle.mls_statements.specs.Rows.{Tables, numbered};
+ghost use Rattle.mls_tables.specs.Adopting.{AreAll};
+ghost use Rattle.mls_tables.specs.Rows.{Tables, numbered};
 ghost use Rattle.mls_fragments.specs.Finding.{HasByteClasses, IsMemory, IsNodeRow, IsCellRow, IsAssembled, AreAssembled, AreTables, IsSpelledEntry, is_within, IsSoundWithin, HasFound};
 ghost use Rattle.mls_fragments.specs.Holding.{Holds};
 
@@ -17,10 +17,10 @@ use crate::comparing::have_rows;
 use crate::place::{Step, Where};
 use crate::reading::{RowFault, cells_of_relation, decoded_entries, nodes_of_relation};
 use mls_audit::entry_of;
-use mls_filterview::{Rows, is_content, rows_of, values_of};
+use mls_filterview::{TupleMap, is_content, rows_of, values_of};
 use mls_lattice::{Items, Policy};
 use mls_scheme::{RelNo, Schemes};
-use mls_statements::{AllRows, AuditRow, CellRow, NodeRow, are_numbered};
+use mls_tables::{AllRows, AuditRow, CellRow, NodeRow, are_numbered};
 use std::alloc::{AllocError, Global};
 
 /// The tuples of one relation, put together from its nodes and cells.
@@ -30,7 +30,7 @@ fn assembled(
     nodes: &[NodeRow],
     cells: &[CellRow],
     at: &mut Where,
-) -> Result<Rows, RowFault>
+) -> Result<TupleMap, RowFault>
     ensures assembled { IfOk result (λ rows. IsAssembled rel nodes.now cells.now rows.entries) }
     ensures only { AllByRecursion IsNodeRow nodes.now → AllByRecursion IsCellRow cells.now → IfErr result IsMemory }
 {
@@ -46,7 +46,7 @@ pub fn tables_of(
     nodes: &[NodeRow],
     cells: &[CellRow],
     at: &mut Where,
-) -> Result<Vec<Rows>, RowFault>
+) -> Result<Vec<TupleMap>, RowFault>
     requires few { count ≤ 256 }
     ensures count { IfOk result (λ tables. length tables.items ≡ count) }
     ensures assembled { IfOk result (λ tables. AreAssembled nodes.now cells.now (map (λ t. t.entries) tables.items)) }
@@ -64,7 +64,7 @@ fn are_content(
     alloc: Global,
     policy: &Policy,
     schemes: &Schemes,
-    tables: &[Rows],
+    tables: &[TupleMap],
     at: &mut Where,
 ) -> Result<bool, AllocError>
     requires under { AreUnder (length policy.now.labels) schemes.now }
@@ -186,7 +186,7 @@ fn are_within(labels: usize, nodes: &[NodeRow], at: &mut Where) -> bool
 #[derive(Drop)]
 pub(crate) struct Found {
     /// The tuples of each relation, by its number.
-    pub tables: Vec<Rows>,
+    pub tables: Vec<TupleMap>,
     /// The entries of the audit list.
     pub entries: Items<Items<u8>>,
     /// The number of the last entry, 0 where there is none.

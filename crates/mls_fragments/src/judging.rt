@@ -4,8 +4,8 @@ ghost use Rattle.std.specs.List.{AllByRecursion};
 ghost use Rattle.mls_scheme.specs.Scheme.{AreUnder};
 ghost use Rattle.mls_audit.specs.Spelling.{IsEntryOf};
 ghost use Rattle.mls_filterview.specs.Content.{Content};
-ghost use Rattle.mls_statements.specs.Adopting.{AreAll};
-ghost use Rattle.mls_statements.specs.Rows.{Tables};
+ghost use Rattle.mls_tables.specs.Adopting.{AreAll};
+ghost use Rattle.mls_tables.specs.Rows.{Tables};
 ghost use Rattle.mls_fragments.specs.Changes.{content_of};
 ghost use Rattle.mls_fragments.specs.Finding.{HasByteClasses, IsMemory, IsSoundWithin};
 ghost use Rattle.mls_fragments.specs.Holding.{Holds};
@@ -18,7 +18,7 @@ use crate::reading::RowFault;
 use crate::recalled::GhostContent;
 use mls_lattice::{Items, Policy};
 use mls_scheme::Schemes;
-use mls_statements::{AllRows, CellRow, NodeRow};
+use mls_tables::{AllRows, CellRow, NodeRow};
 use std::alloc::{AllocError, Global};
 
 /// How many nodes a part has, beside those that its first entity has before them.

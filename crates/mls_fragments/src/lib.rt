@@ -26,7 +26,7 @@ pub use laws::{
     blank_is_nothing, database_has_one_holdings, given_back_is_taken, kept_is_found, kept_is_taken,
     rows_hold_one_content, sound_is_taken_as_it_was,
 };
-pub use migrating::{Older, Standing, standing_of};
+pub use migrating::{Lineage, Older, lineage_of};
 pub use open_fault::OpenFault;
 pub use opening::texts_of;
 pub use place::{Step, Where};

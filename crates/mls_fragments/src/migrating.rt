@@ -11,19 +11,19 @@ ghost use Rattle.mls_scheme.specs.Scheme.{AreUnder};
 ghost use Rattle.mls_scheme.specs.Canon as scheme;
 ghost use Rattle.mls_scheme.specs.Extending as older_schemes;
 ghost use Rattle.mls_filterview.specs.Content.{Content};
-ghost use Rattle.mls_statements.specs.Adopting.{AreAll};
-ghost use Rattle.mls_statements.specs.Rows.{Tables};
+ghost use Rattle.mls_tables.specs.Adopting.{AreAll};
+ghost use Rattle.mls_tables.specs.Rows.{Tables};
 ghost use Rattle.mls_fragments.specs.Finding.{IsMemory};
 ghost use Rattle.mls_fragments.specs.Holding.{Holds};
-ghost use Rattle.mls_fragments.specs.Migrating.{IsStanding, IsOther, IsBefore, wide_tables, IsSoundBefore, HasWidened};
+ghost use Rattle.mls_fragments.specs.Migrating.{IsLineage, IsOther, IsBefore, wide_tables, IsSoundBefore, HasWidened};
 
 use crate::finding::{Found, find};
 use crate::place::Where;
 use crate::reading::RowFault;
-use mls_filterview::{Rows, widened};
+use mls_filterview::{TupleMap, widened};
 use mls_lattice::{Policy, Version};
 use mls_scheme::{RelNo, Schemes, SchemesFile};
-use mls_statements::{AllRows, MetaRow};
+use mls_tables::{AllRows, MetaRow};
 use std::alloc::{AllocError, Global};
 
 /// What a store of an older policy or older schemes has.
@@ -37,7 +37,7 @@ pub struct Older {
 
 /// How a store stands to a policy and schemes.
 #[derive(Drop)]
-pub enum Standing {
+pub enum Lineage {
     /// It is of them.
     Same,
     /// It is of older ones, which they extend.
@@ -70,23 +70,23 @@ fn older_of(
 /// How a store stands to a policy and schemes with these texts, if it is not of others. The texts decide that,
 /// and not the version that the store tells: the first line of schemes has their version, so the same schemes
 /// in version 2 are another text, and the lines of a policy that a store keeps have none.
-pub fn standing_of(
+pub fn lineage_of(
     alloc: Global,
     policy: &Policy,
     file: &SchemesFile,
     texts: &(String, String),
     found: &MetaRow,
-) -> Result<Option<Standing>, AllocError>
+) -> Result<Option<Lineage>, AllocError>
     requires under { AreUnder (length policy.now.labels) file.now.schemes }
     requires lattice { string_bytes texts.now.0 ≡ lattice.lattice_of policy.now }
     requires schemes { string_bytes texts.now.1 ≡ scheme.canon_of policy.now file.now.version file.now.schemes }
-    ensures found { IfOk result (λ o. IfSome o (IsStanding policy.now file.now found.now)) }
+    ensures found { IfOk result (λ o. IfSome o (IsLineage policy.now file.now found.now)) }
     ensures none { IfOk result (λ o. o ≡ None → IsOther policy.now file.now found.now) }
 {
     let is_same_lattice = found.lattice.as_str() == texts.0.as_str();
     let are_same_schemes = found.schemes.as_str() == texts.1.as_str();
     if is_same_lattice && are_same_schemes {
-        return Ok(Some(Standing::Same));
+        return Ok(Some(Lineage::Same));
     }
     if !is_same_lattice && policy.version() != Version::Two {
         return Ok(None);
@@ -95,7 +95,7 @@ pub fn standing_of(
         return Ok(None);
     }
     match older_of(alloc, policy, &file.schemes, found)? {
-        Some(older) => Ok(Some(Standing::Older(older))),
+        Some(older) => Ok(Some(Lineage::Older(older))),
         None => Ok(None),
     }
 }
@@ -105,8 +105,8 @@ fn widened_tables(
     alloc: Global,
     schemes: &Schemes,
     counts: &[usize],
-    tables: Vec<Rows>,
-) -> Result<Vec<Rows>, AllocError>
+    tables: Vec<TupleMap>,
+) -> Result<Vec<TupleMap>, AllocError>
     requires counts { AllZip (λ n s. n ≤ length s.others) counts.now schemes.now }
     requires count { length tables.items ≡ length schemes.now }
     requires few { length tables.items ≤ 256 }

@@ -6,7 +6,7 @@ ghost use Rattle.mls_fragments.specs.Changes.Change.{Finds, Appends, Clears};
 use crate::finding::Found;
 use crate::recalled::GhostContent;
 use mls_filterview::BaseFault;
-use mls_statements::StoreFault;
+use mls_tables::StoreFault;
 
 #[derive(Drop)]
 pub struct Noted {
@@ -46,7 +46,7 @@ impl Noted {
         ensures content { self.new.content.changes ≡ other.now.content.changes }
         ensures last { self.new.last ≡ other.now.last }
     {
-        self.content.copy(&other.content);
+        self.content.note(&other.content);
         self.last = other.last;
     }
 
@@ -55,7 +55,7 @@ impl Noted {
         ensures content { self.new.content.changes ≡ Appends bytes.now ∷ self.old.content.changes }
         ensures last { self.new.last ≡ number }
     {
-        self.content.append(bytes);
+        self.content.note(&bytes);
         self.last = number;
     }
 
@@ -64,7 +64,7 @@ impl Noted {
         ensures content { self.new.content.changes ≡ Clears ∷ self.old.content.changes }
         ensures last { self.new.last ≡ pos 0 }
     {
-        self.content.clear();
+        self.content.note(&());
         self.last = 0;
     }
 }

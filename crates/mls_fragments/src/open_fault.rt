@@ -4,7 +4,7 @@ ghost use Rattle.mls_fragments.specs.OpenFault.{code_of, word_of};
 ghost use Rattle.mls_fragments.specs.declared.open_fault.OpenFault.TheVariants.{Memory};
 
 use crate::reading::RowFault;
-use mls_statements::{AdoptFault, StoreFault};
+use mls_tables::{AdoptFault, StoreFault};
 use std::alloc::AllocError;
 use std::fmt;
 use thiserror::Error;

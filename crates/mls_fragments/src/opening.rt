@@ -9,13 +9,14 @@ ghost use Rattle.mls_lattice.specs.Version.{version_number, later};
 ghost use Rattle.mls_scheme.specs.Canon as scheme;
 ghost use Rattle.mls_scheme.specs.Scheme.{AreUnder};
 ghost use Rattle.mls_filterview.specs.Content.{no_content};
-ghost use Rattle.mls_statements.specs.Rows.{described, first_meta, is_meta_row, tables_of};
-ghost use Rattle.mls_statements.specs.Schema.{no_schema};
-ghost use Rattle.mls_statements.specs.Statements.{AreRows, HasSettled, IsRewritten};
-ghost use Rattle.mls_statements.specs.Store.{IsClean};
+ghost use Rattle.mls_audit.specs.Sound.{IsSoundContent};
+ghost use Rattle.mls_tables.specs.Rows.{described, first_meta, is_meta_row, tables_of};
+ghost use Rattle.mls_tables.specs.Schema.{no_schema};
+ghost use Rattle.mls_tables.specs.Statements.{AreRows, HasSettled, IsRewritten};
+ghost use Rattle.mls_tables.specs.Store.{IsClean};
 ghost use Rattle.mls_fragments.specs.Again.{FindsHoldings};
 ghost use Rattle.mls_fragments.specs.Based.{IsBaseOf, state_of};
-ghost use Rattle.mls_fragments.specs.Finding.{IsSoundContent, node_rows, cell_rows};
+ghost use Rattle.mls_fragments.specs.Finding.{node_rows, cell_rows};
 ghost use Rattle.mls_fragments.specs.Holdings.{HasHoldings, HaveOneMeta};
 ghost use Rattle.mls_fragments.specs.Migrating.{IsBefore, IsSoundBefore, AreSpelledTables};
 ghost use Rattle.mls_fragments.specs.Opening.{AreTexts, HoldsContent, IsFoundIn, IsFoundUnadopted, IsMigrated, IsRefused, IsStoreOrMemory, IsUnadopted, IsUnmade, IsUnopened, IsUntaken};
@@ -25,14 +26,14 @@ use crate::comparing::{cell_rows, node_rows};
 use crate::connecting::connected_at;
 use crate::finding::Found;
 use crate::judging::judge;
-use crate::migrating::{Older, Standing, find_widened, standing_of};
+use crate::migrating::{Lineage, Older, find_widened, lineage_of};
 use crate::noted::Noted;
 use crate::open_fault::OpenFault;
 use crate::place::Where;
 use mls_lattice::Policy;
 use mls_scheme::{Schemes, SchemesFile};
-use mls_statements::statements::creation::has_nothing;
-use mls_statements::{TableStore, read_description, read_store, rewrite_store};
+use mls_tables::statements::creation::has_nothing;
+use mls_tables::{TableStore, read_description, read_store, rewrite_store};
 use sqlite::{Alter, Connection, FileFrom, FileStore, Start};
 use std::alloc::{AllocError, Global};
 
@@ -183,9 +184,9 @@ fn opened<S: Alter>(
         Ok(described) => described,
         Err(fault) => return Err((OpenFault::from(fault), conn)),
     };
-    match standing_of(alloc, policy, file, texts, &described) {
-        Ok(Some(Standing::Same)) => taken(alloc, conn, policy, &file.schemes),
-        Ok(Some(Standing::Older(older))) => {
+    match lineage_of(alloc, policy, file, texts, &described) {
+        Ok(Some(Lineage::Same)) => taken(alloc, conn, policy, &file.schemes),
+        Ok(Some(Lineage::Older(older))) => {
             migrated(alloc, conn, policy, &file.schemes, texts, &older)
         }
         Ok(None) => Err((OpenFault::OtherPolicy, conn)),

@@ -6,8 +6,8 @@ ghost use Rattle.mls_scheme.specs.declared.key_fault.KeyFault.TheVariants.{Memor
 ghost use Rattle.mls_scheme.specs.Spelling.{HasSpelling, IsSpelledKey, key_spelling};
 ghost use Rattle.mls_filterview.specs.Content.{Content};
 ghost use Rattle.mls_filterview.specs.Fragment.{IsFragment, AreFragments};
-ghost use Rattle.mls_statements.specs.Rows.{numbered, has_bit};
-ghost use Rattle.mls_statements.specs.Store.{IsClean, IsStoreFault};
+ghost use Rattle.mls_tables.specs.Rows.{numbered, has_bit};
+ghost use Rattle.mls_tables.specs.Store.{IsClean, IsStoreFault};
 ghost use Rattle.mls_fragments.specs.Calls.{IsRead};
 ghost use Rattle.mls_fragments.specs.declared.reading.RowFault.TheVariants.{Memory};
 ghost use Rattle.mls_fragments.specs.Finding.{IsMemory, IsNodeRow, IsCellRow, AreReadable};
@@ -17,7 +17,7 @@ use crate::place::{Step, Where};
 use mls_filterview::{Cell, Fragment, Node};
 use mls_lattice::{Items, LabelNo};
 use mls_scheme::{KeyFault, RelNo, Value, key_of, value_of};
-use mls_statements::{AuditRow, CellRow, NodeRow, StoreFault, TableStore, are_numbered};
+use mls_tables::{AuditRow, CellRow, NodeRow, StoreFault, TableStore, are_numbered};
 use sqlite::Alter;
 use std::alloc::{AllocError, AllocFailed, Global};
 

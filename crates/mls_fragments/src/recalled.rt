@@ -2,9 +2,9 @@
 ghost use Rattle.std.specs.Prelude.{◌≡◌, List, [], ◌∷◌, map};
 ghost use Rattle.std.specs.Borrow.{ftrue};
 ghost use Rattle.mls_fragments.specs.Changes.{Change};
-ghost use Rattle.mls_fragments.specs.Changes.Change.{Finds, Joins, Adds, Sets, Drops, Appends, Clears};
+ghost use Rattle.mls_fragments.specs.Changes.Change.{Finds, Joins, Adds, Sets, Drops};
 
-use mls_filterview::{Cell, Node, Rows};
+use mls_filterview::{Cell, Node, TupleMap};
 use mls_lattice::Items;
 use mls_scheme::{Place, RelNo, Value};
 use std::marker::{Model, PhantomData};
@@ -37,29 +37,22 @@ impl GhostContent {
     {}
 
     /// Other changes are recalled, made from what is seen.
-    fn note<A>(&mut self, _seen: &A)
+    pub fn note<A>(&mut self, _seen: &A)
         ghost changes: { List Change }
         ensures { self.new.changes ≡ changes }
     {
         self.keep();
     }
 
-    /// The changes of another.
-    pub fn copy(&mut self, other: &GhostContent)
-        ensures { self.new.changes ≡ other.now.changes }
-    {
-        self.note(other);
-    }
-
     /// What a store has when it is opened.
-    pub fn find(&mut self, tables: &[Rows], entries: &[Items<u8>])
+    pub fn find(&mut self, tables: &[TupleMap], entries: &[Items<u8>])
         ensures { self.new.changes ≡ Finds (map (λ t. t.entries) tables.now) entries.now ∷ [] }
     {
         self.note(&(tables, entries));
     }
 
     /// The tuples of more tables.
-    pub fn join(&mut self, tables: &[Rows])
+    pub fn join(&mut self, tables: &[TupleMap])
         ensures { self.new.changes ≡ Joins (map (λ t. t.entries) tables.now) ∷ self.old.changes }
     {
         self.note(&tables);
@@ -84,19 +77,5 @@ impl GhostContent {
         ensures { self.new.changes ≡ Drops rel place.now ∷ self.old.changes }
     {
         self.note(&(rel, place));
-    }
-
-    /// One entry more.
-    pub fn append(&mut self, bytes: &[u8])
-        ensures { self.new.changes ≡ Appends bytes.now ∷ self.old.changes }
-    {
-        self.note(&bytes);
-    }
-
-    /// No entry.
-    pub fn clear(&mut self)
-        ensures { self.new.changes ≡ Clears ∷ self.old.changes }
-    {
-        self.keep();
     }
 }

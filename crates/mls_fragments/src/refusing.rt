@@ -3,19 +3,19 @@ ghost use Rattle.std.specs.Prelude.{◌≡◌, length, OnOk};
 ghost use Rattle.sqlite.specs.Held.{state};
 ghost use Rattle.sqlite.specs.State.{HasCleanDisk};
 ghost use Rattle.mls_scheme.specs.Scheme.{AreUnder};
-ghost use Rattle.mls_statements.specs.Rows.{is_meta_row};
-ghost use Rattle.mls_statements.specs.Statements.{AreRows};
+ghost use Rattle.mls_tables.specs.Rows.{is_meta_row};
+ghost use Rattle.mls_tables.specs.Statements.{AreRows};
 ghost use Rattle.mls_fragments.specs.Opening.{IsRefused};
 
 use crate::finding::find;
-use crate::migrating::{Standing, find_widened, standing_of};
+use crate::migrating::{Lineage, find_widened, lineage_of};
 use crate::open_fault::OpenFault;
 use crate::opening::texts_of;
 use crate::place::Where;
 use crate::reading::RowFault;
 use mls_lattice::Policy;
 use mls_scheme::SchemesFile;
-use mls_statements::{AllRows, MetaRow, read_store};
+use mls_tables::{AllRows, MetaRow, read_store};
 use sqlite::{Alter, Connection};
 use std::alloc::{AllocError, Global};
 
@@ -47,9 +47,9 @@ fn stop_of(
     let mut at = Where::start();
     let texts = texts_of(alloc, policy, file)?;
     let schemes = &file.schemes;
-    let found = match standing_of(alloc, policy, file, &texts, described)? {
-        Some(Standing::Same) => find(alloc, policy, schemes, policy.label_count(), rows, &mut at),
-        Some(Standing::Older(older)) => {
+    let found = match lineage_of(alloc, policy, file, &texts, described)? {
+        Some(Lineage::Same) => find(alloc, policy, schemes, policy.label_count(), rows, &mut at),
+        Some(Lineage::Older(older)) => {
             find_widened(alloc, policy, schemes, &older, rows, &mut at)
         }
         None => return Ok(None),

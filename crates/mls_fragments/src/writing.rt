@@ -2,18 +2,18 @@
 ghost use Rattle.std.specs.Prelude.{◌≡◌, ◌<◌, ◌+ℤ◌, pos, true, map, IfOk, IfErr, IfSome, OnOk};
 ghost use Rattle.std.specs.List.{AllByRecursion};
 ghost use Rattle.mls_scheme.specs.Spelling.{HasSpelling, IsSpelledKey, key_spelling};
-ghost use Rattle.mls_statements.specs.Rows.{cell_beside};
-ghost use Rattle.mls_statements.specs.Statements.{SetsCell, AddsEntry};
-ghost use Rattle.mls_statements.specs.Store.{IsClean, Writes};
+ghost use Rattle.mls_tables.specs.Rows.{cell_beside};
+ghost use Rattle.mls_tables.specs.Statements.{SetsCell, AddsEntry};
+ghost use Rattle.mls_tables.specs.Store.{IsClean, Writes};
 ghost use Rattle.mls_fragments.specs.Calls.{IsStep, IsSpelledTuple, CanSetValue};
 ghost use Rattle.mls_fragments.specs.Finding.{IsMemory};
-ghost use Rattle.mls_fragments.specs.Holding.{node_row, cell_row, value_bytes, IsSpelledCell, value_row, own_cell, AddsTuple, DropsTuple};
+ghost use Rattle.mls_fragments.specs.Holding.{node_row, cell_row, value_bytes, IsSpelledCell, value_row, own_cell, tuple_key, AddsTuple, DropsTuple};
 
 use crate::reading::{RowFault, abandon_at_row};
 use mls_filterview::{Cell, Node};
 use mls_lattice::{Items, LabelNo};
 use mls_scheme::{Place, RelNo, Value, key_bytes, value_bytes};
-use mls_statements::{AuditRow, CellRow, NodeRow, OwnCell, StoreFault, TableStore};
+use mls_tables::{AuditRow, CellRow, NodeRow, OwnCell, StoreFault, TableStore, TupleKey};
 use sqlite::Alter;
 use std::alloc::Global;
 
@@ -44,12 +44,26 @@ fn bytes_of_value(alloc: Global, value: &Option<Value>) -> Result<Items<u8>, Row
     }
 }
 
-pub(crate) fn ent_of(alloc: Global, key: &[Value]) -> Result<Items<u8>, RowFault>
+fn ent_of(alloc: Global, key: &[Value]) -> Result<Items<u8>, RowFault>
     requires { IsSpelledKey key.now }
     ensures made { IfOk result (λ bytes. bytes ≡ key_spelling key.now) }
     ensures fault { IfErr result IsMemory }
 {
     Ok(Items::from(key_bytes(alloc, key)?))
+}
+
+/// The key of the tuple at a place.
+pub(crate) fn key_of_place(alloc: Global, rel: RelNo, place: &Place) -> Result<TupleKey, RowFault>
+    requires { IsSpelledKey place.now.key }
+    ensures made { IfOk result (λ key. key ≡ tuple_key rel place.now) }
+    ensures fault { IfErr result IsMemory }
+{
+    Ok(TupleKey {
+        rel: u32::from(rel.byte()),
+        ent: ent_of(alloc, &place.key)?,
+        kclass: u32::from(place.key_class.byte()),
+        label: u32::from(place.class.byte()),
+    })
 }
 
 /// The number of an attribute. No memory is left for a tuple that has so many that one's would not fit.
@@ -222,15 +236,12 @@ pub(crate) fn drop_tuple<S: Alter>(
     ensures step { IsStep store.old store.new result }
     ensures done { IsClean store.new → OnOk result (Writes (DropsTuple rel place.now) store.old store.new) }
 {
-    let ent = match ent_of(alloc, &place.key) {
-        Ok(ent) => ent,
+    let key = match key_of_place(alloc, rel, place) {
+        Ok(key) => key,
         Err(fault) => return Err(abandon_at_row(store, fault)),
     };
-    let rel = u32::from(rel.byte());
-    let kclass = u32::from(place.key_class.byte());
-    let label = u32::from(place.class.byte());
-    store.drop_node(rel, &ent, kclass, label)?;
-    store.drop_cells(rel, &ent, kclass, label)
+    store.drop_node(&key)?;
+    store.drop_cells(&key)
 }
 
 fn entry_of(alloc: Global, bytes: &[u8]) -> Result<Items<u8>, RowFault>

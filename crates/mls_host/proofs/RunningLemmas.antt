@@ -1,9 +1,8 @@
 -- Runs over a content: the lines of their events, what they leave, and how they end.
-use Rattle.std.proofs.Common.{◌≡◌, ℕ, List, Option, Some, None, false, Result, Ok, Err, OnOk, IfErr, IfSome, take, sym, subst}
-use Rattle.std.specs.Result.{IsErrAnd}
+use Rattle.std.proofs.Common.{ℕ, List, Option, Some, None, Result, Ok, Err, OnOk, IfErr, IfSome, take}
 use Rattle.std.specs.Io.KnownBytes.{Appends}
-use Rattle.mls_filterview.specs.Content.{Content, State, no_content}
-use Rattle.mls_fragments.specs.Finding.{IsSoundContent}
+use Rattle.mls_filterview.specs.Content.{Content}
+use Rattle.mls_audit.specs.Sound.{IsSoundContent}
 use Rattle.mls_script.specs.declared.event.Event.{Event}
 use Rattle.mls_machine.specs.declared.form.Audience.{Audience}
 use Rattle.mls_machine.specs.Site.{Site}
@@ -12,23 +11,14 @@ use Rattle.mls_machine.specs.Observation.{PassesOnlyReleasesDown, ShowsOnlyRelea
 use Rattle.mls_machine.specs.Laws.{KeepsIntegrity}
 use Rattle.mls_machine.proofs.RunLemmas.{shows_only_releases}
 use Rattle.mls_sessions.specs.declared.cause.RunFault.{RunFault}
-use Rattle.mls_sessions.specs.World.{world_at, IsSound}
+use Rattle.mls_sessions.specs.World.{world_at}
 use Rattle.mls_sessions.specs.Run.{IsWhole, IsStopped as IsHalted, IsFaultOf}
-use Rattle.mls_sessions.proofs.StartLemmas.{no_content_sound}
 use Rattle.mls_host.specs.declared.host.CloseFault.{CloseFault}
-use Rattle.mls_host.specs.declared.refusal.Refusal.{Refusal}
+use Rattle.mls_host.specs.declared.stop.Stop.{Stop}
 use Rattle.mls_host.specs.declared.reason.Reason.{Reason}
-use Rattle.mls_host.specs.declared.refusal.Refusal.TheVariants.{Before, Run, NotClosed, Output, Served, Unread, Turned}
-use Rattle.mls_host.specs.Refusal.{ended, IsEnd}
+use Rattle.mls_host.specs.declared.stop.Stop.TheVariants.{Before, Run, NotClosed, Output, Served, Unread, Turned}
+use Rattle.mls_host.specs.Stop.{ended, IsEnd}
 use Rattle.mls_host.specs.Running.{first_world, IsRun}
-
--- content that is sound under a policy and schemes is sound at their site
-pub sound_at : (site : Site) (c : Content) → IsSoundContent site.policy site.schemes c → IsSound site c
-sound_at site c sound = record { content = sound.content; entries = sound.entries }
-
--- and so is none
-pub none_sound : (site : Site) (s : State) → s ≡ record { now = no_content; kept = no_content; begun = false } → IsSound site s.now
-none_sound site s none = subst (λ (x : State). IsSound site x.now) (sym none) (no_content_sound site)
 
 -- what an engine's run comes to: its lines, its last world, and what is proved of it
 pub record IsEngineRun (site : Site) (audience : Audience) (v : World) (es : List Event) (before after : Option (List ℕ)) (new : World) (r : Result (Unit {0}) RunFault) : Type 0 where
@@ -44,7 +34,7 @@ shown_to site (Some c) v es secret = λ n. shows_only_releases site c v (take n 
 
 -- over a base that holds a content at first and another at last
 pub run_at : (site : Site) (audience : Audience) (sessions : Sessions) (first left : Content) (es : List Event) (before after : Option (List ℕ)) (r : Result (Unit {0}) RunFault)
-    → IsSound site left → IsEngineRun site audience (first_world site first) es before after (world_at site sessions left) r
+    → IsSoundContent site.policy site.schemes left → IsEngineRun site audience (first_world site first) es before after (world_at site sessions left) r
     → IsRun site audience es (Appends before after) r first left
 run_at site audience sessions first left es before after (Ok u) sound h = record {
   written = h.ok.bytes;
@@ -73,7 +63,7 @@ module _ {A : Type 0} (Ends : Result A RunFault → Type 0) (Nothing : Reason �
   ended_so (Ok end) (Ok v) h = h
 
   pub end_weaker : (More : Result A RunFault → Type 0) (Less : Reason → Type 0) → ((end : Result A RunFault) → Ends end → More end) → ((reason : Reason) → Nothing reason → Less reason)
-      → (r : Result A Refusal) → IsEnd Ends Nothing r → IsEnd More Less r
+      → (r : Result A Stop) → IsEnd Ends Nothing r → IsEnd More Less r
   end_weaker More Less f g (Ok end) h = f (Ok end) h
   end_weaker More Less f g (Err (Before reason)) h = g reason h
   end_weaker More Less f g (Err (Run fault)) h = f (Err fault) h
@@ -82,10 +72,3 @@ module _ {A : Type 0} (Ends : Result A RunFault → Type 0) (Nothing : Reason �
   end_weaker More Less f g (Err (Served cause)) h = absurd h
   end_weaker More Less f g (Err Unread) h = absurd h
   end_weaker More Less f g (Err (Turned cause)) h = absurd h
-
--- ---- at the exit of a `?`
-
--- what holds of the refusal with a reason holds of the one that is returned
-pub given_up_before : {A : Type 0} (P : Refusal → Type 0) (r : Result A Refusal) (reason : Reason) → IsErrAnd r (λ e. e ≡ Before reason) → P (Before reason) → IfErr r P
-given_up_before P (Ok a) reason is p = tt
-given_up_before P (Err e) reason is p = subst P (sym is) p

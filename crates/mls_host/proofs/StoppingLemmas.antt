@@ -1,15 +1,15 @@
 -- What goes with the end of a run or a shell, and that a host which is not touched keeps its stores.
-use Rattle.std.proofs.Common.{◌≡◌, ◌<◌, ℕ, List, Option, Some, None, Result, Ok, Err, IfErr, OnErr, IsErr, refl, sym, subst, arith}
+use Rattle.std.proofs.Common.{◌≡◌, ◌<◌, ℕ, List, Option, Some, None, Result, Ok, Err, IfErr, IsErr, refl, sym, subst, arith}
 use Rattle.std.specs.Borrow.{Bor}
 use Rattle.std.specs.Result.{IsErrAnd}
 use Rattle.mls_sessions.specs.declared.cause.RunCause.TheVariants.{Store}
 use Rattle.mls_sessions.specs.declared.cause.RunFault.{RunFault}
 use Rattle.mls_host.specs.declared.host.CloseFault.{CloseFault}
 use Rattle.mls_host.specs.declared.reason.Reason.{Reason}
-use Rattle.mls_host.specs.declared.refusal.Refusal.{Refusal}
-use Rattle.mls_host.specs.declared.refusal.Refusal.TheVariants.{Before, Run, NotClosed, Output, Served, Unread, Turned}
+use Rattle.mls_host.specs.declared.stop.Stop.{Stop}
+use Rattle.mls_host.specs.declared.stop.Stop.TheVariants.{Before, Run, NotClosed, Output, Served, Unread, Turned}
 use Rattle.mls_host.specs.Hosting.{Hosting, Hosted, KeepSame, KeepsStores}
-use Rattle.mls_host.specs.Refusal.{ended}
+use Rattle.mls_host.specs.Stop.{ended}
 use Rattle.mls_host.specs.Stopping.{IsCaused, IsCausedInMemory}
 use Rattle.mls_host.specs.Words.{named}
 
@@ -17,18 +17,13 @@ use Rattle.mls_host.specs.Words.{named}
 pub untouched : (h : Hosting) → KeepSame h h
 untouched h path c = (λ k. k, λ k. k)
 
--- what is known whatever came is known at a fault
-pub at_fault : {A E P : Type 0} (r : Result A E) → P → OnErr r P
-at_fault (Ok a) p = tt
-at_fault (Err e) p = p
-
 -- a run without a store, which is closed
 pub ended_in_memory : {A : Type 0} (outcome : Result A RunFault) → IfErr outcome (λ f. f.cause ≡ Store → 0 < 0) → IsCausedInMemory (ended outcome (Ok tt))
 ended_in_memory (Ok end) k = tt
 ended_in_memory (Err fault) k = λ is. let none = k is in absurd (omega (arith, none))
 
 module _ {A : Type 0} (h : Hosted) where
-  caused_without : KeepsStores h → (r : Result A Refusal) → IsCausedInMemory r → IsCaused h None r
+  caused_without : KeepsStores h → (r : Result A Stop) → IsCausedInMemory r → IsCaused h None r
   caused_without kept (Ok end) k = kept
   caused_without kept (Err (Before reason)) k = kept
   caused_without kept (Err (Run fault)) k = (kept, k)
@@ -46,13 +41,13 @@ module _ {A : Type 0} (h : Hosted) where
   caused_in_store path (Ok end) (Ok v) before after unclosed failed k = tt
 
   -- where a store is named, or none
-  pub caused_at : (store at : Option (Bor (List ℕ))) → store ≡ at → (r : Result A Refusal) → IsCaused h (named at) r → IsCaused h (named store) r
+  pub caused_at : (store at : Option (Bor (List ℕ))) → store ≡ at → (r : Result A Stop) → IsCaused h (named at) r → IsCaused h (named store) r
   caused_at store at is r k = subst (λ (s : Option (Bor (List ℕ))). IsCaused h (named s) r) (sym is) k
 
-  pub caused_from_memory : (store : Option (Bor (List ℕ))) → store ≡ None → KeepsStores h → (r : Result A Refusal) → IsCausedInMemory r → IsCaused h (named store) r
+  pub caused_from_memory : (store : Option (Bor (List ℕ))) → store ≡ None → KeepsStores h → (r : Result A Stop) → IsCausedInMemory r → IsCaused h (named store) r
   caused_from_memory store none kept r k = caused_at store None none r (caused_without kept r k)
 
   -- at the exit of a `?`, of a host that is not touched
-  pub caused_before : (store : Option (List ℕ)) (r : Result A Refusal) (reason : Reason) → IsErrAnd r (λ e. e ≡ Before reason) → KeepsStores h → IsCaused h store r
+  pub caused_before : (store : Option (List ℕ)) (r : Result A Stop) (reason : Reason) → IsErrAnd r (λ e. e ≡ Before reason) → KeepsStores h → IsCaused h store r
   caused_before store (Ok a) reason is k = absurd is
-  caused_before store (Err e) reason is k = subst (λ (x : Refusal). let r : Result A Refusal = Err x in IsCaused h store r) (sym is) k
+  caused_before store (Err e) reason is k = subst (λ (x : Stop). let r : Result A Stop = Err x in IsCaused h store r) (sym is) k

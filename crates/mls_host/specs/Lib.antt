@@ -2,7 +2,7 @@
 -- ask for, `Running` what a run writes.
 pub mod Hosting
 pub mod Reason
-pub mod Refusal
+pub mod Stop
 pub mod Ending
 pub mod Inputs
 pub mod Storing

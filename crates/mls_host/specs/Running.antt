@@ -3,6 +3,7 @@ use Rattle.std.specs.Prelude.{◌≡◌, ◌≢◌, ℕ, ◌-◌, if◌then◌el
 use Rattle.mls_lattice.specs.Policy.{Policy}
 use Rattle.mls_scheme.specs.Scheme.{Schemes}
 use Rattle.mls_filterview.specs.Content.{Content}
+use Rattle.mls_audit.specs.Sound.{IsSoundContent}
 use Rattle.mls_machine.specs.declared.stored.Stored.{Stored}
 use Rattle.mls_script.specs.declared.event.Event.{Event}
 use Rattle.mls_machine.specs.declared.form.Form.{Form}
@@ -15,7 +16,7 @@ use Rattle.mls_machine.specs.Laws.{KeepsIntegrity}
 use Rattle.mls_sessions.specs.declared.cause.RunCause.TheVariants.{Write}
 use Rattle.mls_sessions.specs.declared.cause.RunFault.{RunFault}
 use Rattle.mls_sessions.specs.Run.{IsFaultOf}
-use Rattle.mls_sessions.specs.World.{world_at, IsSound}
+use Rattle.mls_sessions.specs.World.{world_at}
 
 -- a table, where it is asked for
 abbrev pub form_of : Bool → Form
@@ -66,7 +67,7 @@ pub record IsRun (site : Site) (audience : Audience) (es : List Event) (Wrote : 
   pub written : IsWritten site audience first es Wrote end
   pub left_by : IsLeftBy site first (standing es end) left
   -- a next run may begin with what is left
-  pub sound : IsSound site left
+  pub sound : IsSoundContent site.policy site.schemes left
   -- each database on the way has the four integrity properties
   pub integrity : KeepsIntegrity site (first_world site first) es
   -- no information flows down but what is released: over all events, and over the first n of them

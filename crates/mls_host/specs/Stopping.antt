@@ -2,8 +2,8 @@
 use Rattle.std.specs.Prelude.{◌≡◌, ◌≢◌, ℕ, List, Option, Some, None, Result, Ok, Err, ⊤}
 use Rattle.mls_sessions.specs.declared.cause.RunCause.TheVariants.{Store}
 use Rattle.mls_sessions.specs.declared.cause.RunFault.{RunFault}
-use Rattle.mls_host.specs.declared.refusal.Refusal.{Refusal}
-use Rattle.mls_host.specs.declared.refusal.Refusal.TheVariants.{Before, Run, NotClosed, Output, Served, Unread, Turned}
+use Rattle.mls_host.specs.declared.stop.Stop.{Stop}
+use Rattle.mls_host.specs.declared.stop.Stop.TheVariants.{Before, Run, NotClosed, Output, Served, Unread, Turned}
 use Rattle.mls_host.specs.Hosting.{Hosted, KeepsStores, LeavesStores}
 
 module _ (h : Hosted) where
@@ -20,7 +20,7 @@ module _ (h : Hosted) where
 
   -- Each store keeps what it kept where none is begun, and where none is named. What stops, or is not closed, has a
   -- cause.
-  abbrev pub IsCaused : {A : Type 0} → Option (List ℕ) → Result A Refusal → Type 0
+  abbrev pub IsCaused : {A : Type 0} → Option (List ℕ) → Result A Stop → Type 0
   IsCaused store (Ok end) = LeavesStores h store
   IsCaused store (Err (Before reason)) = KeepsStores h
   IsCaused store (Err (Run fault)) = LeavesStores h store × IsStoppedFor store fault
@@ -31,7 +31,7 @@ module _ (h : Hosted) where
   IsCaused store (Err (Turned cause)) = ⊥
 
 -- without a store it stops for none, and none is not closed
-abbrev pub IsCausedInMemory : {A : Type 0} → Result A Refusal → Type 0
+abbrev pub IsCausedInMemory : {A : Type 0} → Result A Stop → Type 0
 IsCausedInMemory (Ok end) = ⊤
 IsCausedInMemory (Err (Before reason)) = ⊤
 IsCausedInMemory (Err (Run fault)) = fault.cause ≢ Store

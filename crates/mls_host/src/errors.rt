@@ -1,10 +1,10 @@
 //! Standard error, and whether it failed.
 ghost use Rattle.std.specs.Prelude.{◌≡◌, None};
 ghost use Rattle.mls_host.specs.Hosting.{IsTold};
-ghost use Rattle.mls_host.specs.Refusal.{refusal_text};
+ghost use Rattle.mls_host.specs.Stop.{stop_text};
 ghost use Rattle.mls_host.specs.Words.{usage_text};
 
-use crate::refusal::Refusal;
+use crate::stop::Stop;
 use crate::usage::Usage;
 use mls_tokens::{WriteFault, write_bytes};
 use std::io::Write;
@@ -48,11 +48,11 @@ impl<E: Write> Errors<E> {
         }
     }
 
-    /// Tells a refusal.
-    pub fn tell_refusal(&mut self, refusal: &Refusal)
-        ensures { IsTold E.contents self.old self.new (refusal_text refusal.now) }
+    /// Tells a stop.
+    pub fn tell_stop(&mut self, stop: &Stop)
+        ensures { IsTold E.contents self.old self.new (stop_text stop.now) }
     {
-        if let Err(fault) = refusal.tell(&mut self.writer) {
+        if let Err(fault) = stop.tell(&mut self.writer) {
             self.failed = Some(fault);
         }
     }

@@ -2,9 +2,9 @@
 ghost use Rattle.std.specs.Prelude.{◌≡◌, ◌<◌, ◌≤◌, ◌↔◌, false, Some, None, length, IfOk, IfErr, OnErr, IsErr};
 ghost use Rattle.std.specs.Option.{IfSome};
 ghost use Rattle.mls_scheme.specs.Scheme.{AreUnder};
+ghost use Rattle.mls_audit.specs.Sound.{IsSoundContent};
 ghost use Rattle.mls_fragments.specs.Holdings.{holdings_of, IsTakenOf};
-ghost use Rattle.mls_fragments.specs.Finding.{IsSoundContent};
-ghost use Rattle.mls_statements.specs.declared.rows.MetaRow.{MetaRow};
+ghost use Rattle.mls_tables.specs.declared.rows.MetaRow.{MetaRow};
 ghost use Rattle.mls_host.specs.Hosting.{Hosting, KeepSame};
 
 use mls_filterview::Base;

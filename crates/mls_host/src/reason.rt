@@ -43,7 +43,7 @@ impl Role {
 }
 
 /// Why a command is given up before anything is written.
-/// Each function answers it that runs before anything is written; [`Refusal`](crate::Refusal) adds what stopped what
+/// Each function answers it that runs before anything is written; [`Stop`](crate::Stop) adds what stopped what
 /// was begun. So no contract has to say that a refusal is one of the first kind.
 #[derive(Clone, Copy)]
 pub enum Reason {

@@ -8,7 +8,7 @@ use std::alloc::AllocError;
 use std::io::Write;
 
 /// Why words ask for nothing that can be done.
-/// A type of its own: no function that does a job can answer it, and a [`Refusal`](crate::Refusal), which has no text,
+/// A type of its own: no function that does a job can answer it, and a [`Stop`](crate::Stop), which has no text,
 /// is copied.
 #[derive(Drop)]
 pub enum Usage {

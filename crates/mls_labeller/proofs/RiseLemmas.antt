@@ -1,5 +1,5 @@
 -- Labels that rise, one bound after another.
-use Rattle.std.proofs.Common.{◌≡◌, ℕ, zero, suc, ◌+◌, ◌-◌, ◌<◌, ◌≤◌, ◌^◌, Bool, true, false, List, [], ◌∷◌, ◌++◌, length, map, set, get_or, replicate, Option, Some, refl, sym, ap, ◌∙◌, subst, inl, inr, arith}
+use Rattle.std.proofs.Common.{◌≡◌, ℕ, zero, suc, ◌+◌, ◌-◌, ◌<◌, ◌≤◌, ◌^◌, Bool, true, false, List, [], ◌∷◌, ◌++◌, length, map, set, get_or, replicate, Option, refl, sym, ap, ◌∙◌, subst, inl, inr, arith}
 use Rattle.std.specs.List.{AllByRecursion, sum_by}
 use Rattle.std.proofs.lemmas.Bool.{cases_eq, true≢false}
 use Rattle.std.proofs.lemmas.List.{map-set, length-map, length-set, length-replicate, get_or-set_same, get_or-set_other, get_or_past}
@@ -27,9 +27,6 @@ use Rattle.mls_labeller.specs.declared.least.Labeller.{Labeller}
 use Rattle.mls_certcheck.proofs.EachLemmas.{all_both, all_front, all_back, all_map, all_at, all_set}
 use Rattle.mls_labeller.proofs.FlowLemmas.{slot_falls, source_falls}
 use Rattle.mls_labeller.proofs.RoomLemmas.{room_less, sum_less}
-
-pub dominates_same : (p q r s : Pair) → p ≡ r → q ≡ s → Dominates p q → Dominates r s
-dominates_same p q r s e f h = subst (λ x. Dominates x s) e (subst (λ x. Dominates p x) f h)
 
 -- ---- the join of sources
 
@@ -131,10 +128,6 @@ lowest_labels version.First v s rows stmts count lengths low many lows =
       stmts = lows;
     }
 lowest_labels version.Second v s rows stmts count lengths low many lows = record { counts = record { vars = lengths; stmts = (count, many) }; vars = low; stmts = lows }
-
-pub is_of : (ver : Version) (rows : List (List Label)) (stmts : List Label) → IsOf ver (certificate ver rows stmts)
-is_of version.First rows stmts = tt
-is_of version.Second rows stmts = tt
 
 -- ---- no bound, and one more
 
@@ -367,17 +360,6 @@ module _ (k : Labeller) where
   rises_none x (Under ss) into kept = rises_not (λ c. IsBounded c (Under ss)) x tt
 
   -- ---- what is kept
-
-  pub rises_keep : (m n : ℕ) (but : Option ℕ) (i : ℕ) (p : Pair) (x y : Certificate) (r : Bool) → (but ≡ Some i → ⊥) → p ≡ after (at x) m i → Rises k (λ c. Over p c (Variable n i)) x y r → Rises k (λ c. Keeps c m n but i) x y r
-  rises_keep m n but i p x y r not is h = record {
-    version = h.version;
-    counts = h.counts;
-    slots = h.slots;
-    least = λ v d other e a below. h.least v d other e (subst (Dominates (after (at other) n i)) (sym is) (Dominates-trans (after (at other) n i) (after (at other) m i) (after (at x) m i) (a not) (below.vars m i))) below;
-    still = h.still;
-    hold = λ e. λ _. subst (λ w. Dominates (after (at y) n i) (after (at w) m i)) (sym (h.still e)) (subst (Dominates (after (at y) n i)) is (h.hold e));
-    room = h.room;
-  }
 
   pub keeps_more : (m n : ℕ) (but : Option ℕ) (i : ℕ) (x y z : Certificate) (r s t : Bool) → Rises k (λ c. KeepsBelow i c m n but) x y r → Rises k (λ c. Keeps c m n but i) y z s → (s ≡ true → t ≡ true) → (s ≡ false → t ≡ r) → Rises k (λ c. KeepsBelow (i + 1) c m n but) x z t
   keeps_more m n but i = rises_then (λ c. KeepsBelow i c m n but) (λ c. Keeps c m n but i) (λ c. KeepsBelow (i + 1) c m n but)

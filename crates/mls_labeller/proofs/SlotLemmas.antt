@@ -2,7 +2,7 @@
 use Rattle.std.proofs.Common.{◌≡◌, ◌+◌, ℕ, zero, suc, ◌<◌, ◌≤◌, List, [], ◌∷◌, ◌++◌, length, map, Option, Some, None, refl, arith}
 use Rattle.std.specs.Option.{IfSome}
 use Rattle.std.specs.List.{AllByRecursion}
-use Rattle.mls_translang.specs.Tree.{Writing, Inserting, Updating, Deleting, Stmt, Assign, Write_at, Release, Emit, Block, End, Do, If, For, statements}
+use Rattle.mls_translang.specs.Tree.{Writing, Insert, Update, Delete, Stmt, Assign, Write_at, Release, Emit, Block, End, Do, If, For, statements}
 use Rattle.mls_translang.specs.Scope.{Scope, in_loop}
 use Rattle.mls_translang.specs.Tx.{Tx, IsTx, BlockIsOwn, StmtIsOwn, scope_of}
 use Rattle.mls_certcheck.specs.declared.cert.Certificate.{Certificate}
@@ -25,7 +25,7 @@ directs_within n (Do stmt rest) =
 directs_within n (If guard one other rest) =
     let k = n + (1 + statements one + statements other) in
     ((omega arith, omega arith), all_map (λ m. (k ≤ m) × (m < k + statements rest)) (λ m. (n ≤ m) × (m < n + (1 + statements one + statements other + statements rest))) (λ m h. (omega (arith, h.0), omega (arith, h.1))) _ (directs_within k rest))
-directs_within n (For row rel label body rest) =
+directs_within n (For row relation label body rest) =
     let k = n + (1 + statements body) in
     ((omega arith, omega arith), all_map (λ m. (k ≤ m) × (m < k + statements rest)) (λ m. (n ≤ m) × (m < n + (1 + statements body + statements rest))) (λ m h. (omega (arith, h.0), omega (arith, h.1))) _ (directs_within k rest))
 
@@ -62,17 +62,17 @@ module _ (vars total : ℕ) (x : Certificate) (counts : HasCounts vars total x) 
     known : (i : ℕ) → i < length s.vars → HasSlot x (Variable n i)
     known i h = has_variable n i low high (omega (arith, h, count))
 
-    has_write : (b : ℕ) (rows : List ℕ) (rel w : ℕ) (writing : Writing) (o : Option ℕ) → IfSome o (λ i. i < length s.vars) → AllByRecursion Has (stmt_lines n b rows (Write_at rel w writing o))
-    has_write b rows rel w (Inserting key values) None h = (tt, (tt, tt))
-    has_write b rows rel w (Inserting key values) (Some i) h = (tt, (tt, ((known i h, tt), tt)))
-    has_write b rows rel w (Updating key key_class from sets) None h = (tt, (tt, (tt, (tt, tt))))
-    has_write b rows rel w (Updating key key_class from sets) (Some i) h = (tt, (tt, ((known i h, tt), (tt, (tt, tt)))))
-    has_write b rows rel w (Deleting key key_class) None h = (tt, (tt, (tt, tt)))
-    has_write b rows rel w (Deleting key key_class) (Some i) h = (tt, (tt, ((known i h, tt), (tt, tt))))
+    has_write : (b : ℕ) (rows : List ℕ) (relation w : ℕ) (writing : Writing) (o : Option ℕ) → IfSome o (λ i. i < length s.vars) → AllByRecursion Has (stmt_lines n b rows (Write_at relation w writing o))
+    has_write b rows relation w (Insert key values) None h = (tt, (tt, tt))
+    has_write b rows relation w (Insert key values) (Some i) h = (tt, (tt, ((known i h, tt), tt)))
+    has_write b rows relation w (Update key key_class from sets) None h = (tt, (tt, (tt, (tt, tt))))
+    has_write b rows relation w (Update key key_class from sets) (Some i) h = (tt, (tt, ((known i h, tt), (tt, (tt, tt)))))
+    has_write b rows relation w (Delete key key_class) None h = (tt, (tt, (tt, tt)))
+    has_write b rows relation w (Delete key key_class) (Some i) h = (tt, (tt, ((known i h, tt), (tt, tt))))
 
     has_stmt : (b : ℕ) (rows : List ℕ) (stmt : Stmt) → StmtIsOwn s stmt → AllByRecursion Has (stmt_lines n b rows stmt)
     has_stmt b rows (Assign i e) h = ((known i h.0, tt), tt)
-    has_stmt b rows (Write_at rel w writing outcome) h = has_write b rows rel w writing outcome h.1
+    has_stmt b rows (Write_at relation w writing outcome) h = has_write b rows relation w writing outcome h.1
     has_stmt b rows (Release e to into) h = (tt, (tt, ((known into h.1, tt), tt)))
     has_stmt b rows (Emit e label) h = (tt, (tt, tt))
 
@@ -95,10 +95,10 @@ module _ (vars total : ℕ) (x : Certificate) (counts : HasCounts vars total x) 
             (all_both HasAt (places (n + 1 + statements one) n b rows other) _ (has_places s count (n + 1 + statements one) n b rows other (omega arith) (omega (arith, high)) own.2)
             (has_places s count (n + (1 + statements one + statements other)) around n rows rest (omega (arith, low)) (omega (arith, high)) own.3)),
       )
-  has_places s count n around b rows (For row rel label body rest) low high own =
+  has_places s count n around b rows (For row relation label body rest) low high own =
       let within : n ≤ total = omega (arith, high) in (
         (tt, ((has_statement n low within, tt), (tt, (has_map (directs (n + 1) body) (has_inner (n + 1) body (omega arith) (omega (arith, high))), (has_row n low within, (has_row n low within, tt)))))),
-        all_both HasAt (places (n + 1) n n (label ∷ rows) body) _ (has_places (in_loop s row rel) count (n + 1) n n (label ∷ rows) body (omega arith) (omega (arith, high)) own.1)
+        all_both HasAt (places (n + 1) n n (label ∷ rows) body) _ (has_places (in_loop s row relation) count (n + 1) n n (label ∷ rows) body (omega arith) (omega (arith, high)) own.1)
             (has_places s count (n + (1 + statements body)) around n rows rest (omega (arith, low)) (omega (arith, high)) own.2),
       )
 

@@ -26,12 +26,10 @@ directs-first n (stmt.Assign x e) rest = refl
 directs-first n (stmt.If guard one other) rest =
     let e : n + (1 + statements one + statements other) ≡ n + (1 + statements one + statements other + 0) = omega arith in
     ap (λ (k : ℕ). n ∷ directs k (block_of rest)) e
-directs-first n (stmt.For row rel label body) rest =
+directs-first n (stmt.For row relation label body) rest =
     let e : n + (1 + statements body) ≡ n + (1 + statements body + 0) = omega arith in
     ap (λ (k : ℕ). n ∷ directs k (block_of rest)) e
-directs-first n (stmt.Insert rel key values w outcome) rest = refl
-directs-first n (stmt.Update rel key key_class from w sets outcome) rest = refl
-directs-first n (stmt.Delete rel key key_class w outcome) rest = refl
+directs-first n (stmt.Write relation w writing outcome) rest = refl
 directs-first n (stmt.Release e to into) rest = refl
 directs-first n (stmt.Emit e label) rest = refl
 

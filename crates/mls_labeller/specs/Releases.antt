@@ -34,11 +34,11 @@ pub data CanRelease : Bool → Block → List Told → List Item → List Item �
       → CanRelease looped one a xs x → CanRelease looped other b xs y → CanRelease looped rest told (if taken then x else y) zs
       → CanRelease looped (If guard one other rest) ((a ++ b) ++ told) xs zs
   -- a loop gives what its body can give, never or again and again
-  Never : {looped : Bool} {row : Name} {rel label : ℕ} {body rest : Block} {a told : List Told} {xs zs : List Item} (x y : List Item)
-      → CanRelease true body a x y → CanRelease looped rest told xs zs → CanRelease looped (For row rel label body rest) (a ++ told) xs zs
-  Again : {looped : Bool} {row : Name} {rel label : ℕ} {body rest : Block} {a : List Told} (told : List Told) {xs zs : List Item} (ys : List Item)
-      → CanRelease true body a xs ys → CanRelease looped (For row rel label body rest) (a ++ told) ys zs
-      → CanRelease looped (For row rel label body rest) (a ++ told) xs zs
+  Never : {looped : Bool} {row : Name} {relation label : ℕ} {body rest : Block} {a told : List Told} {xs zs : List Item} (x y : List Item)
+      → CanRelease true body a x y → CanRelease looped rest told xs zs → CanRelease looped (For row relation label body rest) (a ++ told) xs zs
+  Again : {looped : Bool} {row : Name} {relation label : ℕ} {body rest : Block} {a : List Told} (told : List Told) {xs zs : List Item} (ys : List Item)
+      → CanRelease true body a xs ys → CanRelease looped (For row relation label body rest) (a ++ told) ys zs
+      → CanRelease looped (For row relation label body rest) (a ++ told) xs zs
 
 -- in every run from any database, with any arguments, the releases have values of the ranges that are told
 abbrev pub AreTold : Tx → List Told → Type 0

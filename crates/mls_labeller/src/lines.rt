@@ -1,8 +1,9 @@
 //! The lines of a transaction, noted.
 ghost use Rattle.std.specs.Prelude.{◌≡◌, ◌<◌, ◌+◌, ◌^◌, ◌++◌, map, IfOk, OnOk};
+ghost use Rattle.mls_scheme.specs.Writes.{operands};
 ghost use Rattle.mls_translang.specs.Tree.{statements};
 ghost use Rattle.mls_certcheck.specs.Lines.{names, variables};
-ghost use Rattle.mls_certcheck.specs.Rows.{rows_of};
+ghost use Rattle.mls_certcheck.specs.Loops.{loops_of};
 ghost use Rattle.mls_certcheck.specs.Lent.{slots_of, names_here, more_of, sources_of, flow_of};
 ghost use Rattle.mls_labeller.specs.Flows.{body_lines, own_slots};
 
@@ -10,6 +11,7 @@ use mls_certcheck::{
     Flow, Here, LentFlow, Line, More, Refusal, Rule, Slot, Source, Targets, Visit, walk,
 };
 use mls_lattice::Items;
+use mls_scheme::Write;
 use mls_translang::{Block, Expr, Term, Tx};
 use std::alloc::{AllocError, Global};
 
@@ -45,7 +47,7 @@ fn slots_of(alloc: Global, targets: &Targets<'_>) -> Result<Items<Slot>, AllocEr
 /// Adds the names in an expression of a statement.
 fn names_to(sources: &mut Vec<Source>, here: &Here, expr: &Expr) -> Result<(), AllocError>
     ensures { OnOk result (sources.new.items ≡ sources.old.items
-        ++ names here.now.before (rows_of here.now.rows) expr.now) }
+        ++ names here.now.before (loops_of here.now.loops) expr.now) }
 {
     match &expr.term {
         Term::Known(_) | Term::Null => {}
@@ -55,7 +57,7 @@ fn names_to(sources: &mut Vec<Source>, here: &Here, expr: &Expr) -> Result<(), A
             sources.push(Source::Held(Slot::Variable { after, place }))?;
         }
         Term::Parameter(place) => sources.push(Source::Parameter(*place))?,
-        Term::Field { depth, .. } => sources.push(Source::Declared(here.rows.label(*depth)))?,
+        Term::Field { depth, .. } => sources.push(Source::Declared(here.loops.label(*depth)))?,
         Term::Not(expr) => names_to(sources, here, expr)?,
         Term::Op(_, left, right) => {
             names_to(sources, here, left)?;
@@ -76,7 +78,7 @@ fn all_to(sources: &mut Vec<Source>, here: &Here, exprs: &[Expr]) -> Result<(), 
 }
 
 /// Adds those in the new values of an update.
-fn sets_to(sources: &mut Vec<Source>, here: &Here, sets: &[(u8, Expr)]) -> Result<(), AllocError>
+fn sets_to(sources: &mut Vec<Source>, here: &Here, sets: &[(usize, Expr)]) -> Result<(), AllocError>
     ensures { OnOk result (sources.new.items ≡ sources.old.items
         ++ names_here here.now (map (λ s. s.1) sets.now)) }
 {
@@ -84,6 +86,22 @@ fn sets_to(sources: &mut Vec<Source>, here: &Here, sets: &[(u8, Expr)]) -> Resul
         names_to(sources, here, &set.1)?;
     }
     Ok(())
+}
+
+/// Adds those in the operands of a write.
+fn operands_to(
+    sources: &mut Vec<Source>,
+    here: &Here,
+    write: &Write<Expr>,
+) -> Result<(), AllocError>
+    ensures { OnOk result (sources.new.items ≡ sources.old.items ++ names_here here.now (operands write.now)) }
+{
+    all_to(sources, here, write.key())?;
+    match write {
+        Write::Insert { values, .. } => all_to(sources, here, values),
+        Write::Update { sets, .. } => sets_to(sources, here, sets),
+        Write::Delete { .. } => Ok(()),
+    }
 }
 
 /// Adds the variables after a statement, the last one first.
@@ -106,15 +124,7 @@ fn more_to(sources: &mut Vec<Source>, here: &Here, more: &More<'_>) -> Result<()
         More::Label(label) => sources.push(Source::Declared(*label))?,
         More::Variables(count) => variables_to(sources, here.number, *count)?,
         More::Names(expr) => names_to(sources, here, expr)?,
-        More::Each(key) => all_to(sources, here, key)?,
-        More::Values(key, values) => {
-            all_to(sources, here, key)?;
-            all_to(sources, here, values)?;
-        }
-        More::Sets(key, sets) => {
-            all_to(sources, here, key)?;
-            sets_to(sources, here, sets)?;
-        }
+        More::Operands(write) => operands_to(sources, here, write)?,
     }
     Ok(())
 }

@@ -79,9 +79,7 @@ impl Walk {
                 Ok(Walked::either(self.alloc, one, other)?)
             }
             Stmt::For { body, .. } => Ok(self.turns(before, body)?),
-            Stmt::Insert { outcome, .. } => Ok(self.silent(before.put_outcome(*outcome)?)),
-            Stmt::Update { outcome, .. } => Ok(self.silent(before.put_outcome(*outcome)?)),
-            Stmt::Delete { outcome, .. } => Ok(self.silent(before.put_outcome(*outcome)?)),
+            Stmt::Write { outcome, .. } => Ok(self.silent(before.put_outcome(*outcome)?)),
             Stmt::Release { value, to, into } => {
                 let (to, into, looped) = (*to, *into, self.looped);
                 let range = before.range_of(self.alloc, value)?;

@@ -3,12 +3,10 @@ use Rattle.std.proofs.Common.{◌≡◌, ◌≢◌, ℕ, zero, suc, arith, ◌+�
 use Rattle.std.specs.Prelude.{IfSome, IsTrue, ◌↔◌}
 use Rattle.std.specs.List.{flat_map}
 use Rattle.std.proofs.lemmas.Bool.Decides.{Decides-eqb}
-use Rattle.std.proofs.lemmas.List.{append-nil, length-map, append_cancel_left, drop_more, take-map, drop-map, get_or-take}
+use Rattle.std.proofs.lemmas.List.{append-nil, length-map, append_cancel_left, drop_more, take-map, drop-map}
 use Rattle.std.proofs.lemmas.List.Folds.{flat_map-map}
 use Rattle.mls_lattice.specs.declared.tables.NamedLabel.{NamedLabel}
-use Rattle.mls_lattice.specs.Lattice.{bottom}
-use Rattle.mls_lattice.specs.Labels.{Labels, label_of, below}
-use Rattle.mls_lattice.specs.Policy.{Name, Named, named, Policy, labels_of}
+use Rattle.mls_lattice.specs.Policy.{Name, Named, named, Policy}
 use Rattle.mls_lattice.specs.Canon.{level_line, category_line, label_line}
 use Rattle.mls_lattice.specs.Extending.{Extends, OldLabelsAreOne, BeginWith}
 
@@ -181,15 +179,3 @@ empty-is b (x ∷ xs) e is =
 pub empty-not : (b : Bool) (xs : List ℕ) → b ≡ (length xs == 0) → b ≡ false → xs ≢ []
 empty-not b [] e off same = absurd cc
 empty-not b (x ∷ xs) e off same = absurd cc
-
--- ---- the first labels
-
-pub labels_of-take : (p : Policy) (k : ℕ) → labels_of (record p { labels = take k p.labels }) ≡ take k (labels_of p)
-labels_of-take p k = sym (take-map (λ (l : Named). l.value) k p.labels)
-
-pub label_of-take : (ls : Labels) (k a : ℕ) → a < k → label_of (take k ls) a ≡ label_of ls a
-label_of-take ls k a within = get_or-take k ls a bottom within
-
-pub below-take : (ls : Labels) (k a b : ℕ) → a < k → b < k → below (take k ls) a b ≡ below ls a b
-unfolding below
-below-take ls k a b in_a in_b = rw (label_of-take ls k a in_a, label_of-take ls k b in_b) refl

@@ -23,12 +23,6 @@ form name h =
     let some : length name ≡ 0 → ⊥ = eqb-false (length name) 0 (not-true _ d.0) in
     record { some = omega (arith, some); few = leb-true (length name) 32 d.1; bytes = b.1 }
 
-pub name-some : (name : Name) → is_name name ≡ true → 0 < length name
-name-some name h = (form name h).some
-
-pub name-few : (name : Name) → is_name name ≡ true → length name ≤ 32
-name-few name h = (form name h).few
-
 -- its length stands in a byte
 pub name-short : (name : Name) → is_name name ≡ true → length name < 256
 name-short name h = let few = (form name h).few in omega (arith, few)

@@ -27,9 +27,6 @@ use Rattle.mls_lattice.specs.Says.{Rows, SaysName, SaysCategory, SaysValue, Says
 use Rattle.mls_lattice.proofs.ReadingLemmas.{ok_is, bind_ok, guard_ok, pass_ok, found_ok, string_from_as_str, integer_from_as_integer, table_from_as_table}
 use Rattle.mls_lattice.proofs.SaysLemmas.{rows_all, once_ok, name_found, field_found, field_again, kind_found, optional_found, optional_again}
 
-is_text : Data → Bool
-is_text d = is_some (as_str d)
-
 pub table_found : (d : Data) (fields : Members) → table_at d ≡ Ok fields → d ≡ table fields
 table_found d fields e = table_from_as_table d fields (found_ok (as_table d) WrongKind fields e)
 

@@ -30,7 +30,7 @@ pub use fault::PolicyFault;
 pub use items::Items;
 pub use label::Label;
 pub use modes::Modes;
-pub use name::{is_name, is_name_byte, is_reserved};
+pub use name::{is_name, is_name_byte};
 pub use number::{LabelNo, UserNo};
 pub use policy::Policy;
 pub use text::{Str, ascii_text, digits_len};

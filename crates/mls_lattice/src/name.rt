@@ -41,7 +41,7 @@ static RESERVED: [&str; 32] = [
 
 /// Whether a text is one of the reserved words.
 #[tactic(auto, unfolding(crate::specs::Name::is_reserved))]
-pub fn is_reserved(text: &str) -> bool
+fn is_reserved(text: &str) -> bool
     ensures { result ≡ is_reserved text.now }
 {
     RESERVED.contains(&text)

@@ -10,7 +10,7 @@ use Rattle.mls_lattice.proofs.LatticeLemmas.{below-trans}
 use Rattle.mls_scheme.specs.Table.{Table}
 use Rattle.mls_filterview.specs.View.{low}
 use Rattle.mls_filterview.proofs.LowLemmas.{rows_under, low_tuples_under}
-use Rattle.mls_updates.specs.Writes.{Write, Insert, Update, Delete, Written, write}
+use Rattle.mls_updates.specs.Writes.{Write, Written, write}
 use Rattle.mls_updates.proofs.LawLemmas.{low_use_low}
 use Rattle.mls_audit.specs.declared.entry.Entry.{Entry}
 use Rattle.mls_audit.specs.Entry.{label_of, visible}
@@ -71,41 +71,41 @@ module _ (site : Site) (c : ℕ) (v w : World) (e : Event) (seen : below (site_l
 
   -- ---- effects
 
-  alike_view : (user rel label : ℕ) (query : Query) → first_denial (view_denials site e.level user rel label) ≡ None → Alike (viewed site v rel label query) (viewed site w rel label query)
-  alike_view user rel label query none =
+  alike_view : (user relation label : ℕ) (query : Query) → first_denial (view_denials site e.level user relation label) ≡ None → Alike (viewed site v relation label query) (viewed site w relation label query)
+  alike_view user relation label query none =
       let ls = site_labels site in
-      let lower = below-trans ls label e.level c (view_below site e.level user rel label none) seen in
-      record { world = h; reply = ap (λ ts. Rows (found ls query ts)) (rows_under ls c label (v.db rel) (w.db rel) (h.tables rel) lower) }
+      let lower = below-trans ls label e.level c (view_below site e.level user relation label none) seen in
+      record { world = h; reply = ap (λ ts. Rows (found ls query ts)) (rows_under ls c label (v.db relation) (w.db relation) (h.tables relation) lower) }
 
-  alike_dump : (rel : ℕ) → Alike (dumped site v rel e.level) (dumped site w rel e.level)
-  alike_dump rel = record { world = h; reply = ap Dumped (low_tuples_under (site_labels site) c e.level (v.db rel) (w.db rel) (h.tables rel) seen) }
+  alike_dump : (relation : ℕ) → Alike (dumped site v relation e.level) (dumped site w relation e.level)
+  alike_dump relation = record { world = h; reply = ap Dumped (low_tuples_under (site_labels site) c e.level (v.db relation) (w.db relation) (h.tables relation) seen) }
 
   abbrev result : World → ℕ → Write → Written
-  result u rel wr = write (site_labels site) (site_scheme site rel) e.level wr (u.db rel)
+  result u relation wr = write (site_labels site) (site_scheme site relation) e.level wr (u.db relation)
 
   abbrev result_on : ℕ → Write → Table → Written
-  result_on rel wr T = write (site_labels site) (site_scheme site rel) e.level wr T
+  result_on relation wr T = write (site_labels site) (site_scheme site relation) e.level wr T
 
-  same_outcome : (rel : ℕ) (wr : Write) → (result v rel wr).outcome ≡ (result w rel wr).outcome
-  same_outcome rel wr =
-      (low_use_low (site_labels site) (site_scheme site rel) c e.level (v.db rel) wr seen).0
-      ∙ ap (λ T. (result_on rel wr T).outcome) (h.tables rel)
-      ∙ sym (low_use_low (site_labels site) (site_scheme site rel) c e.level (w.db rel) wr seen).0
+  same_outcome : (relation : ℕ) (wr : Write) → (result v relation wr).outcome ≡ (result w relation wr).outcome
+  same_outcome relation wr =
+      (low_use_low (site_labels site) (site_scheme site relation) c e.level (v.db relation) wr seen).0
+      ∙ ap (λ T. (result_on relation wr T).outcome) (h.tables relation)
+      ∙ sym (low_use_low (site_labels site) (site_scheme site relation) c e.level (w.db relation) wr seen).0
 
-  same_low_table : (rel : ℕ) (wr : Write) → low (site_labels site) c (result v rel wr).table ≡ low (site_labels site) c (result w rel wr).table
-  same_low_table rel wr =
-      (low_use_low (site_labels site) (site_scheme site rel) c e.level (v.db rel) wr seen).1
-      ∙ ap (λ T. (result_on rel wr T).table) (h.tables rel)
-      ∙ sym (low_use_low (site_labels site) (site_scheme site rel) c e.level (w.db rel) wr seen).1
+  same_low_table : (relation : ℕ) (wr : Write) → low (site_labels site) c (result v relation wr).table ≡ low (site_labels site) c (result w relation wr).table
+  same_low_table relation wr =
+      (low_use_low (site_labels site) (site_scheme site relation) c e.level (v.db relation) wr seen).1
+      ∙ ap (λ T. (result_on relation wr T).table) (h.tables relation)
+      ∙ sym (low_use_low (site_labels site) (site_scheme site relation) c e.level (w.db relation) wr seen).1
 
-  same_low_tables : (rel : ℕ) (wr : Write) (r : ℕ) (b : Bool) → low (site_labels site) c (cond b (result v rel wr).table (v.db r)) ≡ low (site_labels site) c (cond b (result w rel wr).table (w.db r))
-  same_low_tables rel wr r true = same_low_table rel wr
-  same_low_tables rel wr r false = h.tables r
+  same_low_tables : (relation : ℕ) (wr : Write) (r : ℕ) (b : Bool) → low (site_labels site) c (cond b (result v relation wr).table (v.db r)) ≡ low (site_labels site) c (cond b (result w relation wr).table (w.db r))
+  same_low_tables relation wr r true = same_low_table relation wr
+  same_low_tables relation wr r false = h.tables r
 
-  alike_wrote : (rel : ℕ) (wr : Write) → Alike (wrote site v e.level rel wr) (wrote site w e.level rel wr)
-  alike_wrote rel wr = record {
-    world = record { tables = λ r. same_low_tables rel wr r (nat_eq r rel); sessions = h.sessions; entries = h.entries };
-    reply = ap Wrote (same_outcome rel wr);
+  alike_wrote : (relation : ℕ) (wr : Write) → Alike (wrote site v e.level relation wr) (wrote site w e.level relation wr)
+  alike_wrote relation wr = record {
+    world = record { tables = λ r. same_low_tables relation wr r (nat_eq r relation); sessions = h.sessions; entries = h.entries };
+    reply = ap Wrote (same_outcome relation wr);
   }
 
   alike_listed : Alike (listed site v e.level) (listed site w e.level)
@@ -118,18 +118,16 @@ module _ (site : Site) (c : ℕ) (v w : World) (e : Event) (seen : below (site_l
 
   -- ---- commands
 
-  alike_write : (denial : Option Denial) (user rel : ℕ) (wr : Write) → Alike (unless site denial v e user (wrote site v e.level rel wr)) (unless site denial w e user (wrote site w e.level rel wr))
-  alike_write denial user rel wr = alike_unless denial user (wrote site v e.level rel wr) (wrote site w e.level rel wr) (λ none. alike_wrote rel wr)
+  alike_write : (denial : Option Denial) (user relation : ℕ) (wr : Write) → Alike (unless site denial v e user (wrote site v e.level relation wr)) (unless site denial w e user (wrote site w e.level relation wr))
+  alike_write denial user relation wr = alike_unless denial user (wrote site v e.level relation wr) (wrote site w e.level relation wr) (λ none. alike_wrote relation wr)
 
   alike_inside : (command : Command) (user : ℕ) → IsNoCall command → Alike (step_inside site v e command user) (step_inside site w e command user)
   alike_inside (commands.Open name) user plain = alike_denied user _
   alike_inside commands.Close user plain = record { world = alike_session None; reply = refl }
   alike_inside commands.Audit user plain = alike_listed
-  alike_inside (commands.View rel label query counts) user plain = alike_unless _ user _ _ (alike_view user rel label query)
-  alike_inside (commands.Dump rel) user plain = alike_unless _ user _ _ (λ none. alike_dump rel)
-  alike_inside (commands.Insert rel key values) user plain = alike_write _ user rel (Insert key values)
-  alike_inside (commands.Update rel key key_class from sets) user plain = alike_write _ user rel (Update key key_class from sets)
-  alike_inside (commands.Delete rel key key_class) user plain = alike_write _ user rel (Delete key key_class)
+  alike_inside (commands.View relation label query counts) user plain = alike_unless _ user _ _ (alike_view user relation label query)
+  alike_inside (commands.Dump relation) user plain = alike_unless _ user _ _ (λ none. alike_dump relation)
+  alike_inside (commands.Write relation wr) user plain = alike_write _ user relation wr
   alike_inside (commands.Call name args) user plain = absurd plain
 
   alike_open : (r : Result ℕ Denial) → Alike (open_step site v e r) (open_step site w e r)
@@ -140,11 +138,9 @@ module _ (site : Site) (c : ℕ) (v w : World) (e : Event) (seen : below (site_l
   alike_outside (commands.Open name) = alike_open (cleared site e.level (user_named site.policy name))
   alike_outside commands.Close = record { world = h; reply = refl }
   alike_outside commands.Audit = record { world = h; reply = refl }
-  alike_outside (commands.View rel label query counts) = record { world = h; reply = refl }
-  alike_outside (commands.Dump rel) = record { world = h; reply = refl }
-  alike_outside (commands.Insert rel key values) = record { world = h; reply = refl }
-  alike_outside (commands.Update rel key key_class from sets) = record { world = h; reply = refl }
-  alike_outside (commands.Delete rel key key_class) = record { world = h; reply = refl }
+  alike_outside (commands.View relation label query counts) = record { world = h; reply = refl }
+  alike_outside (commands.Dump relation) = record { world = h; reply = refl }
+  alike_outside (commands.Write relation wr) = record { world = h; reply = refl }
   alike_outside (commands.Call name args) = record { world = h; reply = refl }
 
   alike_at : (session : Option ℕ) → IsNoCall e.command → Alike (step_at site v e e.command session) (step_at site w e e.command session)

@@ -175,11 +175,9 @@ module _ (site : Site) (distinct : AreDistinct (site_labels site)) (c : ℕ) (v 
   shown_plain (commands.Open name) h = refl
   shown_plain commands.Close h = refl
   shown_plain commands.Audit h = refl
-  shown_plain (commands.View rel label query counts) h = refl
-  shown_plain (commands.Dump rel) h = refl
-  shown_plain (commands.Insert rel key values) h = refl
-  shown_plain (commands.Update rel key key_class from sets) h = refl
-  shown_plain (commands.Delete rel key key_class) h = refl
+  shown_plain (commands.View relation label query counts) h = refl
+  shown_plain (commands.Dump relation) h = refl
+  shown_plain (commands.Write relation wr) h = refl
   shown_plain (commands.Call name args) h = absurd h
 
   -- what is shown without a call is the command itself
@@ -187,11 +185,9 @@ module _ (site : Site) (distinct : AreDistinct (site_labels site)) (c : ℕ) (v 
   plain_back a (commands.Open name) p q = q
   plain_back a commands.Close p q = q
   plain_back a commands.Audit p q = q
-  plain_back a (commands.View rel label query counts) p q = q
-  plain_back a (commands.Dump rel) p q = q
-  plain_back a (commands.Insert rel key values) p q = q
-  plain_back a (commands.Update rel key key_class from sets) p q = q
-  plain_back a (commands.Delete rel key key_class) p q = q
+  plain_back a (commands.View relation label query counts) p q = q
+  plain_back a (commands.Dump relation) p q = q
+  plain_back a (commands.Write relation wr) p q = q
   plain_back a (commands.Call name args) p q = absurd (subst IsNoCall q p)
 
   abbrev Pair : Command → Command → Type 0
@@ -226,11 +222,9 @@ module _ (site : Site) (distinct : AreDistinct (site_labels site)) (c : ℕ) (v 
   from_call name vs (commands.Open n) safe q = absurd (plain_no_call name _ _ tt q)
   from_call name vs commands.Close safe q = absurd (plain_no_call name _ _ tt q)
   from_call name vs commands.Audit safe q = absurd (plain_no_call name _ _ tt q)
-  from_call name vs (commands.View rel label query counts) safe q = absurd (plain_no_call name _ _ tt q)
-  from_call name vs (commands.Dump rel) safe q = absurd (plain_no_call name _ _ tt q)
-  from_call name vs (commands.Insert rel key values) safe q = absurd (plain_no_call name _ _ tt q)
-  from_call name vs (commands.Update rel key key_class from sets) safe q = absurd (plain_no_call name _ _ tt q)
-  from_call name vs (commands.Delete rel key key_class) safe q = absurd (plain_no_call name _ _ tt q)
+  from_call name vs (commands.View relation label query counts) safe q = absurd (plain_no_call name _ _ tt q)
+  from_call name vs (commands.Dump relation) safe q = absurd (plain_no_call name _ _ tt q)
+  from_call name vs (commands.Write relation wr) safe q = absurd (plain_no_call name _ _ tt q)
   from_call name vs (commands.Call n ws) safe q =
       let same : name ≡ n = ap name_of q in
       let args = ap args_of q ∙ ap (λ m. blanked (site_labels site) c (params_of (stored_named site.stored m)) ws) (sym same) in
@@ -240,11 +234,9 @@ module _ (site : Site) (distinct : AreDistinct (site_labels site)) (c : ℕ) (v 
   pair (commands.Open name) b safe q = from_plain (commands.Open name) b tt q
   pair commands.Close b safe q = from_plain commands.Close b tt q
   pair commands.Audit b safe q = from_plain commands.Audit b tt q
-  pair (commands.View rel label query counts) b safe q = from_plain (commands.View rel label query counts) b tt q
-  pair (commands.Dump rel) b safe q = from_plain (commands.Dump rel) b tt q
-  pair (commands.Insert rel key values) b safe q = from_plain (commands.Insert rel key values) b tt q
-  pair (commands.Update rel key key_class from sets) b safe q = from_plain (commands.Update rel key key_class from sets) b tt q
-  pair (commands.Delete rel key key_class) b safe q = from_plain (commands.Delete rel key key_class) b tt q
+  pair (commands.View relation label query counts) b safe q = from_plain (commands.View relation label query counts) b tt q
+  pair (commands.Dump relation) b safe q = from_plain (commands.Dump relation) b tt q
+  pair (commands.Write relation wr) b safe q = from_plain (commands.Write relation wr) b tt q
   pair (commands.Call name vs) b safe q = from_call name vs b safe q
 
   -- two events that look alike to c

@@ -66,7 +66,7 @@ module _ (u s : Pair) (rights : List Right) (k : Certified) (is : k.tx ≡ pass)
   site = record { policy = policy; schemes = []; stored = stored.Certified k ∷ [] }
 
   abbrev start : World
-  start = record { db = λ rel. empty; sessions = no_sessions; audit = [] }
+  start = record { db = λ relation. empty; sessions = no_sessions; audit = [] }
 
   abbrev opens : Event
   opens = event (Open (codes "tom"))

@@ -42,11 +42,9 @@ where_called : (site : Site) (P : Tx → Type 0) → ((name : Name) → IfSome (
 where_called site P h (commands.Open name) = tt
 where_called site P h commands.Close = tt
 where_called site P h commands.Audit = tt
-where_called site P h (commands.View rel label query counts) = tt
-where_called site P h (commands.Dump rel) = tt
-where_called site P h (commands.Insert rel key values) = tt
-where_called site P h (commands.Update rel key key_class from sets) = tt
-where_called site P h (commands.Delete rel key key_class) = tt
+where_called site P h (commands.View relation label query counts) = tt
+where_called site P h (commands.Dump relation) = tt
+where_called site P h (commands.Write relation wr) = tt
 where_called site P h (commands.Call name args) = h name
 
 -- the policy and the schemes that it was read under, and security
@@ -77,11 +75,9 @@ pub secure_call : (site : Site) (command : Command) → IsCallSecure site comman
 secure_call site (commands.Open name) h = tt
 secure_call site commands.Close h = tt
 secure_call site commands.Audit h = tt
-secure_call site (commands.View rel label query counts) h = tt
-secure_call site (commands.Dump rel) h = tt
-secure_call site (commands.Insert rel key values) h = tt
-secure_call site (commands.Update rel key key_class from sets) h = tt
-secure_call site (commands.Delete rel key key_class) h = tt
+secure_call site (commands.View relation label query counts) h = tt
+secure_call site (commands.Dump relation) h = tt
+secure_call site (commands.Write relation wr) h = tt
 secure_call site (commands.Call name args) h = by_stored (stored_named site.stored name) h
   where
     by_stored : (o : Option Stored)
@@ -99,9 +95,7 @@ pub weaker : (site : Site) (P Q : Tx → Type 0) → ((tx : Tx) → P tx → Q t
 weaker site P Q k (commands.Open name) h = tt
 weaker site P Q k commands.Close h = tt
 weaker site P Q k commands.Audit h = tt
-weaker site P Q k (commands.View rel label query counts) h = tt
-weaker site P Q k (commands.Dump rel) h = tt
-weaker site P Q k (commands.Insert rel key values) h = tt
-weaker site P Q k (commands.Update rel key key_class from sets) h = tt
-weaker site P Q k (commands.Delete rel key key_class) h = tt
+weaker site P Q k (commands.View relation label query counts) h = tt
+weaker site P Q k (commands.Dump relation) h = tt
+weaker site P Q k (commands.Write relation wr) h = tt
 weaker site P Q k (commands.Call name args) h = some_weaker P Q k (certified_of (stored_named site.stored name)) h

@@ -43,8 +43,8 @@ not_denied (d ∷ ds) h =
     ] refl h
 
 -- the level of the session dominates the label of a view that is not denied
-pub view_below : (site : Site) (level user rel label : ℕ) → first_denial (view_denials site level user rel label) ≡ None → below (site_labels site) label level ≡ true
-view_below site level user rel label h = not-false _ (or_parts _ _ (not_denied (view_denials site level user rel label) h).1.1.0).0
+pub view_below : (site : Site) (level user relation label : ℕ) → first_denial (view_denials site level user relation label) ≡ None → below (site_labels site) label level ≡ true
+view_below site level user relation label h = not-false _ (or_parts _ _ (not_denied (view_denials site level user relation label) h).1.1.0).0
 
 -- the level of the session is the lowest label of a call that is not denied, and there is an argument for each parameter
 pub record MayRun (level : ℕ) (tx : Tx) (args : List (Option Value)) : Type 0 where

@@ -13,7 +13,8 @@ use Rattle.mls_scheme.specs.declared.tuple.Tuple.{Tuple}
 use Rattle.mls_scheme.specs.Tuple.{HasClassesBelow}
 use Rattle.mls_filterview.specs.Filtering.{greatest_from, class_number}
 use Rattle.mls_queries.proofs.PlaceLemmas.{all_filter}
-use Rattle.mls_script.specs.declared.event.Command.TheVariants.{Insert, Update}
+use Rattle.mls_scheme.specs.declared.write.Write.TheVariants.{Insert, Update}
+use Rattle.mls_script.specs.declared.event.Command.TheVariants.{Write}
 use Rattle.mls_script.specs.Writing.{HasKnownNumbers, IsKnown}
 use Rattle.mls_machine.specs.Site.{Site, site_labels, site_scheme}
 use Rattle.mls_machine.specs.Dumping.{own_sets, class_below, dump_command, dump_event}
@@ -48,23 +49,23 @@ sets_known m n k (e ∷ es) =
       | false ↦ λ q. rest
     ] refl
 
-module _ (site : Site) (rel : ℕ) (t : Tuple) (within : rel < length site.schemes) (classes : HasClassesBelow (length site.policy.labels) t) where
-  command_known : (m : ℕ) → HasKnownNumbers site.policy site.schemes (dump_command site rel m t)
+module _ (site : Site) (relation : ℕ) (t : Tuple) (within : relation < length site.schemes) (classes : HasClassesBelow (length site.policy.labels) t) where
+  command_known : (m : ℕ) → HasKnownNumbers site.policy site.schemes (dump_command site relation m t)
   command_known m =
       let ls = site_labels site in
       let count = length site.policy.labels in
       let other = λ (e : Element). not (nat_eq e.class m) in
       let from = greatest_known ls count t.key_class (filter other t.elements) classes.key_class (all_filter (λ e. e.class < count) other t.elements classes.elements) in
-      let sets = own_sets m (length (site_scheme site rel).others) 0 t.elements in
+      let sets = own_sets m (length (site_scheme site relation).others) 0 t.elements in
       elim (nat_eq m t.key_class)
-      as (λ b. HasKnownNumbers site.policy site.schemes (cond b (Insert rel (map Some t.key) (map (λ e. e.value) t.elements)) (Update rel (map Some t.key) t.key_class (class_below ls m t) sets))) [
+      as (λ b. HasKnownNumbers site.policy site.schemes (cond b (Write relation (Insert (map Some t.key) (map (λ e. e.value) t.elements))) (Write relation (Update (map Some t.key) t.key_class (class_below ls m t) sets)))) [
         | true ↦ within
-        | false ↦ (within, classes.key_class, from, sets_known m (length (site_scheme site rel).others) 0 t.elements)
+        | false ↦ (within, classes.key_class, from, sets_known m (length (site_scheme site relation).others) 0 t.elements)
       ]
 
   level_known : class_number (site_labels site) t < length site.policy.labels
   unfolding class_number
   level_known = greatest_known (site_labels site) (length site.policy.labels) t.key_class t.elements classes.key_class classes.elements
 
-  pub made_known : (session : Name) → IsKnown site.policy site.schemes (dump_event site session rel t)
+  pub made_known : (session : Name) → IsKnown site.policy site.schemes (dump_event site session relation t)
   made_known session = record { level = level_known; command = command_known (class_number (site_labels site) t) }

@@ -9,7 +9,8 @@ use Rattle.mls_scheme.specs.declared.tuple.Tuple.{Tuple}
 use Rattle.mls_scheme.specs.Scheme.{Attribute, Scheme, no_attribute, scheme_of, other_of}
 use Rattle.mls_script.specs.declared.event.Event.{Event}
 use Rattle.mls_script.specs.declared.event.Command.{Command}
-use Rattle.mls_script.specs.declared.event.Command.TheVariants.{Insert, Update}
+use Rattle.mls_scheme.specs.declared.write.Write.TheVariants.{Insert, Update}
+use Rattle.mls_script.specs.declared.event.Command.TheVariants.{Write}
 use Rattle.mls_script.specs.Event.{Sets}
 use Rattle.mls_script.specs.Tokens.{relation_name}
 use Rattle.mls_script.specs.Writing.{cell_text, behind_comma, listed, list_text, set_text, keyed, command_text, line_text, is_writable}
@@ -36,58 +37,58 @@ list_line : (vs : List (Option Value)) → IsOneLine (list_text vs)
 list_line vs =
     one_line-append (codes "(") (listed cell_text vs ++ codes ")") refl (one_line-append (listed cell_text vs) (codes ")") (listed_line cell_text cell_line vs) refl)
 
-attribute_line : (xs : List Attribute) (i : ℕ) → AllByRecursion (λ a. IsOneLine a.name) xs → IsOneLine (slice_index_or xs i no_attribute).name
+attribute_line : (xs : List Attribute) (i : ℕ) → AllByRecursion (λ a. IsOneLine a.0) xs → IsOneLine (slice_index_or xs i no_attribute).0
 attribute_line [] i h = refl
 attribute_line (x ∷ xs) zero h = h.0
 attribute_line (x ∷ xs) (suc i) h = attribute_line xs i h.1
 
 set_line : (s : Scheme) → HasPlainNames s → (x : ℕ × Option Value) → IsOneLine (set_text s x)
 set_line s h x =
-    one_line-append ((other_of s x.0).name ++ codes " = ") (cell_text x.1)
-    (one_line-append (other_of s x.0).name (codes " = ") (attribute_line s.others x.0 h.others) refl) (cell_line x.1)
+    one_line-append ((other_of s x.0).0 ++ codes " = ") (cell_text x.1)
+    (one_line-append (other_of s x.0).0 (codes " = ") (attribute_line s.others x.0 h.others) refl) (cell_line x.1)
 
 -- ---- commands
 
 module _ (site : Site) (plain : IsPlain site) where
-  keyed_line : (verb : List ℕ) (rel : ℕ) (key : List (Option Value)) → IsOneLine verb → IsOneLine (keyed site.schemes verb rel key)
-  keyed_line verb rel key h =
-      let name = relation_name site.schemes rel in
+  keyed_line : (verb : List ℕ) (relation : ℕ) (key : List (Option Value)) → IsOneLine verb → IsOneLine (keyed site.schemes verb relation key)
+  keyed_line verb relation key h =
+      let name = relation_name site.schemes relation in
       one_line-append ((verb ++ name) ++ codes " key ") (list_text key)
-      (one_line-append (verb ++ name) (codes " key ") (one_line-append verb name h (scheme_line site.schemes rel plain.relations).name) refl) (list_line key)
+      (one_line-append (verb ++ name) (codes " key ") (one_line-append verb name h (scheme_line site.schemes relation plain.relations).name) refl) (list_line key)
 
-  insert_line : (rel : ℕ) (key values : List (Option Value)) → IsOneLine (command_text site.policy site.schemes (Insert rel key values))
-  insert_line rel key values =
-      let start = keyed site.schemes (codes "insert ") rel key in
+  insert_line : (relation : ℕ) (key values : List (Option Value)) → IsOneLine (command_text site.policy site.schemes (Write relation (Insert key values)))
+  insert_line relation key values =
+      let start = keyed site.schemes (codes "insert ") relation key in
       one_line-append (start ++ codes " values ") (list_text values)
-      (one_line-append start (codes " values ") (keyed_line (codes "insert ") rel key refl) refl) (list_line values)
+      (one_line-append start (codes " values ") (keyed_line (codes "insert ") relation key refl) refl) (list_line values)
 
-  update_line : (rel : ℕ) (key : List (Option Value)) (key_class from : ℕ) (sets : Sets) → IsOneLine (command_text site.policy site.schemes (Update rel key key_class from sets))
-  update_line rel key key_class from sets =
-      let s = scheme_of site.schemes rel in
+  update_line : (relation : ℕ) (key : List (Option Value)) (key_class from : ℕ) (sets : Sets) → IsOneLine (command_text site.policy site.schemes (Write relation (Update key key_class from sets)))
+  update_line relation key key_class from sets =
+      let s = scheme_of site.schemes relation in
       let class = label_name site.policy.labels key_class in
       let origin = label_name site.policy.labels from in
-      let start = keyed site.schemes (codes "update ") rel key in
+      let start = keyed site.schemes (codes "update ") relation key in
       one_line-append (((((start ++ codes " class ") ++ class) ++ codes " from ") ++ origin) ++ codes " set ") (listed (set_text s) sets)
       (one_line-append ((((start ++ codes " class ") ++ class) ++ codes " from ") ++ origin) (codes " set ")
       (one_line-append (((start ++ codes " class ") ++ class) ++ codes " from ") origin
       (one_line-append ((start ++ codes " class ") ++ class) (codes " from ")
       (one_line-append (start ++ codes " class ") class
-      (one_line-append start (codes " class ") (keyed_line (codes "update ") rel key refl) refl)
+      (one_line-append start (codes " class ") (keyed_line (codes "update ") relation key refl) refl)
       (label_line site.policy plain.labels key_class))
       refl)
       (label_line site.policy plain.labels from))
       refl)
-      (listed_line (set_text s) (set_line s (scheme_line site.schemes rel plain.relations)) sets)
+      (listed_line (set_text s) (set_line s (scheme_line site.schemes relation plain.relations)) sets)
 
-  made_command_line : (rel m : ℕ) (t : Tuple) → IsOneLine (command_text site.policy site.schemes (dump_command site rel m t))
-  made_command_line rel m t =
+  made_command_line : (relation m : ℕ) (t : Tuple) → IsOneLine (command_text site.policy site.schemes (dump_command site relation m t))
+  made_command_line relation m t =
       let key = map Some t.key in
       let values = map (λ e. e.value) t.elements in
       let from = class_below (site_labels site) m t in
-      let sets = own_sets m (length (site_scheme site rel).others) 0 t.elements in
-      elim (nat_eq m t.key_class) as (λ b. IsOneLine (command_text site.policy site.schemes (cond b (Insert rel key values) (Update rel key t.key_class from sets)))) [
-        | true ↦ insert_line rel key values
-        | false ↦ update_line rel key t.key_class from sets
+      let sets = own_sets m (length (site_scheme site relation).others) 0 t.elements in
+      elim (nat_eq m t.key_class) as (λ b. IsOneLine (command_text site.policy site.schemes (cond b (Write relation (Insert key values)) (Write relation (Update key t.key_class from sets))))) [
+        | true ↦ insert_line relation key values
+        | false ↦ update_line relation key t.key_class from sets
       ]
 
   word_line : (b : Bool) → IsOneLine (cond b (codes "line ") (codes "unread "))
@@ -95,9 +96,9 @@ module _ (site : Site) (plain : IsPlain site) where
   word_line false = refl
 
   -- in a session whose name has none
-  pub made_line : (session : Name) → IsOneLine session → (rel : ℕ) (t : Tuple) → IsOneLine (script_text site (dump_event site session rel t))
-  made_line session h rel t =
-      let e = dump_event site session rel t in
+  pub made_line : (session : Name) → IsOneLine session → (relation : ℕ) (t : Tuple) → IsOneLine (script_text site (dump_event site session relation t))
+  made_line session h relation t =
+      let e = dump_event site session relation t in
       let name = label_name site.policy.labels e.level in
       let command = command_text site.policy site.schemes e.command in
       one_line-append (cond (is_writable e) (codes "line ") (codes "unread ")) (line_text site.policy site.schemes e) (word_line (is_writable e))
@@ -107,4 +108,4 @@ module _ (site : Site) (plain : IsPlain site) where
       (one_line-append name (codes " ") (label_line site.policy plain.labels e.level) refl)
       h)
       refl)
-      (made_command_line rel (class_number (site_labels site) t) t))
+      (made_command_line relation (class_number (site_labels site) t) t))

@@ -14,7 +14,7 @@ use Rattle.mls_translang.specs.Tx.{Tx}
 use Rattle.mls_certcheck.specs.Meaning.{run_tx}
 use Rattle.mls_certcheck.specs.Secure.{seen_items}
 use Rattle.mls_certcheck.proofs.MeaningLemmas.{keep_form}
-use Rattle.mls_updates.specs.Writes.{Write, Insert, Update, Delete, write}
+use Rattle.mls_updates.specs.Writes.{Write, write}
 use Rattle.mls_updates.proofs.LawLemmas.{high_leave_low}
 use Rattle.mls_audit.specs.Entry.{label_of, visible}
 use Rattle.mls_script.specs.declared.event.Event.{Event}
@@ -92,18 +92,18 @@ module _ (site : Site) (distinct : AreDistinct (site_labels site)) (c : ℕ) (w 
   hidden_unless None user effect k = k refl
   hidden_unless (Some denial) user effect k = hidden_denied user denial
 
-  written_low : (rel : ℕ) (wr : Write) (r : ℕ) → low (site_labels site) c (w.db r) ≡ low (site_labels site) c ((wrote site w e.level rel wr).world.db r)
-  written_low rel wr r = by_test (nat_eq r rel) refl
+  written_low : (relation : ℕ) (wr : Write) (r : ℕ) → low (site_labels site) c (w.db r) ≡ low (site_labels site) c ((wrote site w e.level relation wr).world.db r)
+  written_low relation wr r = by_test (nat_eq r relation) refl
     where
-      by_test : (b : Bool) → nat_eq r rel ≡ b
-          → low (site_labels site) c (w.db r) ≡ low (site_labels site) c (cond b (write (site_labels site) (site_scheme site rel) e.level wr (w.db rel)).table (w.db r))
-      by_test true q = ap (λ x. low (site_labels site) c (w.db x)) (eqb-true r rel q) ∙ sym (high_leave_low (site_labels site) (site_scheme site rel) _ c e.level (w.db rel) (stored rel) wr h)
+      by_test : (b : Bool) → nat_eq r relation ≡ b
+          → low (site_labels site) c (w.db r) ≡ low (site_labels site) c (cond b (write (site_labels site) (site_scheme site relation) e.level wr (w.db relation)).table (w.db r))
+      by_test true q = ap (λ x. low (site_labels site) c (w.db x)) (eqb-true r relation q) ∙ sym (high_leave_low (site_labels site) (site_scheme site relation) _ c e.level (w.db relation) (stored relation) wr h)
       by_test false q = refl
 
-  hidden_write : (denial : Option Denial) (user rel : ℕ) (wr : Write) → Unseen (unless site denial w e user (wrote site w e.level rel wr))
-  hidden_write denial user rel wr =
-      hidden_unless denial user (wrote site w e.level rel wr)
-      (λ none. without_items (wrote site w e.level rel wr) (record { tables = written_low rel wr; sessions = λ l n k. refl; entries = refl }) refl refl)
+  hidden_write : (denial : Option Denial) (user relation : ℕ) (wr : Write) → Unseen (unless site denial w e user (wrote site w e.level relation wr))
+  hidden_write denial user relation wr =
+      hidden_unless denial user (wrote site w e.level relation wr)
+      (λ none. without_items (wrote site w e.level relation wr) (record { tables = written_low relation wr; sessions = λ l n k. refl; entries = refl }) refl refl)
 
   -- ---- calls
 
@@ -140,11 +140,9 @@ module _ (site : Site) (distinct : AreDistinct (site_labels site)) (c : ℕ) (w 
   hidden_inside (commands.Open name) user safe = hidden_denied user AlreadyOpen
   hidden_inside commands.Close user safe = without_items _ (hidden_session None) refl refl
   hidden_inside commands.Audit user safe = same _ refl refl
-  hidden_inside (commands.View rel label query counts) user safe = hidden_unless _ user (viewed site w rel label query) (λ none. same _ refl refl)
-  hidden_inside (commands.Dump rel) user safe = hidden_unless _ user (dumped site w rel e.level) (λ none. same _ refl refl)
-  hidden_inside (commands.Insert rel key values) user safe = hidden_write _ user rel (Insert key values)
-  hidden_inside (commands.Update rel key key_class from sets) user safe = hidden_write _ user rel (Update key key_class from sets)
-  hidden_inside (commands.Delete rel key key_class) user safe = hidden_write _ user rel (Delete key key_class)
+  hidden_inside (commands.View relation label query counts) user safe = hidden_unless _ user (viewed site w relation label query) (λ none. same _ refl refl)
+  hidden_inside (commands.Dump relation) user safe = hidden_unless _ user (dumped site w relation e.level) (λ none. same _ refl refl)
+  hidden_inside (commands.Write relation wr) user safe = hidden_write _ user relation wr
   hidden_inside (commands.Call name args) user safe = hidden_call user name args (stored_named site.stored name) safe
 
   hidden_open : (r : Result ℕ Denial) → Unseen (open_step site w e r)
@@ -155,11 +153,9 @@ module _ (site : Site) (distinct : AreDistinct (site_labels site)) (c : ℕ) (w 
   hidden_outside (commands.Open name) = hidden_open (cleared site e.level (user_named site.policy name))
   hidden_outside commands.Close = same _ refl refl
   hidden_outside commands.Audit = same _ refl refl
-  hidden_outside (commands.View rel label query counts) = same _ refl refl
-  hidden_outside (commands.Dump rel) = same _ refl refl
-  hidden_outside (commands.Insert rel key values) = same _ refl refl
-  hidden_outside (commands.Update rel key key_class from sets) = same _ refl refl
-  hidden_outside (commands.Delete rel key key_class) = same _ refl refl
+  hidden_outside (commands.View relation label query counts) = same _ refl refl
+  hidden_outside (commands.Dump relation) = same _ refl refl
+  hidden_outside (commands.Write relation wr) = same _ refl refl
   hidden_outside (commands.Call name args) = same _ refl refl
 
   hidden_at : (session : Option ℕ) → WhereCalled site (IsSafe site) e.command → Unseen (step_at site w e e.command session)

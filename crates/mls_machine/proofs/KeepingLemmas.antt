@@ -22,7 +22,7 @@ use Rattle.mls_certcheck.proofs.ThroughoutLemmas.{form_throughout}
 use Rattle.mls_script.specs.declared.event.Event.{Event}
 use Rattle.mls_script.specs.declared.event.Command.{Command}
 use Rattle.mls_script.specs.declared.event.Command.TheVariants as commands
-use Rattle.mls_script.specs.Event.{CommandFits, EventFits}
+use Rattle.mls_script.specs.Event.{IsWriteOf, CommandFits, EventFits}
 use Rattle.mls_machine.specs.declared.reply.Denial.{Denial}
 use Rattle.mls_machine.specs.declared.stored.Stored.{Stored}
 use Rattle.mls_machine.specs.declared.stored.Stored.TheVariants.{Certified, Plain}
@@ -37,26 +37,26 @@ use Rattle.mls_machine.proofs.CalledLemmas.{certified_of, CallsRead, found_holds
 use Rattle.mls_machine.proofs.ArgumentLemmas.{fitted_fit}
 
 -- what a write of a script fits
-pub record Fitting (site : Site) (level rel : ℕ) (wr : Write) : Type 0 where
-  pub numbers : WriteFits (site_labels site) (length (site_scheme site rel).others) level wr
-  pub kinds : WriteKinds (site_scheme site rel) wr
+pub record Fitting (site : Site) (level relation : ℕ) (wr : Write) : Type 0 where
+  pub numbers : WriteFits (site_labels site) (length (site_scheme site relation).others) level wr
+  pub kinds : WriteKinds (site_scheme site relation) wr
 
 -- ---- what each write and each call keeps of each relation
 
 pub record Kept (site : Site) (P : ℕ → Table → Type 0) : Type 0 where
-  pub by_write : (rel level : ℕ) (wr : Write) (T : Table) → Fitting site level rel wr → P rel T → P rel (write (site_labels site) (site_scheme site rel) level wr T).table
-  pub by_call : (tx : Tx) (args : List (Option Value)) (db : Database) → IsReadUnder site.policy site.schemes tx → length args ≡ length tx.params → ((rel : ℕ) → P rel (db rel))
-      → (rel : ℕ) → P rel ((run_tx (site_labels site) site.schemes tx (fitted tx.params args) db).db rel)
+  pub by_write : (relation level : ℕ) (wr : Write) (T : Table) → Fitting site level relation wr → P relation T → P relation (write (site_labels site) (site_scheme site relation) level wr T).table
+  pub by_call : (tx : Tx) (args : List (Option Value)) (db : Database) → IsReadUnder site.policy site.schemes tx → length args ≡ length tx.params → ((relation : ℕ) → P relation (db relation))
+      → (relation : ℕ) → P relation ((run_tx (site_labels site) site.schemes tx (fitted tx.params args) db).db relation)
 
 module _ (site : Site) (P : ℕ → Table → Type 0) (keeps : Kept site P) where
   abbrev Holds : World → Type 0
-  Holds w = (rel : ℕ) → P rel (w.db rel)
+  Holds w = (relation : ℕ) → P relation (w.db relation)
 
-  wrote_holds : (w : World) (level rel : ℕ) (wr : Write) → Fitting site level rel wr → Holds w → Holds (wrote site w level rel wr).world
-  wrote_holds w level rel wr fits all r = by_test (nat_eq r rel) refl
+  wrote_holds : (w : World) (level relation : ℕ) (wr : Write) → Fitting site level relation wr → Holds w → Holds (wrote site w level relation wr).world
+  wrote_holds w level relation wr fits all r = by_test (nat_eq r relation) refl
     where
-      by_test : (b : Bool) → nat_eq r rel ≡ b → P r (cond b (write (site_labels site) (site_scheme site rel) level wr (w.db rel)).table (w.db r))
-      by_test true e = subst (λ q. P q (write (site_labels site) (site_scheme site rel) level wr (w.db rel)).table) (sym (eqb-true r rel e)) (keeps.by_write rel level wr (w.db rel) fits (all rel))
+      by_test : (b : Bool) → nat_eq r relation ≡ b → P r (cond b (write (site_labels site) (site_scheme site relation) level wr (w.db relation)).table (w.db r))
+      by_test true e = subst (λ q. P q (write (site_labels site) (site_scheme site relation) level wr (w.db relation)).table) (sym (eqb-true r relation e)) (keeps.by_write relation level wr (w.db relation) fits (all relation))
       by_test false e = all r
 
   unless_holds : (denial : Option Denial) (w : World) (e : Event) (user : ℕ) (effect : Step) → Holds w → (denial ≡ None → Holds effect.world) → Holds (unless site denial w e user effect).world
@@ -67,8 +67,13 @@ module _ (site : Site) (P : ℕ → Table → Type 0) (keeps : Kept site P) wher
     level_fits : e.level < length (site_labels site)
     level_fits = subst (λ n. e.level < n) (sym (length-map site.policy.labels (λ l. l.value))) declared
 
-    write_holds : (user rel : ℕ) (wr : Write) (denial : Option Denial) → Fitting site e.level rel wr → Holds (unless site denial w e user (wrote site w e.level rel wr)).world
-    write_holds user rel wr denial fits = unless_holds denial w e user (wrote site w e.level rel wr) all (λ none. wrote_holds w e.level rel wr fits all)
+    fitting : (relation : ℕ) (wr : Write) → IsWriteOf site.policy (site_scheme site relation) wr → Fitting site e.level relation wr
+    fitting relation (Insert key values) fits = record { numbers = (level_fits, AllZip-long _ (site_scheme site relation).others values fits.1); kinds = fits }
+    fitting relation (Update key key_class from sets) fits = record { numbers = (level_fits, fits.3.some, fits.3.known); kinds = fits.3.kinds }
+    fitting relation (Delete key key_class) fits = record { numbers = tt; kinds = tt }
+
+    write_holds : (user relation : ℕ) (wr : Write) (denial : Option Denial) → Fitting site e.level relation wr → Holds (unless site denial w e user (wrote site w e.level relation wr)).world
+    write_holds user relation wr denial fits = unless_holds denial w e user (wrote site w e.level relation wr) all (λ none. wrote_holds w e.level relation wr fits all)
 
     call_holds : (user : ℕ) (name : Name) (args : List (Option Value)) (o : Option Stored) → IfSome (certified_of o) (IsReadUnder site.policy site.schemes) → Holds (call_step site w e user name args o).world
     call_holds user name args None read = all
@@ -81,13 +86,9 @@ module _ (site : Site) (P : ℕ → Table → Type 0) (keeps : Kept site P) wher
     inside_holds (commands.Open name) user fits read = all
     inside_holds commands.Close user fits read = all
     inside_holds commands.Audit user fits read = all
-    inside_holds (commands.View rel label query counts) user fits read = unless_holds _ w e user _ all (λ none. all)
-    inside_holds (commands.Dump rel) user fits read = unless_holds _ w e user _ all (λ none. all)
-    inside_holds (commands.Insert rel key values) user fits read =
-        write_holds user rel (Insert key values) _ (record { numbers = (level_fits, AllZip-long _ (site_scheme site rel).others values fits.2); kinds = (fits.1, fits.2) })
-    inside_holds (commands.Update rel key key_class from sets) user fits read =
-        write_holds user rel (Update key key_class from sets) _ (record { numbers = (level_fits, fits.4.some, fits.4.known); kinds = fits.4.kinds })
-    inside_holds (commands.Delete rel key key_class) user fits read = write_holds user rel (Delete key key_class) _ (record { numbers = tt; kinds = tt })
+    inside_holds (commands.View relation label query counts) user fits read = unless_holds _ w e user _ all (λ none. all)
+    inside_holds (commands.Dump relation) user fits read = unless_holds _ w e user _ all (λ none. all)
+    inside_holds (commands.Write relation wr) user fits read = write_holds user relation wr _ (fitting relation wr fits.1)
     inside_holds (commands.Call name args) user fits read = call_holds user name args (stored_named site.stored name) read
 
     opened_holds : (r : Result ℕ Denial) → Holds (open_step site w e r).world
@@ -98,11 +99,9 @@ module _ (site : Site) (P : ℕ → Table → Type 0) (keeps : Kept site P) wher
     outside_holds (commands.Open name) = opened_holds (cleared site e.level (user_named site.policy name))
     outside_holds commands.Close = all
     outside_holds commands.Audit = all
-    outside_holds (commands.View rel label query counts) = all
-    outside_holds (commands.Dump rel) = all
-    outside_holds (commands.Insert rel key values) = all
-    outside_holds (commands.Update rel key key_class from sets) = all
-    outside_holds (commands.Delete rel key key_class) = all
+    outside_holds (commands.View relation label query counts) = all
+    outside_holds (commands.Dump relation) = all
+    outside_holds (commands.Write relation wr) = all
     outside_holds (commands.Call name args) = all
 
     at_holds : (session : Option ℕ) → CommandFits site.policy site.schemes e.command → CallsRead site e.command → Holds (step_at site w e e.command session).world
@@ -122,12 +121,12 @@ module _ (site : Site) (P : ℕ → Table → Type 0) (keeps : Kept site P) wher
 
 module _ (site : Site) (distinct : AreDistinct (site_labels site)) where
   abbrev InForm : ℕ → Table → Type 0
-  InForm rel T = IsStored (site_labels site) (length (site_scheme site rel).others) T
+  InForm relation T = IsStored (site_labels site) (length (site_scheme site relation).others) T
 
   form_kept : Kept site InForm
   form_kept = record {
-    by_write = λ rel level wr T fits stored.
-        keep_form (site_labels site) distinct (site_scheme site rel) (length (site_scheme site rel).others) level T stored wr fits.numbers;
+    by_write = λ relation level wr T fits stored.
+        keep_form (site_labels site) distinct (site_scheme site relation) (length (site_scheme site relation).others) level T stored wr fits.numbers;
     by_call = λ tx args db read count stored. call_form site.policy distinct site.schemes tx read (fitted tx.params args) db stored;
   }
 
@@ -139,11 +138,11 @@ module _ (site : Site) (distinct : AreDistinct (site_labels site)) where
 
   -- with kinds and intervals too
   abbrev Contained : ℕ → Table → Type 0
-  Contained rel T = IsContent (site_labels site) (site_scheme site rel) T
+  Contained relation T = IsContent (site_labels site) (site_scheme site relation) T
 
   content_kept : Kept site Contained
   content_kept = record {
-    by_write = λ rel level wr T fits content. keep_content (site_labels site) distinct (site_scheme site rel) level T content wr fits.numbers fits.kinds;
+    by_write = λ relation level wr T fits content. keep_content (site_labels site) distinct (site_scheme site relation) level T content wr fits.numbers fits.kinds;
     by_call = λ tx args db read count content. call_content site.policy distinct site.schemes tx read (fitted tx.params args) (fitted_fit tx args count) db content;
   }
 
@@ -154,9 +153,6 @@ module _ (site : Site) (distinct : AreDistinct (site_labels site)) where
     pub all_calls_read : (es : List Event) → AllByRecursion (λ e. CallsRead site e.command) es
     all_calls_read [] = tt
     all_calls_read (e ∷ es) = (all_read site read e.command, all_calls_read es)
-
-    pub run_content : (w : World) (es : List Event) → AreContent (site_labels site) site.schemes w.db → EventsFit site es → AreContent (site_labels site) site.schemes (end_of site w es).db
-    run_content w es content fits = run_holds site Contained content_kept w es content fits (all_calls_read es)
 
 -- ---- first parts of a run
 
@@ -170,7 +166,7 @@ module _ (site : Site) (distinct : AreDistinct (site_labels site)) (read : AreRe
   stored_after n = run_stored site distinct w (take n es) stored (first_fit site n es fits) (all_calls_read site distinct read (take n es))
 
   whole : (db : Database) → AreStored site db → AreWhole site db
-  whole db h rel = has_integrity (site_labels site) _ _ (h rel)
+  whole db h relation = has_integrity (site_labels site) _ _ (h relation)
 
   read_named : (name : Name) (s : Stored) → stored_named site.stored name ≡ Some s → IsReadUnder site.policy site.schemes (tx_of s)
   read_named name s e = subst (λ o. IfSome o (λ x. IsReadUnder site.policy site.schemes (tx_of x))) e (found_holds _ _ site.stored read)

@@ -5,11 +5,7 @@ use Rattle.std.proofs.lemmas.Bool.{and_parts, and_from}
 use Rattle.mls_scheme.specs.declared.tuple.Element.{Element}
 use Rattle.mls_scheme.specs.declared.tuple.Tuple.{Tuple}
 use Rattle.mls_scheme.specs.Tuple.{HasClassesBelow}
-use Rattle.mls_lattice.specs.Policy.{Policy}
-use Rattle.mls_machine.specs.declared.reply.Reply.{Reply}
-use Rattle.mls_machine.specs.declared.reply.Reply.TheVariants.{Opened, Closed, Rows, Dumped, Wrote, Ran, Entries, Denied}
-use Rattle.mls_machine.specs.Output.{ReplyIsKnown}
-use Rattle.mls_machine.specs.Known.{elements_known, tuples_known, HasKnownNumbers}
+use Rattle.mls_machine.specs.Known.{elements_known, tuples_known}
 
 elements-true : (n : ℕ) (es : List Element) → elements_known n es ≡ true → AllByRecursion (λ e. e.class < n) es
 elements-true n [] h = tt
@@ -31,14 +27,3 @@ tuples-again n [] h = refl
 tuples-again n (t ∷ ts) h = and_from _ _ (and_from _ _ (lt-ltb t.key_class n h.0.key_class) (elements-again n t.elements h.0.elements)) (tuples-again n ts h.1)
 
 pub ruleset known_steps = (tuples-true, tuples-again)
-
--- what can be printed has known numbers
-pub numbers_known : (policy : Policy) (r : Reply) → ReplyIsKnown policy r → HasKnownNumbers policy r
-numbers_known policy (Opened user) h = h
-numbers_known policy Closed h = h
-numbers_known policy (Rows tuples) h = tt
-numbers_known policy (Dumped tuples) h = tt
-numbers_known policy (Wrote o) h = h
-numbers_known policy (Ran run) h = h
-numbers_known policy (Entries es) h = h
-numbers_known policy (Denied d) h = h

@@ -10,7 +10,7 @@ use Rattle.mls_machine.specs.Machine.{World}
 use Rattle.mls_machine.specs.Observation.{AreStored, AgreeAt}
 
 pub record LowAgree (ls : Labels) (c : ℕ) (v w : World) : Type 0 where
-  pub tables : (rel : ℕ) → low ls c (v.db rel) ≡ low ls c (w.db rel)
+  pub tables : (relation : ℕ) → low ls c (v.db relation) ≡ low ls c (w.db relation)
   pub sessions : (level : ℕ) (name : Name) → below ls level c ≡ true → v.sessions level name ≡ w.sessions level name
   pub entries : visible ls c v.audit ≡ visible ls c w.audit
 
@@ -28,14 +28,14 @@ lows_trans h k = record { tables = λ r. h.tables r ∙ k.tables r; sessions = �
 pub to_low : (site : Site) → AreDistinct (site_labels site) → (c : ℕ) (v w : World) → AreStored site v.db → AreStored site w.db
     → AgreeAt (site_labels site) c v w → LowAgree (site_labels site) c v w
 to_low site distinct c v w sv sw h = record {
-  tables = λ rel. low_from_views (site_labels site) distinct _ _ (v.db rel) (w.db rel) (sv rel) (sw rel) c (h.views rel);
+  tables = λ relation. low_from_views (site_labels site) distinct _ _ (v.db relation) (w.db relation) (sv relation) (sw relation) c (h.views relation);
   sessions = h.sessions;
   entries = h.entries;
 }
 
 pub from_low : (site : Site) (c : ℕ) (v w : World) → AreStored site v.db → AreStored site w.db → LowAgree (site_labels site) c v w → AgreeAt (site_labels site) c v w
 from_low site c v w sv sw h = record {
-  views = λ rel. views_from_low (site_labels site) _ _ (v.db rel) (w.db rel) (sv rel) (sw rel) c (h.tables rel);
+  views = λ relation. views_from_low (site_labels site) _ _ (v.db relation) (w.db relation) (sv relation) (sw relation) c (h.tables relation);
   sessions = h.sessions;
   entries = h.entries;
 }

@@ -84,32 +84,28 @@ Whole l = IsOneLine l.text
 
 module _ (site : Site) (plain : IsPlain site) where
   view_lines : (command : Command) (tuples : List Tuple) → AllByRecursion IsOneLine (view_texts site command tuples)
-  view_lines (commands.View rel label query true) tuples = (count_line site.policy plain.labels (scheme_of site.schemes rel) label query (length tuples) (scheme_line site.schemes rel plain.relations), tt)
-  view_lines (commands.View rel label query false) tuples = (
-    heading_line site.policy plain.labels (scheme_of site.schemes rel) label query (scheme_line site.schemes rel plain.relations),
+  view_lines (commands.View relation label query true) tuples = (count_line site.policy plain.labels (scheme_of site.schemes relation) label query (length tuples) (scheme_line site.schemes relation plain.relations), tt)
+  view_lines (commands.View relation label query false) tuples = (
+    heading_line site.policy plain.labels (scheme_of site.schemes relation) label query (scheme_line site.schemes relation plain.relations),
     each-map IsOneLine (row_text site.policy) tuples (each (λ t. IsOneLine (row_text site.policy t)) (row_line site.policy plain.labels) tuples),
   )
   view_lines (commands.Open name) tuples = tt
   view_lines commands.Close tuples = tt
   view_lines commands.Audit tuples = tt
-  view_lines (commands.Dump rel) tuples = tt
-  view_lines (commands.Insert rel key values) tuples = tt
-  view_lines (commands.Update rel key key_class from sets) tuples = tt
-  view_lines (commands.Delete rel key key_class) tuples = tt
+  view_lines (commands.Dump relation) tuples = tt
+  view_lines (commands.Write relation wr) tuples = tt
   view_lines (commands.Call name args) tuples = tt
 
   in_table : (command : Command) (tuples : List Tuple) → AllByRecursion IsOneLine (table_texts site command tuples)
-  in_table (commands.View rel label query true) tuples = view_lines (commands.View rel label query true) tuples
-  in_table (commands.View rel label query false) tuples =
-      let s = scheme_of site.schemes rel in
-      table_lines site.policy plain.labels s label query (table_widths site.policy s tuples) tuples (scheme_line site.schemes rel plain.relations)
+  in_table (commands.View relation label query true) tuples = view_lines (commands.View relation label query true) tuples
+  in_table (commands.View relation label query false) tuples =
+      let s = scheme_of site.schemes relation in
+      table_lines site.policy plain.labels s label query (table_widths site.policy s tuples) tuples (scheme_line site.schemes relation plain.relations)
   in_table (commands.Open name) tuples = tt
   in_table commands.Close tuples = tt
   in_table commands.Audit tuples = tt
-  in_table (commands.Dump rel) tuples = tt
-  in_table (commands.Insert rel key values) tuples = tt
-  in_table (commands.Update rel key key_class from sets) tuples = tt
-  in_table (commands.Delete rel key key_class) tuples = tt
+  in_table (commands.Dump relation) tuples = tt
+  in_table (commands.Write relation wr) tuples = tt
   in_table (commands.Call name args) tuples = tt
 
   call_lines : (command : Command) → AllByRecursion IsOneLine (call_texts command)
@@ -117,25 +113,21 @@ module _ (site : Site) (plain : IsPlain site) where
   call_lines (commands.Open name) = tt
   call_lines commands.Close = tt
   call_lines commands.Audit = tt
-  call_lines (commands.View rel label query counts) = tt
-  call_lines (commands.Dump rel) = tt
-  call_lines (commands.Insert rel key values) = tt
-  call_lines (commands.Update rel key key_class from sets) = tt
-  call_lines (commands.Delete rel key key_class) = tt
+  call_lines (commands.View relation label query counts) = tt
+  call_lines (commands.Dump relation) = tt
+  call_lines (commands.Write relation wr) = tt
 
   dump_lines : (session : Name) → IsOneLine session → (command : Command) (tuples : List Tuple) → AllByRecursion IsOneLine (dump_texts site session command tuples)
-  dump_lines session h (commands.Dump rel) tuples = (
-    dump_line (scheme_of site.schemes rel) (scheme_line site.schemes rel plain.relations),
-    each-map IsOneLine (λ t. script_text site (dump_event site session rel t)) tuples
-        (each (λ t. IsOneLine (script_text site (dump_event site session rel t))) (λ t. made_line site plain session h rel t) tuples),
+  dump_lines session h (commands.Dump relation) tuples = (
+    dump_line (scheme_of site.schemes relation) (scheme_line site.schemes relation plain.relations),
+    each-map IsOneLine (λ t. script_text site (dump_event site session relation t)) tuples
+        (each (λ t. IsOneLine (script_text site (dump_event site session relation t))) (λ t. made_line site plain session h relation t) tuples),
   )
   dump_lines session h (commands.Open name) tuples = tt
   dump_lines session h commands.Close tuples = tt
   dump_lines session h commands.Audit tuples = tt
-  dump_lines session h (commands.View rel label query counts) tuples = tt
-  dump_lines session h (commands.Insert rel key values) tuples = tt
-  dump_lines session h (commands.Update rel key key_class from sets) tuples = tt
-  dump_lines session h (commands.Delete rel key key_class) tuples = tt
+  dump_lines session h (commands.View relation label query counts) tuples = tt
+  dump_lines session h (commands.Write relation wr) tuples = tt
   dump_lines session h (commands.Call name args) tuples = tt
 
   opened_line : (user : ℕ) → IsOneLine (codes "opened " ++ user_name site.policy.users user)
@@ -249,7 +241,7 @@ first_part P (x ∷ xs) ys h = let k = first_part P xs ys h.1 in ((h.0, k.0), k.
 
 plain_scheme : (s : Scheme) → IsScheme s → HasPlainNames s
 plain_scheme s h =
-    let both = first_part (λ (a : Attribute). IsOneLine a.name) s.keys s.others (names_from_map (λ a. a.name) (s.keys ++ s.others) h.names) in
+    let both = first_part (λ (a : Attribute). IsOneLine a.0) s.keys s.others (names_from_map (λ a. a.0) (s.keys ++ s.others) h.names) in
     record { name = one_line-name s.name h.named; keys = both.0; others = both.1 }
 
 -- ---- the laws

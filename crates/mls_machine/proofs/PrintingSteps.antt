@@ -1,5 +1,5 @@
 -- What is printed: the name of a label by its value, and the lines of replies.
-use Rattle.std.proofs.Common.{◌≡◌, ◌+◌, ℕ, ◌<◌, Bool, true, false, List, [], ◌∷◌, length, drop, get_or, refl, sym, ap, ◌∙◌, add-one, drop-cons, Option, Some, None, ◌++◌, take, codes, append-nil, append_assoc}
+use Rattle.std.proofs.Common.{◌≡◌, ◌+◌, ℕ, ◌<◌, Bool, true, false, List, [], ◌∷◌, length, drop, get_or, refl, sym, ap, ◌∙◌, add-one, drop-cons, Some, None, ◌++◌, take, codes, append-nil, append_assoc}
 use Rattle.std.specs.List.{flat_map}
 use Rattle.std.specs.Prelude.{map, slice_get, option_map, Result, Ok, Err, OnOk}
 use Rattle.std.proofs.lemmas.List.{get_or-map, flat_map_more, take_more}
@@ -10,7 +10,6 @@ use Rattle.mls_lattice.specs.Name.{is_name}
 use Rattle.mls_lattice.specs.Policy.{Name, Named, Policy}
 use Rattle.mls_lattice.specs.Canon.{label_name}
 use Rattle.mls_scheme.specs.Scheme.{Attribute, Scheme, Schemes, column_of}
-use Rattle.mls_scheme.specs.declared.value.Value.{Value}
 use Rattle.mls_scheme.proofs.CanonLemmas.{lines_more}
 use Rattle.std.proofs.lemmas.List.Folds.{flat_map-map}
 use Rattle.std.proofs.lemmas.Grind.{flat_map-append}
@@ -56,13 +55,13 @@ module _ (ls : List Named) (n : ℕ) (p v : Pair) (within : n < length ls) (is :
 pub ruleset naming = (name_of-found, name_of-next)
 
 -- one attribute more
-pub names_more : (attributes : List Attribute) (k : ℕ) (name : Name) (start : List ℕ) → option_map (λ a. a.name) (slice_get attributes k) ≡ Some name
-    → (start ++ flat_map (λ a. codes " " ++ a.name) (take k attributes)) ++ (codes " " ++ name) ≡ start ++ flat_map (λ a. codes " " ++ a.name) (take (k + 1) attributes)
+pub names_more : (attributes : List Attribute) (k : ℕ) (name : Name) (start : List ℕ) → option_map (λ a. a.0) (slice_get attributes k) ≡ Some name
+    → (start ++ flat_map (λ a. codes " " ++ a.0) (take k attributes)) ++ (codes " " ++ name) ≡ start ++ flat_map (λ a. codes " " ++ a.0) (take (k + 1) attributes)
 names_more attributes k name start h =
-    let Goal : Type 0 = (start ++ flat_map (λ a. codes " " ++ a.name) (take k attributes)) ++ (codes " " ++ name) ≡ start ++ flat_map (λ a. codes " " ++ a.name) (take (k + 1) attributes) in
-    elim (slice_get attributes k) as (λ o. slice_get attributes k ≡ o → option_map (λ a. a.name) o ≡ Some name → Goal) [
+    let Goal : Type 0 = (start ++ flat_map (λ a. codes " " ++ a.0) (take k attributes)) ++ (codes " " ++ name) ≡ start ++ flat_map (λ a. codes " " ++ a.0) (take (k + 1) attributes) in
+    elim (slice_get attributes k) as (λ o. slice_get attributes k ≡ o → option_map (λ a. a.0) o ≡ Some name → Goal) [
       | None ↦ λ e g. absurd cc
-      | Some a ↦ λ e g. lines_more (λ (x : Attribute). codes " " ++ x.name) attributes k name (column_of a) start h (ap (option_map column_of) e)
+      | Some a ↦ λ e g. lines_more (λ (x : Attribute). codes " " ++ x.0) attributes k name (column_of a) start h (ap (option_map column_of) e)
     ] refl h
 
 -- ---- lines
@@ -85,28 +84,6 @@ one_more f xs k x d start old new within is before after =
     after ∙ ap (λ (t : List ℕ). t ++ f x) before ∙ flat_map_more f start (take k xs) x
     ∙ ap (λ ys. start ++ flat_map f ys) (sym (take_more xs k d within ∙ ap (λ y. take k xs ++ y ∷ []) (sym is)))
 
-no_texts : (site : Site) (command : Command) (tuples : List Tuple) → ((rel label : ℕ) (query : Query) (counts : Bool) → command ≡ commands.View rel label query counts → ⊥) → view_texts site command tuples ≡ []
-no_texts site (commands.Open name) tuples other = refl
-no_texts site commands.Close tuples other = refl
-no_texts site commands.Audit tuples other = refl
-no_texts site (commands.Dump rel) tuples other = refl
-no_texts site (commands.View rel label query counts) tuples other = absurd (other rel label query counts refl)
-no_texts site (commands.Insert rel key values) tuples other = refl
-no_texts site (commands.Update rel key key_class from sets) tuples other = refl
-no_texts site (commands.Delete rel key key_class) tuples other = refl
-no_texts site (commands.Call name args) tuples other = refl
-
-no_call_texts : (command : Command) → ((name : Name) (args : List (Option Value)) → command ≡ commands.Call name args → ⊥) → call_texts command ≡ []
-no_call_texts (commands.Open name) other = refl
-no_call_texts commands.Close other = refl
-no_call_texts commands.Audit other = refl
-no_call_texts (commands.View rel label query counts) other = refl
-no_call_texts (commands.Dump rel) other = refl
-no_call_texts (commands.Insert rel key values) other = refl
-no_call_texts (commands.Update rel key key_class from sets) other = refl
-no_call_texts (commands.Delete rel key key_class) other = refl
-no_call_texts (commands.Call name args) other = absurd (other name args refl)
-
 module _ (site : Site) (e : Event) where
   abbrev start : List ℕ
   start = front site.policy e e.level
@@ -114,19 +91,16 @@ module _ (site : Site) (e : Event) where
   abbrev on_line : List ℕ → List ℕ
   on_line t = start ++ t ++ codes "\n"
 
-  pub other_texts : (tuples : List Tuple) → ((rel label : ℕ) (query : Query) (counts : Bool) → e.command ≡ commands.View rel label query counts → ⊥) → [] ≡ flat_map on_line (view_texts site e.command tuples)
-  other_texts tuples other = sym (ap (flat_map on_line) (no_texts site e.command tuples other))
+  rows_lines : (relation label : ℕ) (query : Query) (tuples : List Tuple)
+      → on_line (heading site.policy (site_scheme site relation) label query) ++ flat_map (λ t. on_line (row_text site.policy t)) tuples
+      ≡ flat_map on_line (view_texts site (commands.View relation label query false) tuples)
+  rows_lines relation label query tuples =
+      ap (λ l. on_line (heading site.policy (site_scheme site relation) label query) ++ l) (sym (flat_map-map on_line (row_text site.policy) tuples))
 
-  rows_lines : (rel label : ℕ) (query : Query) (tuples : List Tuple)
-      → on_line (heading site.policy (site_scheme site rel) label query) ++ flat_map (λ t. on_line (row_text site.policy t)) tuples
-      ≡ flat_map on_line (view_texts site (commands.View rel label query false) tuples)
-  rows_lines rel label query tuples =
-      ap (λ l. on_line (heading site.policy (site_scheme site rel) label query) ++ l) (sym (flat_map-map on_line (row_text site.policy) tuples))
-
-  module _ (rel label : ℕ) (query : Query) (counts : Bool) (tuples : List Tuple) (is : e.command ≡ commands.View rel label query counts)
-      (scheme : Scheme) (same : scheme ≡ site_scheme site rel) (old new : List ℕ) where
-    answered : (b : Bool) → counts ≡ b → flat_map on_line (view_texts site (commands.View rel label query b) tuples) ≡ flat_map on_line (view_texts site e.command tuples)
-    answered b h = sym (ap (λ x. flat_map on_line (view_texts site x tuples)) (is ∙ ap (λ c. commands.View rel label query c) h))
+  module _ (relation label : ℕ) (query : Query) (counts : Bool) (tuples : List Tuple) (is : e.command ≡ commands.View relation label query counts)
+      (scheme : Scheme) (same : scheme ≡ site_scheme site relation) (old new : List ℕ) where
+    answered : (b : Bool) → counts ≡ b → flat_map on_line (view_texts site (commands.View relation label query b) tuples) ≡ flat_map on_line (view_texts site e.command tuples)
+    answered b h = sym (ap (λ x. flat_map on_line (view_texts site x tuples)) (is ∙ ap (λ c. commands.View relation label query c) h))
 
     -- after a heading of the scheme of the relation
     pub rows_more : counts ≡ false → {A F : Type 0} (r : Result A F)
@@ -134,7 +108,7 @@ module _ (site : Site) (e : Event) where
         → OnOk r (new ≡ old ++ flat_map on_line (view_texts site e.command tuples))
     rows_more not_counted (Ok x) h =
         h ∙ ap (λ s. old ++ (on_line (heading site.policy s label query) ++ flat_map (λ t. on_line (row_text site.policy t)) tuples)) same
-        ∙ ap (λ l. old ++ l) (rows_lines rel label query tuples ∙ answered false not_counted)
+        ∙ ap (λ l. old ++ l) (rows_lines relation label query tuples ∙ answered false not_counted)
     rows_more not_counted (Err f) h = h
 
     -- their number alone
@@ -142,7 +116,7 @@ module _ (site : Site) (e : Event) where
         → OnOk r (new ≡ old ++ on_line (count_text site.policy scheme label query n)) → OnOk r (new ≡ old ++ flat_map on_line (view_texts site e.command tuples))
     count_more counted n all (Ok x) h =
         h ∙ (λ i. old ++ on_line (count_text site.policy (same i) label query (all i)))
-        ∙ ap (λ l. old ++ l) (sym (append-nil (on_line (count_text site.policy (site_scheme site rel) label query (length tuples)))) ∙ answered true counted)
+        ∙ ap (λ l. old ++ l) (sym (append-nil (on_line (count_text site.policy (site_scheme site relation) label query (length tuples)))) ∙ answered true counted)
     count_more counted n all (Err f) h = h
 
   printed_lines : (texts : List (List ℕ)) → printed (map (line site.policy e e.level) texts) ≡ flat_map on_line texts
@@ -158,18 +132,18 @@ module _ (site : Site) (e : Event) where
   -- ---- dumps
 
   -- after a heading
-  dump_lines : (rel : ℕ) (tuples : List Tuple) → e.command ≡ commands.Dump rel
-      → on_line (dump_heading (site_scheme site rel)) ++ flat_map (λ t. on_line (script_text site (dump_event site e.session rel t))) tuples
+  dump_lines : (relation : ℕ) (tuples : List Tuple) → e.command ≡ commands.Dump relation
+      → on_line (dump_heading (site_scheme site relation)) ++ flat_map (λ t. on_line (script_text site (dump_event site e.session relation t))) tuples
       ≡ flat_map on_line (dump_texts site e.session e.command tuples)
-  dump_lines rel tuples is =
-      ap (λ l. on_line (dump_heading (site_scheme site rel)) ++ l) (sym (flat_map-map on_line (λ t. script_text site (dump_event site e.session rel t)) tuples))
+  dump_lines relation tuples is =
+      ap (λ l. on_line (dump_heading (site_scheme site relation)) ++ l) (sym (flat_map-map on_line (λ t. script_text site (dump_event site e.session relation t)) tuples))
       ∙ sym (ap (λ x. flat_map on_line (dump_texts site e.session x tuples)) is)
 
-  pub dump_more : (rel : ℕ) (tuples : List Tuple) → e.command ≡ commands.Dump rel → (old new : List ℕ) → {A F : Type 0} (r : Result A F)
-      → OnOk r (new ≡ old ++ (on_line (dump_heading (site_scheme site rel)) ++ flat_map (λ t. on_line (script_text site (dump_event site e.session rel t))) tuples))
+  pub dump_more : (relation : ℕ) (tuples : List Tuple) → e.command ≡ commands.Dump relation → (old new : List ℕ) → {A F : Type 0} (r : Result A F)
+      → OnOk r (new ≡ old ++ (on_line (dump_heading (site_scheme site relation)) ++ flat_map (λ t. on_line (script_text site (dump_event site e.session relation t))) tuples))
       → OnOk r (new ≡ old ++ flat_map on_line (dump_texts site e.session e.command tuples))
-  dump_more rel tuples is old new (Ok x) h = h ∙ ap (λ l. old ++ l) (dump_lines rel tuples is)
-  dump_more rel tuples is old new (Err f) h = h
+  dump_more relation tuples is old new (Ok x) h = h ∙ ap (λ l. old ++ l) (dump_lines relation tuples is)
+  dump_more relation tuples is old new (Err f) h = h
 
   pub dump_printed : is_name e.session ≡ true → (r : Reply) (tuples : List Tuple) → r ≡ Dumped tuples
       → flat_map on_line (dump_texts site e.session e.command tuples) ≡ printed (reply_lines site e r)
@@ -184,12 +158,6 @@ module _ (site : Site) (e : Event) where
       ∙ ap (λ l. on_line (codes "audit") ++ l) (flat_map-map on_line (entry_text site.policy) es))
 
   -- ---- the lines of a call and of items
-
-  pub other_calls : ((name : Name) (args : List (Option Value)) → e.command ≡ commands.Call name args → ⊥) → [] ≡ flat_map on_line (call_texts e.command)
-  other_calls other = sym (ap (flat_map on_line) (no_call_texts e.command other))
-
-  pub call_lines : (name : Name) (args : List (Option Value)) → e.command ≡ commands.Call name args → on_line (codes "called " ++ printable name) ≡ flat_map on_line (call_texts e.command)
-  call_lines name args is = sym (append-nil (on_line (codes "called " ++ printable name))) ∙ sym (ap (λ x. flat_map on_line (call_texts x)) is)
 
   abbrev on_item_line : List ℕ → Item → List ℕ
   on_item_line deed i = front site.policy e i.0 ++ (deed ++ cell_text i.1) ++ codes "\n"
@@ -216,16 +184,14 @@ same_views : (p : Policy) (s : Schemes) (stored : List Stored) (command : Comman
 same_views p s stored (commands.Open name) tuples = refl
 same_views p s stored commands.Close tuples = refl
 same_views p s stored commands.Audit tuples = refl
-same_views p s stored (commands.View rel label query counts) tuples = refl
-same_views p s stored (commands.Dump rel) tuples = refl
-same_views p s stored (commands.Insert rel key values) tuples = refl
-same_views p s stored (commands.Update rel key key_class from sets) tuples = refl
-same_views p s stored (commands.Delete rel key key_class) tuples = refl
+same_views p s stored (commands.View relation label query counts) tuples = refl
+same_views p s stored (commands.Dump relation) tuples = refl
+same_views p s stored (commands.Write relation wr) tuples = refl
 same_views p s stored (commands.Call name args) tuples = refl
 
 same_dumps : (p : Policy) (s : Schemes) (stored : List Stored) (session : Name) (command : Command) (tuples : List Tuple)
     → dump_texts (site_under p s) session command tuples ≡ dump_texts (record { policy = p; schemes = s; stored = stored }) session command tuples
-same_dumps p s stored session (commands.Dump rel) tuples = refl
+same_dumps p s stored session (commands.Dump relation) tuples = refl
 same_dumps p s stored session command tuples = refl
 
 same_texts : (p : Policy) (s : Schemes) (stored : List Stored) (session : Name) (command : Command) (r : Reply)
@@ -241,8 +207,8 @@ same_texts p s stored session command (Denied d) = refl
 
 same_tables : (p : Policy) (s : Schemes) (stored : List Stored) (command : Command) (tuples : List Tuple)
     → table_texts (site_under p s) command tuples ≡ table_texts (record { policy = p; schemes = s; stored = stored }) command tuples
-same_tables p s stored (commands.View rel label query counts) tuples = refl
-same_tables p s stored (commands.Dump rel) tuples = refl
+same_tables p s stored (commands.View relation label query counts) tuples = refl
+same_tables p s stored (commands.Dump relation) tuples = refl
 same_tables p s stored command tuples = refl
 
 same_in_table : (p : Policy) (s : Schemes) (stored : List Stored) (session : Name) (command : Command) (r : Reply)

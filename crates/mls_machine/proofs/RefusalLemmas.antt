@@ -1,13 +1,7 @@
 -- What is denied or refused changes nothing but the audit list, and that grows by denials and calls alone.
-use Rattle.std.proofs.Common.{◌≡◌, ℕ, Bool, true, false, cond, List, [], ◌++◌, Option, Some, None, Result, Ok, Err, refl, sym, ap, ◌∙◌, eqb-true, append-nil}
-use Rattle.std.specs.Prelude.{nat_eq}
-use Rattle.mls_lattice.specs.Labels.{Labels}
-use Rattle.mls_scheme.specs.Table.{Table, Database}
-use Rattle.mls_scheme.specs.Scheme.{Scheme}
-use Rattle.mls_filterview.specs.Content.{with_table}
-use Rattle.mls_updates.specs.declared.outcome.Outcome.{Outcome}
-use Rattle.mls_updates.specs.Outcome.{is_done}
-use Rattle.mls_updates.specs.Writes.{Key, Sets, Write, Insert, Update, Delete, written, update_own, update_below, write}
+use Rattle.std.proofs.Common.{◌≡◌, ℕ, List, [], ◌++◌, Option, Some, None, Result, Ok, Err, refl, sym, ap, ◌∙◌, append-nil}
+use Rattle.mls_updates.specs.Writes.{Write}
+use Rattle.mls_queries.proofs.WrittenLemmas.{table_left, same_relation}
 use Rattle.mls_scheme.specs.declared.value.Value.{Value}
 use Rattle.mls_lattice.specs.Policy.{Name}
 use Rattle.mls_script.specs.declared.event.Event.{Event}
@@ -20,31 +14,6 @@ use Rattle.mls_machine.specs.Site.{Site, site_labels, site_scheme}
 use Rattle.mls_machine.specs.Denying.{first_denial, cleared, user_named, stored_named, call_denials}
 use Rattle.mls_machine.specs.Machine.{World, Step, denied, unless, wrote, called, call_step, step_inside, open_step, step_outside, step_at, step}
 use Rattle.mls_machine.specs.Laws.{ChangesNothing, entries_added, RefusalsChangeNothing, DenialsAndCallsAreEntered}
-
--- ---- a write that is refused
-
-left : (o : Outcome) (new old : Table) → is_done o ≡ false → (written o new old).table ≡ old
-left o new old h = ap (λ b. cond b new old) h
-
-module _ (ls : Labels) (scheme : Scheme) (level : ℕ) (T : Table) where
-  update_left : (key : Key) (key_class from : ℕ) (sets : Sets) (b : Bool)
-      → is_done (cond b (update_own ls scheme level key key_class sets T) (update_below ls scheme level key key_class from sets T)).outcome ≡ false
-      → (cond b (update_own ls scheme level key key_class sets T) (update_below ls scheme level key key_class from sets T)).table ≡ T
-  update_left key key_class from sets true h = left _ _ T h
-  update_left key key_class from sets false h = left _ _ T h
-
-  table_left : (wr : Write) → is_done (write ls scheme level wr T).outcome ≡ false → (write ls scheme level wr T).table ≡ T
-  table_left (Insert key values) h = left _ _ T h
-  table_left (Update key key_class from sets) h = update_left key key_class from sets (nat_eq from level) h
-  table_left (Delete key key_class) h = left _ _ T h
-
--- a relation that is put back is as it was
-same_relation : (db : Database) (rel : ℕ) (T : Table) → T ≡ db rel → (r : ℕ) → with_table db rel T r ≡ db r
-same_relation db rel T same r = by_test (nat_eq r rel) refl
-  where
-    by_test : (b : Bool) → nat_eq r rel ≡ b → cond b T (db r) ≡ db r
-    by_test true e = same ∙ ap db (sym (eqb-true r rel e))
-    by_test false e = refl
 
 -- ---- steps
 
@@ -65,9 +34,9 @@ module _ (site : Site) (w : World) (e : Event) where
   denied_left : (command : Command) (user : ℕ) (denial : Denial) → Leaves site w e command (Some user) (denied site w e user denial)
   denied_left command user denial = record { db = λ h. refl; sessions = λ h. refl; audit = refl }
 
-  wrote_left : (command : Command) (user rel : ℕ) (wr : Write) → entries_added site e command (Some user) (wrote site w e.level rel wr).reply ≡ [] → Leaves site w e command (Some user) (wrote site w e.level rel wr)
-  wrote_left command user rel wr none = record {
-    db = λ h. (let same = same_relation w.db rel _ (table_left (site_labels site) (site_scheme site rel) e.level (w.db rel) wr h) in λ i r. same r i);
+  wrote_left : (command : Command) (user relation : ℕ) (wr : Write) → entries_added site e command (Some user) (wrote site w e.level relation wr).reply ≡ [] → Leaves site w e command (Some user) (wrote site w e.level relation wr)
+  wrote_left command user relation wr none = record {
+    db = λ h. (let same = same_relation w.db relation _ (table_left (site_labels site) (site_scheme site relation) e.level (w.db relation) wr h) in λ i r. same r i);
     sessions = λ h. refl;
     audit = sym (append-nil w.audit) ∙ ap (λ es. w.audit ++ es) (sym none);
   }
@@ -86,11 +55,9 @@ module _ (site : Site) (w : World) (e : Event) where
   inside_left (commands.Open name) user = denied_left _ user _
   inside_left commands.Close user = record { db = λ h. absurd h; sessions = λ h. absurd h; audit = sym (append-nil w.audit) }
   inside_left commands.Audit user = all_left _ (Some user) _ refl refl
-  inside_left (commands.View rel label query counts) user = unless_left _ _ user _ (all_left _ (Some user) _ refl refl)
-  inside_left (commands.Dump rel) user = unless_left _ _ user _ (all_left _ (Some user) _ refl refl)
-  inside_left (commands.Insert rel key values) user = unless_left _ _ user _ (wrote_left _ user rel (Insert key values) refl)
-  inside_left (commands.Update rel key key_class from sets) user = unless_left _ _ user _ (wrote_left _ user rel (Update key key_class from sets) refl)
-  inside_left (commands.Delete rel key key_class) user = unless_left _ _ user _ (wrote_left _ user rel (Delete key key_class) refl)
+  inside_left (commands.View relation label query counts) user = unless_left _ _ user _ (all_left _ (Some user) _ refl refl)
+  inside_left (commands.Dump relation) user = unless_left _ _ user _ (all_left _ (Some user) _ refl refl)
+  inside_left (commands.Write relation wr) user = unless_left _ _ user _ (wrote_left _ user relation wr refl)
   inside_left (commands.Call name args) user = call_left user name args (stored_named site.stored name)
 
   opened_left : (name : Name) (r : Result ℕ Denial) → Leaves site w e (commands.Open name) None (open_step site w e r)
@@ -101,11 +68,9 @@ module _ (site : Site) (w : World) (e : Event) where
   outside_left (commands.Open name) = opened_left name (cleared site e.level (user_named site.policy name))
   outside_left commands.Close = all_left _ None _ refl refl
   outside_left commands.Audit = all_left _ None _ refl refl
-  outside_left (commands.View rel label query counts) = all_left _ None _ refl refl
-  outside_left (commands.Dump rel) = all_left _ None _ refl refl
-  outside_left (commands.Insert rel key values) = all_left _ None _ refl refl
-  outside_left (commands.Update rel key key_class from sets) = all_left _ None _ refl refl
-  outside_left (commands.Delete rel key key_class) = all_left _ None _ refl refl
+  outside_left (commands.View relation label query counts) = all_left _ None _ refl refl
+  outside_left (commands.Dump relation) = all_left _ None _ refl refl
+  outside_left (commands.Write relation wr) = all_left _ None _ refl refl
   outside_left (commands.Call name args) = all_left _ None _ refl refl
 
   at_left : (session : Option ℕ) → Leaves site w e e.command session (step_at site w e e.command session)

@@ -24,7 +24,7 @@ use Rattle.mls_translang.specs.Tx.{Tx}
 use Rattle.mls_translang.specs.Fits.{IsReadUnder}
 use Rattle.mls_certcheck.specs.Meaning.{Item, run_tx}
 use Rattle.mls_certcheck.proofs.MeaningLemmas.{call_labelled}
-use Rattle.mls_updates.specs.Writes.{Write, Insert, Update, Delete}
+use Rattle.mls_updates.specs.Writes.{Write}
 use Rattle.mls_queries.specs.declared.query.Query.{Query}
 use Rattle.mls_queries.specs.Query.{has_class, meets, is_above, highest_of, first_of, found}
 use Rattle.mls_queries.proofs.PlaceLemmas.{all_filter}
@@ -125,21 +125,21 @@ module _ (site : Site) (distinct : AreDistinct (site_labels site)) (read : AreRe
   unless_known None user effect h = h
   unless_known (Some denial) user effect h = record { reply = tt; audit = denied_known user denial }
 
-  seen_known : (rel label : ℕ) → AllByRecursion (HasClassesBelow (length site.policy.labels)) (rows (site_labels site) label (w.db rel))
-  seen_known rel label =
-      subst (λ n. AllByRecursion (HasClassesBelow n) (rows (site_labels site) label (w.db rel))) (length-map site.policy.labels (λ l. l.value))
-      (rows_below (site_labels site) (length (site_scheme site rel).others) (w.db rel) (stored rel) distinct label)
+  seen_known : (relation label : ℕ) → AllByRecursion (HasClassesBelow (length site.policy.labels)) (rows (site_labels site) label (w.db relation))
+  seen_known relation label =
+      subst (λ n. AllByRecursion (HasClassesBelow n) (rows (site_labels site) label (w.db relation))) (length-map site.policy.labels (λ l. l.value))
+      (rows_below (site_labels site) (length (site_scheme site relation).others) (w.db relation) (stored relation) distinct label)
 
-  viewed_known : (rel label : ℕ) (query : Query) → AllByRecursion (HasClassesBelow (length site.policy.labels)) (found (site_labels site) query (rows (site_labels site) label (w.db rel)))
-  viewed_known rel label query = found_all (HasClassesBelow (length site.policy.labels)) (site_labels site) (rows (site_labels site) label (w.db rel)) (seen_known rel label) query
+  viewed_known : (relation label : ℕ) (query : Query) → AllByRecursion (HasClassesBelow (length site.policy.labels)) (found (site_labels site) query (rows (site_labels site) label (w.db relation)))
+  viewed_known relation label query = found_all (HasClassesBelow (length site.policy.labels)) (site_labels site) (rows (site_labels site) label (w.db relation)) (seen_known relation label) query
 
-  dumped_known : (rel level : ℕ) → AllByRecursion (HasClassesBelow (length site.policy.labels)) (low_tuples (site_labels site) level (w.db rel))
-  dumped_known rel level =
-      subst (λ n. AllByRecursion (HasClassesBelow n) (low_tuples (site_labels site) level (w.db rel))) (length-map site.policy.labels (λ l. l.value))
-      (low_below (site_labels site) (length (site_scheme site rel).others) (w.db rel) (stored rel) level)
+  dumped_known : (relation level : ℕ) → AllByRecursion (HasClassesBelow (length site.policy.labels)) (low_tuples (site_labels site) level (w.db relation))
+  dumped_known relation level =
+      subst (λ n. AllByRecursion (HasClassesBelow n) (low_tuples (site_labels site) level (w.db relation))) (length-map site.policy.labels (λ l. l.value))
+      (low_below (site_labels site) (length (site_scheme site relation).others) (w.db relation) (stored relation) level)
 
-  wrote_known : (denial : Option Denial) (user rel : ℕ) (wr : Write) → IsKnown site (unless site denial w e user (wrote site w e.level rel wr))
-  wrote_known denial user rel wr = unless_known denial user (wrote site w e.level rel wr) (record { reply = tt; audit = known })
+  wrote_known : (denial : Option Denial) (user relation : ℕ) (wr : Write) → IsKnown site (unless site denial w e user (wrote site w e.level relation wr))
+  wrote_known denial user relation wr = unless_known denial user (wrote site w e.level relation wr) (record { reply = tt; audit = known })
 
   releases_known : (user : ℕ) (items : List Item) → ItemsAreKnown site.policy items → EntriesAreKnown site.policy (map (release_entry site e user) items)
   releases_known user [] h = tt
@@ -163,11 +163,9 @@ module _ (site : Site) (distinct : AreDistinct (site_labels site)) (read : AreRe
   inside_known (commands.Open name) user = record { reply = tt; audit = denied_known user AlreadyOpen }
   inside_known commands.Close user = record { reply = tt; audit = known }
   inside_known commands.Audit user = record { reply = filter_known (λ x. below (site_labels site) (label_of x) e.level) site.policy w.audit known; audit = known }
-  inside_known (commands.View rel label query counts) user = unless_known _ user (viewed site w rel label query) (record { reply = viewed_known rel label query; audit = known })
-  inside_known (commands.Dump rel) user = unless_known _ user (dumped site w rel e.level) (record { reply = dumped_known rel e.level; audit = known })
-  inside_known (commands.Insert rel key values) user = wrote_known _ user rel (Insert key values)
-  inside_known (commands.Update rel key key_class from sets) user = wrote_known _ user rel (Update key key_class from sets)
-  inside_known (commands.Delete rel key key_class) user = wrote_known _ user rel (Delete key key_class)
+  inside_known (commands.View relation label query counts) user = unless_known _ user (viewed site w relation label query) (record { reply = viewed_known relation label query; audit = known })
+  inside_known (commands.Dump relation) user = unless_known _ user (dumped site w relation e.level) (record { reply = dumped_known relation e.level; audit = known })
+  inside_known (commands.Write relation wr) user = wrote_known _ user relation wr
   inside_known (commands.Call name args) user = call_known user name args (stored_named site.stored name) (all_read site read (commands.Call name args))
 
   cleared_known : (user : ℕ) (b : Bool) (denial : Denial) → user < length site.policy.users → IsKnown site (open_step site w e (cond b (Err denial) (Ok user)))
@@ -182,11 +180,9 @@ module _ (site : Site) (distinct : AreDistinct (site_labels site)) (read : AreRe
   outside_known (commands.Open name) = opened_known (user_named site.policy name) (user_below site.policy name)
   outside_known commands.Close = record { reply = tt; audit = known }
   outside_known commands.Audit = record { reply = tt; audit = known }
-  outside_known (commands.View rel label query counts) = record { reply = tt; audit = known }
-  outside_known (commands.Dump rel) = record { reply = tt; audit = known }
-  outside_known (commands.Insert rel key values) = record { reply = tt; audit = known }
-  outside_known (commands.Update rel key key_class from sets) = record { reply = tt; audit = known }
-  outside_known (commands.Delete rel key key_class) = record { reply = tt; audit = known }
+  outside_known (commands.View relation label query counts) = record { reply = tt; audit = known }
+  outside_known (commands.Dump relation) = record { reply = tt; audit = known }
+  outside_known (commands.Write relation wr) = record { reply = tt; audit = known }
   outside_known (commands.Call name args) = record { reply = tt; audit = known }
 
   at_known : (session : Option ℕ) → IsKnown site (step_at site w e e.command session)

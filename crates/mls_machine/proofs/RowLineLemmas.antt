@@ -33,10 +33,10 @@ cell_line None = refl
 cell_line (Some v) = value_line v
 
 -- a relation by its number
-pub scheme_line : (schemes : Schemes) (rel : ℕ) → AllByRecursion HasPlainNames schemes → HasPlainNames (scheme_of schemes rel)
-scheme_line [] rel h = record { name = refl; keys = tt; others = tt }
+pub scheme_line : (schemes : Schemes) (relation : ℕ) → AllByRecursion HasPlainNames schemes → HasPlainNames (scheme_of schemes relation)
+scheme_line [] relation h = record { name = refl; keys = tt; others = tt }
 scheme_line (s ∷ schemes) zero h = h.0
-scheme_line (s ∷ schemes) (suc rel) h = scheme_line schemes rel h.1
+scheme_line (s ∷ schemes) (suc relation) h = scheme_line schemes relation h.1
 
 -- ---- rows
 
@@ -63,10 +63,10 @@ module _ (p : Policy) (labels : AllByRecursion (λ l. IsOneLine l.name) p.labels
       let others = one_line-flat_map (λ e. cell_entry p.labels e.class e.value) t.elements (each (λ e. IsOneLine (cell_entry p.labels e.class e.value)) (λ e. entry_cell_line e.class e.value) t.elements) in
       simp (list_any-append, keys, others, class_line t)
 
-  spaced_line : (s : Scheme) → HasPlainNames s → IsOneLine (flat_map (λ a. codes " " ++ a.name) s.keys) × IsOneLine (flat_map (λ a. codes " " ++ a.name) s.others)
+  spaced_line : (s : Scheme) → HasPlainNames s → IsOneLine (flat_map (λ a. codes " " ++ a.0) s.keys) × IsOneLine (flat_map (λ a. codes " " ++ a.0) s.others)
   spaced_line s h = (
-    one_line-flat_map (λ a. codes " " ++ a.name) s.keys (each_if (λ a. IsOneLine a.name) (λ a. IsOneLine (codes " " ++ a.name)) (λ a k. k) s.keys h.keys),
-    one_line-flat_map (λ a. codes " " ++ a.name) s.others (each_if (λ a. IsOneLine a.name) (λ a. IsOneLine (codes " " ++ a.name)) (λ a k. k) s.others h.others),
+    one_line-flat_map (λ a. codes " " ++ a.0) s.keys (each_if (λ a. IsOneLine a.0) (λ a. IsOneLine (codes " " ++ a.0)) (λ a k. k) s.keys h.keys),
+    one_line-flat_map (λ a. codes " " ++ a.0) s.others (each_if (λ a. IsOneLine a.0) (λ a. IsOneLine (codes " " ++ a.0)) (λ a k. k) s.others h.others),
   )
 
   -- ---- what was asked
@@ -88,9 +88,9 @@ module _ (p : Policy) (labels : AllByRecursion (λ l. IsOneLine l.name) p.labels
   pub heading_line : (s : Scheme) (label : ℕ) (q : Query) → HasPlainNames s → IsOneLine (heading p s label q)
   heading_line s label q h =
       let k = spaced_line s h in
-      let keys = flat_map (λ a. codes " " ++ a.name) s.keys in
+      let keys = flat_map (λ a. codes " " ++ a.0) s.keys in
       let front = asked p (codes "view") s label q ++ keys in
-      one_line-append front (flat_map (λ a. codes " " ++ a.name) s.others) (one_line-append (asked p (codes "view") s label q) keys (asked_line (codes "view") s label q refl h) k.0) k.1
+      one_line-append front (flat_map (λ a. codes " " ++ a.0) s.others) (one_line-append (asked p (codes "view") s label q) keys (asked_line (codes "view") s label q refl h) k.0) k.1
 
   pub count_line : (s : Scheme) (label : ℕ) (q : Query) (n : ℕ) → HasPlainNames s → IsOneLine (count_text p s label q n)
   count_line s label q n h =
@@ -110,8 +110,8 @@ module _ (p : Policy) (labels : AllByRecursion (λ l. IsOneLine l.name) p.labels
 
   name_cells_line : (s : Scheme) → HasPlainNames s → AllByRecursion IsOneLine (name_cells s)
   name_cells_line s h =
-      each-append IsOneLine (map (λ a. a.name) s.keys) (map (λ a. a.name) s.others)
-      (each-map IsOneLine (λ a. a.name) s.keys h.keys) (each-map IsOneLine (λ a. a.name) s.others h.others)
+      each-append IsOneLine (map (λ a. a.0) s.keys) (map (λ a. a.0) s.others)
+      (each-map IsOneLine (λ a. a.0) s.keys h.keys) (each-map IsOneLine (λ a. a.0) s.others h.others)
 
   pub table_lines : (s : Scheme) (label : ℕ) (q : Query) (widths : List ℕ) (tuples : List Tuple) → HasPlainNames s → AllByRecursion IsOneLine (table_of p s label q widths tuples)
   table_lines s label q widths tuples h =

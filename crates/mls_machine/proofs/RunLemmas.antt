@@ -172,11 +172,9 @@ module _ (site : Site) (distinct : AreDistinct (site_labels site)) (c : ℕ) whe
       plain_ceiling (commands.Open name) h = tt
       plain_ceiling commands.Close h = tt
       plain_ceiling commands.Audit h = tt
-      plain_ceiling (commands.View rel label query counts) h = tt
-      plain_ceiling (commands.Dump rel) h = tt
-      plain_ceiling (commands.Insert rel key values) h = tt
-      plain_ceiling (commands.Update rel key key_class from sets) h = tt
-      plain_ceiling (commands.Delete rel key key_class) h = tt
+      plain_ceiling (commands.View relation label query counts) h = tt
+      plain_ceiling (commands.Dump relation) h = tt
+      plain_ceiling (commands.Write relation wr) h = tt
       plain_ceiling (commands.Call name args) h = h
 
   ceiling_past : (e : Event) (es : List Event) → Sees e false → AreBelowCeiling site c (e ∷ es) → AreBelowCeiling site c es
@@ -201,12 +199,12 @@ module _ (site : Site) (distinct : AreDistinct (site_labels site)) (c : ℕ) whe
   both_seen : (e x : Event) (es fs : List Event) → Claim es → (v w : World) → IsGood e → IsGood x → AreGood es → AreGood fs → Sees e true → glimpse site c e ≡ glimpse site c x → sees es ≡ sees fs
       → AreStored site v.db → AreStored site w.db → LowAgree (site_labels site) c v w → Released_alike v w (e ∷ es) (x ∷ fs) → Ends v w (e ∷ es) (x ∷ fs)
   unfolding Claim end_of
-  both_seen e x es fs claim v w ge gx ges gfs b g same sv sw h rel =
+  both_seen e x es fs claim v w ge gx ges gfs b g same sv sw h relation =
       elim (seen_steps site distinct c v w sv sw h e b x ge.safe g) [
-        | inl s ↦ absurd (no_split v w e x es fs rel b s)
+        | inl s ↦ absurd (no_split v w e x es fs relation b s)
         | inr a ↦
             let also = ap (λ y. below (site_labels site) y.level c) (sym g) ∙ b in
-            let r = claim fs (next v e) (next w x) ges gfs (stored_next v e sv ge) (stored_next w x sw gx) a.world same (rest_alike v w e x es fs b a rel) in
+            let r = claim fs (next v e) (next w x) ges gfs (stored_next v e sv ge) (stored_next w x sw gx) a.world same (rest_alike v w e x es fs b a relation) in
             record {
               out = λ form. out_next form v e es
                   ∙ (λ i. (seen_in site c e b (step site v e).reply form ∙ (λ j. reply_lines_in form site (g j) (a.reply j)) ∙ sym (seen_in site c x also (step site w x).reply form)) i ++ r.out form i)
@@ -219,18 +217,18 @@ module _ (site : Site) (distinct : AreDistinct (site_labels site)) (c : ℕ) whe
   -- the first run is at an event that c sees, and the second goes on to one
   meet : (e : Event) (es : List Event) → Claim es → (v : World) → IsGood e → AreGood es → Sees e true → AreStored site v.db
       → (fs : List Event) (w : World) → AreGood fs → AreStored site w.db → LowAgree (site_labels site) c v w → glimpse site c e ∷ sees es ≡ sees fs → Released_alike v w (e ∷ es) fs → Ends v w (e ∷ es) fs
-  meet e es claim v ge ges b sv [] w gf sw h same rel = absurd (not_nil (glimpse site c e) (sees es) same)
-  meet e es claim v ge ges b sv (x ∷ fs) w gf sw h same rel = at_x (cases_Bool (below (site_labels site) x.level c)) (meet e es claim v ge ges b sv fs)
+  meet e es claim v ge ges b sv [] w gf sw h same relation = absurd (not_nil (glimpse site c e) (sees es) same)
+  meet e es claim v ge ges b sv (x ∷ fs) w gf sw h same relation = at_x (cases_Bool (below (site_labels site) x.level c)) (meet e es claim v ge ges b sv fs)
     where
       at_x : (Sees x true) ⊎ (Sees x false)
           → ((u : World) → AreGood fs → AreStored site u.db → LowAgree (site_labels site) c v u → glimpse site c e ∷ sees es ≡ sees fs → Released_alike v u (e ∷ es) fs → Ends v u (e ∷ es) fs)
           → Ends v w (e ∷ es) (x ∷ fs)
       at_x (inl q) go =
           let k = same ∙ sees_next x fs true q in
-          both_seen e x es fs claim v w ge gf.0 ges gf.1 b (parts_head (glimpse site c e) (glimpse site c x) (sees es) (sees fs) k) (parts_tail (glimpse site c e) (glimpse site c x) (sees es) (sees fs) k) sv sw h rel
+          both_seen e x es fs claim v w ge gf.0 ges gf.1 b (parts_head (glimpse site c e) (glimpse site c x) (sees es) (sees fs) k) (parts_tail (glimpse site c e) (glimpse site c x) (sees es) (sees fs) k) sv sw h relation
       at_x (inr q) go =
           hidden_second v w x (e ∷ es) fs q sw gf.0
-          (go (next w x) gf.1 (stored_next w x sw gf.0) (still_low v w x q sw gf.0 h) (same ∙ sees_next x fs false q) (past rel))
+          (go (next w x) gf.1 (stored_next w x sw gf.0) (still_low v w x q sw gf.0 h) (same ∙ sees_next x fs false q) (past relation))
         where
           past : Released_alike v w (e ∷ es) (x ∷ fs) → Released_alike v (next w x) (e ∷ es) fs
           past (inl eq) = inl (eq ∙ released_hidden w x fs q sw gf.0)
@@ -238,20 +236,20 @@ module _ (site : Site) (distinct : AreDistinct (site_labels site)) (c : ℕ) whe
 
   interleaved : (es : List Event) → Claim es
   unfolding Claim
-  interleaved [] fs v w ge gf sv sw h same rel = hidden_rest v w fs gf sw h same
-  interleaved (e ∷ es) fs v w ge gf sv sw h same rel =
+  interleaved [] fs v w ge gf sv sw h same relation = hidden_rest v w fs gf sw h same
+  interleaved (e ∷ es) fs v w ge gf sv sw h same relation =
       elim (cases_Bool (below (site_labels site) e.level c)) [
-        | inl b ↦ meet e es (interleaved es) v ge.0 ge.1 b sv fs w gf sw h (sym (sees_next e es true b) ∙ same) rel
+        | inl b ↦ meet e es (interleaved es) v ge.0 ge.1 b sv fs w gf sw h (sym (sees_next e es true b) ∙ same) relation
         | inr b ↦ hidden_first v w e es fs b sv ge.0
             (interleaved es fs (next v e) w ge.1 gf (stored_next v e sv ge.0) sw (lows_trans (lows_sym (hush v e b sv ge.0).world) h) (sym (sees_next e es false b) ∙ same)
-            (elim rel [ inl eq ↦ inl (sym (released_hidden v e es b sv ge.0) ∙ eq) | inr ceiling ↦ inr (ceiling_past e es b ceiling) ]))
+            (elim relation [ inl eq ↦ inl (sym (released_hidden v e es b sv ge.0) ∙ eq) | inr ceiling ↦ inr (ceiling_past e es b ceiling) ]))
       ]
 
   ends_alike : (v w : World) (es fs : List Event) → AreGood es → AreGood fs → AreStored site v.db → AreStored site w.db → AgreeAt (site_labels site) c v w → sees es ≡ sees fs → Released_alike v w es fs
       → EndAlike site c v w es fs
   unfolding Claim
-  ends_alike v w es fs ge gf sv sw agree same rel =
-      let r = interleaved es fs v w ge gf sv sw (to_low site distinct c v w sv sw agree) same rel in
+  ends_alike v w es fs ge gf sv sw agree same relation =
+      let r = interleaved es fs v w ge gf sv sw (to_low site distinct c v w sv sw agree) same relation in
       record { out = r.out; replies = r.replies; worlds = from_low site c (end_of site v es) (end_of site w fs) (stored_end v es sv ge) (stored_end w fs sw gf) r.world }
 
 -- ---- the laws
@@ -261,8 +259,8 @@ all_good site distinct c read secure [] fits = tt
 all_good site distinct c read secure (e ∷ es) fits = (record { fits = fits.0; safe = all_safe site read secure e.command }, all_good site distinct c read secure es fits.1)
 
 pub secure_alike : SecureRunsAreAlike
-secure_alike site distinct read secure v es sv fits c w fs sw ff agree same rel =
-    ends_alike site distinct c v w es fs (all_good site distinct c read secure es fits) (all_good site distinct c read secure fs ff) sv sw agree same rel
+secure_alike site distinct read secure v es sv fits c w fs sw ff agree same relation =
+    ends_alike site distinct c v w es fs (all_good site distinct c read secure es fits) (all_good site distinct c read secure fs ff) sv sw agree same relation
 
 -- where the rules hold under certificates, the transactions are secure
 pub certified_secure : (site : Site) → AreDistinct (site_labels site) → AreCertified site → AreSecure site
@@ -291,7 +289,7 @@ first_accepted_alike site distinct read certified v es sv fits n = accepted_alik
 
 -- the lines that a level is shown are the same, and so are their bytes
 pub shows_only_releases : (site : Site) (c : ℕ) (v : World) (es : List Event) → PassesOnlyReleasesDown site v es → ShowsOnlyReleases site c v es
-shows_only_releases site c v es passes form w fs sw ff agree same rel = ap printed ((passes c w fs sw ff agree same rel).out form)
+shows_only_releases site c v es passes form w fs sw ff agree same relation = ap printed ((passes c w fs sw ff agree same relation).out form)
 
 -- ---- without calls that c sees
 
@@ -308,11 +306,9 @@ unseen_ceilings site c (e ∷ es) none = (no_ceiling e.command none.0, unseen_ce
     no_ceiling (commands.Open name) h = tt
     no_ceiling commands.Close h = tt
     no_ceiling commands.Audit h = tt
-    no_ceiling (commands.View rel label query counts) h = tt
-    no_ceiling (commands.Dump rel) h = tt
-    no_ceiling (commands.Insert rel key values) h = tt
-    no_ceiling (commands.Update rel key key_class from sets) h = tt
-    no_ceiling (commands.Delete rel key key_class) h = tt
+    no_ceiling (commands.View relation label query counts) h = tt
+    no_ceiling (commands.Dump relation) h = tt
+    no_ceiling (commands.Write relation wr) h = tt
     no_ceiling (commands.Call name args) h = absurd h
 
 pub runs_alike : LowRunsAreAlike
@@ -335,11 +331,9 @@ none_seen site c (e ∷ es) none =
     no_call_shown (commands.Open name) h = tt
     no_call_shown commands.Close h = tt
     no_call_shown commands.Audit h = tt
-    no_call_shown (commands.View rel label query counts) h = tt
-    no_call_shown (commands.Dump rel) h = tt
-    no_call_shown (commands.Insert rel key values) h = tt
-    no_call_shown (commands.Update rel key key_class from sets) h = tt
-    no_call_shown (commands.Delete rel key key_class) h = tt
+    no_call_shown (commands.View relation label query counts) h = tt
+    no_call_shown (commands.Dump relation) h = tt
+    no_call_shown (commands.Write relation wr) h = tt
     no_call_shown (commands.Call name args) h = absurd h
 
 -- and none calls what is not secure
@@ -351,9 +345,7 @@ none_secure site (e ∷ es) none = (no_call_secure e.command none.0, none_secure
     no_call_secure (commands.Open name) h = tt
     no_call_secure commands.Close h = tt
     no_call_secure commands.Audit h = tt
-    no_call_secure (commands.View rel label query counts) h = tt
-    no_call_secure (commands.Dump rel) h = tt
-    no_call_secure (commands.Insert rel key values) h = tt
-    no_call_secure (commands.Update rel key key_class from sets) h = tt
-    no_call_secure (commands.Delete rel key key_class) h = tt
+    no_call_secure (commands.View relation label query counts) h = tt
+    no_call_secure (commands.Dump relation) h = tt
+    no_call_secure (commands.Write relation wr) h = tt
     no_call_secure (commands.Call name args) h = absurd h

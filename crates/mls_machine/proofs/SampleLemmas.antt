@@ -47,7 +47,7 @@ module _ (u s h : Pair) (rights : List Right) where
   site = record { policy = policy; schemes = sod ∷ []; stored = [] }
 
   abbrev start : World
-  start = record { db = λ rel. empty; sessions = no_sessions; audit = [] }
+  start = record { db = λ relation. empty; sessions = no_sessions; audit = [] }
 
   abbrev opens_t : Event
   opens_t = event 0 (codes "t") (Open (codes "tom"))

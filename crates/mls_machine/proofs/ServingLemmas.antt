@@ -67,7 +67,7 @@ module _ (site : Site) (c : ℕ) where
 
 pub served_alike : ServedRunsAreAlike
 unfolding Told
-served_alike site c v es secret w fs sw ff agree same rel =
+served_alike site c v es secret w fs sw ff agree same relation =
     served_is site c v es
-    ∙ (λ i. answers_of site c (same i) ((secret c w fs sw ff agree same rel).replies i))
+    ∙ (λ i. answers_of site c (same i) ((secret c w fs sw ff agree same relation).replies i))
     ∙ sym (served_is site c w fs)

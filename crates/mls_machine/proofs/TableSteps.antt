@@ -11,7 +11,6 @@ use Rattle.mls_scheme.specs.declared.tuple.Tuple.{Tuple}
 use Rattle.mls_filterview.specs.Rules.{no_tuple}
 use Rattle.mls_queries.specs.declared.query.Query.{Query}
 use Rattle.mls_script.specs.declared.event.Event.{Event}
-use Rattle.mls_script.specs.declared.event.Command.{Command}
 use Rattle.mls_script.specs.declared.event.Command.TheVariants as commands
 use Rattle.mls_tokens.specs.Table.{wider, padded}
 use Rattle.mls_machine.specs.Site.{Site, site_scheme}
@@ -26,15 +25,15 @@ cells_more f xs k x start old new within is before after =
     ∙ ap (λ ys. start ++ map f ys) (sym (take_more xs k x within ∙ ap (λ y. take k xs ++ y ∷ []) (sym is)))
 
 -- the name of one attribute more
-pub name_more : (attributes : List Attribute) (k : ℕ) (name : Name) (start old new : List Name) → option_map (λ a. a.name) (slice_get attributes k) ≡ Some name
-    → old ≡ start ++ map (λ a. a.name) (take k attributes) → new ≡ old ++ name ∷ [] → new ≡ start ++ map (λ a. a.name) (take (k + 1) attributes)
+pub name_more : (attributes : List Attribute) (k : ℕ) (name : Name) (start old new : List Name) → option_map (λ a. a.0) (slice_get attributes k) ≡ Some name
+    → old ≡ start ++ map (λ a. a.0) (take k attributes) → new ≡ old ++ name ∷ [] → new ≡ start ++ map (λ a. a.0) (take (k + 1) attributes)
 name_more attributes k name start old new h before after =
-    let Goal : Type 0 = new ≡ start ++ map (λ a. a.name) (take (k + 1) attributes) in
-    elim (slice_get attributes k) as (λ o. slice_get attributes k ≡ o → option_map (λ a. a.name) o ≡ Some name → Goal) [
+    let Goal : Type 0 = new ≡ start ++ map (λ a. a.0) (take (k + 1) attributes) in
+    elim (slice_get attributes k) as (λ o. slice_get attributes k ≡ o → option_map (λ a. a.0) o ≡ Some name → Goal) [
       | None ↦ λ e g. absurd cc
       | Some a ↦ λ e g.
-          let same : name ≡ a.name = cc in
-          cells_more (λ (x : Attribute). x.name) attributes k a start old new (slice_get_within attributes k a e) (sym (get_or_from_slice_get attributes k a a e)) before
+          let same : name ≡ a.0 = cc in
+          cells_more (λ (x : Attribute). x.0) attributes k a start old new (slice_get_within attributes k a e) (sym (get_or_from_slice_get attributes k a a e)) before
           (after ∙ ap (λ n. old ++ n ∷ []) same)
     ] refl h
 
@@ -50,10 +49,6 @@ module _ (p : Policy) (tuples : List Tuple) (k : ℕ) (widths whole : List ℕ) 
 pub ruleset widths_steps = (widths_more, widths_all)
 
 -- ---- lines
-
-no_tables : (site : Site) (command : Command) (tuples : List Tuple) → ((rel label : ℕ) (query : Query) (counts : Bool) → command ≡ commands.View rel label query counts → ⊥) → table_texts site command tuples ≡ []
-no_tables site (commands.View rel label query counts) tuples other = absurd (other rel label query counts refl)
-no_tables site command tuples other = refl
 
 module _ (p : Policy) (e : Event) where
   abbrev on_line : List ℕ → List ℕ
@@ -86,16 +81,13 @@ module _ (p : Policy) (e : Event) where
       ap (λ l. on_line (table_title p s label query) ++ (on_line (table_names s widths) ++ (on_line (table_rule widths) ++ l))) (sym (flat_map-map on_line (table_row p widths) tuples))
 
 module _ (site : Site) (e : Event) where
-  pub other_tables : (tuples : List Tuple) → ((rel label : ℕ) (query : Query) (counts : Bool) → e.command ≡ commands.View rel label query counts → ⊥) → [] ≡ flat_map (on_line site.policy e) (table_texts site e.command tuples)
-  other_tables tuples other = sym (ap (flat_map (on_line site.policy e)) (no_tables site e.command tuples other))
-
-  module _ (rel label : ℕ) (query : Query) (counts : Bool) (tuples : List Tuple) (is : e.command ≡ commands.View rel label query counts)
-      (s : Scheme) (same : s ≡ site_scheme site rel) (old new : List ℕ) where
+  module _ (relation label : ℕ) (query : Query) (counts : Bool) (tuples : List Tuple) (is : e.command ≡ commands.View relation label query counts)
+      (s : Scheme) (same : s ≡ site_scheme site relation) (old new : List ℕ) where
     abbrev so : Bool → List ℕ
-    so b = flat_map (on_line site.policy e) (table_texts site (commands.View rel label query b) tuples)
+    so b = flat_map (on_line site.policy e) (table_texts site (commands.View relation label query b) tuples)
 
     answered : (b : Bool) → counts ≡ b → so b ≡ flat_map (on_line site.policy e) (table_texts site e.command tuples)
-    answered b h = sym (ap (λ x. flat_map (on_line site.policy e) (table_texts site x tuples)) (is ∙ ap (λ c. commands.View rel label query c) h))
+    answered b h = sym (ap (λ x. flat_map (on_line site.policy e) (table_texts site x tuples)) (is ∙ ap (λ c. commands.View relation label query c) h))
 
     -- of the scheme of the relation
     pub table_more : counts ≡ false → {A F : Type 0} (r : Result A F) → OnOk r (new ≡ old ++ lines_of site.policy e s label query tuples)
@@ -112,5 +104,5 @@ module _ (site : Site) (e : Event) where
         → OnOk r (new ≡ old ++ flat_map (on_line site.policy e) (table_texts site e.command tuples))
     number_more counted n all (Ok x) h =
         h ∙ (λ i. old ++ on_line site.policy e (count_text site.policy (same i) label query (all i)))
-        ∙ ap (λ l. old ++ l) (sym (append-nil (on_line site.policy e (count_text site.policy (site_scheme site rel) label query (length tuples)))) ∙ answered true counted)
+        ∙ ap (λ l. old ++ l) (sym (append-nil (on_line site.policy e (count_text site.policy (site_scheme site relation) label query (length tuples)))) ∙ answered true counted)
     number_more counted n all (Err f) h = h

@@ -71,7 +71,7 @@ lacks_rights_on site user object modes =
 
 -- on the relation
 abbrev pub lacks : Site → ℕ → ℕ → List ℕ → Bool
-lacks site user rel modes = lacks_rights_on site user (site_scheme site rel).name modes
+lacks site user relation modes = lacks_rights_on site user (site_scheme site relation).name modes
 
 -- the modes of which a write needs one
 abbrev pub modes_for : Write → List ℕ
@@ -109,16 +109,16 @@ cleared site level (Some user) = if exceed site (clearance_of site.policy user) 
 
 -- where a user's session at a level is open: what needs one of the modes on a relation, and names labels
 abbrev pub access_denials : Site → ℕ → ℕ → ℕ → List ℕ → List ℕ → List (Bool × Denial)
-access_denials site level user rel modes labels =
-    (lacks site user rel modes, Ds)
+access_denials site level user relation modes labels =
+    (lacks site user relation modes, Ds)
     ∷ (exceed site (clearance_of site.policy user) labels, Ss)
     ∷ (exceed site level labels, Star) ∷ []
 
 abbrev pub view_denials : Site → ℕ → ℕ → ℕ → ℕ → List (Bool × Denial)
-view_denials site level user rel label = access_denials site level user rel (read_mode ∷ write_mode ∷ []) (label ∷ [])
+view_denials site level user relation label = access_denials site level user relation (read_mode ∷ write_mode ∷ []) (label ∷ [])
 
 abbrev pub write_denials : Site → ℕ → ℕ → ℕ → Write → List (Bool × Denial)
-write_denials site level user rel wr = access_denials site level user rel (modes_for wr) (labels_named wr)
+write_denials site level user relation wr = access_denials site level user relation (modes_for wr) (labels_named wr)
 
 -- of a transaction with a certificate
 abbrev pub call_denials : Site → ℕ → ℕ → Tx → List (Option Value) → List (Bool × Denial)

@@ -6,9 +6,10 @@ use Rattle.mls_lattice.specs.Policy.{Name}
 use Rattle.mls_scheme.specs.declared.tuple.Element.{Element}
 use Rattle.mls_scheme.specs.declared.tuple.Tuple.{Tuple}
 use Rattle.mls_filterview.specs.Filtering.{greatest_from, class_number}
+use Rattle.mls_scheme.specs.declared.write.Write.TheVariants.{Insert, Update}
 use Rattle.mls_script.specs.declared.event.Event.{Event}
 use Rattle.mls_script.specs.declared.event.Command.{Command}
-use Rattle.mls_script.specs.declared.event.Command.TheVariants.{Insert, Update}
+use Rattle.mls_script.specs.declared.event.Command.TheVariants.{Write}
 use Rattle.mls_script.specs.Event.{Sets}
 use Rattle.mls_machine.specs.Site.{Site, site_labels, site_scheme}
 
@@ -25,15 +26,15 @@ class_below ls m t = greatest_from ls t.key_class (filter (λ e. not (nat_eq e.c
 module _ (site : Site) where
   -- the command that makes a tuple of class m at that level: a root is inserted, any other is derived
   abbrev pub dump_command : ℕ → ℕ → Tuple → Command
-  dump_command rel m t =
-      if nat_eq m t.key_class then Insert rel (map Some t.key) (map (λ e. e.value) t.elements)
-      else Update rel (map Some t.key) t.key_class (class_below (site_labels site) m t)
-      (own_sets m (length (site_scheme site rel).others) 0 t.elements)
+  dump_command relation m t =
+      if nat_eq m t.key_class then Write relation (Insert (map Some t.key) (map (λ e. e.value) t.elements))
+      else Write relation (Update (map Some t.key) t.key_class (class_below (site_labels site) m t)
+      (own_sets m (length (site_scheme site relation).others) 0 t.elements))
 
   -- the event that makes a tuple: in a session of this name at the class of the tuple
   abbrev pub dump_event : Name → ℕ → Tuple → Event
-  dump_event session rel t = record {
+  dump_event session relation t = record {
     level = class_number (site_labels site) t;
     session = session;
-    command = dump_command rel (class_number (site_labels site) t) t;
+    command = dump_command relation (class_number (site_labels site) t) t;
   }

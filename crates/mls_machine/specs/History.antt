@@ -1,6 +1,6 @@
 -- Histories: runs one after another over one database, each at its own site. Between runs no session is left, and the
 -- audit list may be turned.
-use Rattle.std.specs.Prelude.{◌≡◌, ℕ, Bool, true, false, if◌then◌else◌, List, [], ◌∷◌, ◌++◌, map, ◌⊎◌, ⊤}
+use Rattle.std.specs.Prelude.{◌≡◌, ℕ, Bool, false, if◌then◌else◌, List, [], ◌∷◌, ◌++◌, map, ◌⊎◌, ⊤}
 use Rattle.std.specs.List.{AllByRecursion, AllZip}
 use Rattle.mls_lattice.specs.Labels.{Labels, AreDistinct}
 use Rattle.mls_scheme.specs.Scheme.{Schemes}
@@ -28,10 +28,6 @@ pub record RunAt : Type 0 where
 -- a run before which the list is not turned
 abbrev pub run_at : Site → List Event → RunAt
 run_at site events = record { site = site; turns = false; events = events }
-
--- a turning alone
-abbrev pub turning_at : Site → RunAt
-turning_at site = record { site = site; turns = true; events = [] }
 
 -- ---- what histories do
 

@@ -56,7 +56,7 @@ DenialsAndCallsAreEntered =
 
 -- each relation of a database has the four integrity properties
 abbrev pub AreWhole : Site → Database → Type 0
-AreWhole site db = (rel : ℕ) → HasIntegrity (site_labels site) (db rel)
+AreWhole site db = (relation : ℕ) → HasIntegrity (site_labels site) (db relation)
 
 -- so each database on the way of a run: after each event, and after each statement of a call, whatever is called next
 pub record KeepsIntegrity (site : Site) (w : World) (es : List Event) : Type 0 where

@@ -10,7 +10,7 @@ use Rattle.mls_scheme.specs.Table.{Database}
 use Rattle.mls_filterview.specs.View.{rows}
 use Rattle.mls_filterview.specs.Reach.{low_tuples}
 use Rattle.mls_filterview.specs.Content.{with_table}
-use Rattle.mls_updates.specs.Writes.{Write, Insert, Update, Delete, write}
+use Rattle.mls_updates.specs.Writes.{Write, write}
 use Rattle.mls_audit.specs.declared.entry.Entry.{Entry}
 use Rattle.mls_audit.specs.declared.entry.Entry.TheVariants as entries
 use Rattle.mls_audit.specs.Entry.{visible}
@@ -88,19 +88,19 @@ module _ (site : Site) where
 
   -- what a query finds of the view
   abbrev pub viewed : World → ℕ → ℕ → Query → Step
-  viewed w rel label query =
-      record { world = w; reply = Rows (found (site_labels site) query (rows (site_labels site) label (w.db rel))) }
+  viewed w relation label query =
+      record { world = w; reply = Rows (found (site_labels site) query (rows (site_labels site) label (w.db relation))) }
 
   -- the tuples whose classes the level of the session dominates, each behind those that it is derived from:
   -- also a root that is subsumed, which has to be there before what is derived from it
   abbrev pub dumped : World → ℕ → ℕ → Step
-  dumped w rel level = record { world = w; reply = Dumped (low_tuples (site_labels site) level (w.db rel)) }
+  dumped w relation level = record { world = w; reply = Dumped (low_tuples (site_labels site) level (w.db relation)) }
 
   -- a write at the level of the session
   abbrev pub wrote : World → ℕ → ℕ → Write → Step
-  wrote w level rel wr =
-      let new = write (site_labels site) (site_scheme site rel) level wr (w.db rel) in
-      record { world = record w { db = with_table w.db rel new.table }; reply = Wrote new.outcome }
+  wrote w level relation wr =
+      let new = write (site_labels site) (site_scheme site relation) level wr (w.db relation) in
+      record { world = record w { db = with_table w.db relation new.table }; reply = Wrote new.outcome }
 
   -- the entries that the level of the session dominates
   abbrev pub listed : World → ℕ → Step
@@ -130,17 +130,17 @@ module _ (site : Site) where
   -- ---- commands
 
   abbrev pub view_step : World → Event → ℕ → ℕ → ℕ → Query → Step
-  view_step w event user rel label query =
-      unless (first_denial (view_denials site event.level user rel label)) w event user (viewed w rel label query)
+  view_step w event user relation label query =
+      unless (first_denial (view_denials site event.level user relation label)) w event user (viewed w relation label query)
 
   -- as a view at the level of the session
   abbrev pub dump_step : World → Event → ℕ → ℕ → Step
-  dump_step w event user rel =
-      unless (first_denial (view_denials site event.level user rel event.level)) w event user (dumped w rel event.level)
+  dump_step w event user relation =
+      unless (first_denial (view_denials site event.level user relation event.level)) w event user (dumped w relation event.level)
 
   abbrev pub write_step : World → Event → ℕ → ℕ → Write → Step
-  write_step w event user rel wr =
-      unless (first_denial (write_denials site event.level user rel wr)) w event user (wrote w event.level rel wr)
+  write_step w event user relation wr =
+      unless (first_denial (write_denials site event.level user relation wr)) w event user (wrote w event.level relation wr)
 
   -- a call of what is stored by the name, if anything is
   abbrev pub call_step : World → Event → ℕ → Name → List (Option Value) → Option Stored → Step
@@ -155,12 +155,9 @@ module _ (site : Site) where
   step_inside w event (commands.Open name) user = denied w event user AlreadyOpen
   step_inside w event commands.Close user = closed w event
   step_inside w event commands.Audit user = listed w event.level
-  step_inside w event (commands.View rel label query counts) user = view_step w event user rel label query
-  step_inside w event (commands.Dump rel) user = dump_step w event user rel
-  step_inside w event (commands.Insert rel key values) user = write_step w event user rel (Insert key values)
-  step_inside w event (commands.Update rel key key_class from sets) user =
-      write_step w event user rel (Update key key_class from sets)
-  step_inside w event (commands.Delete rel key key_class) user = write_step w event user rel (Delete key key_class)
+  step_inside w event (commands.View relation label query counts) user = view_step w event user relation label query
+  step_inside w event (commands.Dump relation) user = dump_step w event user relation
+  step_inside w event (commands.Write relation wr) user = write_step w event user relation wr
   step_inside w event (commands.Call name args) user = call_step w event user name args (stored_named site.stored name)
 
   -- an opening, for the user that is cleared for the level

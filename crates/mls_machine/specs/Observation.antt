@@ -35,7 +35,7 @@ use Rattle.mls_machine.specs.Output.{Line, reply_lines_in, run_lines, printed}
 
 -- each relation of a database is of the stored form
 abbrev pub AreStored : Site → Database → Type 0
-AreStored site db = (rel : ℕ) → IsStored (site_labels site) (length (site_scheme site rel).others) (db rel)
+AreStored site db = (relation : ℕ) → IsStored (site_labels site) (length (site_scheme site relation).others) (db relation)
 
 abbrev pub EventsFit : Site → List Event → Type 0
 EventsFit site = AllByRecursion (EventFits site.policy site.schemes)
@@ -169,7 +169,7 @@ replies_shown site c w (e ∷ es) =
 -- two worlds look alike to c: the view of each relation, the sessions of levels that c dominates, and the entries of
 -- labels that it dominates
 pub record AgreeAt (ls : Labels) (c : ℕ) (v w : World) : Type 0 where
-  pub views : (rel : ℕ) (t : Tuple) → View ls (IsIn (v.db rel)) c t ↔ View ls (IsIn (w.db rel)) c t
+  pub views : (relation : ℕ) (t : Tuple) → View ls (IsIn (v.db relation)) c t ↔ View ls (IsIn (w.db relation)) c t
   pub sessions : (level : ℕ) (name : Name) → below ls level c ≡ true → v.sessions level name ≡ w.sessions level name
   pub entries : visible ls c v.audit ≡ visible ls c w.audit
 

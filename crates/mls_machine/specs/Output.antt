@@ -68,8 +68,8 @@ asked p verb s label q = verb ++ codes " " ++ s.name ++ codes " at " ++ label_na
 
 abbrev pub heading : Policy → Scheme → ℕ → Query → List ℕ
 heading p s label q =
-    asked p (codes "view") s label q ++ flat_map (λ a. codes " " ++ a.name) s.keys
-    ++ flat_map (λ a. codes " " ++ a.name) s.others
+    asked p (codes "view") s label q ++ flat_map (λ a. codes " " ++ a.0) s.keys
+    ++ flat_map (λ a. codes " " ++ a.0) s.others
 
 -- how many rows were found
 abbrev pub count_text : Policy → Scheme → ℕ → Query → ℕ → List ℕ
@@ -77,9 +77,9 @@ count_text p s label q n = asked p (codes "count") s label q ++ codes " " ++ dec
 
 -- the texts of rows, which answer a view and nothing else: the rows or their number
 abbrev pub view_texts : Site → Command → List Tuple → List (List ℕ)
-view_texts site (commands.View rel label query counts) tuples =
-    if counts then count_text site.policy (scheme_of site.schemes rel) label query (length tuples) ∷ []
-    else heading site.policy (scheme_of site.schemes rel) label query ∷ map (row_text site.policy) tuples
+view_texts site (commands.View relation label query counts) tuples =
+    if counts then count_text site.policy (scheme_of site.schemes relation) label query (length tuples) ∷ []
+    else heading site.policy (scheme_of site.schemes relation) label query ∷ map (row_text site.policy) tuples
 view_texts site command tuples = []
 
 -- ---- rows as a table
@@ -94,7 +94,7 @@ tuple_cells p t =
     ++ map (λ e. table_cell p.labels e.class e.value) t.elements
 
 abbrev pub name_cells : Scheme → List (List ℕ)
-name_cells s = map (λ a. a.name) s.keys ++ map (λ a. a.name) s.others
+name_cells s = map (λ a. a.0) s.keys ++ map (λ a. a.0) s.others
 
 -- the widths of columns that have room for the cells of these tuples too
 abbrev pub widths_with : Policy → List ℕ → List Tuple → List ℕ
@@ -124,10 +124,10 @@ table_of p s label q widths tuples =
 
 -- the texts of a table, which answers a view and nothing else; a number of rows is told as without a table
 abbrev pub table_texts : Site → Command → List Tuple → List (List ℕ)
-table_texts site (commands.View rel label query counts) tuples =
-    if counts then view_texts site (commands.View rel label query counts) tuples
-    else table_of site.policy (scheme_of site.schemes rel) label query
-    (table_widths site.policy (scheme_of site.schemes rel) tuples) tuples
+table_texts site (commands.View relation label query counts) tuples =
+    if counts then view_texts site (commands.View relation label query counts) tuples
+    else table_of site.policy (scheme_of site.schemes relation) label query
+    (table_widths site.policy (scheme_of site.schemes relation) tuples) tuples
 table_texts site command tuples = []
 
 -- ---- dumps
@@ -142,9 +142,9 @@ script_text site e = (if is_writable e then codes "line " else codes "unread ") 
 
 -- the texts of a dump, which answers a command of its own and nothing else
 abbrev pub dump_texts : Site → Name → Command → List Tuple → List (List ℕ)
-dump_texts site session (commands.Dump rel) tuples =
-    dump_heading (scheme_of site.schemes rel)
-    ∷ map (λ t. script_text site (dump_event site session rel t)) tuples
+dump_texts site session (commands.Dump relation) tuples =
+    dump_heading (scheme_of site.schemes relation)
+    ∷ map (λ t. script_text site (dump_event site session relation t)) tuples
 dump_texts site session command tuples = []
 
 -- ---- entries
@@ -247,8 +247,8 @@ printed = flat_map (λ l. l.text ++ codes "\n")
 -- ---- the numbers in a reply are those of the policy and the schemes
 
 abbrev pub CommandIsKnown : Site → Command → Type 0
-CommandIsKnown site (commands.View rel label query counts) = (rel < length site.schemes) × (label < length site.policy.labels)
-CommandIsKnown site (commands.Dump rel) = rel < length site.schemes
+CommandIsKnown site (commands.View relation label query counts) = (relation < length site.schemes) × (label < length site.policy.labels)
+CommandIsKnown site (commands.Dump relation) = relation < length site.schemes
 CommandIsKnown site command = ⊤
 
 -- the labels of entries are declared

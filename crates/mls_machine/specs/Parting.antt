@@ -29,8 +29,8 @@ IsOneLine text = list_any is_line_feed text ≡ false
 
 pub record HasPlainNames (scheme : Scheme) : Type 0 where
   pub name : IsOneLine scheme.name
-  pub keys : AllByRecursion (λ a. IsOneLine a.name) scheme.keys
-  pub others : AllByRecursion (λ a. IsOneLine a.name) scheme.others
+  pub keys : AllByRecursion (λ a. IsOneLine a.0) scheme.keys
+  pub others : AllByRecursion (λ a. IsOneLine a.0) scheme.others
 
 -- no line feed stands in the names of labels, users, relations and attributes
 pub record IsPlain (site : Site) : Type 0 where

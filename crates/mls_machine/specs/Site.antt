@@ -17,4 +17,4 @@ site_labels site = labels_of site.policy
 
 -- the scheme of a relation, by its number
 abbrev pub site_scheme : Site → ℕ → Scheme
-site_scheme site rel = scheme_of site.schemes rel
+site_scheme site relation = scheme_of site.schemes relation

@@ -7,7 +7,7 @@ ghost use Rattle.mls_machine.specs.Under.{site_under};
 
 use mls_filterview::class_number;
 use mls_lattice::{Items, LabelNo, Policy, Str};
-use mls_scheme::{Element, RelNo, Schemes, Tuple, Value};
+use mls_scheme::{Element, RelNo, Schemes, Tuple, Value, Write};
 use mls_script::{Command, Event};
 use std::alloc::{AllocError, Global};
 
@@ -78,27 +78,28 @@ fn dump_command(
     alloc: Global,
     policy: &Policy,
     schemes: &Schemes,
-    rel: RelNo,
+    relation: RelNo,
     class: LabelNo,
     tuple: &Tuple,
 ) -> Result<Command, AllocError>
     requires classes { HasClassesBelow (length policy.now.labels) tuple.now }
-    requires rel { rel < length schemes.now }
-    ensures { IfOk result (λ c. c ≡ dump_command (site_under policy.now schemes.now) rel class tuple.now) }
+    requires relation { relation < length schemes.now }
+    ensures { IfOk result (λ c. c ≡ dump_command (site_under policy.now schemes.now) relation class tuple.now) }
 {
     let key = key_of(alloc, &tuple.key)?;
     if class == tuple.key_class {
         let values = values_of(alloc, &tuple.elements)?;
-        return Ok(Command::Insert { rel, key, values });
+        let write = Write::Insert { key, values };
+        return Ok(Command::Write { relation, write });
     }
-    let attributes = schemes.scheme(rel).others().len();
-    Ok(Command::Update {
-        rel,
+    let attributes = schemes.scheme(relation).others().len();
+    let write = Write::Update {
         key,
         key_class: tuple.key_class,
         from: class_below(policy, class, tuple),
         sets: own_sets(alloc, class, attributes, &tuple.elements)?,
-    })
+    };
+    Ok(Command::Write { relation, write })
 }
 
 /// The event that makes a tuple, in a session of a name.
@@ -107,17 +108,17 @@ pub(crate) fn dump_event(
     policy: &Policy,
     schemes: &Schemes,
     session: &str,
-    rel: RelNo,
+    relation: RelNo,
     tuple: &Tuple,
 ) -> Result<Event, AllocError>
     requires classes { HasClassesBelow (length policy.now.labels) tuple.now }
-    requires rel { rel < length schemes.now }
-    ensures { IfOk result (λ e. e ≡ dump_event (site_under policy.now schemes.now) session.now rel tuple.now) }
+    requires relation { relation < length schemes.now }
+    ensures { IfOk result (λ e. e ≡ dump_event (site_under policy.now schemes.now) session.now relation tuple.now) }
 {
     let level = class_number(policy, tuple);
     Ok(Event {
         level,
         session: Str::copy_of(alloc, session)?,
-        command: dump_command(alloc, policy, schemes, rel, level, tuple)?,
+        command: dump_command(alloc, policy, schemes, relation, level, tuple)?,
     })
 }

@@ -29,15 +29,15 @@ fn push_heading_line(
     policy: &Policy,
     schemes: &Schemes,
     event: &Event,
-    rel: RelNo,
+    relation: RelNo,
 ) -> Result<(), AllocError>
     requires level { event.now.level < length policy.now.labels }
-    requires rel { rel < length schemes.now }
+    requires relation { relation < length schemes.now }
     ensures { OnOk result (text.new.items ≡ text.old.items
-        ++ (front policy.now event.now event.now.level ++ dump_heading (scheme_of schemes.now rel) ++ codes "\n")) }
+        ++ (front policy.now event.now event.now.level ++ dump_heading (scheme_of schemes.now relation) ++ codes "\n")) }
 {
     push_front(text, policy, event, event.level)?;
-    push_heading(text, schemes.scheme(rel))?;
+    push_heading(text, schemes.scheme(relation))?;
     push_str(text, "\n")?;
     Ok(())
 }
@@ -69,15 +69,15 @@ fn push_tuple(
     policy: &Policy,
     schemes: &Schemes,
     session: &str,
-    rel: RelNo,
+    relation: RelNo,
     tuple: &Tuple,
 ) -> Result<(), AllocError>
     requires classes { HasClassesBelow (length policy.now.labels) tuple.now }
-    requires rel { rel < length schemes.now }
+    requires relation { relation < length schemes.now }
     ensures { OnOk result (text.new.items ≡ text.old.items ++ script_text (site_under policy.now schemes.now)
-        (dump_event (site_under policy.now schemes.now) session.now rel tuple.now)) }
+        (dump_event (site_under policy.now schemes.now) session.now relation tuple.now)) }
 {
-    let made = dump_event(alloc, policy, schemes, session, rel, tuple)?;
+    let made = dump_event(alloc, policy, schemes, session, relation, tuple)?;
     push_event_line(alloc, text, policy, schemes, &made)
 }
 
@@ -88,21 +88,29 @@ fn push_tuple_lines(
     policy: &Policy,
     schemes: &Schemes,
     event: &Event,
-    rel: RelNo,
+    relation: RelNo,
     tuples: &[Tuple],
 ) -> Result<(), AllocError>
     requires level { event.now.level < length policy.now.labels }
-    requires rel { rel < length schemes.now }
+    requires relation { relation < length schemes.now }
     requires classes { AllByRecursion (HasClassesBelow (length policy.now.labels)) tuples.now }
     ensures { OnOk result (text.new.items ≡ text.old.items
         ++ flat_map (λ t. front policy.now event.now event.now.level
         ++ script_text (site_under policy.now schemes.now)
-        (dump_event (site_under policy.now schemes.now) event.now.session rel t)
+        (dump_event (site_under policy.now schemes.now) event.now.session relation t)
         ++ codes "\n") tuples.now) }
 {
     for tuple in tuples {
         push_front(text, policy, event, event.level)?;
-        push_tuple(alloc, text, policy, schemes, &event.session, rel, tuple)?;
+        push_tuple(
+            alloc,
+            text,
+            policy,
+            schemes,
+            &event.session,
+            relation,
+            tuple,
+        )?;
         push_str(text, "\n")?;
     }
     Ok(())
@@ -115,21 +123,21 @@ fn push_dump(
     policy: &Policy,
     schemes: &Schemes,
     event: &Event,
-    rel: RelNo,
+    relation: RelNo,
     tuples: &[Tuple],
 ) -> Result<(), AllocError>
     requires level { event.now.level < length policy.now.labels }
-    requires rel { rel < length schemes.now }
+    requires relation { relation < length schemes.now }
     requires classes { AllByRecursion (HasClassesBelow (length policy.now.labels)) tuples.now }
     ensures { OnOk result (text.new.items ≡ text.old.items
-        ++ ((front policy.now event.now event.now.level ++ dump_heading (scheme_of schemes.now rel) ++ codes "\n")
+        ++ ((front policy.now event.now event.now.level ++ dump_heading (scheme_of schemes.now relation) ++ codes "\n")
         ++ flat_map (λ t. front policy.now event.now event.now.level
         ++ script_text (site_under policy.now schemes.now)
-        (dump_event (site_under policy.now schemes.now) event.now.session rel t)
+        (dump_event (site_under policy.now schemes.now) event.now.session relation t)
         ++ codes "\n") tuples.now)) }
 {
-    push_heading_line(text, policy, schemes, event, rel)?;
-    push_tuple_lines(alloc, text, policy, schemes, event, rel, tuples)
+    push_heading_line(text, policy, schemes, event, relation)?;
+    push_tuple_lines(alloc, text, policy, schemes, event, relation, tuples)
 }
 
 /// Appends the lines of tuples, which answer a dump and nothing else.
@@ -149,7 +157,9 @@ fn push_answer(
         (dump_texts (site_under policy.now schemes.now) event.now.session event.now.command tuples.now)) }
 {
     match &event.command {
-        Command::Dump { rel } => push_dump(alloc, text, policy, schemes, event, *rel, tuples),
+        Command::Dump { relation } => push_dump(
+            alloc, text, policy, schemes, event, *relation, tuples,
+        ),
         _ => Ok(()),
     }
 }

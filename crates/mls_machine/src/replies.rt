@@ -60,7 +60,7 @@ fn denial_text(alloc: Global, denial: Denial) -> Result<String, AllocError>
 }
 
 fn push_attributes(text: &mut Vec<u8>, attributes: &Attributes) -> Result<(), AllocError>
-    ensures { OnOk result (text.new.items ≡ text.old.items ++ flat_map (λ a. codes " " ++ a.name) attributes.now) }
+    ensures { OnOk result (text.new.items ≡ text.old.items ++ flat_map (λ a. codes " " ++ a.0) attributes.now) }
 {
     for place in 0..attributes.len() {
         push_str(text, " ")?;
@@ -200,13 +200,13 @@ fn push_answer(
 {
     match &event.command {
         Command::View {
-            rel,
+            relation,
             label,
             query,
             counts,
         } => {
             let what = Asked {
-                scheme: schemes.scheme(*rel),
+                scheme: schemes.scheme(*relation),
                 label: *label,
                 query,
             };

@@ -120,7 +120,7 @@ fn push_name_cells(
     cells: &mut Vec<Items<u8>>,
     attributes: &Attributes,
 ) -> Result<(), AllocError>
-    ensures { OnOk result (cells.new.items ≡ cells.old.items ++ map (λ a. a.name) attributes.now) }
+    ensures { OnOk result (cells.new.items ≡ cells.old.items ++ map (λ a. a.0) attributes.now) }
 {
     for place in 0..attributes.len() {
         let cell = name_cell(alloc, attributes.name(place))?;
@@ -315,13 +315,13 @@ fn push_answer(
 {
     match &event.command {
         Command::View {
-            rel,
+            relation,
             label,
             query,
             counts,
         } => {
             let what = Asked {
-                scheme: schemes.scheme(*rel),
+                scheme: schemes.scheme(*relation),
                 label: *label,
                 query,
             };

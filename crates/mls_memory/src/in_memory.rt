@@ -46,36 +46,40 @@ impl<B: Base> Base for InMemory<B> {
         }
     }
 
-    fn fragment(&mut self, rel: RelNo, label: LabelNo) -> Result<Fragment, BaseFault> {
-        match self.base.fragment(rel, label) {
+    fn fragment(&mut self, relation: RelNo, label: LabelNo) -> Result<Fragment, BaseFault> {
+        match self.base.fragment(relation, label) {
             Err(BaseFault::Store) => Err(BaseFault::Memory),
             answer => answer,
         }
     }
 
-    fn fragments(&mut self, rel: RelNo, labels: &[LabelNo]) -> Result<Fragment, BaseFault> {
-        match self.base.fragments(rel, labels) {
+    fn fragments(&mut self, relation: RelNo, labels: &[LabelNo]) -> Result<Fragment, BaseFault> {
+        match self.base.fragments(relation, labels) {
             Err(BaseFault::Store) => Err(BaseFault::Memory),
             answer => answer,
         }
     }
 
-    fn entity(&mut self, rel: RelNo, place: &Place) -> Result<Fragment, BaseFault> {
-        match self.base.entity(rel, place) {
+    fn entity(&mut self, relation: RelNo, place: &Place) -> Result<Fragment, BaseFault> {
+        match self.base.entity(relation, place) {
             Err(BaseFault::Store) => Err(BaseFault::Memory),
             answer => answer,
         }
     }
 
-    fn pattern(&mut self, rel: RelNo, place: &Place) -> Result<Option<Items<LabelNo>>, BaseFault> {
-        match self.base.pattern(rel, place) {
+    fn pattern(
+        &mut self,
+        relation: RelNo,
+        place: &Place,
+    ) -> Result<Option<Items<LabelNo>>, BaseFault> {
+        match self.base.pattern(relation, place) {
             Err(BaseFault::Store) => Err(BaseFault::Memory),
             answer => answer,
         }
     }
 
-    fn add(&mut self, rel: RelNo, node: Node, cells: &[Cell]) -> Result<(), BaseFault> {
-        match self.base.add(rel, node, cells) {
+    fn add(&mut self, relation: RelNo, node: Node, cells: &[Cell]) -> Result<(), BaseFault> {
+        match self.base.add(relation, node, cells) {
             Err(BaseFault::Store) => Err(BaseFault::Memory),
             answer => answer,
         }
@@ -83,19 +87,19 @@ impl<B: Base> Base for InMemory<B> {
 
     fn set(
         &mut self,
-        rel: RelNo,
+        relation: RelNo,
         place: &Place,
         attr: usize,
         value: Option<Value>,
     ) -> Result<(), BaseFault> {
-        match self.base.set(rel, place, attr, value) {
+        match self.base.set(relation, place, attr, value) {
             Err(BaseFault::Store) => Err(BaseFault::Memory),
             answer => answer,
         }
     }
 
-    fn drop_at(&mut self, rel: RelNo, place: &Place) -> Result<(), BaseFault> {
-        match self.base.drop_at(rel, place) {
+    fn drop_at(&mut self, relation: RelNo, place: &Place) -> Result<(), BaseFault> {
+        match self.base.drop_at(relation, place) {
             Err(BaseFault::Store) => Err(BaseFault::Memory),
             answer => answer,
         }

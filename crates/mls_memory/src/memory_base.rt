@@ -4,8 +4,8 @@ ghost use Rattle.sqlite.specs.Files.{file_state};
 ghost use Rattle.mls_lattice.specs.Version.{version_number, later};
 ghost use Rattle.mls_scheme.specs.Scheme.{AreUnder};
 ghost use Rattle.mls_filterview.specs.Content.{no_content};
-ghost use Rattle.mls_statements.specs.Schema.{no_schema};
-ghost use Rattle.mls_statements.specs.Store.{IsClean};
+ghost use Rattle.mls_tables.specs.Schema.{no_schema};
+ghost use Rattle.mls_tables.specs.Store.{IsClean};
 ghost use Rattle.mls_fragments.specs.Based.{HasRow, state_of};
 ghost use Rattle.mls_fragments.specs.Holdings.{row_of};
 

@@ -24,7 +24,7 @@ use Rattle.mls_translang.specs.Kinds.{Truth, HasSort, WritingKinds, StmtKinds, B
 use Rattle.mls_translang.specs.Scope.{IsFresh, names_in}
 use Rattle.mls_translang.specs.Tells.{TellsOther, TellsBlock}
 use Rattle.mls_translang.specs.Tokens.{Place, at_row, name_at as name_of, label_token, rel_token, var_token, expr_tokens, list_tokens, class_tokens, update_end, write_end, stmt_end, write_tokens, stmt_tokens, for_tokens, braced as braced_tokens}
-use Rattle.mls_translang.specs.Tree.{Expr, Writing, Inserting, Updating, Deleting, Stmt, Assign, Write_at, Release, Emit, Block, End, Do, If, For, statements, is_end}
+use Rattle.mls_translang.specs.Tree.{Expr, Writing, Insert, Update, Delete, Stmt, Assign, Write_at, Release, Emit, Block, End, Do, If, For, statements, is_end}
 use Rattle.mls_translang.specs.Tx.{IsOwn, WritingIsOwn, StmtIsOwn, BlockIsOwn, depth}
 use Rattle.mls_parser.specs.declared.fault.PlacedFault.{PlacedFault}
 use Rattle.mls_parser.specs.declared.fault.TextCause.TheVariants as cause
@@ -50,9 +50,7 @@ use Rattle.mls_parser.proofs.StmtAgain.{HasOutcome, keyed, label_gets, relation_
 
 abbrev pub form_of : Stmt → Form
 form_of (Assign x e) = forms.Assign x e
-form_of (Write_at rel w (Inserting key values) o) = forms.Insert rel key values w o
-form_of (Write_at rel w (Updating key key_class from sets) o) = forms.Update rel key key_class from w sets o
-form_of (Write_at rel w (Deleting key key_class) o) = forms.Delete rel key key_class w o
+form_of (Write_at relation w writing o) = forms.Write relation w writing o
 form_of (Release e to into) = forms.Release e to into
 form_of (Emit e label) = forms.Emit e label
 
@@ -60,13 +58,11 @@ abbrev pub forms_of : Block → List Form
 forms_of End = []
 forms_of (Do stmt rest) = form_of stmt ∷ forms_of rest
 forms_of (If guard one other rest) = forms.If guard one other ∷ forms_of rest
-forms_of (For row rel label body rest) = forms.For row rel label body ∷ forms_of rest
+forms_of (For row relation label body rest) = forms.For row relation label body ∷ forms_of rest
 
 form_block : (s : Stmt) (fs : List Form) → block_of (form_of s ∷ fs) ≡ Do s (block_of fs)
 form_block (Assign x e) fs = refl
-form_block (Write_at rel w (Inserting key values) o) fs = refl
-form_block (Write_at rel w (Updating key key_class from sets) o) fs = refl
-form_block (Write_at rel w (Deleting key key_class) o) fs = refl
+form_block (Write_at relation w writing o) fs = refl
 form_block (Release e to into) fs = refl
 form_block (Emit e label) fs = refl
 
@@ -74,7 +70,7 @@ forms_block : (b : Block) → block_of (forms_of b) ≡ b
 forms_block End = refl
 forms_block (Do stmt rest) = form_block stmt (forms_of rest) ∙ ap (λ b. Do stmt b) (forms_block rest)
 forms_block (If guard one other rest) = ap (λ b. If guard one other b) (forms_block rest)
-forms_block (For row rel label body rest) = ap (λ b. For row rel label body b) (forms_block rest)
+forms_block (For row relation label body rest) = ap (λ b. For row relation label body b) (forms_block rest)
 
 -- ---- statements by their first token
 
@@ -107,20 +103,20 @@ module _ (inner : Place → ℕ → State → Counted Block) (p : Place) where
       (λ at m j. gets_then (with_count (count + 1)) (next at m j) (λ r i. gets_done (f, count + 1) s.0 r (Same (f, count + 1)) vs refl i))
 
   module _ (n : HasNames p) where
-    writing_gets : (rel w : ℕ) (x : Writing) (o : Option ℕ) (us : List Token) (count : ℕ) (s : State) → count < 1000 → rel < length p.schemes → IsLabel p.policy w → WritingIsOwn p.scope x
-        → WritingFits p.policy p.schemes p.hi p.scope (scheme_of p.schemes rel) x → WritingKinds p.schemes p.scope (scheme_of p.schemes rel) x
-        → HasOutcome p o → without_places s.1.placed ≡ write_tokens p rel w o x ++ us
-        → Gets (stmt_with inner p count s) s (Same (form_of (Write_at rel w x o), count + 1)) us
-    writing_gets rel w (Inserting key values) o us count s less hr hw own fit kind h k =
-        plain_gets plains.Insert (Word (codes "insert")) ((keyed p rel key ++ (Word (codes "values") ∷ (list_tokens p values ++ write_end p w (stmt_end p o)))) ++ us) count s (forms.Insert rel key values w o) us refl less k
-        (λ at m j. insert_gets p n rel w key values o us (s.0, m) hr hw (record { own = own.0; fits = fit.0; kinds = kind.0 }) (record { own = own.1; fits = fit.1; kinds = kind.1 }) h j)
-    writing_gets rel w (Updating key c f []) o us count s less hr hw own fit kind h k = absurd (let none = fit.3.some in omega (arith, none))
-    writing_gets rel w (Updating key c f (x ∷ xs)) o us count s less hr hw own fit kind h k =
-        plain_gets plains.Update (Word (codes "update")) ((keyed p rel key ++ (class_tokens p c f w ++ update_end p rel (x ∷ xs) o)) ++ us) count s (forms.Update rel key c f w (x ∷ xs) o) us refl less k
-        (λ at m j. update_gets p n rel w c f key x xs o us (s.0, m) hr hw fit.1 fit.2 (record { own = own.0; fits = fit.0; kinds = kind.0 }) (record { own = own.1; fits = fit.3; kinds = kind.1 }) h j)
-    writing_gets rel w (Deleting key c) o us count s less hr hw own fit kind h k =
-        plain_gets plains.Delete (Word (codes "delete")) ((keyed p rel key ++ (Word (codes "class") ∷ label_token p c ∷ write_end p w (stmt_end p o))) ++ us) count s (forms.Delete rel key c w o) us refl less k
-        (λ at m j. delete_gets p n rel w c key o us (s.0, m) hr hw fit.1 (record { own = own; fits = fit.0; kinds = kind }) h j)
+    writing_gets : (relation w : ℕ) (x : Writing) (o : Option ℕ) (us : List Token) (count : ℕ) (s : State) → count < 1000 → relation < length p.schemes → IsLabel p.policy w → WritingIsOwn p.scope x
+        → WritingFits p.policy p.schemes p.hi p.scope (scheme_of p.schemes relation) x → WritingKinds p.schemes p.scope (scheme_of p.schemes relation) x
+        → HasOutcome p o → without_places s.1.placed ≡ write_tokens p relation w o x ++ us
+        → Gets (stmt_with inner p count s) s (Same (form_of (Write_at relation w x o), count + 1)) us
+    writing_gets relation w (Insert key values) o us count s less hr hw own fit kind h k =
+        plain_gets plains.Insert (Word (codes "insert")) ((keyed p relation key ++ (Word (codes "values") ∷ (list_tokens p values ++ write_end p w (stmt_end p o)))) ++ us) count s (forms.Write relation w (Insert key values) o) us refl less k
+        (λ at m j. insert_gets p n relation w key values o us (s.0, m) hr hw (record { own = own.0; fits = fit.0; kinds = kind.0 }) (record { own = own.1; fits = fit.1; kinds = kind.1 }) h j)
+    writing_gets relation w (Update key c f []) o us count s less hr hw own fit kind h k = absurd (let none = fit.3.some in omega (arith, none))
+    writing_gets relation w (Update key c f (x ∷ xs)) o us count s less hr hw own fit kind h k =
+        plain_gets plains.Update (Word (codes "update")) ((keyed p relation key ++ (class_tokens p c f w ++ update_end p relation (x ∷ xs) o)) ++ us) count s (forms.Write relation w (Update key c f (x ∷ xs)) o) us refl less k
+        (λ at m j. update_gets p n relation w c f key x xs o us (s.0, m) hr hw fit.1 fit.2 (record { own = own.0; fits = fit.0; kinds = kind.0 }) (record { own = own.1; fits = fit.3; kinds = kind.1 }) h j)
+    writing_gets relation w (Delete key c) o us count s less hr hw own fit kind h k =
+        plain_gets plains.Delete (Word (codes "delete")) ((keyed p relation key ++ (Word (codes "class") ∷ label_token p c ∷ write_end p w (stmt_end p o))) ++ us) count s (forms.Write relation w (Delete key c) o) us refl less k
+        (λ at m j. delete_gets p n relation w c key o us (s.0, m) hr hw fit.1 (record { own = own; fits = fit.0; kinds = kind }) h j)
 
     stmt_gets : (stmt : Stmt) (us : List Token) (count : ℕ) (s : State) → count < 1000 → StmtIsOwn p.scope stmt → StmtFits p.policy p.schemes p.hi p.scope stmt → StmtKinds p.schemes p.scope stmt
         → without_places s.1.placed ≡ stmt_tokens p stmt ++ us → Gets (stmt_with inner p count s) s (Same (form_of stmt, count + 1)) us
@@ -128,7 +124,7 @@ module _ (inner : Place → ℕ → State → Counted Block) (p : Place) where
         let name = name_of p.scope.vars x in
         plain_gets (plains.Assign name) (var_token p x) (Sign sign.Becomes ∷ ((expr_tokens p e ++ Sign sign.Semicolon ∷ []) ++ us)) count s (forms.Assign x e) us (name_opening name (variable_is_name p n x o.0)) less k
         (λ at m j. assign_gets p n x at e us (s.0, m) o.0 o.1 f h j)
-    stmt_gets (Write_at rel w x outcome) us count s less o f h k = writing_gets rel w x outcome us count s less f.0 f.1 o.0 f.2 h.0 (o.1, h.1) k
+    stmt_gets (Write_at relation w x outcome) us count s less o f h k = writing_gets relation w x outcome us count s less f.0 f.1 o.0 f.2 h.0 (o.1, h.1) k
     stmt_gets (Release e to into) us count s less o f h k =
         plain_gets plains.Release (Word (codes "release")) ((expr_tokens p e ++ (Word (codes "to") ∷ label_token p to ∷ Word (codes "into") ∷ var_token p into ∷ Sign sign.Semicolon ∷ [])) ++ us) count s (forms.Release e to into) us refl less k
         (λ at m j. release_gets p n e to into us (s.0, m) o.0 o.1 f.0 f.1 f.2 h j)
@@ -145,22 +141,22 @@ module _ (p : Place) (n : HasNames p) where
       gets_more (λ g. Ok (g.0.expr, note (tested (may_be_truth g.0.gives) g.0) g.1)) (whole_again p n e Truth us s o f h off k)
       (λ g m r t. gets_noted g.expr (tested (may_be_truth g.gives) g) s.0 m (Same e) us (none g.at cause.Kind r.agrees) r.is t)
 
-  loop_head_gets : (row : Name) (rel l : ℕ) (us : List Token) (s : State) → IsFresh p.scope row → rel < length p.schemes → IsLabel p.policy l
-      → without_places s.1.placed ≡ Word row ∷ Word (codes "in") ∷ rel_token p rel ∷ Word (codes "at") ∷ label_token p l ∷ us → Gets (loop_head_at p s) s (Same (row, rel, l)) us
+  loop_head_gets : (row : Name) (relation l : ℕ) (us : List Token) (s : State) → IsFresh p.scope row → relation < length p.schemes → IsLabel p.policy l
+      → without_places s.1.placed ≡ Word row ∷ Word (codes "in") ∷ rel_token p relation ∷ Word (codes "at") ∷ label_token p l ∷ us → Gets (loop_head_at p s) s (Same (row, relation, l)) us
   unfolding loop_head_at
-  loop_head_gets row rel l us s fresh hr hl k =
+  loop_head_gets row relation l us s fresh hr hl k =
       let behind : List Token = Word (codes "at") ∷ label_token p l ∷ us in
       let finish : Name → State → Read (Name × ℕ × ℕ) = λ name r. word_at (codes "in") r >>= λ w. relation_at p w.1 >>= λ x. label_behind p (codes "at") x.1 >>= λ y. Ok ((name, x.0, y.0), y.1) in
       let again : Name → ℕ → List PlacedFault = λ name at. unless (not (is_taken p name)) at cause.Repeated in
-      placed_then (λ x. finish x.0.0 (note (again x.0.0 x.0.1) x.1)) (name_gets row (Word (codes "in") ∷ rel_token p rel ∷ behind) s fresh.0 k)
-      (λ at m t. gets_is (finish row (note (again row at) (s.0, m))) (finish row (s.0, m)) (s.0, m) (Same (row, rel, l)) us (ap (finish row) (quiet (again row at) s.0 m (none at cause.Repeated (ap not (sym (all_taken p row) ∙ fresh.1)))))
-      (gets_more (λ w. relation_at p w.1 >>= λ x. label_behind p (codes "at") x.1 >>= λ y. Ok ((row, x.0, y.0), y.1)) (word_gets (codes "in") (rel_token p rel ∷ behind) (s.0, m) t)
-      (λ w m2 is t2. gets_then (λ x. label_behind p (codes "at") x.1 >>= λ y. Ok ((row, x.0, y.0), y.1)) (relation_gets p n rel behind (s.0, m2) hr t2)
-      (λ m3 t3. gets_then (λ y. Ok ((row, rel, y.0), y.1)) (label_gets p n (codes "at") l us (s.0, m3) hl t3) (λ m4 t4. gets_done (row, rel, l) s.0 m4 (Same (row, rel, l)) us refl t4)))))
+      placed_then (λ x. finish x.0.0 (note (again x.0.0 x.0.1) x.1)) (name_gets row (Word (codes "in") ∷ rel_token p relation ∷ behind) s fresh.0 k)
+      (λ at m t. gets_is (finish row (note (again row at) (s.0, m))) (finish row (s.0, m)) (s.0, m) (Same (row, relation, l)) us (ap (finish row) (quiet (again row at) s.0 m (none at cause.Repeated (ap not (sym (all_taken p row) ∙ fresh.1)))))
+      (gets_more (λ w. relation_at p w.1 >>= λ x. label_behind p (codes "at") x.1 >>= λ y. Ok ((row, x.0, y.0), y.1)) (word_gets (codes "in") (rel_token p relation ∷ behind) (s.0, m) t)
+      (λ w m2 is t2. gets_then (λ x. label_behind p (codes "at") x.1 >>= λ y. Ok ((row, x.0, y.0), y.1)) (relation_gets p n relation behind (s.0, m2) hr t2)
+      (λ m3 t3. gets_then (λ y. Ok ((row, relation, y.0), y.1)) (label_gets p n (codes "at") l us (s.0, m3) hl t3) (λ m4 t4. gets_done (row, relation, l) s.0 m4 (Same (row, relation, l)) us refl t4)))))
 
 -- inside one loop more
-names_more : (p : Place) (row : Name) (rel : ℕ) → HasNames p → IsFresh p.scope row → rel < length p.schemes → HasNames (at_row p row rel)
-names_more p row rel h fresh within = record {
+names_more : (p : Place) (row : Name) (relation : ℕ) → HasNames p → IsFresh p.scope row → relation < length p.schemes → HasNames (at_row p row relation)
+names_more p row relation h fresh within = record {
   policy = h.policy;
   schemes = h.schemes;
   names = (fresh.0, h.names);
@@ -189,7 +185,7 @@ no_other End count e = λ i. (End, same count i)
     same count = omega arith
 no_other (Do stmt rest) count e = absurd cc
 no_other (If guard one other rest) count e = absurd cc
-no_other (For row rel label body rest) count e = absurd cc
+no_other (For row relation label body rest) count e = absurd cc
 
 module _ (d : ℕ) (p : Place) where
   abbrev reads : Place → ℕ → State → Counted Block
@@ -235,22 +231,22 @@ module _ (d : ℕ) (p : Place) where
         (λ m2 t2. gets_then (λ c. Ok ((forms.If guard c.0.0.0 c.0.0.1, c.0.1), c.1)) (blocks_gets one other a b (count + 1) us (s.0, m2) read_one told read_other few off t2)
         (λ m3 t3. gets_done x s.0 m3 (Same x) us refl t3)))
 
-    for_gets : (row : Name) (rel l : ℕ) (body : Block) (a : List Token) (count : ℕ) (us : List Token) (s : State) → IsFresh p.scope row → rel < length p.schemes → IsLabel p.policy l → BlockReads d (at_row p row rel) body a
-        → count + 1 + statements body ≤ 1000 → without_places s.1.placed ≡ for_tokens p row rel l ++ (braced_tokens a ++ us) → Gets (stmt_with reads p count s) s (Same (forms.For row rel l body, count + 1 + statements body)) us
-    for_gets row rel l body a count us s fresh hr hl read few k =
-        let x : Form × ℕ = (forms.For row rel l body, count + 1 + statements body) in
+    for_gets : (row : Name) (relation l : ℕ) (body : Block) (a : List Token) (count : ℕ) (us : List Token) (s : State) → IsFresh p.scope row → relation < length p.schemes → IsLabel p.policy l → BlockReads d (at_row p row relation) body a
+        → count + 1 + statements body ≤ 1000 → without_places s.1.placed ≡ for_tokens p row relation l ++ (braced_tokens a ++ us) → Gets (stmt_with reads p count s) s (Same (forms.For row relation l body, count + 1 + statements body)) us
+    for_gets row relation l body a count us s fresh hr hl read few k =
+        let x : Form × ℕ = (forms.For row relation l body, count + 1 + statements body) in
         let behind : List Token = braced_tokens a ++ us in
-        opening_gets reads p openings.For (Word (codes "for")) (Word row ∷ Word (codes "in") ∷ rel_token p rel ∷ Word (codes "at") ∷ label_token p l ∷ behind) count s (Same x) us refl (omega (arith, few)) k
-        (λ at m j. gets_then (λ h. braced reads (at_row p h.0.0 h.0.1) (count + 1) h.1 >>= λ c. Ok ((forms.For h.0.0 h.0.1 h.0.2 c.0.0, c.0.1), c.1)) (loop_head_gets p n row rel l behind (s.0, m) fresh hr hl j)
-        (λ m2 t2. gets_then (λ c. Ok ((forms.For row rel l c.0.0, c.0.1), c.1)) (braced_gets (at_row p row rel) body a (count + 1) us (s.0, m2) read few t2) (λ m3 t3. gets_done x s.0 m3 (Same x) us refl t3)))
+        opening_gets reads p openings.For (Word (codes "for")) (Word row ∷ Word (codes "in") ∷ rel_token p relation ∷ Word (codes "at") ∷ label_token p l ∷ behind) count s (Same x) us refl (omega (arith, few)) k
+        (λ at m j. gets_then (λ h. braced reads (at_row p h.0.0 h.0.1) (count + 1) h.1 >>= λ c. Ok ((forms.For h.0.0 h.0.1 h.0.2 c.0.0, c.0.1), c.1)) (loop_head_gets p n row relation l behind (s.0, m) fresh hr hl j)
+        (λ m2 t2. gets_then (λ c. Ok ((forms.For row relation l c.0.0, c.0.1), c.1)) (braced_gets (at_row p row relation) body a (count + 1) us (s.0, m2) read few t2) (λ m3 t3. gets_done x s.0 m3 (Same x) us refl t3)))
 
 -- ---- what a statement begins with
 
 no_brace : (p : Place) (s : Stmt) (us : List Token) → NotNext (is_sign sign.RightBrace) (stmt_tokens p s ++ us)
 no_brace p (Assign x e) us = refl
-no_brace p (Write_at rel w (Inserting key values) o) us = refl
-no_brace p (Write_at rel w (Updating key c f sets) o) us = refl
-no_brace p (Write_at rel w (Deleting key c) o) us = refl
+no_brace p (Write_at relation w (Insert key values) o) us = refl
+no_brace p (Write_at relation w (Update key c f sets) o) us = refl
+no_brace p (Write_at relation w (Delete key c) o) us = refl
 no_brace p (Release e to into) us = refl
 no_brace p (Emit e label) us = refl
 
@@ -268,9 +264,9 @@ pub record IsOther (w : Name) : Type 0 where
 module _ (w : Name) (h : IsOther w) (p : Place) (n : HasNames p) where
   stmt_begins : (s : Stmt) (us : List Token) → StmtIsOwn p.scope s → NotNext (is_word w) (stmt_tokens p s ++ us)
   stmt_begins (Assign x e) us o = differs w (name_of p.scope.vars x) h.reserved (variable_is_name p n x o.0)
-  stmt_begins (Write_at rel x (Inserting key values) out) us o = h.no_insert
-  stmt_begins (Write_at rel x (Updating key c f sets) out) us o = h.no_update
-  stmt_begins (Write_at rel x (Deleting key c) out) us o = h.no_delete
+  stmt_begins (Write_at relation x (Insert key values) out) us o = h.no_insert
+  stmt_begins (Write_at relation x (Update key c f sets) out) us o = h.no_update
+  stmt_begins (Write_at relation x (Delete key c) out) us o = h.no_delete
   stmt_begins (Release e to into) us o = h.no_release
   stmt_begins (Emit e label) us o = h.no_emit
 
@@ -280,7 +276,7 @@ module _ (w : Name) (h : IsOther w) (p : Place) (n : HasNames p) where
       subst (λ z. NotNext (is_word w) (z ++ Closed us)) (sym t.1)
       (subst (NotNext (is_word w)) (sym (append_assoc (stmt_tokens p stmt) t.0 (Closed us))) (stmt_begins stmt (t.0 ++ Closed us) o.0))
   block_begins (If guard one other rest) ts us o t = subst (λ z. NotNext (is_word w) (z ++ Closed us)) (sym t.3) h.no_if
-  block_begins (For row rel label body rest) ts us o t = subst (λ z. NotNext (is_word w) (z ++ Closed us)) (sym t.2) h.no_for
+  block_begins (For row relation label body rest) ts us o t = subst (λ z. NotNext (is_word w) (z ++ Closed us)) (sym t.2) h.no_for
 
 is_else : IsOther (codes "else")
 unfolding is_reserved
@@ -347,15 +343,15 @@ many_read (If guard one other rest) (suc d) p ts n deep o f h t = λ m front cou
     (omega arith) (omega (arith, less)) few (no_sign sign.RightBrace all s refl here)
     (if_gets d p n guard one other t.0 t.1 count behind s o.0 f.0 h.0 (block_reads d p one t.0 (many_read one d p t.0 n (omega (arith, deep)) o.1 f.1 h.1 t.4)) t.5
     (λ inner told. block_reads d p other inner (many_read other d p inner n (omega (arith, deep)) o.2 f.2 h.2 told)) (omega (arith, few)) (block_begins (codes "else") is_else p n rest t.2 us o.3 t.6) here)
-many_read (For row rel label body rest) zero p ts n deep o f h t = λ m front count us s less few k. absurd (omega (arith, deep))
-many_read (For row rel label body rest) (suc d) p ts n deep o f h t = λ m front count us s less few k.
-    let q = at_row p row rel in
+many_read (For row relation label body rest) zero p ts n deep o f h t = λ m front count us s less few k. absurd (omega (arith, deep))
+many_read (For row relation label body rest) (suc d) p ts n deep o f h t = λ m front count us s less few k.
+    let q = at_row p row relation in
     let behind : List Token = t.1 ++ Closed us in
-    let all : List Token = for_tokens p row rel label ++ (braced_tokens t.0 ++ behind) in
-    let here : without_places s.1.placed ≡ all = k ∙ ap (λ z. z ++ Closed us) t.2 ∙ regroup [] (for_tokens p row rel label) (braced_tokens t.0) t.1 (Closed us) in
-    step (suc d) p (forms.For row rel label body) rest t.1 m front (count + 1 + statements body) (count + (1 + statements body + statements rest)) us count s
+    let all : List Token = for_tokens p row relation label ++ (braced_tokens t.0 ++ behind) in
+    let here : without_places s.1.placed ≡ all = k ∙ ap (λ z. z ++ Closed us) t.2 ∙ regroup [] (for_tokens p row relation label) (braced_tokens t.0) t.1 (Closed us) in
+    step (suc d) p (forms.For row relation label body) rest t.1 m front (count + 1 + statements body) (count + (1 + statements body + statements rest)) us count s
     (many_read rest (suc d) p t.1 n (omega (arith, deep)) o.2 f.3 h.1 t.4) (omega arith) (omega (arith, less)) few (no_sign sign.RightBrace all s refl here)
-    (for_gets d p n row rel label body t.0 count behind s o.0 f.0 f.1 (block_reads d q body t.0 (many_read body d q t.0 (names_more p row rel n o.0 f.0) (omega (arith, deep)) o.1 f.2 h.0 t.3)) (omega (arith, few)) here)
+    (for_gets d p n row relation label body t.0 count behind s o.0 f.0 f.1 (block_reads d q body t.0 (many_read body d q t.0 (names_more p row relation n o.0 f.0) (omega (arith, deep)) o.1 f.2 h.0 t.3)) (omega (arith, few)) here)
 
 pub block_again : (p : Place) (b : Block) (ts us : List Token) (s : State) → HasNames p → depth b ≤ 16 → statements b ≤ 1000 → BlockIsOwn p.scope b → BlockFits p.policy p.schemes p.hi p.scope b → BlockKinds p.schemes p.scope b
     → TellsBlock p b ts → without_places s.1.placed ≡ ts ++ Closed us → Gets (stmts_at 16 p 0 s) s (Same (b, statements b)) us

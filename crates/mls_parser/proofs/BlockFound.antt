@@ -78,15 +78,15 @@ module _ (p : Place) where
   IsReached row ts h = (h.0 ≡ row) × (h.1 < length p.schemes) × IsLabel p.policy h.2 × (ts ≡ rel_token p h.1 ∷ Word (codes "at") ∷ label_token p h.2 ∷ [])
 
   ranged_read : (row : List ℕ) (s : State) (x : (List ℕ × ℕ × ℕ) × State)
-      → (word_at (codes "in") s >>= λ w. relation_at p w.1 >>= λ rel. label_behind p (codes "at") rel.1 >>= λ l. Ok ((row, rel.0, l.0), l.1)) ≡ Ok x → Found (IsRanged row) s x
+      → (word_at (codes "in") s >>= λ w. relation_at p w.1 >>= λ relation. label_behind p (codes "at") relation.1 >>= λ l. Ok ((row, relation.0, l.0), l.1)) ≡ Ok x → Found (IsRanged row) s x
   ranged_read row s =
-      found_next (IsRanged row) (λ at ts h. IsReached row ts h) s (word_at (codes "in") s) (λ w. relation_at p w.1 >>= λ rel. label_behind p (codes "at") rel.1 >>= λ l. Ok ((row, rel.0, l.0), l.1)) (word_read (codes "in") s)
+      found_next (IsRanged row) (λ at ts h. IsReached row ts h) s (word_at (codes "in") s) (λ w. relation_at p w.1 >>= λ relation. label_behind p (codes "at") relation.1 >>= λ l. Ok ((row, relation.0, l.0), l.1)) (word_read (codes "in") s)
       (λ w.
-      found_next (IsReached row) (λ rel ts h. (h.0 ≡ row) × (h.1 ≡ rel) × IsLabel p.policy h.2 × (ts ≡ Word (codes "at") ∷ label_token p h.2 ∷ [])) w.1 (relation_at p w.1)
-      (λ rel. label_behind p (codes "at") rel.1 >>= λ l. Ok ((row, rel.0, l.0), l.1)) (relation_read p w.1)
-      (λ rel. found_made (λ ts h. (h.0 ≡ row) × (h.1 ≡ rel.0) × IsLabel p.policy h.2 × (ts ≡ Word (codes "at") ∷ label_token p h.2 ∷ [])) rel.1 (label_behind p (codes "at") rel.1) (λ l. (row, rel.0, l)) (label_read p (codes "at") rel.1)
+      found_next (IsReached row) (λ relation ts h. (h.0 ≡ row) × (h.1 ≡ relation) × IsLabel p.policy h.2 × (ts ≡ Word (codes "at") ∷ label_token p h.2 ∷ [])) w.1 (relation_at p w.1)
+      (λ relation. label_behind p (codes "at") relation.1 >>= λ l. Ok ((row, relation.0, l.0), l.1)) (relation_read p w.1)
+      (λ relation. found_made (λ ts h. (h.0 ≡ row) × (h.1 ≡ relation.0) × IsLabel p.policy h.2 × (ts ≡ Word (codes "at") ∷ label_token p h.2 ∷ [])) relation.1 (label_behind p (codes "at") relation.1) (λ l. (row, relation.0, l)) (label_read p (codes "at") relation.1)
       (λ l ts r. (refl, refl, r.within, r.tokens)))
-      (λ rel h ts us of l.
+      (λ relation h ts us of l.
       let F : ℕ → Type 0 = λ n. IsReached row (ts ++ us) (h.0, n, h.2) in
       subst F (sym l.1) (l.0, of.within, l.2, (λ i. of.tokens i ++ l.3 i))))
       (λ at h ts us word r. (r.0, r.1, r.2, (λ i. word i ++ r.3 i)))
@@ -95,7 +95,7 @@ module _ (p : Place) where
   unfolding loop_head_at
   loop_head_read s x e =
       let rest : PlacedName × State → Read (List ℕ × ℕ × ℕ) =
-      λ n. word_at (codes "in") n.1 >>= λ w. relation_at p w.1 >>= λ rel. label_behind p (codes "at") rel.1 >>= λ l. Ok ((n.0.0, rel.0, l.0), l.1) in
+      λ n. word_at (codes "in") n.1 >>= λ w. relation_at p w.1 >>= λ relation. label_behind p (codes "at") relation.1 >>= λ l. Ok ((n.0.0, relation.0, l.0), l.1) in
       let again : PlacedName → List PlacedFault = λ n. unless (not (is_taken p n.0)) n.1 cause.Repeated in
       let n = bind_ok (name_at s) (λ n. rest (n.0, note (again n.0) n.1)) x e in
       let named = found_noted (λ ts m. (ts ≡ Word m.0 ∷ []) × IsFresh p.scope m.0) s (name_at s) (λ m. m) again (name_read s)

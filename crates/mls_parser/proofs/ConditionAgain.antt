@@ -332,10 +332,10 @@ module _ (p : Place) (n : HasNames p) where
 
 -- ---- conditions
 
-module _ (policy : Policy) (schemes : Schemes) (rel : ℕ) where
+module _ (policy : Policy) (schemes : Schemes) (relation : ℕ) where
   -- tests that are a truth value are the condition
-  tests_are : (l : Left) (e : Expr) (us : List Token) (g : Gets (tests_at (written_place policy schemes rel) ([], l)) ([], l) (IsAgain Truth e) us)
-      → condition_at policy schemes rel l ≡ Ok (Ok (as_fields e), g.rest)
+  tests_are : (l : Left) (e : Expr) (us : List Token) (g : Gets (tests_at (written_place policy schemes relation) ([], l)) ([], l) (IsAgain Truth e) us)
+      → condition_at policy schemes relation l ≡ Ok (Ok (as_fields e), g.rest)
   unfolding condition_at noted_at least_from
   tests_are l e us g =
       ap (λ r. (r >>= λ g. Ok (g.0, note (tested (may_be_truth g.0.gives) g.0) g.1)) >>= λ x. Ok (judged x, x.1.1)) g.is
@@ -343,8 +343,8 @@ module _ (policy : Policy) (schemes : Schemes) (rel : ℕ) where
       ∙ ap (λ x. Ok (Ok (as_fields x), g.rest)) g.holds.is
 
 pub conditions_are_read : ConditionsAreRead
-conditions_are_read policy schemes is_policy valid rel l test ts us within h over k =
-    let p = written_place policy schemes rel in
-    let n = written_names policy schemes is_policy valid rel within in
+conditions_are_read policy schemes is_policy valid relation l test ts us within h over k =
+    let p = written_place policy schemes relation in
+    let n = written_names policy schemes is_policy valid relation within in
     let g = tests_read p n h.written ts us ([], l) h.spells (record { own = h.own; fits = h.fits; sort = h.truth }) over k in
-    record { rest = g.rest; is = tests_are policy schemes rel l h.written us g ∙ ap (λ x. Ok (Ok x, g.rest)) (sym h.is); tokens = g.tokens; stop = g.stop }
+    record { rest = g.rest; is = tests_are policy schemes relation l h.written us g ∙ ap (λ x. Ok (Ok x, g.rest)) (sym h.is); tokens = g.tokens; stop = g.stop }

@@ -368,21 +368,21 @@ module _ (p : Place) where
 
 -- ---- conditions
 
-module _ (policy : Policy) (schemes : Schemes) (rel : ℕ) where
+module _ (policy : Policy) (schemes : Schemes) (relation : ℕ) where
   abbrev place : Place
-  place = written_place policy schemes rel
+  place = written_place policy schemes relation
 
   -- tokens were passed, and they tell what is read without a fault
   pub record ConditionFound (l : Left) (read : Result Expr PlacedFault) (r : Left) : Type 0 where
     pub tokens : List Token
     pub passed : Passed tokens l r
-    pub told : (test : Expr) → read ≡ Ok test → AreSpelled tokens → TellsCondition policy schemes rel test tokens
+    pub told : (test : Expr) → read ≡ Ok test → AreSpelled tokens → TellsCondition policy schemes relation test tokens
 
   judged_told : (g : Given) (fs : List PlacedFault) (ts : List Token) → (fs ≡ [] → AreSpelled ts → Path (List PlacedFault) [] [] × IsPart place (SpellsCondition place) ts g) → (test : Expr)
-      → answer (least (fs ++ tested (may_be_truth g.gives) g)) (as_fields g.expr) ≡ Ok test → AreSpelled ts → TellsCondition policy schemes rel test ts
+      → answer (least (fs ++ tested (may_be_truth g.gives) g)) (as_fields g.expr) ≡ Ok test → AreSpelled ts → TellsCondition policy schemes relation test ts
   judged_told g fs ts right test e all = go (least (fs ++ tested (may_be_truth g.gives) g)) refl e
     where
-      go : (o : Option PlacedFault) → least (fs ++ tested (may_be_truth g.gives) g) ≡ o → answer o (as_fields g.expr) ≡ Ok test → TellsCondition policy schemes rel test ts
+      go : (o : Option PlacedFault) → least (fs ++ tested (may_be_truth g.gives) g) ≡ o → answer o (as_fields g.expr) ≡ Ok test → TellsCondition policy schemes relation test ts
       go None is h =
           let n = neither fs (tested (may_be_truth g.gives) g) (none_at_all (fs ++ tested (may_be_truth g.gives) g) is) in
           let r = (right n.0 all).1 in
@@ -396,10 +396,10 @@ module _ (policy : Policy) (schemes : Schemes) (rel : ℕ) where
           }
       go (Some f) is h = absurd cc
 
-  pub condition_found : (l : Left) (y : Result Expr PlacedFault × Left) → condition_at policy schemes rel l ≡ Ok y → ConditionFound l y.0 y.1
+  pub condition_found : (l : Left) (y : Result Expr PlacedFault × Left) → condition_at policy schemes relation l ≡ Ok y → ConditionFound l y.0 y.1
   unfolding noted_at condition_at
   condition_found l y e =
-      let x = bind_ok (noted_at policy schemes rel l) (λ x. Ok (judged x, x.1.1)) y e in
+      let x = bind_ok (noted_at policy schemes relation l) (λ x. Ok (judged x, x.1.1)) y e in
       let g = bind_ok (tests_at place ([], l)) (λ g. Ok (g.0, note (tested (may_be_truth g.0.gives) g.0) g.1)) x.0 x.1 in
       let found = tests_at_found place ([], l) g.0 g.1 in
       let whole : (judged (g.0.0, note (tested (may_be_truth g.0.0.gives) g.0.0) g.0.1), g.0.1.1) ≡ y =
@@ -411,10 +411,10 @@ module _ (policy : Policy) (schemes : Schemes) (rel : ℕ) where
   -- ---- what the reader returned
 
   module _ (l r : Left) where
-    kept : (x : Result (Result Expr PlacedFault) PlacedFault) (test : Expr) → x ≡ Ok (Ok test) → Gives (λ z. (z, r)) x (condition_at policy schemes rel l) → AreSpelled (without_places l.placed)
-        → IsCondition policy schemes rel l r test
+    kept : (x : Result (Result Expr PlacedFault) PlacedFault) (test : Expr) → x ≡ Ok (Ok test) → Gives (λ z. (z, r)) x (condition_at policy schemes relation l) → AreSpelled (without_places l.placed)
+        → IsCondition policy schemes relation l r test
     kept x test is g all =
-        let read : condition_at policy schemes rel l ≡ Ok (Ok test, r) = subst (λ z. Gives (λ y. (y, r)) z (condition_at policy schemes rel l)) is g in
+        let read : condition_at policy schemes relation l ≡ Ok (Ok test, r) = subst (λ z. Gives (λ y. (y, r)) z (condition_at policy schemes relation l)) is g in
         let found = condition_found l (Ok test, r) read in
         record {
           tokens = found.tokens;
@@ -423,20 +423,20 @@ module _ (policy : Policy) (schemes : Schemes) (rel : ℕ) where
           stop = found.passed.stop;
         }
 
-    pub told_kept : (x : Result (Result Expr PlacedFault) PlacedFault) → Gives (λ z. (z, r)) x (condition_at policy schemes rel l) → AreSpelled (without_places l.placed)
-        → IfOk x (λ z. IfOk z (IsCondition policy schemes rel l r))
+    pub told_kept : (x : Result (Result Expr PlacedFault) PlacedFault) → Gives (λ z. (z, r)) x (condition_at policy schemes relation l) → AreSpelled (without_places l.placed)
+        → IfOk x (λ z. IfOk z (IsCondition policy schemes relation l r))
     told_kept (Ok (Ok test)) g all = kept (Ok (Ok test)) test refl g all
     told_kept (Ok (Err f)) g all = tt
     told_kept (Err f) g all = tt
 
-    pub fits_kept : (x : Result (Result Expr PlacedFault) PlacedFault) → Gives (λ z. (z, r)) x (condition_at policy schemes rel l) → AreSpelled (without_places l.placed)
-        → IfOk x (λ z. IfOk z (IsConditionOf schemes rel))
-    fits_kept (Ok (Ok test)) g all = let h = kept (Ok (Ok test)) test refl g all in told_of_row schemes rel policy test h.tokens h.tells
+    pub fits_kept : (x : Result (Result Expr PlacedFault) PlacedFault) → Gives (λ z. (z, r)) x (condition_at policy schemes relation l) → AreSpelled (without_places l.placed)
+        → IfOk x (λ z. IfOk z (IsConditionOf schemes relation))
+    fits_kept (Ok (Ok test)) g all = let h = kept (Ok (Ok test)) test refl g all in told_of_row schemes relation policy test h.tokens h.tells
     fits_kept (Ok (Err f)) g all = tt
     fits_kept (Err f) g all = tt
 
     -- what was noted, where the form is right
-    noted_is : (y : Result Expr PlacedFault) (x : Given × State) → noted_at policy schemes rel l ≡ Ok x → condition_at policy schemes rel l ≡ Ok (y, r) → answer (least x.1.0) (as_fields x.0.expr) ≡ y
+    noted_is : (y : Result Expr PlacedFault) (x : Given × State) → noted_at policy schemes relation l ≡ Ok x → condition_at policy schemes relation l ≡ Ok (y, r) → answer (least x.1.0) (as_fields x.0.expr) ≡ y
     unfolding condition_at
     noted_is y x right g =
         let same = ok_is {E = PlacedFault} (judged x, x.1.1) (y, r) (ap (λ z. z >>= λ x. Ok (judged x, x.1.1)) (sym right) ∙ g) in
@@ -452,7 +452,7 @@ module _ (policy : Policy) (schemes : Schemes) (rel : ℕ) where
         let same : g ≡ f = cc in
         subst (λ y. IsLeast x.1.0 y) same (least_is x.1.0 g is)
 
-    pub judged_kept : (x : Result (Result Expr PlacedFault) PlacedFault) → Gives (λ z. (z, r)) x (condition_at policy schemes rel l) → IsJudged policy schemes rel l x
+    pub judged_kept : (x : Result (Result Expr PlacedFault) PlacedFault) → Gives (λ z. (z, r)) x (condition_at policy schemes relation l) → IsJudged policy schemes relation l x
     judged_kept (Ok (Ok test)) g = λ x right. clean x test (least x.1.0) refl (noted_is (Ok test) x right g)
     judged_kept (Ok (Err f)) g = λ x right. first x f (least x.1.0) refl (noted_is (Err f) x right g)
     judged_kept (Err f) g = tt

@@ -9,7 +9,7 @@ use Rattle.std.specs.Cmp.Lexicographic.{nat_list_eq_equiv}
 use Rattle.mls_lattice.specs.Policy.{Name, Policy, IsPolicy, AreNames}
 use Rattle.mls_scheme.specs.declared.value.Kind.{Kind}
 use Rattle.mls_scheme.specs.declared.attributes.Column.{Column}
-use Rattle.mls_scheme.specs.Scheme.{column_of, attribute_named, Attribute, Scheme, Schemes, IsScheme, AreSchemes, scheme_of, no_attribute}
+use Rattle.mls_scheme.specs.Scheme.{column_of, Attribute, Scheme, Schemes, IsScheme, AreSchemes, scheme_of, no_attribute}
 use Rattle.mls_scheme.proofs.CanonLemmas.{attribute_there}
 use Rattle.mls_scheme.proofs.SchemeNameLemmas.{scheme_is}
 use Rattle.mls_tokens.specs.Scanning.{Left, without_places}
@@ -17,7 +17,7 @@ use Rattle.mls_translang.specs.declared.operator.Operator.{Operator}
 use Rattle.mls_translang.specs.declared.operator.Operator.TheVariants as operators
 use Rattle.mls_translang.specs.Fits.{width, ExprFits}
 use Rattle.mls_translang.specs.Kinds.{Sort, Of, Truth, OperatorGives, HasSort, field_of}
-use Rattle.mls_translang.specs.Named.{has_name}
+use Rattle.mls_scheme.specs.Named.{has_name}
 use Rattle.mls_translang.specs.Scope.{kind_of_var}
 use Rattle.mls_translang.specs.Tree.{Expr, Known, Null, Var, Param, Field, No, Op}
 use Rattle.mls_translang.specs.Tx.{HasOwn}
@@ -34,31 +34,31 @@ pub row_width : (scheme : Scheme) → length (row_vars scheme) ≡ width scheme
 row_width scheme = length-map (scheme.keys ++ scheme.others) attribute_var ∙ length-append scheme.keys scheme.others
 
 -- the attribute of a number, of one list and of two
-one_kind : (xs : List Attribute) (i : ℕ) (k : Kind) → option_map (λ v. v.1) (slice_get (map attribute_var xs) i) ≡ Some k → (get_or xs i no_attribute).kind ≡ k
+one_kind : (xs : List Attribute) (i : ℕ) (k : Kind) → option_map (λ v. v.1) (slice_get (map attribute_var xs) i) ≡ Some k → (get_or xs i no_attribute).1.kind ≡ k
 one_kind [] i k e = absurd cc
-one_kind (a ∷ rest) zero k e = let same : Some a.kind ≡ Some k = e in cc
+one_kind (a ∷ rest) zero k e = let same : Some a.1.kind ≡ Some k = e in cc
 one_kind (a ∷ rest) (suc i) k e = one_kind rest i k e
 
 kind_at : (keys others : List Attribute) (i : ℕ) (k : Kind) → option_map (λ v. v.1) (slice_get (map attribute_var (keys ++ others)) i) ≡ Some k
-    → ((i < length keys) → (get_or keys i no_attribute).kind ≡ k) × ((length keys ≤ i) → (get_or others (i - length keys) no_attribute).kind ≡ k)
+    → ((i < length keys) → (get_or keys i no_attribute).1.kind ≡ k) × ((length keys ≤ i) → (get_or others (i - length keys) no_attribute).1.kind ≡ k)
 kind_at [] others i k e =
     let none : i - length {A = Attribute} [] ≡ i = omega arith in
-    (λ lt. absurd (omega (arith, lt)), λ le. ap (λ (n : ℕ). (get_or others n no_attribute).kind) none ∙ one_kind others i k e)
-kind_at (a ∷ rest) others zero k e = (λ lt. let same : Some a.kind ≡ Some k = e in cc, λ le. absurd (omega (arith, le)))
+    (λ lt. absurd (omega (arith, lt)), λ le. ap (λ (n : ℕ). (get_or others n no_attribute).1.kind) none ∙ one_kind others i k e)
+kind_at (a ∷ rest) others zero k e = (λ lt. let same : Some a.1.kind ≡ Some k = e in cc, λ le. absurd (omega (arith, le)))
 kind_at (a ∷ rest) others (suc i) k e =
     let h = kind_at rest others i k e in (
       λ lt. h.0 (omega (arith, lt)),
       λ le.
           let less : suc i - length (a ∷ rest) ≡ i - length rest = omega arith in
-          ap (λ (n : ℕ). (get_or others n no_attribute).kind) less ∙ h.1 (omega (arith, le)),
+          ap (λ (n : ℕ). (get_or others n no_attribute).1.kind) less ∙ h.1 (omega (arith, le)),
     )
 
-var_kind : (scheme : Scheme) (i : ℕ) (k : Kind) → option_map (λ v. v.1) (slice_get (row_vars scheme) i) ≡ Some k → k ≡ (field_of scheme i).kind
+var_kind : (scheme : Scheme) (i : ℕ) (k : Kind) → option_map (λ v. v.1) (slice_get (row_vars scheme) i) ≡ Some k → k ≡ (field_of scheme i).1.kind
 var_kind scheme i k e =
     let h = kind_at scheme.keys scheme.others i k e in
     elim (cases_lt i (length scheme.keys)) [
-      | inl key ↦ sym (ap (λ (a : Attribute). a.kind) (as_key scheme i key) ∙ h.0 key)
-      | inr other ↦ let le : length scheme.keys ≤ i = omega (arith, other) in sym (ap (λ (a : Attribute). a.kind) (as_other scheme i le) ∙ h.1 le)
+      | inl key ↦ sym (ap (λ (a : Attribute). a.1.kind) (as_key scheme i key) ∙ h.0 key)
+      | inr other ↦ let le : length scheme.keys ≤ i = omega (arith, other) in sym (ap (λ (a : Attribute). a.1.kind) (as_other scheme i le) ∙ h.1 le)
     ]
 
 -- ---- they are fields of the row
@@ -76,11 +76,11 @@ operands_made operators.AtMost t P Q made h = (h.0, (h.1.0, made (Of h.1.0) h.1.
 operands_made operators.Greater t P Q made h = (h.0, (h.1.0, made (Of h.1.0) h.1.1))
 operands_made operators.AtLeast t P Q made h = (h.0, (h.1.0, made (Of h.1.0) h.1.1))
 
-module _ (schemes : Schemes) (rel : ℕ) where
+module _ (schemes : Schemes) (relation : ℕ) where
   abbrev scheme : Scheme
-  scheme = scheme_of schemes rel
+  scheme = scheme_of schemes relation
 
-  fields_own : (e : Expr) → HasOwn (written_scope schemes rel) e → HasOwn (row_scope schemes rel) (as_fields e)
+  fields_own : (e : Expr) → HasOwn (written_scope schemes relation) e → HasOwn (row_scope schemes relation) (as_fields e)
   fields_own (Known v) h = h
   fields_own Null h = h
   fields_own (Var i) h = omega arith
@@ -89,7 +89,7 @@ module _ (schemes : Schemes) (rel : ℕ) where
   fields_own (No e) h = fields_own e h
   fields_own (Op op left right) h = (fields_own left h.0, fields_own right h.1)
 
-  fields_fit : (e : Expr) → HasOwn (written_scope schemes rel) e → ExprFits schemes (written_scope schemes rel) e → ExprFits schemes (row_scope schemes rel) (as_fields e)
+  fields_fit : (e : Expr) → HasOwn (written_scope schemes relation) e → ExprFits schemes (written_scope schemes relation) e → ExprFits schemes (row_scope schemes relation) (as_fields e)
   fields_fit (Known v) h f = tt
   fields_fit Null h f = tt
   fields_fit (Var i) h f = subst (λ n. i < n) (row_width scheme) h
@@ -98,7 +98,7 @@ module _ (schemes : Schemes) (rel : ℕ) where
   fields_fit (No e) h f = fields_fit e h f
   fields_fit (Op op left right) h f = (fields_fit left h.0 f.0, fields_fit right h.1 f.1)
 
-  fields_sort : (e : Expr) (t : Sort) → HasSort schemes (written_scope schemes rel) t e → HasSort schemes (row_scope schemes rel) t (as_fields e)
+  fields_sort : (e : Expr) (t : Sort) → HasSort schemes (written_scope schemes relation) t e → HasSort schemes (row_scope schemes relation) t (as_fields e)
   fields_sort (Known v) (Of k) h = h
   fields_sort (Known v) Truth h = h
   fields_sort Null (Of k) h = h
@@ -108,28 +108,28 @@ module _ (schemes : Schemes) (rel : ℕ) where
   fields_sort (Field d i) t h = h
   fields_sort (No e) t h = (h.0, fields_sort e Truth h.1)
   fields_sort (Op op left right) t h =
-      operands_made op t (λ u. HasSort schemes (written_scope schemes rel) u left × HasSort schemes (written_scope schemes rel) u right)
-      (λ u. HasSort schemes (row_scope schemes rel) u (as_fields left) × HasSort schemes (row_scope schemes rel) u (as_fields right))
+      operands_made op t (λ u. HasSort schemes (written_scope schemes relation) u left × HasSort schemes (written_scope schemes relation) u right)
+      (λ u. HasSort schemes (row_scope schemes relation) u (as_fields left) × HasSort schemes (row_scope schemes relation) u (as_fields right))
       (λ u both. (fields_sort left u both.0, fields_sort right u both.1)) h
 
   -- what is told is a condition of the row
-  pub told_of_row : (policy : Policy) (test : Expr) (ts : List _) → TellsCondition policy schemes rel test ts → IsConditionOf schemes rel test
+  pub told_of_row : (policy : Policy) (test : Expr) (ts : List _) → TellsCondition policy schemes relation test ts → IsConditionOf schemes relation test
   told_of_row policy test ts h =
-      subst (IsConditionOf schemes rel) (sym h.is)
+      subst (IsConditionOf schemes relation) (sym h.is)
       (record { own = fields_own h.written h.own; fits = fields_fit h.written h.own h.fits; truth = fields_sort h.written Truth h.truth })
 
 -- ---- their names
 
-vars_named : (xs : List Attribute) → map (λ v. v.0) (map attribute_var xs) ≡ map (λ a. a.name) xs
+vars_named : (xs : List Attribute) → map (λ v. v.0) (map attribute_var xs) ≡ map (λ a. a.0) xs
 vars_named [] = refl
-vars_named (a ∷ rest) = ap (λ ns. a.name ∷ ns) (vars_named rest)
+vars_named (a ∷ rest) = ap (λ ns. a.0 ∷ ns) (vars_named rest)
 
 -- the names of a relation, of its attributes, and of policy and schemes are in order
-pub written_names : (policy : Policy) (schemes : Schemes) → IsPolicy policy → AreSchemes schemes → (rel : ℕ) → rel < length schemes → HasNames (written_place policy schemes rel)
+pub written_names : (policy : Policy) (schemes : Schemes) → IsPolicy policy → AreSchemes schemes → (relation : ℕ) → relation < length schemes → HasNames (written_place policy schemes relation)
 unfolding IsDistinct
-written_names policy schemes is_policy valid rel within =
-    let scheme = scheme_of schemes rel in
-    let h = scheme_is schemes valid rel within in
+written_names policy schemes is_policy valid relation within =
+    let scheme = scheme_of schemes relation in
+    let h = scheme_is schemes valid relation within in
     let same = sym (vars_named (scheme.keys ++ scheme.others)) in
     record {
       policy = is_policy;
@@ -143,9 +143,9 @@ written_names policy schemes is_policy valid rel within =
 -- ---- one attribute more
 
 module _ (front : List (Name × Kind)) (attributes : List Attribute) (i : ℕ) (name : Name) (c : Column)
-    (named : option_map (λ a. a.name) (slice_get attributes i) ≡ Some name) (said : option_map column_of (slice_get attributes i) ≡ Some c) where
+    (named : option_map (λ a. a.0) (slice_get attributes i) ≡ Some name) (said : option_map column_of (slice_get attributes i) ≡ Some c) where
   abbrev next : Attribute
-  next = attribute_named name c
+  next = (name, c)
 
   abbrev pushed : List (Name × Kind)
   pushed = front ++ map attribute_var (take i attributes)

@@ -19,8 +19,8 @@ use Rattle.mls_translang.specs.declared.operator.Operator.TheVariants.{Equal, Un
 use Rattle.mls_translang.specs.Tokens.{Place}
 use Rattle.mls_parser.specs.declared.fault.PlacedFault.{PlacedFault}
 use Rattle.mls_parser.specs.declared.given.Given.{Given}
-use Rattle.mls_parser.specs.Noted.{State, note}
-use Rattle.mls_parser.specs.ReadCondition.{comparison_of, joiner_of, take_known, taken_as, behind_known, takes_known, between, between_faults, test_at, next_test_at, with_next, tests_from, tests_at}
+use Rattle.mls_parser.specs.Noted.{State}
+use Rattle.mls_parser.specs.ReadCondition.{comparison_of, joiner_of, take_known, taken_as, between, between_faults, test_at, next_test_at, with_next, tests_from, tests_at}
 
 -- ---- operators
 
@@ -156,12 +156,6 @@ pub no_joiner_taken : (l : Left) → None ≡ taken (is_word (codes "and")) l �
 no_joiner_taken l a b = no_joiner_first l.placed l.stop a b
 
 pub ruleset joiner_steps = (and_taken, or_taken, no_joiner_taken)
-
--- ---- what stands behind is next
-
--- behind what was noted
-pub known_none : (what : Token → Option Operator) (s : State) → taken_as what s.1 ≡ None → takes_known what s ≡ None
-known_none what s is = ap (option_map (behind_known s.0)) is
 
 -- ---- tests
 

@@ -166,11 +166,11 @@ module _ (p : Place) (n : HasNames p) where
 
   -- an attribute of a row
   field_again : (d i : ℕ) (t : Sort) (at : ℕ) (us : List Token) (fs : List PlacedFault) (m : Left) → HasOwn p.scope (Field d i) → ExprFits p.schemes p.scope (Field d i)
-      → HasSort p.schemes p.scope t (Field d i) → without_places m.placed ≡ Sign sign.Dot ∷ Word (field_of (row_scheme p d) i).name ∷ us
+      → HasSort p.schemes p.scope t (Field d i) → without_places m.placed ≡ Sign sign.Dot ∷ Word (field_of (row_scheme p d) i).0 ∷ us
       → Gets (named_at p ((row_at p.scope d).name, at) (fs, m)) (fs, m) (IsAgain t (Field d i)) us
   field_again d i t at us fs m o f h k =
       let row : PlacedName = ((row_at p.scope d).name, at) in
-      let attribute = (field_of (row_scheme p d) i).name in
+      let attribute = (field_of (row_scheme p d) i).0 in
       let r = row_again p n d o in
       let a = attribute_again (row_scheme p d) (row_valid p n d o) i f in
       let dot = took_sign sign.Dot (Word attribute ∷ us) (fs, m) k in
@@ -182,7 +182,7 @@ module _ (p : Place) (n : HasNames p) where
       (record {
         is = ap (λ z. (field_given p row (attribute, y) z).expr) r ∙ ap (λ z. Field d (numbered z)) a;
         agrees = subst (λ z. Agrees t (field_given p row (attribute, y) z).gives) (sym r) (subst (λ z. Agrees t (of_attribute (row_scheme p d) z)) (sym a)
-            (subst (λ s. Agrees s (inferred.Value (field_of (row_scheme p d) i).kind)) (sym h) (kind_agrees (field_of (row_scheme p d) i).kind)));
+            (subst (λ s. Agrees s (inferred.Value (field_of (row_scheme p d) i).1.kind)) (sym h) (kind_agrees (field_of (row_scheme p d) i).1.kind)));
       }) e)))
 
   abbrev SecondAgain : Operator → Sort → Expr → (Operator × ℕ) × Given → Type 0
@@ -216,7 +216,7 @@ module _ (p : Place) (n : HasNames p) where
   expr_again d (Field r i) t us s l o f h off j =
       let row = (row_at p.scope r).name in
       depth_gets p d s (IsAgain t (Field r i)) us
-      (λ a b. term_gets p a b (heads.Name row) (Word row) (Sign sign.Dot ∷ Word (field_of (row_scheme p r) i).name ∷ us) s (IsAgain t (Field r i)) us (name_head row (row_is_name p n r o)) j
+      (λ a b. term_gets p a b (heads.Name row) (Word row) (Sign sign.Dot ∷ Word (field_of (row_scheme p r) i).0 ∷ us) s (IsAgain t (Field r i)) us (name_head row (row_is_name p n r o)) j
       (λ x m k. field_again r i t x us s.0 m o f h k))
   expr_again zero (No e) t us s l o f h off j = absurd (omega (arith, l))
   expr_again (suc d) (No e) t us s l o f h off j =

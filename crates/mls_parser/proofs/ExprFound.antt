@@ -78,7 +78,7 @@ module _ (p : Place) (d : ℕ) (t : Token) where
       → Word row.0 ∷ Sign sign.Dot ∷ Word attribute.0 ∷ [] ≡ expr_tokens p (field_given p row attribute o).expr
   field_spelled row attribute None is h = absurd cc
   field_spelled row attribute (Some i) is h =
-      let name = of_known (attribute_named (row_scheme p i) attribute.0) attribute.1 (λ k. (field_of (row_scheme p i) k).name ≡ attribute.0) h
+      let name = of_known (attribute_named (row_scheme p i) attribute.0) attribute.1 (λ k. (field_of (row_scheme p i) k).0 ≡ attribute.0) h
       (attribute_there (row_scheme p i) attribute.0) in
       sym (λ j. Word (row_there p row.0 i is j) ∷ Sign sign.Dot ∷ Word (name j) ∷ [])
 

@@ -16,7 +16,7 @@ use Rattle.mls_lattice.specs.Policy.{Name, Policy, IsPolicy, AreNames}
 use Rattle.mls_scheme.specs.Scheme.{Attribute, Scheme, Schemes, IsScheme, AreSchemes, scheme_of, other_of, no_attribute}
 use Rattle.mls_lattice.proofs.NamedLemmas.{distinct_behind, name_there, found_again, is_name_at, is_name_there}
 use Rattle.mls_lattice.proofs.NamedLemmas as named
-use Rattle.mls_scheme.proofs.AttributeLemmas.{is_some-position}
+use Rattle.mls_scheme.proofs.NamedLemmas.{is_some-position}
 use Rattle.mls_scheme.proofs.SchemeNameLemmas.{scheme_is, split_apart}
 use Rattle.mls_scheme.proofs.SchemeNameLemmas as schemed
 use Rattle.mls_translang.specs.Fits.{width}
@@ -78,31 +78,31 @@ relation_again = schemed.relation_again
 
 module _ (scheme : Scheme) (valid : IsScheme scheme) where
   abbrev name_of : Attribute → Name
-  name_of a = a.name
+  name_of a = a.0
 
   apart : IsDistinct bytes_eq (map name_of scheme.keys ++ map name_of scheme.others)
   apart = split_apart scheme valid
 
-  pub other_again : (n : ℕ) → n < length scheme.others → other_named scheme (other_of scheme n).name ≡ Some n
+  pub other_again : (n : ℕ) → n < length scheme.others → other_named scheme (other_of scheme n).0 ≡ Some n
   unfolding other_named
   other_again = schemed.other_again scheme valid
 
-  key_again : (n : ℕ) → n < length scheme.keys → position (λ a. bytes_eq a.name (get_or scheme.keys n no_attribute).name) scheme.keys ≡ Some n
+  key_again : (n : ℕ) → n < length scheme.keys → position (λ a. bytes_eq a.0 (get_or scheme.keys n no_attribute).0) scheme.keys ≡ Some n
   key_again n within = found_again name_of scheme.keys no_attribute (distinct_front bytes_eq (map name_of scheme.keys) (map name_of scheme.others) apart) n within
 
   -- no key attribute has the name of another attribute
-  no_key : (n : ℕ) → n < length scheme.others → position (λ a. bytes_eq a.name (other_of scheme n).name) scheme.keys ≡ None
+  no_key : (n : ℕ) → n < length scheme.others → position (λ a. bytes_eq a.0 (other_of scheme n).0) scheme.keys ≡ None
   no_key n within =
-      let name = (other_of scheme n).name in
+      let name = (other_of scheme n).0 in
       let far = apart_front bytes_eq nat_list_eq_equiv (map name_of scheme.keys) (map name_of scheme.others) n [] apart (omega (arith, within, length-map scheme.others name_of)) in
       let same : get_or (map name_of scheme.others) n [] ≡ name = get_or-map name_of scheme.others n no_attribute [] within in
-      none_of (position (λ a. bytes_eq a.name name) scheme.keys)
-      (is_some-position (λ a. bytes_eq a.name name) scheme.keys ∙ sym (named_any name_of scheme.keys name) ∙ subst (λ x. list_any (bytes_eq x) (map name_of scheme.keys) ≡ false) same far)
+      none_of (position (λ a. bytes_eq a.0 name) scheme.keys)
+      (is_some-position (λ a. bytes_eq a.0 name) scheme.keys ∙ sym (named_any name_of scheme.keys name) ∙ subst (λ x. list_any (bytes_eq x) (map name_of scheme.keys) ≡ false) same far)
 
   abbrev found : Name → Option ℕ
-  found name = or_behind (position (λ a. bytes_eq a.name name) scheme.keys) (length scheme.keys) (position (λ a. bytes_eq a.name name) scheme.others)
+  found name = or_behind (position (λ a. bytes_eq a.0 name) scheme.keys) (length scheme.keys) (position (λ a. bytes_eq a.0 name) scheme.others)
 
-  found_other : (n : ℕ) → length scheme.keys ≤ n → n < width scheme → found (other_of scheme (n - length scheme.keys)).name ≡ Some n
+  found_other : (n : ℕ) → length scheme.keys ≤ n → n < width scheme → found (other_of scheme (n - length scheme.keys)).0 ≡ Some n
   found_other n le lt =
       let m = n - length scheme.keys in
       let within : m < length scheme.others = omega (arith, le, lt) in
@@ -110,12 +110,12 @@ module _ (scheme : Scheme) (valid : IsScheme scheme) where
       let there = schemed.other_again scheme valid m within in
       (λ i. or_behind (no_key m within i) (length scheme.keys) (there i)) ∙ ap (λ k. Some k) total
 
-  pub attribute_again : (n : ℕ) → n < width scheme → attribute_named scheme (field_of scheme n).name ≡ Some n
+  pub attribute_again : (n : ℕ) → n < width scheme → attribute_named scheme (field_of scheme n).0 ≡ Some n
   unfolding attribute_named
   attribute_again n lt =
       elim (cases_lt n (length scheme.keys)) [
-        | inl key ↦ ap (λ a. found a.name) (as_key scheme n key) ∙ ap (λ o. or_behind o (length scheme.keys) (position (λ a. bytes_eq a.name (get_or scheme.keys n no_attribute).name) scheme.others)) (key_again n key)
-        | inr other ↦ let le : length scheme.keys ≤ n = omega (arith, other) in ap (λ a. found a.name) (as_other scheme n le) ∙ found_other n le lt
+        | inl key ↦ ap (λ a. found a.0) (as_key scheme n key) ∙ ap (λ o. or_behind o (length scheme.keys) (position (λ a. bytes_eq a.0 (get_or scheme.keys n no_attribute).0) scheme.others)) (key_again n key)
+        | inr other ↦ let le : length scheme.keys ≤ n = omega (arith, other) in ap (λ a. found a.0) (as_other scheme n le) ∙ found_other n le lt
       ]
 
 -- ---- variables, parameters and rows
@@ -130,9 +130,6 @@ pub record HasNames (p : Place) : Type 0 where
   pub rows : AllByRecursion (λ r. r.relation < length p.schemes) p.scope.rows
 
 module _ {T : Type 0} (xs : List (Name × T)) where
-  abbrev firsts : List Name
-  firsts = map (λ x. x.0) xs
-
   pub name_is : (n : ℕ) (d : Name × T) → n < length xs → name_at xs n ≡ (get_or xs n d).0
   name_is n d within = name_there (λ x. x.0) xs d n within
 

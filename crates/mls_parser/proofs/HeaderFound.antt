@@ -22,7 +22,7 @@ use Rattle.mls_tokens.specs.Passing.{PlacedName}
 use Rattle.mls_tokens.proofs.PassedLemmas.{passed_more}
 use Rattle.mls_translang.specs.declared.tx.Parameter.{Parameter}
 use Rattle.mls_translang.specs.Fits.{IsLabel}
-use Rattle.mls_translang.specs.Named.{has_name}
+use Rattle.mls_scheme.specs.Named.{has_name}
 use Rattle.mls_translang.specs.Tokens.{kind_token, var_tokens}
 use Rattle.mls_parser.specs.declared.fault.PlacedFault.{PlacedFault}
 use Rattle.mls_parser.specs.declared.fault.TextCause.TheVariants as cause

@@ -11,7 +11,7 @@ use Rattle.mls_tokens.specs.Scanning.{Left}
 use Rattle.mls_tokens.specs.Passing.{is_sign, taken, PlacedName}
 use Rattle.mls_tokens.proofs.PassedLemmas.{passed_shorter, taken_shorter}
 use Rattle.mls_translang.specs.declared.tx.Parameter.{Parameter}
-use Rattle.mls_translang.specs.Named.{has_name}
+use Rattle.mls_scheme.specs.Named.{has_name}
 use Rattle.mls_parser.specs.declared.fault.PlacedFault.{PlacedFault}
 use Rattle.mls_parser.specs.declared.fault.TextCause.TheVariants.{Repeated}
 use Rattle.mls_parser.specs.Fault.{unless}

@@ -110,7 +110,7 @@ pub record AreListed (p : Place) (attributes : List Attribute) (es : List Expr) 
 pub record AreSet (p : Place) (scheme : Scheme) (xs : List (ℕ × Expr)) : Type 0 where
   pub own : AllByRecursion (λ x. IsOwn p.scope x.1) xs
   pub fits : SetsFit p.schemes p.scope scheme xs
-  pub kinds : AllByRecursion (λ x. HasKind p.schemes p.scope (other_of scheme x.0).kind x.1) xs
+  pub kinds : AllByRecursion (λ x. HasKind p.schemes p.scope (other_of scheme x.0).1.kind x.1) xs
 
 module _ (p : Place) (n : HasNames p) where
   module _ (attributes : List Attribute) where
@@ -120,12 +120,12 @@ module _ (p : Place) (n : HasNames p) where
       fits : ExprFits p.schemes p.scope e
       attribute : Attribute
       is : slice_get attributes (length front) ≡ Some attribute
-      kind : HasKind p.schemes p.scope attribute.kind e
+      kind : HasKind p.schemes p.scope attribute.1.kind e
 
     item_again : (front : List Expr) (e : Expr) (us : List Token) (s : State) → FitsItem front e → NoDot us → without_places s.1.placed ≡ expr_tokens p e ++ us → Gets (item_at p attributes front s) s (Same (behind front e)) us
     unfolding item_at
     item_again front e us s h off k =
-        gets_more (λ g. Ok (front ++ g.0.expr ∷ [], note (tested (fits_item (slice_get attributes (length front)) g.0.gives) g.0) g.1)) (whole_again p n e (Of h.attribute.kind) us s h.own h.fits h.kind off k)
+        gets_more (λ g. Ok (front ++ g.0.expr ∷ [], note (tested (fits_item (slice_get attributes (length front)) g.0.gives) g.0) g.1)) (whole_again p n e (Of h.attribute.1.kind) us s h.own h.fits h.kind off k)
         (λ g m r t. gets_noted (front ++ g.expr ∷ []) (tested (fits_item (slice_get attributes (length front)) g.gives) g) s.0 m (Same (behind front e)) us
         (none g.at cause.Kind (ap (λ o. fits_item o g.gives) h.is ∙ r.agrees)) (ap (behind front) r.is) t)
 
@@ -174,18 +174,18 @@ module _ (p : Place) (n : HasNames p) where
       own : IsOwn p.scope x.1
       within : x.0 < length scheme.others
       fits : ExprFits p.schemes p.scope x.1
-      kind : HasKind p.schemes p.scope (other_of scheme x.0).kind x.1
+      kind : HasKind p.schemes p.scope (other_of scheme x.0).1.kind x.1
       new : list_any (nat_eq x.0) (map (λ y. y.0) front) ≡ false
 
     set_again : (front : List (ℕ × Expr)) (x : ℕ × Expr) (us : List Token) (s : State) → FitsSet front x → NoDot us → without_places s.1.placed ≡ set_tokens p scheme x ++ us → Gets (set_at p scheme front s) s (Same (behind front x)) us
     unfolding set_at
     set_again front x us s h off k =
-        let name = (other_of scheme x.0).name in
+        let name = (other_of scheme x.0).0 in
         let found = other_again scheme valid x.0 h.within in
         let finish : PlacedName → Given × State → Read (List (ℕ × Expr)) = λ a v. Ok (with_set front (other_named scheme a.0) v.0.expr, note (set_faults scheme front a (other_named scheme a.0) v.0) v.1) in
         placed_then (λ a. sign_at sign.Equals a.1 >>= λ q. whole_at p q.1 >>= finish a.0) (name_gets name (Sign sign.Equals ∷ (expr_tokens p x.1 ++ us)) s (other_is_name scheme valid x.0 h.within) k)
         (λ at m t. gets_more (λ q. whole_at p q.1 >>= finish (name, at)) (sign_gets sign.Equals (expr_tokens p x.1 ++ us) (s.0, m) t)
-        (λ q m2 i2 t2. gets_more (finish (name, at)) (whole_again p n x.1 (Of (other_of scheme x.0).kind) us (s.0, m2) h.own h.fits h.kind off t2)
+        (λ q m2 i2 t2. gets_more (finish (name, at)) (whole_again p n x.1 (Of (other_of scheme x.0).1.kind) us (s.0, m2) h.own h.fits h.kind off t2)
         (λ v m3 r t3. gets_noted (with_set front (other_named scheme name) v.expr) (set_faults scheme front (name, at) (other_named scheme name) v) s.0 m3 (Same (behind front x)) us
         (ap (λ o. set_faults scheme front (name, at) o v) found ∙ none_two (none at cause.Repeated (ap not h.new)) (none v.at cause.Kind r.agrees)) (ap (λ o. with_set front o v.expr) found ∙ ap (λ e. front ++ (x.0, e) ∷ []) r.is) t3)))
 
@@ -193,7 +193,7 @@ module _ (p : Place) (n : HasNames p) where
     numbers = map (λ y. y.0)
 
     sets_fit : (front xs : List (ℕ × Expr)) → IsDistinct nat_eq (numbers front ++ numbers xs) → AllByRecursion (λ x. IsOwn p.scope x.1) xs → AllByRecursion (λ x. (x.0 < length scheme.others) × ExprFits p.schemes p.scope x.1) xs
-        → AllByRecursion (λ x. HasKind p.schemes p.scope (other_of scheme x.0).kind x.1) xs → AllFit behind FitsSet front xs
+        → AllByRecursion (λ x. HasKind p.schemes p.scope (other_of scheme x.0).1.kind x.1) xs → AllFit behind FitsSet front xs
     sets_fit front [] d o f h = tt
     sets_fit front (x ∷ xs) d o f h =
         let more : numbers (front ++ x ∷ []) ++ numbers xs ≡ numbers front ++ numbers (x ∷ xs) = ap (λ l. l ++ numbers xs) (map_push (λ y. y.0) front x) ∙ append_assoc (numbers front) (x.0 ∷ []) (numbers xs) in (

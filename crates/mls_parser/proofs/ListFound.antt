@@ -102,7 +102,7 @@ module _ (p : Place) (attributes : List Attribute) where
         fits = r.sound.fits;
         kind = λ a is.
             let fit = holds (fits_item (slice_get attributes (length front)) g.gives) g.at _ none in
-            (as_kind p g.gives a.kind g.expr (ap (λ o. fits_item o g.gives) (sym is) ∙ fit) r.sound.gives, tt);
+            (as_kind p g.gives a.1.kind g.expr (ap (λ o. fits_item o g.gives) (sym is) ∙ fit) r.sound.gives, tt);
       })
 
   -- these expressions, of which the first is that of an attribute

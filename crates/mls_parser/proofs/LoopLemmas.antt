@@ -1,14 +1,10 @@
 -- Lists that loops make, an item at a time.
-use Rattle.std.proofs.Common.{◌≡◌, ℕ, ◌+◌, ◌<◌, List, [], ◌∷◌, ◌++◌, length, map, get_or, take, sym, ap, ◌∙◌}
-use Rattle.std.proofs.lemmas.List.{take_more, map_push}
+use Rattle.std.proofs.Common.{◌≡◌, ℕ, ◌+◌, ◌<◌, List, [], ◌∷◌, ◌++◌, length, get_or, take, sym, ap, ◌∙◌}
+use Rattle.std.proofs.lemmas.List.{take_more}
 
 module _ {X : Type 0} (xs : List X) (i : ℕ) (x : X) (within : i < length xs) (is : x ≡ get_or xs i x) where
   front : take (i + 1) xs ≡ take i xs ++ x ∷ []
   front = take_more xs i x within ∙ ap (λ z. take i xs ++ z ∷ []) (sym is)
-
-  -- what a function makes of each
-  pub map_more : {Y : Type 0} (f : X → Y) (ys zs : List Y) (y : Y) → ys ≡ map f (take i xs) → y ≡ f x → zs ≡ ys ++ y ∷ [] → zs ≡ map f (take (i + 1) xs)
-  map_more f ys zs y so_far one push = push ∙ (λ j. so_far j ++ one j ∷ []) ∙ sym (map_push f (take i xs) x) ∙ ap (map f) (sym front)
 
   -- copies, behind a first
   pub copy_more : (first : X) (ys zs : List X) (y : X) → ys ≡ first ∷ take i xs → y ≡ x → zs ≡ ys ++ y ∷ [] → zs ≡ first ∷ take (i + 1) xs

@@ -28,9 +28,9 @@ pub relation_there : (schemes : Schemes) (n : Name) (i : ℕ) → relation_named
 unfolding relation_named
 relation_there schemes n i e = (relation_found schemes n i e).1
 
-pub other_there : (scheme : Scheme) (n : Name) (i : ℕ) → other_named scheme n ≡ Some i → (other_of scheme i).name ≡ n
+pub other_there : (scheme : Scheme) (n : Name) (i : ℕ) → other_named scheme n ≡ Some i → (other_of scheme i).0 ≡ n
 unfolding other_named
-other_there scheme n i e = (named_there (λ a. a.name) scheme.others no_attribute n i e).1
+other_there scheme n i e = (named_there (λ a. a.0) scheme.others no_attribute n i e).1
 
 module _ (p : Place) (n : Name) where
   pub variable_there : (i : ℕ) → variable_named p n ≡ Some i → name_at p.scope.vars i ≡ n
@@ -55,24 +55,24 @@ module _ (p : Place) (n : Name) where
 
 -- ---- attributes of rows
 
-behind_there : (scheme : Scheme) (n : Name) (a b : Option ℕ) (i : ℕ) → position (λ x. bytes_eq x.name n) scheme.keys ≡ a → position (λ x. bytes_eq x.name n) scheme.others ≡ b
-    → or_behind a (length scheme.keys) b ≡ Some i → (field_of scheme i).name ≡ n
+behind_there : (scheme : Scheme) (n : Name) (a b : Option ℕ) (i : ℕ) → position (λ x. bytes_eq x.0 n) scheme.keys ≡ a → position (λ x. bytes_eq x.0 n) scheme.others ≡ b
+    → or_behind a (length scheme.keys) b ≡ Some i → (field_of scheme i).0 ≡ n
 behind_there scheme n (Some j) b i is other e =
     let same : j ≡ i = cc in
-    let t = named_there (λ x. x.name) scheme.keys no_attribute n j is in
+    let t = named_there (λ x. x.0) scheme.keys no_attribute n j is in
     let here : nat_lt i (length scheme.keys) ≡ true = grind (arith, nat_tests, t.0, same) in
-    rw here (subst (λ k. (get_or scheme.keys k no_attribute).name ≡ n) same t.1)
+    rw here (subst (λ k. (get_or scheme.keys k no_attribute).0 ≡ n) same t.1)
 behind_there scheme n None (Some j) i is other e =
     let same : length scheme.keys + j ≡ i = cc in
-    let t = named_there (λ x. x.name) scheme.others no_attribute n j other in
+    let t = named_there (λ x. x.0) scheme.others no_attribute n j other in
     let there : nat_lt i (length scheme.keys) ≡ false = grind (arith, nat_tests, same) in
     let back : j ≡ i - length scheme.keys = omega (arith, same) in
-    rw there (subst (λ k. (get_or scheme.others k no_attribute).name ≡ n) back t.1)
+    rw there (subst (λ k. (get_or scheme.others k no_attribute).0 ≡ n) back t.1)
 behind_there scheme n None None i is other e = absurd cc
 
-pub attribute_there : (scheme : Scheme) (n : Name) (i : ℕ) → attribute_named scheme n ≡ Some i → (field_of scheme i).name ≡ n
+pub attribute_there : (scheme : Scheme) (n : Name) (i : ℕ) → attribute_named scheme n ≡ Some i → (field_of scheme i).0 ≡ n
 unfolding attribute_named
-attribute_there scheme n i e = behind_there scheme n (position (λ x. bytes_eq x.name n) scheme.keys) (position (λ x. bytes_eq x.name n) scheme.others) i refl refl e
+attribute_there scheme n i e = behind_there scheme n (position (λ x. bytes_eq x.0 n) scheme.keys) (position (λ x. bytes_eq x.0 n) scheme.others) i refl refl e
 
 -- ---- known names
 

@@ -6,9 +6,9 @@ use Rattle.mls_translang.specs.Tokens.{Place, with_rows}
 use Rattle.mls_parser.specs.Names.{IsPlace}
 
 -- inside one loop more
-pub place_more : (p : Place) (rows : List LoopRow) (name : Name) (rel : ℕ) → IsPlace p → length p.scope.rows + 1 ≤ 16 → rel < length p.schemes
-    → rows ≡ record { name = name; relation = rel } ∷ p.scope.rows → IsPlace (with_rows p rows)
-place_more p rows name rel h room lt e =
+pub place_more : (p : Place) (rows : List LoopRow) (name : Name) (relation : ℕ) → IsPlace p → length p.scope.rows + 1 ≤ 16 → relation < length p.schemes
+    → rows ≡ record { name = name; relation = relation } ∷ p.scope.rows → IsPlace (with_rows p rows)
+place_more p rows name relation h room lt e =
     let F : List LoopRow → Type 0 = λ rs. IsPlace (with_rows p rs) in
     subst F (sym e) (record { rows = (lt, h.rows); hi = h.hi; few_params = h.few_params; few_vars = h.few_vars; few_rows = omega arith })
 

@@ -5,7 +5,7 @@ use Rattle.std.specs.List.{list_any}
 use Rattle.std.specs.Str.{bytes_eq}
 use Rattle.std.proofs.lemmas.List.Folds.{list_any-append}
 use Rattle.mls_lattice.specs.Policy.{Name}
-use Rattle.mls_scheme.proofs.AttributeLemmas.{is_some-position}
+use Rattle.mls_scheme.proofs.NamedLemmas.{is_some-position}
 use Rattle.mls_translang.specs.Scope.{names_in}
 use Rattle.mls_translang.specs.Tokens.{Place}
 use Rattle.mls_parser.specs.Names.{variable_named, parameter_named, row_named, is_taken}

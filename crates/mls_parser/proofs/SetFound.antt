@@ -39,7 +39,7 @@ module _ (p : Place) (scheme : Scheme) where
     pub within : x.0 < length scheme.others
     pub own : IsOwn p.scope x.1
     pub fits : ExprFits p.schemes p.scope x.1
-    pub kind : HasKind p.schemes p.scope (other_of scheme x.0).kind x.1
+    pub kind : HasKind p.schemes p.scope (other_of scheme x.0).1.kind x.1
 
   -- one new value more, of an attribute that had none
   record IsSet (front : List (ℕ × Expr)) (ts : List Token) (new : List (ℕ × Expr)) : Type 0 where
@@ -57,7 +57,7 @@ module _ (p : Place) (scheme : Scheme) where
       → IsSet front (Word n.0 ∷ Sign sign.Equals ∷ ts) (with_set front o g.expr)
   made front n g ts None is h r = absurd cc
   made front n g ts (Some i) is h r =
-      let t = neither _ (tested (may_be g.gives (other_of scheme i).kind) g) h in
+      let t = neither _ (tested (may_be g.gives (other_of scheme i).1.kind) g) h in
       record {
         item = (i, g.expr);
         whole = refl;
@@ -66,7 +66,7 @@ module _ (p : Place) (scheme : Scheme) where
           within = other_within n i is;
           own = record { nesting = r.nesting; numbers = r.sound.own };
           fits = r.sound.fits;
-          kind = as_kind p g.gives (other_of scheme i).kind g.expr (holds (may_be g.gives (other_of scheme i).kind) g.at _ t.1) r.sound.gives;
+          kind = as_kind p g.gives (other_of scheme i).1.kind g.expr (holds (may_be g.gives (other_of scheme i).1.kind) g.at _ t.1) r.sound.gives;
         };
         apart = not-true (list_any (nat_eq i) (numbers front)) (holds (not (list_any (nat_eq i) (numbers front))) n.1 _ t.0);
       }
@@ -146,7 +146,7 @@ module _ (p : Place) (scheme : Scheme) where
   each_own [] h = tt
   each_own (x ∷ xs) h = (h.0.own, each_own xs h.1)
 
-  each_kind : (xs : List (ℕ × Expr)) → AllByRecursion IsRightSet xs → AllByRecursion (λ x. HasKind p.schemes p.scope (other_of scheme x.0).kind x.1) xs
+  each_kind : (xs : List (ℕ × Expr)) → AllByRecursion IsRightSet xs → AllByRecursion (λ x. HasKind p.schemes p.scope (other_of scheme x.0).1.kind x.1) xs
   each_kind [] h = tt
   each_kind (x ∷ xs) h = (h.0.kind, each_kind xs h.1)
 
@@ -154,7 +154,7 @@ module _ (p : Place) (scheme : Scheme) where
     pub tokens : ts ≡ separated (set_tokens p scheme) xs
     pub own : AllByRecursion (λ x. IsOwn p.scope x.1) xs
     pub fits : SetsFit p.schemes p.scope scheme xs
-    pub kinds : AllByRecursion (λ x. HasKind p.schemes p.scope (other_of scheme x.0).kind x.1) xs
+    pub kinds : AllByRecursion (λ x. HasKind p.schemes p.scope (other_of scheme x.0).1.kind x.1) xs
 
   are_new : (ts : List Token) (xs : List (ℕ × Expr)) → Items IsSet [] ts xs → AreNew ts xs
   are_new ts xs h =

@@ -145,7 +145,7 @@ module _ (p : Place) where
 
   -- ---- fields
 
-  behind_within : (keys others : List Attribute) (name : Name) (a b : Option ℕ) (i : ℕ) → position (λ x. bytes_eq x.name name) keys ≡ a → position (λ x. bytes_eq x.name name) others ≡ b
+  behind_within : (keys others : List Attribute) (name : Name) (a b : Option ℕ) (i : ℕ) → position (λ x. bytes_eq x.0 name) keys ≡ a → position (λ x. bytes_eq x.0 name) others ≡ b
       → or_behind a (length keys) b ≡ Some i → i < length keys + length others
   behind_within keys others name (Some j) b i is other e =
       let same : j ≡ i = cc in
@@ -160,7 +160,7 @@ module _ (p : Place) where
   pub attribute_within : (scheme : Scheme) (name : Name) (i : ℕ) → attribute_named scheme name ≡ Some i → i < width scheme
   unfolding attribute_named
   attribute_within scheme name i e =
-      behind_within scheme.keys scheme.others name (position (λ x. bytes_eq x.name name) scheme.keys) (position (λ x. bytes_eq x.name name) scheme.others) i refl refl e
+      behind_within scheme.keys scheme.others name (position (λ x. bytes_eq x.0 name) scheme.keys) (position (λ x. bytes_eq x.0 name) scheme.others) i refl refl e
 
   attribute_sound : (d : ℕ) (name : Name) → d < length p.scope.rows → (o : Option ℕ) → attribute_named (row_scheme p d) name ≡ o → is_some o ≡ true
       → IsSound p (of_attribute (row_scheme p d) o) (core.Field d (numbered o))

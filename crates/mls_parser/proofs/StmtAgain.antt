@@ -24,7 +24,7 @@ use Rattle.mls_translang.specs.Fits.{IsLabel, ExprFits}
 use Rattle.mls_translang.specs.Kinds.{Of, HasKind, Assigns}
 use Rattle.mls_translang.specs.Scope.{kind_of_var}
 use Rattle.mls_translang.specs.Tokens.{Place, name_at as name_of, label_token, rel_token, var_token, expr_tokens, list_tokens, set_tokens, class_tokens, update_end, write_end, stmt_end}
-use Rattle.mls_translang.specs.Tree.{Expr}
+use Rattle.mls_translang.specs.Tree.{Expr, Insert, Update, Delete}
 use Rattle.mls_translang.specs.Tx.{IsOwn}
 use Rattle.mls_parser.specs.declared.fault.PlacedFault.{PlacedFault}
 use Rattle.mls_parser.specs.declared.fault.TextCause.TheVariants as cause
@@ -49,7 +49,7 @@ HasOutcome p o = IfSome o (λ x. x < length p.scope.vars) × IfSome o (λ x. kin
 
 -- behind the first word of a write
 abbrev pub keyed : Place → ℕ → List Expr → List Token
-keyed p rel key = rel_token p rel ∷ Word (codes "key") ∷ list_tokens p key
+keyed p relation key = rel_token p relation ∷ Word (codes "key") ∷ list_tokens p key
 
 module _ (p : Place) (n : HasNames p) where
   -- ---- names
@@ -118,30 +118,30 @@ module _ (p : Place) (n : HasNames p) where
       (λ m t. gets_then (λ x. Ok ((w, x.0), x.1)) (outcome_gets o us (s.0, m) h t) (λ r t2. gets_done (w, o) s.0 r (Same (w, o)) us refl t2))
 
   abbrev scheme : ℕ → Scheme
-  scheme rel = scheme_of p.schemes rel
+  scheme relation = scheme_of p.schemes relation
 
-  keyed_gets : (rel : ℕ) (key : List Expr) (us : List Token) (s : State) → rel < length p.schemes → AreListed p (scheme rel).keys key → without_places s.1.placed ≡ keyed p rel key ++ us → Gets (keyed_at p s) s (Same (rel, key)) us
+  keyed_gets : (relation : ℕ) (key : List Expr) (us : List Token) (s : State) → relation < length p.schemes → AreListed p (scheme relation).keys key → without_places s.1.placed ≡ keyed p relation key ++ us → Gets (keyed_at p s) s (Same (relation, key)) us
   unfolding keyed_at
-  keyed_gets rel key us s h listed k =
-      gets_then (λ r. word_at (codes "key") r.1 >>= λ w. list_at p (scheme r.0).keys w.1 >>= λ es. Ok ((r.0, es.0), es.1)) (relation_gets rel (Word (codes "key") ∷ (list_tokens p key ++ us)) s h k)
-      (λ m t. gets_more (λ w. list_at p (scheme rel).keys w.1 >>= λ es. Ok ((rel, es.0), es.1)) (word_gets (codes "key") (list_tokens p key ++ us) (s.0, m) t)
-      (λ w m2 is t2. gets_then (λ es. Ok ((rel, es.0), es.1)) (list_again p n (scheme rel).keys key us (s.0, m2) listed t2) (λ m3 t3. gets_done (rel, key) s.0 m3 (Same (rel, key)) us refl t3)))
+  keyed_gets relation key us s h listed k =
+      gets_then (λ r. word_at (codes "key") r.1 >>= λ w. list_at p (scheme r.0).keys w.1 >>= λ es. Ok ((r.0, es.0), es.1)) (relation_gets relation (Word (codes "key") ∷ (list_tokens p key ++ us)) s h k)
+      (λ m t. gets_more (λ w. list_at p (scheme relation).keys w.1 >>= λ es. Ok ((relation, es.0), es.1)) (word_gets (codes "key") (list_tokens p key ++ us) (s.0, m) t)
+      (λ w m2 is t2. gets_then (λ es. Ok ((relation, es.0), es.1)) (list_again p n (scheme relation).keys key us (s.0, m2) listed t2) (λ m3 t3. gets_done (relation, key) s.0 m3 (Same (relation, key)) us refl t3)))
 
   -- ---- writes
 
-  pub insert_gets : (rel w : ℕ) (key values : List Expr) (o : Option ℕ) (us : List Token) (s : State) → rel < length p.schemes → IsLabel p.policy w
-      → AreListed p (scheme rel).keys key → AreListed p (scheme rel).others values → HasOutcome p o
-      → without_places s.1.placed ≡ (keyed p rel key ++ (Word (codes "values") ∷ (list_tokens p values ++ write_end p w (stmt_end p o)))) ++ us → Gets (insert_at p s) s (Same (forms.Insert rel key values w o)) us
+  pub insert_gets : (relation w : ℕ) (key values : List Expr) (o : Option ℕ) (us : List Token) (s : State) → relation < length p.schemes → IsLabel p.policy w
+      → AreListed p (scheme relation).keys key → AreListed p (scheme relation).others values → HasOutcome p o
+      → without_places s.1.placed ≡ (keyed p relation key ++ (Word (codes "values") ∷ (list_tokens p values ++ write_end p w (stmt_end p o)))) ++ us → Gets (insert_at p s) s (Same (forms.Write relation w (Insert key values) o)) us
   unfolding insert_at
-  insert_gets rel w key values o us s hr hw hk hv h k =
-      let form : Form = forms.Insert rel key values w o in
+  insert_gets relation w key values o us s hr hw hk hv h k =
+      let form : Form = forms.Write relation w (Insert key values) o in
       let last : List Token = write_end p w (stmt_end p o) in
-      gets_then (λ x. word_at (codes "values") x.1 >>= λ v. list_at p (scheme x.0.0).others v.1 >>= λ es. written_at p es.1 >>= λ z. Ok (forms.Insert x.0.0 x.0.1 es.0 z.0.0 z.0.1, z.1))
-      (keyed_gets rel key (Word (codes "values") ∷ (list_tokens p values ++ (last ++ us))) s hr hk
-      (k ∙ append_assoc (keyed p rel key) (Word (codes "values") ∷ (list_tokens p values ++ last)) us ∙ ap (λ z. keyed p rel key ++ (Word (codes "values") ∷ z)) (append_assoc (list_tokens p values) last us)))
-      (λ m t. gets_more (λ v. list_at p (scheme rel).others v.1 >>= λ es. written_at p es.1 >>= λ z. Ok (forms.Insert rel key es.0 z.0.0 z.0.1, z.1)) (word_gets (codes "values") (list_tokens p values ++ (last ++ us)) (s.0, m) t)
-      (λ v m2 is t2. gets_then (λ es. written_at p es.1 >>= λ z. Ok (forms.Insert rel key es.0 z.0.0 z.0.1, z.1)) (list_again p n (scheme rel).others values (last ++ us) (s.0, m2) hv t2)
-      (λ m3 t3. gets_then (λ z. Ok (forms.Insert rel key values z.0.0 z.0.1, z.1)) (written_gets w o us (s.0, m3) hw h t3) (λ m4 t4. gets_done form s.0 m4 (Same form) us refl t4))))
+      gets_then (λ x. word_at (codes "values") x.1 >>= λ v. list_at p (scheme x.0.0).others v.1 >>= λ es. written_at p es.1 >>= λ z. Ok (forms.Write x.0.0 z.0.0 (Insert x.0.1 es.0) z.0.1, z.1))
+      (keyed_gets relation key (Word (codes "values") ∷ (list_tokens p values ++ (last ++ us))) s hr hk
+      (k ∙ append_assoc (keyed p relation key) (Word (codes "values") ∷ (list_tokens p values ++ last)) us ∙ ap (λ z. keyed p relation key ++ (Word (codes "values") ∷ z)) (append_assoc (list_tokens p values) last us)))
+      (λ m t. gets_more (λ v. list_at p (scheme relation).others v.1 >>= λ es. written_at p es.1 >>= λ z. Ok (forms.Write relation z.0.0 (Insert key es.0) z.0.1, z.1)) (word_gets (codes "values") (list_tokens p values ++ (last ++ us)) (s.0, m) t)
+      (λ v m2 is t2. gets_then (λ es. written_at p es.1 >>= λ z. Ok (forms.Write relation z.0.0 (Insert key es.0) z.0.1, z.1)) (list_again p n (scheme relation).others values (last ++ us) (s.0, m2) hv t2)
+      (λ m3 t3. gets_then (λ z. Ok (forms.Write relation z.0.0 (Insert key values) z.0.1, z.1)) (written_gets w o us (s.0, m3) hw h t3) (λ m4 t4. gets_done form s.0 m4 (Same form) us refl t4))))
 
   classes_gets : (c f w : ℕ) (us : List Token) (s : State) → IsLabel p.policy c → IsLabel p.policy f → IsLabel p.policy w → without_places s.1.placed ≡ class_tokens p c f w ++ us → Gets (classes_at p s) s (Same (c, f, w)) us
   unfolding classes_at
@@ -159,41 +159,41 @@ module _ (p : Place) (n : HasNames p) where
   no_comma None us = refl
   no_comma (Some x) us = refl
 
-  changes_gets : (rel : ℕ) (x : ℕ × Expr) (xs : List (ℕ × Expr)) (o : Option ℕ) (us : List Token) (s : State) → rel < length p.schemes → AreSet p (scheme rel) (x ∷ xs) → HasOutcome p o
-      → without_places s.1.placed ≡ update_end p rel (x ∷ xs) o ++ us
-      → Gets (changes_at p (scheme rel) s) s (Same (x ∷ xs, o)) us
+  changes_gets : (relation : ℕ) (x : ℕ × Expr) (xs : List (ℕ × Expr)) (o : Option ℕ) (us : List Token) (s : State) → relation < length p.schemes → AreSet p (scheme relation) (x ∷ xs) → HasOutcome p o
+      → without_places s.1.placed ≡ update_end p relation (x ∷ xs) o ++ us
+      → Gets (changes_at p (scheme relation) s) s (Same (x ∷ xs, o)) us
   unfolding changes_at
-  changes_gets rel x xs o us s hr hs h k =
+  changes_gets relation x xs o us s hr hs h k =
       let end : List Token = stmt_end p o ++ us in
-      let sets : List Token = separated (set_tokens p (scheme rel)) (x ∷ xs) in
+      let sets : List Token = separated (set_tokens p (scheme relation)) (x ∷ xs) in
       let same : (sets ++ stmt_end p o) ++ us ≡ sets ++ end = append_assoc sets (stmt_end p o) us in
-      gets_more (λ w. sets_at p (scheme rel) w.1 >>= λ q. outcome_at p q.1 >>= λ z. Ok ((q.0, z.0), z.1)) (word_gets (codes "set") (sets ++ end) s (k ∙ ap (λ z. Word (codes "set") ∷ z) same))
-      (λ w m is t. gets_then (λ q. outcome_at p q.1 >>= λ z. Ok ((q.0, z.0), z.1)) (sets_again p n (scheme rel) (scheme_is p.schemes n.schemes rel hr) x xs end (s.0, m) hs (no_dot o us) (no_comma o us) t)
+      gets_more (λ w. sets_at p (scheme relation) w.1 >>= λ q. outcome_at p q.1 >>= λ z. Ok ((q.0, z.0), z.1)) (word_gets (codes "set") (sets ++ end) s (k ∙ ap (λ z. Word (codes "set") ∷ z) same))
+      (λ w m is t. gets_then (λ q. outcome_at p q.1 >>= λ z. Ok ((q.0, z.0), z.1)) (sets_again p n (scheme relation) (scheme_is p.schemes n.schemes relation hr) x xs end (s.0, m) hs (no_dot o us) (no_comma o us) t)
       (λ m2 t2. gets_then (λ z. Ok ((x ∷ xs, z.0), z.1)) (outcome_gets o us (s.0, m2) h t2) (λ m3 t3. gets_done (x ∷ xs, o) s.0 m3 (Same (x ∷ xs, o)) us refl t3)))
 
-  pub update_gets : (rel w c f : ℕ) (key : List Expr) (x : ℕ × Expr) (xs : List (ℕ × Expr)) (o : Option ℕ) (us : List Token) (s : State) → rel < length p.schemes → IsLabel p.policy w → IsLabel p.policy c → IsLabel p.policy f
-      → AreListed p (scheme rel).keys key → AreSet p (scheme rel) (x ∷ xs) → HasOutcome p o
-      → without_places s.1.placed ≡ (keyed p rel key ++ (class_tokens p c f w ++ update_end p rel (x ∷ xs) o)) ++ us → Gets (update_at p s) s (Same (forms.Update rel key c f w (x ∷ xs) o)) us
+  pub update_gets : (relation w c f : ℕ) (key : List Expr) (x : ℕ × Expr) (xs : List (ℕ × Expr)) (o : Option ℕ) (us : List Token) (s : State) → relation < length p.schemes → IsLabel p.policy w → IsLabel p.policy c → IsLabel p.policy f
+      → AreListed p (scheme relation).keys key → AreSet p (scheme relation) (x ∷ xs) → HasOutcome p o
+      → without_places s.1.placed ≡ (keyed p relation key ++ (class_tokens p c f w ++ update_end p relation (x ∷ xs) o)) ++ us → Gets (update_at p s) s (Same (forms.Write relation w (Update key c f (x ∷ xs)) o)) us
   unfolding update_at
-  update_gets rel w c f key x xs o us s hr hw hc hf hk hs h k =
-      let form : Form = forms.Update rel key c f w (x ∷ xs) o in
-      let end : List Token = update_end p rel (x ∷ xs) o in
-      gets_then (λ y. classes_at p y.1 >>= λ z. changes_at p (scheme y.0.0) z.1 >>= λ q. Ok (forms.Update y.0.0 y.0.1 z.0.0 z.0.1 z.0.2 q.0.0 q.0.1, q.1))
-      (keyed_gets rel key (class_tokens p c f w ++ (end ++ us)) s hr hk (k ∙ append_assoc (keyed p rel key) (class_tokens p c f w ++ end) us))
-      (λ m t. gets_then (λ z. changes_at p (scheme rel) z.1 >>= λ q. Ok (forms.Update rel key z.0.0 z.0.1 z.0.2 q.0.0 q.0.1, q.1)) (classes_gets c f w (end ++ us) (s.0, m) hc hf hw t)
-      (λ m2 t2. gets_then (λ q. Ok (forms.Update rel key c f w q.0.0 q.0.1, q.1)) (changes_gets rel x xs o us (s.0, m2) hr hs h t2) (λ m3 t3. gets_done form s.0 m3 (Same form) us refl t3)))
+  update_gets relation w c f key x xs o us s hr hw hc hf hk hs h k =
+      let form : Form = forms.Write relation w (Update key c f (x ∷ xs)) o in
+      let end : List Token = update_end p relation (x ∷ xs) o in
+      gets_then (λ y. classes_at p y.1 >>= λ z. changes_at p (scheme y.0.0) z.1 >>= λ q. Ok (forms.Write y.0.0 z.0.2 (Update y.0.1 z.0.0 z.0.1 q.0.0) q.0.1, q.1))
+      (keyed_gets relation key (class_tokens p c f w ++ (end ++ us)) s hr hk (k ∙ append_assoc (keyed p relation key) (class_tokens p c f w ++ end) us))
+      (λ m t. gets_then (λ z. changes_at p (scheme relation) z.1 >>= λ q. Ok (forms.Write relation z.0.2 (Update key z.0.0 z.0.1 q.0.0) q.0.1, q.1)) (classes_gets c f w (end ++ us) (s.0, m) hc hf hw t)
+      (λ m2 t2. gets_then (λ q. Ok (forms.Write relation w (Update key c f q.0.0) q.0.1, q.1)) (changes_gets relation x xs o us (s.0, m2) hr hs h t2) (λ m3 t3. gets_done form s.0 m3 (Same form) us refl t3)))
 
-  pub delete_gets : (rel w c : ℕ) (key : List Expr) (o : Option ℕ) (us : List Token) (s : State) → rel < length p.schemes → IsLabel p.policy w → IsLabel p.policy c
-      → AreListed p (scheme rel).keys key → HasOutcome p o
-      → without_places s.1.placed ≡ (keyed p rel key ++ (Word (codes "class") ∷ label_token p c ∷ write_end p w (stmt_end p o))) ++ us → Gets (delete_at p s) s (Same (forms.Delete rel key c w o)) us
+  pub delete_gets : (relation w c : ℕ) (key : List Expr) (o : Option ℕ) (us : List Token) (s : State) → relation < length p.schemes → IsLabel p.policy w → IsLabel p.policy c
+      → AreListed p (scheme relation).keys key → HasOutcome p o
+      → without_places s.1.placed ≡ (keyed p relation key ++ (Word (codes "class") ∷ label_token p c ∷ write_end p w (stmt_end p o))) ++ us → Gets (delete_at p s) s (Same (forms.Write relation w (Delete key c) o)) us
   unfolding delete_at
-  delete_gets rel w c key o us s hr hw hc hk h k =
-      let form : Form = forms.Delete rel key c w o in
+  delete_gets relation w c key o us s hr hw hc hk h k =
+      let form : Form = forms.Write relation w (Delete key c) o in
       let last : List Token = write_end p w (stmt_end p o) in
-      gets_then (λ y. label_behind p (codes "class") y.1 >>= λ l. written_at p l.1 >>= λ z. Ok (forms.Delete y.0.0 y.0.1 l.0 z.0.0 z.0.1, z.1))
-      (keyed_gets rel key (Word (codes "class") ∷ label_token p c ∷ (last ++ us)) s hr hk (k ∙ append_assoc (keyed p rel key) (Word (codes "class") ∷ label_token p c ∷ last) us))
-      (λ m t. gets_then (λ l. written_at p l.1 >>= λ z. Ok (forms.Delete rel key l.0 z.0.0 z.0.1, z.1)) (label_gets (codes "class") c (last ++ us) (s.0, m) hc t)
-      (λ m2 t2. gets_then (λ z. Ok (forms.Delete rel key c z.0.0 z.0.1, z.1)) (written_gets w o us (s.0, m2) hw h t2) (λ m3 t3. gets_done form s.0 m3 (Same form) us refl t3)))
+      gets_then (λ y. label_behind p (codes "class") y.1 >>= λ l. written_at p l.1 >>= λ z. Ok (forms.Write y.0.0 z.0.0 (Delete y.0.1 l.0) z.0.1, z.1))
+      (keyed_gets relation key (Word (codes "class") ∷ label_token p c ∷ (last ++ us)) s hr hk (k ∙ append_assoc (keyed p relation key) (Word (codes "class") ∷ label_token p c ∷ last) us))
+      (λ m t. gets_then (λ l. written_at p l.1 >>= λ z. Ok (forms.Write relation z.0.0 (Delete key l.0) z.0.1, z.1)) (label_gets (codes "class") c (last ++ us) (s.0, m) hc t)
+      (λ m2 t2. gets_then (λ z. Ok (forms.Write relation z.0.0 (Delete key c) z.0.1, z.1)) (written_gets w o us (s.0, m2) hw h t2) (λ m3 t3. gets_done form s.0 m3 (Same form) us refl t3)))
 
   -- ---- other statements
 

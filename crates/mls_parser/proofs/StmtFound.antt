@@ -187,18 +187,18 @@ module _ (p : Place) where
 
   -- the word and the key behind a relation
   abbrev IsKey : ℕ → List Token → ℕ × List Expr → Type 0
-  IsKey rel ts x = (x.0 ≡ rel) × (ts ≡ Word (codes "key") ∷ list_tokens p x.1) × IsList p (scheme_of p.schemes rel).keys (list_tokens p x.1) x.1
+  IsKey relation ts x = (x.0 ≡ relation) × (ts ≡ Word (codes "key") ∷ list_tokens p x.1) × IsList p (scheme_of p.schemes relation).keys (list_tokens p x.1) x.1
 
   pub keyed_read : (s : State) (x : (ℕ × List Expr) × State) → keyed_at p s ≡ Ok x → Found IsKeyed s x
   unfolding keyed_at
   keyed_read s =
-      found_next IsKeyed IsKey s (relation_at p s) (λ rel. word_at (codes "key") rel.1 >>= λ w. list_at p (scheme_of p.schemes rel.0).keys w.1 >>= λ key. Ok ((rel.0, key.0), key.1)) (relation_read s)
-      (λ rel.
-      found_next (IsKey rel.0) (λ at ts x. (x.0 ≡ rel.0) × IsList p (scheme_of p.schemes rel.0).keys ts x.1) rel.1
-      (word_at (codes "key") rel.1) (λ w. list_at p (scheme_of p.schemes rel.0).keys w.1 >>= λ key. Ok ((rel.0, key.0), key.1)) (word_read (codes "key") rel.1)
-      (λ w. found_made (λ ts x. (x.0 ≡ rel.0) × IsList p (scheme_of p.schemes rel.0).keys ts x.1) w.1 (list_at p (scheme_of p.schemes rel.0).keys w.1) (λ key. (rel.0, key)) (list_read p (scheme_of p.schemes rel.0).keys w.1) (λ key ts r. (refl, r)))
-      (λ at x ts us word r. (r.0, (λ i. word i ++ r.1.tokens i), subst (λ t. IsList p (scheme_of p.schemes rel.0).keys t x.1) r.1.tokens r.1)))
-      (λ rel x ts us related key.
+      found_next IsKeyed IsKey s (relation_at p s) (λ relation. word_at (codes "key") relation.1 >>= λ w. list_at p (scheme_of p.schemes relation.0).keys w.1 >>= λ key. Ok ((relation.0, key.0), key.1)) (relation_read s)
+      (λ relation.
+      found_next (IsKey relation.0) (λ at ts x. (x.0 ≡ relation.0) × IsList p (scheme_of p.schemes relation.0).keys ts x.1) relation.1
+      (word_at (codes "key") relation.1) (λ w. list_at p (scheme_of p.schemes relation.0).keys w.1 >>= λ key. Ok ((relation.0, key.0), key.1)) (word_read (codes "key") relation.1)
+      (λ w. found_made (λ ts x. (x.0 ≡ relation.0) × IsList p (scheme_of p.schemes relation.0).keys ts x.1) w.1 (list_at p (scheme_of p.schemes relation.0).keys w.1) (λ key. (relation.0, key)) (list_read p (scheme_of p.schemes relation.0).keys w.1) (λ key ts r. (refl, r)))
+      (λ at x ts us word r. (r.0, (λ i. word i ++ r.1.tokens i), subst (λ t. IsList p (scheme_of p.schemes relation.0).keys t x.1) r.1.tokens r.1)))
+      (λ relation x ts us related key.
       let F : ℕ → Type 0 = λ n. IsKeyed (ts ++ us) (n, x.1) in
       subst F (sym key.0) (record { tokens = λ i. related.tokens i ++ key.1 i; within = related.within; key = key.2 }))
 

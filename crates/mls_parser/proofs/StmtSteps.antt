@@ -48,11 +48,11 @@ module _ (inner : Place → ℕ → State → Counted Block) (p : Place) (count 
       ap (λ (x : Read Expr). x >>= λ g. blocks_at inner p count g.1 >>= λ y. Ok ((stmts.If g.0 y.0.0.0 y.0.0.1, y.0.1), y.1)) a
       ∙ ap (λ (x : Counted (Block × Block)). x >>= λ y. Ok ((stmts.If guard y.0.0.0 y.0.0.1, y.0.1), y.1)) b
 
-  pub for_read : (row : List ℕ) (rel label : ℕ) (body : Block) (n : ℕ) → loop_head_at p s ≡ Ok ((row, rel, label), m) → braced inner (at_row p row rel) count m ≡ Ok ((body, n), r)
-      → for_at inner p count s ≡ Ok ((stmts.For row rel label body, n), r)
-  for_read row rel label body n a b =
+  pub for_read : (row : List ℕ) (relation label : ℕ) (body : Block) (n : ℕ) → loop_head_at p s ≡ Ok ((row, relation, label), m) → braced inner (at_row p row relation) count m ≡ Ok ((body, n), r)
+      → for_at inner p count s ≡ Ok ((stmts.For row relation label body, n), r)
+  for_read row relation label body n a b =
       ap (λ (x : Read (List ℕ × ℕ × ℕ)). x >>= λ h. braced inner (at_row p h.0.0 h.0.1) count h.1 >>= λ y. Ok ((stmts.For h.0.0 h.0.1 h.0.2 y.0.0, y.0.1), y.1)) a
-      ∙ ap (λ (x : Counted Block). x >>= λ y. Ok ((stmts.For row rel label y.0.0, y.0.1), y.1)) b
+      ∙ ap (λ (x : Counted Block). x >>= λ y. Ok ((stmts.For row relation label y.0.0, y.0.1), y.1)) b
 
 -- ---- statement by statement
 

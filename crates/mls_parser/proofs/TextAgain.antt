@@ -17,7 +17,7 @@ use Rattle.mls_lattice.proofs.NamedLemmas.{label_is_name}
 use Rattle.mls_scheme.specs.declared.value.Kind.{Kind}
 use Rattle.mls_scheme.specs.declared.value.Kind.TheVariants as kinds
 use Rattle.mls_scheme.specs.Scheme.{Schemes, AreSchemes}
-use Rattle.mls_scheme.proofs.AttributeLemmas.{is_some-position}
+use Rattle.mls_scheme.proofs.NamedLemmas.{is_some-position}
 use Rattle.mls_tokens.specs.declared.fault.TokenFault.{TokenFault}
 use Rattle.mls_tokens.specs.declared.token.Token.{Token}
 use Rattle.mls_tokens.specs.declared.token.Token.TheVariants.{Word, Sign}
@@ -29,7 +29,7 @@ use Rattle.mls_tokens.proofs.NextLemmas.{NotNext, over_again, not_over}
 use Rattle.mls_tokens.proofs.TokensLemmas.{tokens_exact}
 use Rattle.mls_translang.specs.declared.tx.Parameter.{Parameter}
 use Rattle.mls_translang.specs.Fits.{IsLabel, IsReadUnder}
-use Rattle.mls_translang.specs.Named.{has_name}
+use Rattle.mls_scheme.specs.Named.{has_name}
 use Rattle.mls_translang.specs.Tells.{TellsBlock, TellsTx, TellsEach, Tells}
 use Rattle.mls_translang.specs.Tokens.{Place, label_token, kind_token, param_tokens, params_tokens, var_tokens, braced as braced_tokens, outermost as place_of}
 use Rattle.mls_translang.specs.Tree.{Block}

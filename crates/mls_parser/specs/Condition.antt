@@ -64,20 +64,20 @@ module _ (p : Place) where
   SpellsCondition e ts = SpellsTests And 16 e ts ⊎ SpellsTests Or 16 e ts
 
 -- a truth value of one row of a relation, which names nothing else
-pub record IsConditionOf (schemes : Schemes) (rel : ℕ) (e : Expr) : Type 0 where
-  pub own : HasOwn (row_scope schemes rel) e
-  pub fits : ExprFits schemes (row_scope schemes rel) e
-  pub truth : HasSort schemes (row_scope schemes rel) Truth e
+pub record IsConditionOf (schemes : Schemes) (relation : ℕ) (e : Expr) : Type 0 where
+  pub own : HasOwn (row_scope schemes relation) e
+  pub fits : ExprFits schemes (row_scope schemes relation) e
+  pub truth : HasSort schemes (row_scope schemes relation) Truth e
 
-module _ (policy : Policy) (schemes : Schemes) (rel : ℕ) where
+module _ (policy : Policy) (schemes : Schemes) (relation : ℕ) where
   -- a condition on rows of a relation: an attribute stands there by its name alone, or behind the name of the relation
   pub record TellsCondition (test : Expr) (ts : List Token) : Type 0 where
     pub written : Expr
     pub is : test ≡ as_fields written
-    pub spells : SpellsCondition (written_place policy schemes rel) written ts
-    pub own : HasOwn (written_scope schemes rel) written
-    pub fits : ExprFits schemes (written_scope schemes rel) written
-    pub truth : HasSort schemes (written_scope schemes rel) Truth written
+    pub spells : SpellsCondition (written_place policy schemes relation) written ts
+    pub own : HasOwn (written_scope schemes relation) written
+    pub fits : ExprFits schemes (written_scope schemes relation) written
+    pub truth : HasSort schemes (written_scope schemes relation) Truth written
 
   -- ---- what is read is told
 
@@ -90,8 +90,8 @@ module _ (policy : Policy) (schemes : Schemes) (rel : ℕ) where
 
   -- What is read has no fault; the fault that is answered is one of those that were noted, and none of them stands before it.
   abbrev pub IsJudged : Left → Result (Result Expr PlacedFault) PlacedFault → Type 0
-  IsJudged l (Ok (Ok test)) = (x : Given × State) → noted_at policy schemes rel l ≡ Ok x → x.1.0 ≡ []
-  IsJudged l (Ok (Err f)) = (x : Given × State) → noted_at policy schemes rel l ≡ Ok x → IsLeast x.1.0 f
+  IsJudged l (Ok (Ok test)) = (x : Given × State) → noted_at policy schemes relation l ≡ Ok x → x.1.0 ≡ []
+  IsJudged l (Ok (Err f)) = (x : Given × State) → noted_at policy schemes relation l ≡ Ok x → IsLeast x.1.0 f
   IsJudged l (Err f) = ⊤
 
   -- ---- and what tells it is read
@@ -99,7 +99,7 @@ module _ (policy : Policy) (schemes : Schemes) (rel : ℕ) where
   -- the condition was read, before these tokens
   pub record IsRead (l : Left) (test : Expr) (us : List Token) : Type 0 where
     pub rest : Left
-    pub is : condition_at policy schemes rel l ≡ Ok (Ok test, rest)
+    pub is : condition_at policy schemes relation l ≡ Ok (Ok test, rest)
     pub tokens : without_places rest.placed ≡ us
     pub stop : rest.stop ≡ l.stop
 
@@ -118,5 +118,5 @@ EndsCondition (t ∷ ts) = goes_on t ≡ false
 abbrev pub ConditionsAreRead : Type 0
 ConditionsAreRead =
     (policy : Policy) (schemes : Schemes) → IsPolicy policy → AreSchemes schemes
-    → (rel : ℕ) (l : Left) (test : Expr) (ts us : List Token) → rel < length schemes → TellsCondition policy schemes rel test ts
-    → EndsCondition us → without_places l.placed ≡ ts ++ us → IsRead policy schemes rel l test us
+    → (relation : ℕ) (l : Left) (test : Expr) (ts us : List Token) → relation < length schemes → TellsCondition policy schemes relation test ts
+    → EndsCondition us → without_places l.placed ≡ ts ++ us → IsRead policy schemes relation l test us

@@ -3,7 +3,6 @@ use Rattle.std.specs.Prelude.{ℕ, Bool, true, false, ◌&&◌, ◌||◌, Option
 use Rattle.mls_scheme.specs.declared.value.Kind.{Kind}
 use Rattle.mls_scheme.specs.declared.value.Kind.TheVariants.{Int, Text}
 use Rattle.mls_scheme.specs.Scheme.{Scheme}
-use Rattle.mls_lattice.specs.Policy.{Name}
 use Rattle.mls_translang.specs.declared.operator.Operator.{Operator}
 use Rattle.mls_translang.specs.declared.operator.Operator.TheVariants.{Plus, Minus, Times, And, Or}
 use Rattle.mls_translang.specs.Scope.{kind_of_var, kind_of_param}
@@ -13,7 +12,6 @@ use Rattle.mls_parser.specs.declared.names.Referent.{Referent}
 use Rattle.mls_parser.specs.declared.names.Referent.TheVariants.{Variable, Parameter}
 use Rattle.mls_parser.specs.declared.inferred.Inferred.{Inferred}
 use Rattle.mls_parser.specs.declared.inferred.Inferred.TheVariants as inferred
-use Rattle.mls_parser.specs.Names.{attribute_named, row_scheme}
 
 -- ---- what may stand where
 
@@ -72,8 +70,4 @@ of_referent p None = inferred.Unknown
 
 abbrev pub of_attribute : Scheme → Option ℕ → Inferred
 of_attribute scheme None = inferred.Unknown
-of_attribute scheme (Some i) = inferred.Value (field_of scheme i).kind
-
-abbrev pub of_field : Place → Option ℕ → Name → Inferred
-of_field p None name = inferred.Unknown
-of_field p (Some depth) name = of_attribute (row_scheme p depth) (attribute_named (row_scheme p depth) name)
+of_attribute scheme (Some i) = inferred.Value (field_of scheme i).1.kind

@@ -13,7 +13,7 @@ use Rattle.mls_translang.specs.declared.block.Stmt.TheVariants as stmts
 use Rattle.mls_translang.specs.Blocks.{block_of}
 use Rattle.mls_translang.specs.Scope.{kind_of_var}
 use Rattle.mls_translang.specs.Tokens.{Place, at_row}
-use Rattle.mls_translang.specs.Tree.{Expr, Block, End}
+use Rattle.mls_translang.specs.Tree.{Expr, Insert, Update, Delete, Block, End}
 use Rattle.mls_parser.specs.declared.fault.TextCause.TheVariants as cause
 use Rattle.mls_parser.specs.declared.fault.PlacedFault.{PlacedFault}
 use Rattle.mls_parser.specs.declared.given.Given.{Given}
@@ -87,10 +87,10 @@ module _ (p : Place) where
   -- the relation and the key of a write
   unfoldable pub keyed_at : State → Read (ℕ × List Expr)
   keyed_at s = do
-    rel ← relation_at s
-    word ← word_at (codes "key") rel.1
-    key ← list_at p (scheme_of p.schemes rel.0).keys word.1
-    Ok ((rel.0, key.0), key.1)
+    relation ← relation_at s
+    word ← word_at (codes "key") relation.1
+    key ← list_at p (scheme_of p.schemes relation.0).keys word.1
+    Ok ((relation.0, key.0), key.1)
 
   unfoldable pub assign_at : PlacedName → State → Read Stmt
   assign_at target s = do
@@ -105,7 +105,7 @@ module _ (p : Place) where
     word ← word_at (codes "values") k.1
     values ← list_at p (scheme_of p.schemes k.0.0).others word.1
     w ← written_at values.1
-    Ok (stmts.Insert k.0.0 k.0.1 values.0 w.0.0 w.0.1, w.1)
+    Ok (stmts.Write k.0.0 w.0.0 (Insert k.0.1 values.0) w.0.1, w.1)
 
   -- the tuple of an update, and where it is written
   unfoldable pub classes_at : State → Read (ℕ × ℕ × ℕ)
@@ -128,14 +128,14 @@ module _ (p : Place) where
     k ← keyed_at s
     c ← classes_at k.1
     n ← changes_at (scheme_of p.schemes k.0.0) c.1
-    Ok (stmts.Update k.0.0 k.0.1 c.0.0 c.0.1 c.0.2 n.0.0 n.0.1, n.1)
+    Ok (stmts.Write k.0.0 c.0.2 (Update k.0.1 c.0.0 c.0.1 n.0.0) n.0.1, n.1)
 
   unfoldable pub delete_at : State → Read Stmt
   delete_at s = do
     k ← keyed_at s
     class ← label_behind (codes "class") k.1
     w ← written_at class.1
-    Ok (stmts.Delete k.0.0 k.0.1 class.0 w.0.0 w.0.1, w.1)
+    Ok (stmts.Write k.0.0 w.0.0 (Delete k.0.1 class.0) w.0.1, w.1)
 
   -- a label that the ceiling dominates
   unfoldable pub lower_behind : List ℕ → State → Read ℕ
@@ -181,9 +181,9 @@ module _ (p : Place) where
   loop_head_at s = do
     row ← name_at s
     word ← word_at (codes "in") (note (unless (not (is_taken p row.0.0)) row.0.1 cause.Repeated) row.1)
-    rel ← relation_at word.1
-    label ← label_behind (codes "at") rel.1
-    Ok ((row.0.0, rel.0, label.0), label.1)
+    relation ← relation_at word.1
+    label ← label_behind (codes "at") relation.1
+    Ok ((row.0.0, relation.0, label.0), label.1)
 
 -- what is read, and how many statements the transaction has up to there
 abbrev pub Counted : Type 0 → Type 0

@@ -128,25 +128,25 @@ module _ (p : Place) where
 -- ---- the attributes of a row by their names alone
 
 abbrev pub attribute_var : Attribute → Name × Kind
-attribute_var a = (a.name, a.kind)
+attribute_var a = (a.0, a.1.kind)
 
 -- they count as variables, those of the key first
 abbrev pub row_vars : Scheme → List (Name × Kind)
 row_vars scheme = map attribute_var (scheme.keys ++ scheme.others)
 
 abbrev pub row_of : Schemes → ℕ → LoopRow
-row_of schemes rel = record { name = (scheme_of schemes rel).name; relation = rel }
+row_of schemes relation = record { name = (scheme_of schemes relation).name; relation = relation }
 
 -- one row, by the name of its relation
 abbrev pub row_scope : Schemes → ℕ → Scope
-row_scope schemes rel = record { params = []; vars = []; rows = row_of schemes rel ∷ [] }
+row_scope schemes relation = record { params = []; vars = []; rows = row_of schemes relation ∷ [] }
 
 abbrev pub written_scope : Schemes → ℕ → Scope
-written_scope schemes rel = record { params = []; vars = row_vars (scheme_of schemes rel); rows = row_of schemes rel ∷ [] }
+written_scope schemes relation = record { params = []; vars = row_vars (scheme_of schemes relation); rows = row_of schemes relation ∷ [] }
 
 -- the ceiling is not looked at
 abbrev pub written_place : Policy → Schemes → ℕ → Place
-written_place policy schemes rel = record { policy = policy; schemes = schemes; hi = 0; scope = written_scope schemes rel }
+written_place policy schemes relation = record { policy = policy; schemes = schemes; hi = 0; scope = written_scope schemes relation }
 
 -- and are those of the row
 abbrev pub as_fields : Expr → Expr
@@ -164,11 +164,11 @@ as_fields (Op op left right) = Op op (as_fields left) (as_fields right)
 abbrev pub judged : Given × State → Result Expr PlacedFault
 judged x = answer (least x.1.0) (as_fields x.0.expr)
 
-module _ (policy : Policy) (schemes : Schemes) (rel : ℕ) where
+module _ (policy : Policy) (schemes : Schemes) (relation : ℕ) where
   -- what is read, with the faults that are noted
   unfoldable pub noted_at : Left → Read Given
   noted_at l =
-      tests_at (written_place policy schemes rel) ([], l) >>= λ g. Ok (g.0, note (tested (may_be_truth g.0.gives) g.0) g.1)
+      tests_at (written_place policy schemes relation) ([], l) >>= λ g. Ok (g.0, note (tested (may_be_truth g.0.gives) g.0) g.1)
 
   -- the condition, or the least fault of its names and kinds
   unfoldable pub condition_at : Left → Result (Result Expr PlacedFault × Left) PlacedFault

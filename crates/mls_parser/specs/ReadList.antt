@@ -42,13 +42,13 @@ tested holds g = unless holds g.at cause.Kind
 -- of the kind of its attribute; any value where there are more than attributes
 abbrev pub fits_item : Option Attribute → Inferred → Bool
 fits_item None gives = may_be_value gives
-fits_item (Some a) gives = may_be gives a.kind
+fits_item (Some a) gives = may_be gives a.1.kind
 
 -- an attribute outside the key, which may be set already
 abbrev pub set_faults : Scheme → List (ℕ × Expr) → PlacedName → Option ℕ → Given → List PlacedFault
 set_faults scheme front name None g = unless false name.1 cause.UnknownName ++ tested (may_be_value g.gives) g
 set_faults scheme front name (Some i) g =
-    unless (not (list_any (nat_eq i) (map (λ x. x.0) front))) name.1 cause.Repeated ++ tested (may_be g.gives (other_of scheme i).kind) g
+    unless (not (list_any (nat_eq i) (map (λ x. x.0) front))) name.1 cause.Repeated ++ tested (may_be g.gives (other_of scheme i).1.kind) g
 
 abbrev pub with_set : List (ℕ × Expr) → Option ℕ → Expr → List (ℕ × Expr)
 with_set front None e = front

@@ -10,7 +10,7 @@ use Rattle.mls_scheme.specs.Scheme.{Schemes}
 use Rattle.mls_tokens.specs.declared.sign.Sign.TheVariants.{LeftParen, RightParen, LeftBrace, Semicolon, Colon}
 use Rattle.mls_tokens.specs.Passing.{refused, PlacedName, has_ended}
 use Rattle.mls_translang.specs.declared.tx.Parameter.{Parameter}
-use Rattle.mls_translang.specs.Named.{has_name}
+use Rattle.mls_scheme.specs.Named.{has_name}
 use Rattle.mls_translang.specs.Tokens.{Place}
 use Rattle.mls_translang.specs.Tree.{Block}
 use Rattle.mls_translang.specs.Tx.{Tx}

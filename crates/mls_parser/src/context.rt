@@ -10,8 +10,8 @@ ghost use Rattle.mls_parser.specs.Infer.{of_referent, of_attribute};
 use crate::inferred::Inferred;
 use crate::names::{Name, Referent, attribute_kind, row_place};
 use mls_lattice::{LabelNo, Policy};
-use mls_scheme::{Kind, RelNo, Scheme, Schemes};
-use mls_translang::{LoopRow, Named, Parameter};
+use mls_scheme::{Kind, Named, RelNo, Scheme, Schemes};
+use mls_translang::{LoopRow, Parameter};
 use std::marker::Model;
 
 /// A policy, schemes, a ceiling, parameters and variables, and the rows of the loops around, the innermost first.

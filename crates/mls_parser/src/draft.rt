@@ -1,6 +1,6 @@
 use mls_lattice::{LabelNo, Str};
-use mls_scheme::Kind;
-use mls_translang::{Block, Named, Parameter};
+use mls_scheme::{Kind, Named};
+use mls_translang::{Block, Parameter};
 
 /// A transaction that was read, with what its names stand for; some may be unknown.
 #[derive(Drop)]

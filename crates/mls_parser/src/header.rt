@@ -1,6 +1,6 @@
 //! The parameters and variables of a transaction, from the tokens that are left.
 ghost use Rattle.std.specs.Prelude.{◌≡◌, [], ◌+◌, ◌<◌, ◌≤◌, length, option_map, IfOk, IfSome, IsNone, OnOk};
-ghost use Rattle.mls_translang.specs.Named.{has_name};
+ghost use Rattle.mls_scheme.specs.Named.{has_name};
 ghost use Rattle.mls_parser.specs.Noted.{Gives};
 ghost use Rattle.mls_parser.specs.ReadList.{items_at};
 ghost use Rattle.mls_parser.specs.ReadTx.{kept, param_behind, next_param, params_at, var_behind, next_var, vars_at};
@@ -11,15 +11,15 @@ use crate::limits::MAX_NAMES;
 use crate::names::Name;
 use crate::words::{name_behind, pass_kind};
 use mls_lattice::Policy;
-use mls_scheme::Kind;
+use mls_scheme::{Kind, Named};
 use mls_tokens::{Sign, Tokens};
-use mls_translang::{Named, Parameter};
+use mls_translang::Parameter;
 use std::alloc::{AllocError, Global};
 
 fn has<T>(named: &Named<T>, name: &Name) -> bool
     ensures { result ≡ has_name named.now name.now.0 }
 {
-    named.place(name.0.as_str()).is_some()
+    named.has(name.0.as_str())
 }
 
 /// One thing more, unless the name is taken.

@@ -49,7 +49,7 @@ pub(crate) fn other(scheme: &Scheme, name: &Name) -> Option<usize>
 #[tactic(auto, using(crate::proofs::NameLemmas::kind_steps))]
 pub(crate) fn other_kind(scheme: &Scheme, place: usize) -> Kind
     requires { place < length scheme.now.others }
-    ensures { result ≡ (other_of scheme.now place).kind }
+    ensures { result ≡ (other_of scheme.now place).1.kind }
 {
     scheme.others().get(place).kind
 }
@@ -58,7 +58,7 @@ pub(crate) fn other_kind(scheme: &Scheme, place: usize) -> Kind
 
 pub(crate) fn attribute_kind(scheme: &Scheme, attribute: usize) -> Kind
     requires { attribute < width scheme.now }
-    ensures { result ≡ (field_of scheme.now attribute).kind }
+    ensures { result ≡ (field_of scheme.now attribute).1.kind }
 {
     let keys = scheme.keys();
     if attribute < keys.len() {

@@ -20,9 +20,9 @@ use crate::limits::MAX_TESTS;
 use crate::read_expr::combined;
 use crate::words::pass_head;
 use mls_lattice::{LabelNo, Policy, Str};
-use mls_scheme::{Attributes, Kind, RelNo, Scheme, Schemes};
+use mls_scheme::{Attributes, Kind, Named, RelNo, Scheme, Schemes};
 use mls_tokens::{Sign, Tokens};
-use mls_translang::{Expr, LoopRow, Named, Operator, Term};
+use mls_translang::{Expr, LoopRow, Operator, Term};
 use std::alloc::{AllocError, Global};
 
 /// Passes a comparison if it is next, and gives its place too.
@@ -229,19 +229,19 @@ fn noted(
     alloc: Global,
     policy: &Policy,
     schemes: &Schemes,
-    rel: RelNo,
+    relation: RelNo,
     tokens: &mut Tokens,
 ) -> Result<(Given, Vec<PlacedFault>), PlacedFault>
-    requires { rel < length schemes.now }
+    requires { relation < length schemes.now }
     ensures { Gives (λ x. (x.0, (x.1.items, tokens.new))) result
-        (noted_at policy.now schemes.now rel tokens.old) }
+        (noted_at policy.now schemes.now relation tokens.old) }
 {
     // a policy has some label
     let _count = policy.label_count();
-    let scheme = schemes.scheme(rel);
+    let scheme = schemes.scheme(relation);
     let rows = [LoopRow {
         name: Str::copy_of(alloc, scheme.name())?,
-        relation: rel,
+        relation,
     }];
     let params = Named::new(alloc);
     let vars = row_vars(alloc, scheme)?;
@@ -270,13 +270,13 @@ fn unless_noted(
     alloc: Global,
     policy: &Policy,
     schemes: &Schemes,
-    rel: RelNo,
+    relation: RelNo,
     tokens: &mut Tokens,
 ) -> Result<Result<Expr, PlacedFault>, PlacedFault>
-    requires { rel < length schemes.now }
-    ensures { Gives (λ r. (r, tokens.new)) result (condition_at policy.now schemes.now rel tokens.old) }
+    requires { relation < length schemes.now }
+    ensures { Gives (λ r. (r, tokens.new)) result (condition_at policy.now schemes.now relation tokens.old) }
 {
-    let (mut given, faults) = noted(alloc, policy, schemes, rel, tokens)?;
+    let (mut given, faults) = noted(alloc, policy, schemes, relation, tokens)?;
     match least(faults.as_slice()) {
         Some(fault) => Ok(Err(fault)),
         None => {
@@ -298,19 +298,19 @@ pub fn condition(
     alloc: Global,
     policy: &Policy,
     schemes: &Schemes,
-    rel: RelNo,
+    relation: RelNo,
     tokens: &mut Tokens,
 ) -> Result<Result<Expr, PlacedFault>, PlacedFault>
-    requires { rel < length schemes.now }
+    requires { relation < length schemes.now }
     // The condition or its fault, and what is left behind it.
-    ensures exact { Gives (λ r. (r, tokens.new)) result (condition_at policy.now schemes.now rel tokens.old) }
+    ensures exact { Gives (λ r. (r, tokens.new)) result (condition_at policy.now schemes.now relation tokens.old) }
     // What is read has no fault of names and kinds, and of all of them the least is answered.
-    ensures judged { IsJudged policy.now schemes.now rel tokens.old result }
+    ensures judged { IsJudged policy.now schemes.now relation tokens.old result }
     // What was passed tells what is read, where the tokens are those of a text.
     ensures told { AreOfText (without_places tokens.old.placed)
-        → IfOk result (λ r. IfOk r (IsCondition policy.now schemes.now rel tokens.old tokens.new)) }
+        → IfOk result (λ r. IfOk r (IsCondition policy.now schemes.now relation tokens.old tokens.new)) }
     // And that is a truth value of the row.
-    ensures fits { AreOfText (without_places tokens.old.placed) → IfOk result (λ r. IfOk r (IsConditionOf schemes.now rel)) }
+    ensures fits { AreOfText (without_places tokens.old.placed) → IfOk result (λ r. IfOk r (IsConditionOf schemes.now relation)) }
 {
-    unless_noted(alloc, policy, schemes, rel, tokens)
+    unless_noted(alloc, policy, schemes, relation, tokens)
 }

@@ -30,7 +30,7 @@ fn fits_item(attributes: &Attributes, place: usize, gives: Inferred) -> bool
 }
 
 /// Whether an attribute has a new value already.
-fn is_set(sets: &[(u8, Expr)], number: u8) -> bool
+fn is_set(sets: &[(usize, Expr)], number: usize) -> bool
     ensures { result ≡ list_any (nat_eq number) (map (λ s. s.0) sets.now) }
 {
     for set in sets {
@@ -45,7 +45,7 @@ fn is_set(sets: &[(u8, Expr)], number: u8) -> bool
 fn note_set(
     faults: &mut Vec<PlacedFault>,
     scheme: &Scheme,
-    front: &[(u8, Expr)],
+    front: &[(usize, Expr)],
     name: &Name,
     given: &Given,
 ) -> Result<(), AllocError>
@@ -55,7 +55,7 @@ fn note_set(
 {
     match other(scheme, name) {
         Some(number) => {
-            let again = is_set(front, number as u8);
+            let again = is_set(front, number);
             note(faults, !again, name.1, TextCause::Repeated)?;
             let fits = given.gives.may_be(other_kind(scheme, number));
             note(faults, fits, given.at, TextCause::Kind)
@@ -74,7 +74,7 @@ fn note_set(
 
 /// One new value more, where the attribute is known.
 fn with_set(
-    front: &mut Vec<(u8, Expr)>,
+    front: &mut Vec<(usize, Expr)>,
     number: Option<usize>,
     value: Expr,
 ) -> Result<(), AllocError>
@@ -82,7 +82,7 @@ fn with_set(
     ensures { OnOk result (front.new.items ≡ with_set front.old.items number value) }
 {
     if let Some(number) = number {
-        front.push((number as u8, value))?;
+        front.push((number, value))?;
     }
     Ok(())
 }
@@ -161,7 +161,7 @@ impl Context<'_> {
         tokens: &mut Tokens,
         faults: &mut Vec<PlacedFault>,
         scheme: &Scheme,
-        front: &mut Vec<(u8, Expr)>,
+        front: &mut Vec<(usize, Expr)>,
     ) -> Result<(), PlacedFault>
         requires { IsScheme scheme.now }
         ensures { Gives (λ _. (front.new.items, (faults.new.items, tokens.new))) result
@@ -183,7 +183,7 @@ impl Context<'_> {
         tokens: &mut Tokens,
         faults: &mut Vec<PlacedFault>,
         scheme: &Scheme,
-    ) -> Result<Items<(u8, Expr)>, PlacedFault>
+    ) -> Result<Items<(usize, Expr)>, PlacedFault>
         requires { IsScheme scheme.now }
         ensures { Gives (λ xs. (xs, (faults.new.items, tokens.new))) result
             (sets_at self.now scheme.now (faults.old.items, tokens.old)) }

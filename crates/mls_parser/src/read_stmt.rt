@@ -12,7 +12,7 @@ use crate::inferred::Inferred;
 use crate::names::Name;
 use crate::words::{Plain, name_behind};
 use mls_lattice::{Items, LabelNo};
-use mls_scheme::{Kind, RelNo, Scheme};
+use mls_scheme::{Kind, RelNo, Scheme, Write};
 use mls_tokens::{Sign, Tokens};
 use mls_translang::{Expr, Stmt};
 use std::alloc::{AllocError, Global};
@@ -187,11 +187,10 @@ impl Context<'_> {
         tokens.word("values")?;
         let values = self.list(alloc, tokens, faults, self.scheme(relation).others())?;
         let (at, outcome) = self.written(tokens, faults)?;
-        Ok(Stmt::Insert {
+        Ok(Stmt::Write {
             relation,
-            key,
-            values,
             at,
+            write: Write::Insert { key, values },
             outcome,
         })
     }
@@ -220,7 +219,7 @@ impl Context<'_> {
         tokens: &mut Tokens,
         faults: &mut Vec<PlacedFault>,
         scheme: &Scheme,
-    ) -> Result<(Items<(u8, Expr)>, Option<u8>), PlacedFault>
+    ) -> Result<(Items<(usize, Expr)>, Option<u8>), PlacedFault>
         requires { IsScheme scheme.now }
         ensures { Gives (λ x. ((x.0, x.1), (faults.new.items, tokens.new))) result
             (changes_at self.now scheme.now (faults.old.items, tokens.old)) }
@@ -243,13 +242,15 @@ impl Context<'_> {
         let (relation, key) = self.keyed(alloc, tokens, faults)?;
         let (key_class, from, at) = self.classes(tokens, faults)?;
         let (sets, outcome) = self.changes(alloc, tokens, faults, self.scheme(relation))?;
-        Ok(Stmt::Update {
+        Ok(Stmt::Write {
             relation,
-            key,
-            key_class,
-            from,
             at,
-            sets,
+            write: Write::Update {
+                key,
+                key_class,
+                from,
+                sets,
+            },
             outcome,
         })
     }
@@ -266,11 +267,10 @@ impl Context<'_> {
         let (relation, key) = self.keyed(alloc, tokens, faults)?;
         let key_class = self.label_behind(tokens, faults, "class")?;
         let (at, outcome) = self.written(tokens, faults)?;
-        Ok(Stmt::Delete {
+        Ok(Stmt::Write {
             relation,
-            key,
-            key_class,
             at,
+            write: Write::Delete { key, key_class },
             outcome,
         })
     }

@@ -14,9 +14,9 @@ use crate::limits::{MAX_DEPTH, MAX_TRANSACTIONS};
 use crate::names::Name;
 use crate::words::name_behind;
 use mls_lattice::{LabelNo, Policy, Str};
-use mls_scheme::{Kind, Schemes};
+use mls_scheme::{Kind, Named, Schemes};
 use mls_tokens::{Sign, Tokens};
-use mls_translang::{Block, Named, Parameter};
+use mls_translang::{Block, Parameter};
 use std::alloc::{AllocError, Global};
 
 /// Whether one of some transactions has a name.

@@ -8,9 +8,6 @@ use Rattle.mls_queries.specs.Demanded.{demanded, put_first, demanded_from}
 pub record Demands (e : Expr) (n a : ℕ) (key : List Value) : Type 0 where
   pub way : (vs : List Value) → demanded_from a (n - a) e ≡ Some vs → demanded_from 0 n e ≡ Some (key ++ vs)
 
-pub demands_none : (e : Expr) (n : ℕ) → Demands e n 0 []
-demands_none e n = record { way = λ vs h. ap (λ m. demanded_from 0 m e) (omega arith) ∙ h }
-
 append_one : (xs ys : List Value) (y : Value) → xs ++ y ∷ ys ≡ (xs ++ y ∷ []) ++ ys
 append_one [] ys y = refl
 append_one (x ∷ xs) ys y = ap (λ zs. x ∷ zs) (append_one xs ys y)

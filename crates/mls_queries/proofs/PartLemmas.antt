@@ -1,5 +1,5 @@
 -- The parts of the entities of one key, put together.
-use Rattle.std.proofs.Common.{◌≡◌, ◌+◌, ℕ, Bool, true, false, cond, List, [], ◌++◌, length, Some, None, refl, sym, ap, ◌∙◌, inl, inr, arith}
+use Rattle.std.proofs.Common.{◌≡◌, ◌+◌, ℕ, Bool, true, false, cond, List, ◌++◌, length, Some, None, refl, sym, ap, ◌∙◌, inl, inr, arith}
 use Rattle.std.specs.Prelude.{◌⊎◌}
 use Rattle.std.specs.FinMap.{get}
 use Rattle.std.proofs.lemmas.Bool.{true≢false, cases_lt}
@@ -17,7 +17,7 @@ use Rattle.mls_filterview.specs.Stored.{IsStored, IsStoredTuple, with_class}
 use Rattle.mls_filterview.specs.Assembly.{AreOf, AreLow, IsLowEntry}
 use Rattle.mls_filterview.proofs.EntryLemmas.{Entry}
 use Rattle.mls_filterview.proofs.LowLemmas.{get_low, get_low_in, rows_under}
-use Rattle.mls_filterview.proofs.PartLemmas.{parts_more, parts_same, parts_none, OfEntity, own_class, own_key_class, over_key, in_those, those_have, those_stored}
+use Rattle.mls_filterview.proofs.PartLemmas.{parts_more, parts_same, OfEntity, own_class, own_key_class, over_key, in_those, those_have, those_stored}
 use Rattle.mls_queries.specs.Query.{is_key}
 use Rattle.mls_queries.specs.Demanded.{of_key}
 use Rattle.mls_queries.specs.Parts.{IsOfKey}
@@ -28,9 +28,6 @@ use Rattle.mls_queries.proofs.TopLemmas.{same_key, key_same}
 module _ (ls : Labels) (T : Table) (c : ℕ) (key : List Value) where
   abbrev OfKey : ℕ → Entry → Type 0
   OfKey k = IsOfKey ls T c key k
-
-  pub key_none : AreOf (OfKey 0) [] []
-  key_none = parts_none (OfKey 0) (λ e h. let l = h.key_class in absurd (omega (arith, l)))
 
   module _ (n : ℕ) (stored : IsStored ls n T) where
     -- a key class that c doesn't dominate adds nothing

@@ -24,10 +24,10 @@ Cache = LruCache ViewKey Seen
 -- ---- keys
 
 pub key_refl : (a : ViewKey) → same_key a a ≡ true
-key_refl a = λ i. nat_eq_equiv.refl a.rel i && nat_eq_equiv.refl a.label i
+key_refl a = λ i. nat_eq_equiv.refl a.relation i && nat_eq_equiv.refl a.label i
 
 key_symm : (a b : ViewKey) → same_key a b ≡ same_key b a
-key_symm a b = λ i. nat_eq_equiv.symm a.rel b.rel i && nat_eq_equiv.symm a.label b.label i
+key_symm a b = λ i. nat_eq_equiv.symm a.relation b.relation i && nat_eq_equiv.symm a.label b.label i
 
 -- ---- the last view, where keys are distinct
 
@@ -64,16 +64,9 @@ last_apart (x ∷ es) e d =
 some_entry : (a b : Entry) → Some a ≡ Some b → a ≡ b
 some_entry a b e = cc
 
-none_entry : {A : Type 0} (e : Entry) → None ≡ Some e → A
-none_entry e h = absurd cc
-
 module _ (c : Cache) (es : Kept) (e : Entry) (is : c.entries ≡ es ++ e ∷ []) where
   last_is : last_entry c.entries ≡ Some e
   last_is = ap last_entry is ∙ (last_of_push es e).0
-
-  -- there is a last view
-  pub not_none : {A : Type 0} → None ≡ last_entry c.entries → A
-  not_none h = none_entry e (h ∙ last_is)
 
   pub the_last : (k : ViewKey) (v : Seen) → Some (k, v) ≡ last_entry c.entries → (k, v) ≡ e
   the_last k v last = some_entry (k, v) e (last ∙ last_is)
@@ -88,14 +81,14 @@ module _ (c : Cache) (es : Kept) (e : Entry) (is : c.entries ≡ es ++ e ∷ [])
       ap (λ o. option_map_or (λ (f : Entry). (f.0, v) ∷ remove_entry (same_key e.0) es) o ((e.0, v) ∷ take (c.cap - 1) es)) (last_apart es e (subst (λ l. IsDistinct same_key (keys_of l)) is distinct))
       ∙ ap (λ l. (e.0, v) ∷ l) (take_all (c.cap - 1) es (let a : length c.entries ≡ length es + 1 = ap length is ∙ length-append es (e ∷ []) in omega (arith, a, room)))
 
-module _ (ls : Labels) (rel w : ℕ) (p : Place) (c : Cache) (k : ViewKey) (v : Seen) (last : Some (k, v) ≡ last_entry c.entries) (es : Kept) (e : Entry) (is : c.entries ≡ es ++ e ∷ []) where
+module _ (ls : Labels) (relation w : ℕ) (p : Place) (c : Cache) (k : ViewKey) (v : Seen) (last : Some (k, v) ≡ last_entry c.entries) (es : Kept) (e : Entry) (is : c.entries ≡ es ++ e ∷ []) where
   abbrev Next : Cache → Type 0
-  Next d = (new : Kept) × (d ≡ lru_cache new c.cap) × IsFollowedBy ls rel w p e es new
+  Next d = (new : Kept) × (d ≡ lru_cache new c.cap) × IsFollowedBy ls relation w p e es new
 
-  outlived : (b : Bool) → (nat_eq rel k.rel && below ls w k.label) ≡ b → outlives ls rel w e ≡ not b
-  outlived b h = ap not (ap (λ (q : Entry). nat_eq rel q.0.rel && below ls w q.0.label) (sym (the_last c es e is k v last)) ∙ h)
+  outlived : (b : Bool) → (nat_eq relation k.relation && below ls w k.label) ≡ b → outlives ls relation w e ≡ not b
+  outlived b h = ap not (ap (λ (q : Entry). nat_eq relation q.0.relation && below ls w q.0.label) (sym (the_last c es e is k v last)) ∙ h)
 
-  pub turned_over : (nat_eq rel k.rel && below ls w k.label) ≡ false → IsDistinct same_key (keys_of c.entries) → (d : Cache) → d ≡ lru_cache (promoted (same_key k) c.entries) c.cap → Next d
+  pub turned_over : (nat_eq relation k.relation && below ls w k.label) ≡ false → IsDistinct same_key (keys_of c.entries) → (d : Cache) → d ≡ lru_cache (promoted (same_key k) c.entries) c.cap → Next d
   turned_over h distinct d are = (
     e ∷ es,
     are ∙ ap (λ l. lru_cache l c.cap)
@@ -103,7 +96,7 @@ module _ (ls : Labels) (rel w : ℕ) (p : Place) (c : Cache) (k : ViewKey) (v : 
     record { stays = λ t. refl; noted = λ f. absurd (true≢false (sym (outlived false h) ∙ f)) },
   )
 
-  pub turned_out : (nat_eq rel k.rel && below ls w k.label) ≡ true → (d : Cache) → (IsSpelledKey p.key × (d ≡ lru_cache ((e.0, noted p e.1) ∷ es) c.cap)) ⊎ (d ≡ lru_cache es c.cap) → Next d
+  pub turned_out : (nat_eq relation k.relation && below ls w k.label) ≡ true → (d : Cache) → (IsSpelledKey p.key × (d ≡ lru_cache ((e.0, noted p e.1) ∷ es) c.cap)) ⊎ (d ≡ lru_cache es c.cap) → Next d
   turned_out h d (inl are) = ((e.0, noted p e.1) ∷ es, are.1, record { stays = λ t. absurd (true≢false (sym t ∙ outlived true h)); noted = λ f. inl (are.0, refl) })
   turned_out h d (inr are) = (es, are, record { stays = λ t. absurd (true≢false (sym t ∙ outlived true h)); noted = λ f. inr refl })
 
@@ -125,11 +118,11 @@ none_of : (es : Kept) → length es ≤ 0 → es ≡ []
 none_of [] h = refl
 none_of (e ∷ es) h = absurd (omega arith)
 
-module _ (ls : Labels) (rel w : ℕ) (p : Place) where
+module _ (ls : Labels) (relation w : ℕ) (p : Place) where
   -- what is true of each view, of those that stay and of those in which a write is noted
-  module _ (P Q : Entry → Type 0) (stays : (e : Entry) → outlives ls rel w e ≡ true → P e → Q e) (more : (e : Entry) → outlives ls rel w e ≡ false → IsSpelledKey p.key → P e → Q (e.0, noted p e.1)) where
-    one_followed : (e : Entry) (left new : Kept) → IsFollowedBy ls rel w p e left new → P e → AllByRecursion Q left → AllByRecursion Q new
-    one_followed e left new f h rest = elim (outlives ls rel w e) as (λ b. outlives ls rel w e ≡ b → AllByRecursion Q new) [
+  module _ (P Q : Entry → Type 0) (stays : (e : Entry) → outlives ls relation w e ≡ true → P e → Q e) (more : (e : Entry) → outlives ls relation w e ≡ false → IsSpelledKey p.key → P e → Q (e.0, noted p e.1)) where
+    one_followed : (e : Entry) (left new : Kept) → IsFollowedBy ls relation w p e left new → P e → AllByRecursion Q left → AllByRecursion Q new
+    one_followed e left new f h rest = elim (outlives ls relation w e) as (λ b. outlives ls relation w e ≡ b → AllByRecursion Q new) [
       | true ↦ λ t. subst (AllByRecursion Q) (sym (f.stays t)) (stays e t h, rest)
       | false ↦ λ t. elim (f.noted t) [
         | inl n ↦ subst (AllByRecursion Q) (sym n.1) (more e t n.0 h, rest)
@@ -137,12 +130,12 @@ module _ (ls : Labels) (rel w : ℕ) (p : Place) where
       ]
     ] refl
 
-    pub all_followed : (es new : Kept) → AreFollowed ls rel w p es new → AllByRecursion P es → AllByRecursion Q new
+    pub all_followed : (es new : Kept) → AreFollowed ls relation w p es new → AllByRecursion P es → AllByRecursion Q new
     all_followed [] new f h = subst (AllByRecursion Q) (sym f) tt
     all_followed (e ∷ es) new f h = one_followed e f.0 new f.2 h.0 (all_followed es f.0 f.1 h.1)
 
-  one_fewer : (e : Entry) (left new : Kept) → IsFollowedBy ls rel w p e left new → length new ≤ length left + 1
-  one_fewer e left new f = elim (outlives ls rel w e) as (λ b. outlives ls rel w e ≡ b → length new ≤ length left + 1) [
+  one_fewer : (e : Entry) (left new : Kept) → IsFollowedBy ls relation w p e left new → length new ≤ length left + 1
+  one_fewer e left new f = elim (outlives ls relation w e) as (λ b. outlives ls relation w e ≡ b → length new ≤ length left + 1) [
     | true ↦ λ t. (let a : length new ≡ suc (length left) = ap length (f.stays t) in omega (arith, a))
     | false ↦ λ t. elim (f.noted t) [
       | inl n ↦ (let a : length new ≡ suc (length left) = ap length n.1 in omega (arith, a))
@@ -150,27 +143,27 @@ module _ (ls : Labels) (rel w : ℕ) (p : Place) where
     ]
   ] refl
 
-  pub followed_fewer : (es new : Kept) → AreFollowed ls rel w p es new → length new ≤ length es
+  pub followed_fewer : (es new : Kept) → AreFollowed ls relation w p es new → length new ≤ length es
   followed_fewer [] new f = let a : length new ≡ 0 = ap length f in omega (arith, a)
   followed_fewer (e ∷ es) new f = let a = followed_fewer es f.0 f.1 in let b = one_fewer e f.0 new f.2 in omega (arith, a, b)
 
 -- a place without a key is not noted, so that nothing is said of it
-one_unnamed : (ls : Labels) (rel w : ℕ) (p : Place) (e : Entry) (left new : Kept) → IsFollowedBy ls rel w no_place e left new → IsFollowedBy ls rel w p e left new
-one_unnamed ls rel w p e left new f = record {
+one_unnamed : (ls : Labels) (relation w : ℕ) (p : Place) (e : Entry) (left new : Kept) → IsFollowedBy ls relation w no_place e left new → IsFollowedBy ls relation w p e left new
+one_unnamed ls relation w p e left new f = record {
   stays = f.stays;
   noted = λ t. elim (f.noted t) [ inl n ↦ (let some = n.0.count.some in absurd (omega (arith, some))) | inr n ↦ inr n ];
 }
 
-unnamed : (ls : Labels) (rel w : ℕ) (p : Place) (es new : Kept) → AreFollowed ls rel w no_place es new → AreFollowed ls rel w p es new
-unnamed ls rel w p [] new f = f
-unnamed ls rel w p (e ∷ es) new f = (f.0, unnamed ls rel w p es f.0 f.1, one_unnamed ls rel w p e f.0 new f.2)
+unnamed : (ls : Labels) (relation w : ℕ) (p : Place) (es new : Kept) → AreFollowed ls relation w no_place es new → AreFollowed ls relation w p es new
+unnamed ls relation w p [] new f = f
+unnamed ls relation w p (e ∷ es) new f = (f.0, unnamed ls relation w p es f.0 f.1, one_unnamed ls relation w p e f.0 new f.2)
 
 -- the place of an entity, where it was named
-pub named_followed : (ls : Labels) (rel w : ℕ) (p : Place) (o : Option Place) → IfSome o (λ q. q ≡ p) → (es new : Kept) → AreFollowed ls rel w (unwrap_or o no_place) es new → AreFollowed ls rel w p es new
-named_followed ls rel w p None is es new f = unnamed ls rel w p es new f
-named_followed ls rel w p (Some q) is es new f = subst (λ x. AreFollowed ls rel w x es new) is f
+pub named_followed : (ls : Labels) (relation w : ℕ) (p : Place) (o : Option Place) → IfSome o (λ q. q ≡ p) → (es new : Kept) → AreFollowed ls relation w (unwrap_or o no_place) es new → AreFollowed ls relation w p es new
+named_followed ls relation w p None is es new f = unnamed ls relation w p es new f
+named_followed ls relation w p (Some q) is es new f = subst (λ x. AreFollowed ls relation w x es new) is f
 
-module _ (ls : Labels) (rel w : ℕ) (p : Place) (start : Cache) where
+module _ (ls : Labels) (relation w : ℕ) (p : Place) (start : Cache) where
   -- after i turns: the views at the front of the list are where they were, and what is left of those behind stands before them
   pub record Turned (i : ℕ) (now : Cache) : Type 0 where
     pub front : Kept
@@ -178,14 +171,14 @@ module _ (ls : Labels) (rel w : ℕ) (p : Place) (start : Cache) where
     pub left : Kept
     pub whole : start.entries ≡ front ++ back
     pub count : length front + i ≡ length start.entries
-    pub followed : AreFollowed ls rel w p back left
+    pub followed : AreFollowed ls relation w p back left
     pub are : now ≡ lru_cache (left ++ front) start.cap
 
   pub turned_none : Turned 0 start
   turned_none = record { front = start.entries; back = []; left = []; whole = sym (append-nil start.entries); count = omega arith; followed = refl; are = refl }
 
-  next_left : (x : Entry) (left us new : Kept) → IsFollowedBy ls rel w p x (left ++ us) new → (more : Kept) × IsFollowedBy ls rel w p x left more × (new ≡ more ++ us)
-  next_left x left us new f = elim (outlives ls rel w x) as (λ b. outlives ls rel w x ≡ b → (more : Kept) × IsFollowedBy ls rel w p x left more × (new ≡ more ++ us)) [
+  next_left : (x : Entry) (left us new : Kept) → IsFollowedBy ls relation w p x (left ++ us) new → (more : Kept) × IsFollowedBy ls relation w p x left more × (new ≡ more ++ us)
+  next_left x left us new f = elim (outlives ls relation w x) as (λ b. outlives ls relation w x ≡ b → (more : Kept) × IsFollowedBy ls relation w p x left more × (new ≡ more ++ us)) [
     | true ↦ λ t. (x ∷ left, record { stays = λ s. refl; noted = λ n. absurd (true≢false (sym t ∙ n)) }, f.stays t)
     | false ↦ λ t. elim (f.noted t) [
       | inl n ↦ ((x.0, noted p x.1) ∷ left, record { stays = λ s. absurd (true≢false (sym s ∙ t)); noted = λ k. inl (n.0, refl) }, n.1)
@@ -194,7 +187,7 @@ module _ (ls : Labels) (rel w : ℕ) (p : Place) (start : Cache) where
   ] refl
 
   pub turned_more : (i : ℕ) (now new : Cache) → Turned i now → i < length start.entries
-      → ((es : Kept) (e : Entry) → now.entries ≡ es ++ e ∷ [] → (left : Kept) × (new ≡ lru_cache left now.cap) × IsFollowedBy ls rel w p e es left)
+      → ((es : Kept) (e : Entry) → now.entries ≡ es ++ e ∷ [] → (left : Kept) × (new ≡ lru_cache left now.cap) × IsFollowedBy ls relation w p e es left)
       → Turned (i + 1) new
   turned_more i now new t within turn =
       let cut = cut_end t.front (let a = t.count in omega (arith, a)) in
@@ -212,16 +205,16 @@ module _ (ls : Labels) (rel w : ℕ) (p : Place) (start : Cache) where
         are = turned.1 ∙ (λ j. lru_cache (next.2 j) ((t.are j).cap));
       }
 
-  pub turned_all : (i : ℕ) (now : Cache) → Turned i now → length start.entries ≤ i → (now.cap ≡ start.cap) × AreFollowed ls rel w p start.entries now.entries
+  pub turned_all : (i : ℕ) (now : Cache) → Turned i now → length start.entries ≤ i → (now.cap ≡ start.cap) × AreFollowed ls relation w p start.entries now.entries
   turned_all i now t l =
       let none = none_of t.front (let a = t.count in omega (arith, a)) in
       let all : start.entries ≡ t.back = t.whole ∙ ap (λ l. l ++ t.back) none in
       let are : now.entries ≡ t.left = ap (λ (c : Cache). c.entries) t.are ∙ ap (λ l. t.left ++ l) none ∙ append-nil t.left in
-      (ap (λ (c : Cache). c.cap) t.are, subst₂ (AreFollowed ls rel w p) (sym all) (sym are) t.followed)
+      (ap (λ (c : Cache). c.cap) t.are, subst₂ (AreFollowed ls relation w p) (sym all) (sym are) t.followed)
 
   pub turned_labels : (count i : ℕ) (now : Cache) → Turned i now → AllByRecursion (λ e. e.0.label < count) start.entries → AllByRecursion (λ e. e.0.label < count) now.entries
   turned_labels count i now t h =
       let P : Entry → Type 0 = λ e. e.0.label < count in
       let all = subst (AllByRecursion P) t.whole h in
       subst (λ (c : Cache). AllByRecursion P c.entries) (sym t.are)
-      (all_joined P t.left t.front (all_followed ls rel w p P P (λ e b k. k) (λ e b s k. k) t.back t.left t.followed (all_back P t.front t.back all)) (all_front P t.front t.back all))
+      (all_joined P t.left t.front (all_followed ls relation w p P P (λ e b k. k) (λ e b s k. k) t.back t.left t.followed (all_back P t.front t.back all)) (all_front P t.front t.back all))

@@ -7,7 +7,7 @@ use Rattle.mls_filterview.specs.Stored.{IsContent}
 use Rattle.mls_queries.specs.Views.{Kept, AreViews}
 
 -- a declared label looks at the content of a relation, with views that are kept of it
-pub record CanFind {Self : Type 0} (is_clean : Self → Type 0) (state : Self → State) (base : Self) (policy : Policy) (scheme : Scheme) (rel c : ℕ) (kept : Kept) : Type 0 where
+pub record CanFind {Self : Type 0} (is_clean : Self → Type 0) (state : Self → State) (base : Self) (policy : Policy) (scheme : Scheme) (relation c : ℕ) (kept : Kept) : Type 0 where
   pub label : c < length policy.labels
-  pub content : is_clean base → IsContent (labels_of policy) scheme ((state base).now.db rel)
+  pub content : is_clean base → IsContent (labels_of policy) scheme ((state base).now.db relation)
   pub views : AreViews policy is_clean state base kept

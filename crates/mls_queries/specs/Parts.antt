@@ -6,7 +6,6 @@ use Rattle.mls_scheme.specs.declared.value.Value.{Value}
 use Rattle.mls_scheme.specs.declared.tuple.Element.{Element}
 use Rattle.mls_scheme.specs.declared.place.Place.{Place}
 use Rattle.mls_scheme.specs.declared.tuple.Tuple.{Tuple}
-use Rattle.mls_scheme.specs.Spelling.{IsSpelledKey}
 use Rattle.mls_scheme.specs.Table.{Table}
 use Rattle.mls_filterview.specs.Checking.{are_declared}
 
@@ -17,11 +16,6 @@ module _ (ls : Labels) (T : Table) (c : ℕ) (values : List Value) where
     pub key : e.0.key ≡ values
     pub key_class : e.0.key_class < k
     pub low : below ls e.0.class c ≡ true
-
--- a key class below count, and a place whose key has a spelling
-pub record IsKeyPlace (count kc : ℕ) (p : Place) : Type 0 where
-  pub key_class : kc < count
-  pub key : IsSpelledKey p.key
 
 -- the classes of a tuple are below count
 abbrev pub has_known : ℕ → Tuple → Bool

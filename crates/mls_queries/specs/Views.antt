@@ -52,7 +52,7 @@ Kept = List (ViewKey × Seen)
 
 -- each is the view of a database now, but for what was written
 abbrev pub AreRows : Labels → Database → Kept → Type 0
-AreRows ls db = AllByRecursion (λ e. AgreesWith (rows ls e.0.label (db e.0.rel)) e.1)
+AreRows ls db = AllByRecursion (λ e. AgreesWith (rows ls e.0.label (db e.0.relation)) e.1)
 
 -- their labels are declared, and the entities that were written can be asked for
 abbrev pub AreDeclared : ℕ → Kept → Type 0
@@ -61,14 +61,14 @@ AreDeclared count = AllByRecursion (λ e. (e.0.label < count) × AllByRecursion 
 -- ---- keys
 
 abbrev pub key_of : ℕ → ℕ → ViewKey
-key_of rel label = record { rel = rel; label = label }
+key_of relation label = record { relation = relation; label = label }
 
 -- the test for the key of a relation and a label
 abbrev pub is_view : ℕ → ℕ → ViewKey → Bool
-is_view rel label k = nat_eq rel k.rel && nat_eq label k.label
+is_view relation label k = nat_eq relation k.relation && nat_eq label k.label
 
 abbrev pub same_key : ViewKey → ViewKey → Bool
-same_key a = is_view a.rel a.label
+same_key a = is_view a.relation a.label
 
 -- ---- caches
 
@@ -87,7 +87,7 @@ HasRoom (Some c) = c.cap ≡ most_views
 
 -- with one view more, as the first: it takes the place of one of its key, and else of the last where there are most
 abbrev pub put_view : ℕ → ℕ → List Tuple → Kept → Kept
-put_view rel label tuples es = put_entries same_key (lru_cache es most_views) (key_of rel label) (fresh tuples)
+put_view relation label tuples es = put_entries same_key (lru_cache es most_views) (key_of relation label) (fresh tuples)
 
 -- ---- bases
 
@@ -105,14 +105,14 @@ abbrev pub no_place : Place
 no_place = record { key = []; key_class = 0; class = 0 }
 
 -- the view is of another relation, or its label does not dominate that of the write
-abbrev pub outlives : Labels → (rel w : ℕ) → ViewKey × Seen → Bool
-outlives ls rel w e = not (nat_eq rel e.0.rel && below ls w e.0.label)
+abbrev pub outlives : Labels → (relation w : ℕ) → ViewKey × Seen → Bool
+outlives ls relation w e = not (nat_eq relation e.0.relation && below ls w e.0.label)
 
-module _ (ls : Labels) (rel w : ℕ) (p : Place) where
+module _ (ls : Labels) (relation w : ℕ) (p : Place) where
   -- a view that a write of the entity of p can't have changed stays; in another the entity is noted, or it is given up
   pub record IsFollowedBy (e : ViewKey × Seen) (left new : Kept) : Type 0 where
-    pub stays : outlives ls rel w e ≡ true → new ≡ e ∷ left
-    pub noted : outlives ls rel w e ≡ false → (IsSpelledKey p.key × (new ≡ (e.0, noted p e.1) ∷ left)) ⊎ (new ≡ left)
+    pub stays : outlives ls relation w e ≡ true → new ≡ e ∷ left
+    pub noted : outlives ls relation w e ≡ false → (IsSpelledKey p.key × (new ≡ (e.0, noted p e.1) ∷ left)) ⊎ (new ≡ left)
 
   -- so each of them, in their order
   abbrev pub AreFollowed : Kept → Kept → Type 0

@@ -27,18 +27,18 @@ fn find_in_view<B: Base>(
     base: &mut B,
     views: &mut Views,
     policy: &Policy,
-    rel: RelNo,
+    relation: RelNo,
     label: LabelNo,
     query: &Query,
 ) -> Result<Selection, BaseFault>
-    requires see { CanSee B.is_clean B.state base.old rel policy.now label }
+    requires see { CanSee B.is_clean B.state base.old relation policy.now label }
     requires views { AreViews policy.now B.is_clean B.state base.old views.old }
     ensures read { IsRead B.is_clean B.failures B.state base.old base.new result }
     ensures rows { B.is_clean base.new → IfOk result (λ ts. ts ≡ found (labels_of policy.now) query.now
-        (rows (labels_of policy.now) label ((B.state base.old).now.db rel))) }
+        (rows (labels_of policy.now) label ((B.state base.old).now.db relation))) }
     ensures views { OnOk result (AreViews policy.now B.is_clean B.state base.new views.new) }
 {
-    let view = views.view(alloc, base, policy, rel, label)?;
+    let view = views.view(alloc, base, policy, relation, label)?;
     let found = settle(base, select(alloc, policy, view, query))?;
     Ok(found)
 }
@@ -49,7 +49,7 @@ fn find_by_key<B: Base>(
     base: &mut B,
     policy: &Policy,
     scheme: &Scheme,
-    rel: RelNo,
+    relation: RelNo,
     label: LabelNo,
     query: &Query,
     key: Items<Value>,
@@ -57,12 +57,12 @@ fn find_by_key<B: Base>(
     requires label { label < length policy.now.labels }
     requires demanded { IsDemanded (length scheme.now.keys) query.now.test key }
     requires content { B.is_clean base.old → IsContent (labels_of policy.now) scheme.now
-        ((B.state base.old).now.db rel) }
+        ((B.state base.old).now.db relation) }
     ensures read { IsRead B.is_clean B.failures B.state base.old base.new result }
     ensures rows { B.is_clean base.new → IfOk result (λ ts. ts ≡ found (labels_of policy.now) query.now
-        (rows (labels_of policy.now) label ((B.state base.old).now.db rel))) }
+        (rows (labels_of policy.now) label ((B.state base.old).now.db relation))) }
 {
-    let tuples = look_up(alloc, base, policy, rel, label, key)?;
+    let tuples = look_up(alloc, base, policy, relation, label, key)?;
     let view = settle(base, SharedView::new(alloc, tuples))?;
     let found = settle(base, select(alloc, policy, view, query))?;
     Ok(found)
@@ -75,20 +75,20 @@ fn find_now<B: Base>(
     views: &mut Views,
     policy: &Policy,
     scheme: &Scheme,
-    rel: RelNo,
+    relation: RelNo,
     label: LabelNo,
     query: &Query,
 ) -> Result<Selection, BaseFault>
-    requires { CanFind B.is_clean B.state base.old policy.now scheme.now rel label views.old }
+    requires { CanFind B.is_clean B.state base.old policy.now scheme.now relation label views.old }
     ensures read { IsRead B.is_clean B.failures B.state base.old base.new result }
     ensures rows { B.is_clean base.new → IfOk result (λ ts. ts ≡ found (labels_of policy.now) query.now
-        (rows (labels_of policy.now) label ((B.state base.old).now.db rel))) }
+        (rows (labels_of policy.now) label ((B.state base.old).now.db relation))) }
     ensures views { OnOk result (AreViews policy.now B.is_clean B.state base.new views.new) }
 {
     let key = settle(base, demanded_key(alloc, scheme, query))?;
     match key {
-        Some(key) => find_by_key(alloc, base, policy, scheme, rel, label, query, key),
-        None => find_in_view(alloc, base, views, policy, rel, label, query),
+        Some(key) => find_by_key(alloc, base, policy, scheme, relation, label, query, key),
+        None => find_in_view(alloc, base, views, policy, relation, label, query),
     }
 }
 
@@ -103,19 +103,19 @@ pub fn find<B: Base>(
     views: &mut Views,
     policy: &Policy,
     schemes: &Schemes,
-    rel: RelNo,
+    relation: RelNo,
     label: LabelNo,
     query: &Query,
 ) -> Result<Selection, BaseFault>
-    requires rel { rel < length schemes.now }
-    requires can { CanFind B.is_clean B.state base.old policy.now (scheme_of schemes.now rel) rel label views.old }
+    requires relation { relation < length schemes.now }
+    requires can { CanFind B.is_clean B.state base.old policy.now (scheme_of schemes.now relation) relation label views.old }
     ensures read { IsRead B.is_clean B.failures B.state base.old base.new result }
     ensures rows { B.is_clean base.new → IfOk result (λ ts. ts ≡ found (labels_of policy.now) query.now
-        (rows (labels_of policy.now) label ((B.state base.old).now.db rel))) }
+        (rows (labels_of policy.now) label ((B.state base.old).now.db relation))) }
     ensures views { AreViews policy.now B.is_clean B.state base.new views.new }
 {
-    let scheme = schemes.scheme(rel);
-    match find_now(alloc, base, views, policy, scheme, rel, label, query) {
+    let scheme = schemes.scheme(relation);
+    match find_now(alloc, base, views, policy, scheme, relation, label, query) {
         Ok(found) => Ok(found),
         Err(fault) => {
             views.clear();

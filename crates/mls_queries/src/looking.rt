@@ -14,7 +14,7 @@ ghost use Rattle.mls_filterview.specs.Checking.{are_declared};
 ghost use Rattle.mls_queries.specs.Parts.{has_known};
 
 use crate::parts::key_parts;
-use mls_filterview::{Base, BaseFault, Fragment, Rows, filter, rows_of, settle, values_of};
+use mls_filterview::{Base, BaseFault, Fragment, TupleMap, filter, rows_of, settle, values_of};
 use mls_lattice::{Items, LabelNo, Policy};
 use mls_scheme::{Element, Place, RelNo, Tuple, Value};
 use std::alloc::{AllocError, Global};
@@ -35,7 +35,7 @@ fn is_known(policy: &Policy, tuple: &Tuple) -> bool
 }
 
 /// The tuples of a map, in the order of places, but for those whose classes are not declared.
-fn tuples_of(alloc: Global, policy: &Policy, found: Rows) -> Result<Vec<Tuple>, AllocError>
+fn tuples_of(alloc: Global, policy: &Policy, found: TupleMap) -> Result<Vec<Tuple>, AllocError>
     ensures tuples { IfOk result (λ v. v.items ≡ filter (has_known (length policy.now.labels))
         (map (λ e. tuple_at e.0 e.1) found.entries)) }
     ensures ordered { IsOrdered place_cmp found }
@@ -78,17 +78,17 @@ pub(crate) fn look_up<B: Base>(
     alloc: Global,
     base: &mut B,
     policy: &Policy,
-    rel: RelNo,
+    relation: RelNo,
     label: LabelNo,
     key: Items<Value>,
 ) -> Result<Vec<Tuple>, BaseFault>
-    requires see { CanSee B.is_clean B.state base.old rel policy.now label }
+    requires see { CanSee B.is_clean B.state base.old relation policy.now label }
     requires key { IsSpelledKey key }
     ensures read { IsRead B.is_clean B.failures B.state base.old base.new result }
     ensures rows { B.is_clean base.new → IfOk result (λ v. v.items ≡ rows (labels_of policy.now) label
-        (of_key key ((B.state base.old).now.db rel))) }
+        (of_key key ((B.state base.old).now.db relation))) }
 {
-    let parts = key_parts(alloc, base, policy, rel, label, key)?;
+    let parts = key_parts(alloc, base, policy, relation, label, key)?;
     let tuples = settle(base, seen(alloc, policy, parts, label))?;
     Ok(tuples)
 }

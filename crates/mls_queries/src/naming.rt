@@ -1,10 +1,10 @@
 //! The entity that a write names.
 ghost use Rattle.std.specs.Prelude.{◌≡◌, true, IfSome};
 ghost use Rattle.mls_scheme.specs.Spelling.{HasSpelling, IsSpelledKey};
-ghost use Rattle.mls_updates.specs.Writes.{place};
+ghost use Rattle.mls_updates.specs.Writes.{named};
 
 use mls_lattice::LabelNo;
-use mls_scheme::{Place, Value};
+use mls_scheme::{Place, Value, Write};
 use mls_updates::place_of;
 use std::alloc::Global;
 
@@ -39,18 +39,17 @@ fn is_spelled(key: &[Value]) -> bool
     true
 }
 
-/// The place of the tuple of a class, of the entity of a key; nothing where the key has no spelling, or where there is no
-/// memory for it.
+/// The place of the tuple of a class, of the entity that a write at that class names; nothing where its key has no
+/// spelling, or where there is no memory for it.
 pub(crate) fn place_named(
     alloc: Global,
-    key: &[Option<Value>],
-    key_class: LabelNo,
+    write: &Write<Option<Value>>,
     class: LabelNo,
 ) -> Option<Place>
-    ensures named { IfSome result (λ p. p ≡ place key.now key_class class) }
+    ensures named { IfSome result (λ p. p ≡ named class write.now) }
     ensures spelled { IfSome result (λ p. IsSpelledKey p.key) }
 {
-    let place = place_of(alloc, key, key_class, class).ok()?;
+    let place = place_of(alloc, write.key(), write.key_class(class), class).ok()?;
     if is_spelled(&place.key) {
         Some(place)
     } else {

@@ -16,15 +16,15 @@ pub(crate) fn key_parts<B: Base>(
     alloc: Global,
     base: &mut B,
     policy: &Policy,
-    rel: RelNo,
+    relation: RelNo,
     label: LabelNo,
     key: Items<Value>,
 ) -> Result<Fragment, BaseFault>
-    requires see { CanSee B.is_clean B.state base.old rel policy.now label }
+    requires see { CanSee B.is_clean B.state base.old relation policy.now label }
     requires key { IsSpelledKey key }
     ensures read { IsRead B.is_clean B.failures B.state base.old base.new result }
     ensures parts { B.is_clean base.new → IfOk result (λ f. AreLow (labels_of policy.now)
-        (of_key key ((B.state base.old).now.db rel)) label (length (labels_of policy.now)) f.nodes f.cells) }
+        (of_key key ((B.state base.old).now.db relation)) label (length (labels_of policy.now)) f.nodes f.cells) }
 {
     let mut nodes = Vec::new(alloc);
     let mut cells = Vec::new(alloc);
@@ -38,7 +38,7 @@ pub(crate) fn key_parts<B: Base>(
         if !policy.dominates(label, key_class) {
             continue;
         }
-        let parts = entity_parts(alloc, base, policy, rel, label, key_class, &mut place)?;
+        let parts = entity_parts(alloc, base, policy, relation, label, key_class, &mut place)?;
         settle(base, gather(&mut nodes, &mut cells, parts))?;
     }
     Ok(Fragment {

@@ -84,23 +84,23 @@ fn mend_each<B: Base>(
     alloc: Global,
     base: &mut B,
     policy: &Policy,
-    rel: RelNo,
+    relation: RelNo,
     label: LabelNo,
     tuples: Vec<Tuple>,
     written: Vec<Place>,
 ) -> Result<Vec<Tuple>, BaseFault>
-    requires see { CanSee B.is_clean B.state base.old rel policy.now label }
+    requires see { CanSee B.is_clean B.state base.old relation policy.now label }
     requires named { AllByRecursion (IsNamed (length policy.now.labels)) written.items }
     requires agrees { B.is_clean base.old → AgreesWith
-        (rows (labels_of policy.now) label ((B.state base.old).now.db rel))
+        (rows (labels_of policy.now) label ((B.state base.old).now.db relation))
         (record { tuples = tuples.items; written = written.items }) }
     ensures read { IsRead B.is_clean B.failures B.state base.old base.new result }
     ensures rows { B.is_clean base.new → IfOk result (λ v. v.items ≡ rows (labels_of policy.now) label
-        ((B.state base.old).now.db rel)) }
+        ((B.state base.old).now.db relation)) }
 {
     let mut tuples = tuples;
     for place in written {
-        tuples = mend(alloc, base, policy, rel, label, place, tuples)?;
+        tuples = mend(alloc, base, policy, relation, label, place, tuples)?;
     }
     Ok(tuples)
 }
@@ -110,24 +110,24 @@ fn mended<B: Base>(
     alloc: Global,
     base: &mut B,
     policy: &Policy,
-    rel: RelNo,
+    relation: RelNo,
     label: LabelNo,
     seen: Seen,
 ) -> Result<SharedView, BaseFault>
-    requires see { CanSee B.is_clean B.state base.old rel policy.now label }
+    requires see { CanSee B.is_clean B.state base.old relation policy.now label }
     requires named { AllByRecursion (IsNamed (length policy.now.labels)) seen.written }
     requires agrees { B.is_clean base.old → AgreesWith
-        (rows (labels_of policy.now) label ((B.state base.old).now.db rel)) seen }
+        (rows (labels_of policy.now) label ((B.state base.old).now.db relation)) seen }
     ensures read { IsRead B.is_clean B.failures B.state base.old base.new result }
     ensures rows { B.is_clean base.new → IfOk result (λ ts. ts ≡ rows (labels_of policy.now) label
-        ((B.state base.old).now.db rel)) }
+        ((B.state base.old).now.db relation)) }
 {
     let Seen { tuples, written } = seen;
     if written.is_empty() {
         return Ok(tuples);
     }
     let tuples = settle(base, tuples.into_tuples(alloc))?;
-    let tuples = mend_each(alloc, base, policy, rel, label, tuples, written)?;
+    let tuples = mend_each(alloc, base, policy, relation, label, tuples, written)?;
     let shared = settle(base, SharedView::new(alloc, tuples))?;
     Ok(shared)
 }
@@ -137,15 +137,15 @@ fn resolved<B: Base>(
     alloc: Global,
     base: &mut B,
     policy: &Policy,
-    rel: RelNo,
+    relation: RelNo,
     label: LabelNo,
 ) -> Result<SharedView, BaseFault>
-    requires see { CanSee B.is_clean B.state base.old rel policy.now label }
+    requires see { CanSee B.is_clean B.state base.old relation policy.now label }
     ensures read { IsRead B.is_clean B.failures B.state base.old base.new result }
     ensures rows { B.is_clean base.new → IfOk result (λ ts. ts ≡ rows (labels_of policy.now) label
-        ((B.state base.old).now.db rel)) }
+        ((B.state base.old).now.db relation)) }
 {
-    let tuples = view(alloc, base, policy, rel, label)?;
+    let tuples = view(alloc, base, policy, relation, label)?;
     let shared = settle(base, SharedView::new(alloc, tuples))?;
     Ok(shared)
 }
@@ -156,20 +156,20 @@ pub(crate) fn look<B: Base>(
     alloc: Global,
     base: &mut B,
     policy: &Policy,
-    rel: RelNo,
+    relation: RelNo,
     label: LabelNo,
     seen: Option<Seen>,
 ) -> Result<SharedView, BaseFault>
-    requires see { CanSee B.is_clean B.state base.old rel policy.now label }
+    requires see { CanSee B.is_clean B.state base.old relation policy.now label }
     requires named { IfSome seen (λ v. AllByRecursion (IsNamed (length policy.now.labels)) v.written) }
     requires agrees { B.is_clean base.old → IfSome seen (AgreesWith
-        (rows (labels_of policy.now) label ((B.state base.old).now.db rel))) }
+        (rows (labels_of policy.now) label ((B.state base.old).now.db relation))) }
     ensures read { IsRead B.is_clean B.failures B.state base.old base.new result }
     ensures rows { B.is_clean base.new → IfOk result (λ ts. ts ≡ rows (labels_of policy.now) label
-        ((B.state base.old).now.db rel)) }
+        ((B.state base.old).now.db relation)) }
 {
     match seen {
-        Some(seen) => mended(alloc, base, policy, rel, label, seen),
-        None => resolved(alloc, base, policy, rel, label),
+        Some(seen) => mended(alloc, base, policy, relation, label, seen),
+        None => resolved(alloc, base, policy, relation, label),
     }
 }

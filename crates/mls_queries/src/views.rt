@@ -3,6 +3,7 @@ ghost use Rattle.std.specs.Prelude.{◌≡◌, ◌∷◌, ◌++◌, ◌<◌, ◌
 ghost use Rattle.std.specs.List.{AllByRecursion};
 ghost use Rattle.std.specs.Option.{unwrap_or};
 ghost use Rattle.mls_scheme.specs.Spelling.{IsSpelledKey};
+ghost use Rattle.mls_scheme.specs.Writes.{key_class_of};
 ghost use Rattle.std.specs.Map.{lookup, remove_entry};
 ghost use Rattle.mls_lattice.specs.Labels.{below};
 ghost use Rattle.mls_lattice.specs.Policy.{labels_of};
@@ -10,7 +11,7 @@ ghost use Rattle.mls_filterview.specs.View.{rows};
 ghost use Rattle.mls_filterview.specs.Calls.{IsRead, CanSee};
 ghost use Rattle.lru.specs.LruCache.{lru_cache, put_entries};
 ghost use Rattle.mls_queries.specs.declared.views.ViewKey.{ViewKey as SpecKey};
-ghost use Rattle.mls_updates.specs.Writes.{place};
+ghost use Rattle.mls_updates.specs.Writes.{named};
 ghost use Rattle.mls_queries.specs.Views.{Kept, Seen as SpecSeen, AreDeclared, AreViews, AreFollowed, AreLeftBy, IsFollowedBy, key_of, is_view, same_key, put_view, noted, no_place};
 
 use crate::naming::place_named;
@@ -18,7 +19,7 @@ use crate::seen::{Seen, look};
 use lru::LruCache;
 use mls_filterview::{Base, BaseFault, SharedView};
 use mls_lattice::{LabelNo, Policy};
-use mls_scheme::{Place, RelNo, Value};
+use mls_scheme::{Place, RelNo, Value, Write};
 use mls_updates::Outcome;
 use std::alloc::{AllocError, Global};
 use std::marker::Model;
@@ -30,7 +31,7 @@ const MOST_VIEWS: usize = 32;
 /// The numbers of the relation and the label of a view.
 #[derive(Clone, Copy, PartialEq, Eq, Hash)]
 pub(crate) struct ViewKey {
-    rel: u8,
+    relation: u8,
     label: u8,
 }
 
@@ -56,23 +57,23 @@ impl Model for Views {
 
 impl ViewKey {
     /// The numbers of a relation and a label.
-    fn new(rel: RelNo, label: LabelNo) -> ViewKey
-        ensures { result ≡ key_of rel label }
+    fn new(relation: RelNo, label: LabelNo) -> ViewKey
+        ensures { result ≡ key_of relation label }
     {
         ViewKey {
-            rel: rel.byte(),
+            relation: relation.byte(),
             label: label.byte(),
         }
     }
 
     /// Whether a write of a relation at the label `low` may change the view: it is of that relation, and its label
     /// dominates `low`.
-    fn may_change(self, policy: &Policy, rel: RelNo, low: LabelNo) -> bool
+    fn may_change(self, policy: &Policy, relation: RelNo, low: LabelNo) -> bool
         requires low { low < length policy.now.labels }
         requires label { self.label < length policy.now.labels }
-        ensures { result ≡ (nat_eq rel self.rel && below (labels_of policy.now) low self.label) }
+        ensures { result ≡ (nat_eq relation self.relation && below (labels_of policy.now) low self.label) }
     {
-        if rel.byte() != self.rel {
+        if relation.byte() != self.relation {
             return false;
         }
         policy.dominates(LabelNo::new(self.label), low)
@@ -112,43 +113,42 @@ impl Views {
         alloc: Global,
         base: &mut B,
         policy: &Policy,
-        rel: RelNo,
+        relation: RelNo,
         label: LabelNo,
     ) -> Result<SharedView, BaseFault>
-        requires see { CanSee B.is_clean B.state base.old rel policy.now label }
+        requires see { CanSee B.is_clean B.state base.old relation policy.now label }
         requires views { AreViews policy.now B.is_clean B.state base.old self.old }
         ensures read { IsRead B.is_clean B.failures B.state base.old base.new result }
         ensures rows { B.is_clean base.new → IfOk result (λ ts. ts ≡ rows (labels_of policy.now) label
-            ((B.state base.old).now.db rel)) }
+            ((B.state base.old).now.db relation)) }
         ensures views { AreViews policy.now B.is_clean B.state base.new self.new }
     {
-        let tuples = self.resolved(alloc, base, policy, rel, label)?;
-        self.keep(alloc, rel, label, &tuples);
+        let tuples = self.resolved(alloc, base, policy, relation, label)?;
+        self.keep(alloc, relation, label, &tuples);
         Ok(tuples)
     }
 
-    /// Notes a write of an entity of a relation at a label, by its outcome, in the views that it may have changed, or gives
+    /// Notes a write of a relation at a label, by its outcome, in the views that it may have changed, or gives
     /// them up. The others stay, all in their order. A view is given up where too many entities were written since it was
     /// resolved, and where there is no memory to note one.
     pub fn follow(
         &mut self,
         alloc: Global,
         policy: &Policy,
-        rel: RelNo,
+        relation: RelNo,
         level: LabelNo,
-        key: &[Option<Value>],
-        key_class: LabelNo,
+        write: &Write<Option<Value>>,
         outcome: Outcome,
     )
         requires level { level < length policy.now.labels }
-        requires key_class { key_class < length policy.now.labels }
+        requires key_class { key_class_of level write.now < length policy.now.labels }
         requires declared { AreDeclared (length policy.now.labels) self.old }
-        ensures { AreLeftBy (labels_of policy.now) rel level (place key.now key_class level) outcome self.old self.new }
+        ensures { AreLeftBy (labels_of policy.now) relation level (named level write.now) outcome self.old self.new }
     {
         if outcome.is_done() {
-            let written = place_named(alloc, key, key_class, level);
+            let written = place_named(alloc, write, level);
             if let Some(cache) = &mut self.cache {
-                follow_in(cache, policy, rel, level, &written);
+                follow_in(cache, policy, relation, level, &written);
             }
         }
     }
@@ -159,18 +159,18 @@ impl Views {
         alloc: Global,
         base: &mut B,
         policy: &Policy,
-        rel: RelNo,
+        relation: RelNo,
         label: LabelNo,
     ) -> Result<SharedView, BaseFault>
-        requires see { CanSee B.is_clean B.state base.old rel policy.now label }
+        requires see { CanSee B.is_clean B.state base.old relation policy.now label }
         requires views { AreViews policy.now B.is_clean B.state base.old self.old }
         ensures read { IsRead B.is_clean B.failures B.state base.old base.new result }
         ensures rows { B.is_clean base.new → IfOk result (λ ts. ts ≡ rows (labels_of policy.now) label
-            ((B.state base.old).now.db rel)) }
+            ((B.state base.old).now.db relation)) }
         ensures views { AreViews policy.now B.is_clean B.state base.new self.new }
     {
-        let kept = self.take(rel, label);
-        match look(alloc, base, policy, rel, label, kept) {
+        let kept = self.take(relation, label);
+        match look(alloc, base, policy, relation, label, kept) {
             Ok(tuples) => Ok(tuples),
             Err(fault) => {
                 self.clear();
@@ -180,11 +180,11 @@ impl Views {
     }
 
     /// Takes out the view of a relation at a label, where it is kept.
-    fn take(&mut self, rel: RelNo, label: LabelNo) -> Option<Seen>
-        ensures found { result ≡ lookup (is_view rel label) self.old }
-        ensures others { self.new ≡ remove_entry (is_view rel label) self.old }
+    fn take(&mut self, relation: RelNo, label: LabelNo) -> Option<Seen>
+        ensures found { result ≡ lookup (is_view relation label) self.old }
+        ensures others { self.new ≡ remove_entry (is_view relation label) self.old }
     {
-        let key = ViewKey::new(rel, label);
+        let key = ViewKey::new(relation, label);
         match &mut self.cache {
             Some(cache) => cache.pop(&key),
             None => None,
@@ -192,8 +192,8 @@ impl Views {
     }
 
     /// Keeps a view, as the one that was asked for last. Where there is no memory for it, what is kept stays.
-    fn keep(&mut self, alloc: Global, rel: RelNo, label: LabelNo, tuples: &SharedView)
-        ensures { (self.new ≡ self.old) ⊎ (self.new ≡ put_view rel label tuples.now self.old) }
+    fn keep(&mut self, alloc: Global, relation: RelNo, label: LabelNo, tuples: &SharedView)
+        ensures { (self.new ≡ self.old) ⊎ (self.new ≡ put_view relation label tuples.now self.old) }
     {
         if self.make(alloc).is_err() {
             return;
@@ -202,7 +202,11 @@ impl Views {
             return;
         };
         if let Some(cache) = &mut self.cache {
-            put(cache, ViewKey::new(rel, label), Seen::new(alloc, tuples));
+            put(
+                cache,
+                ViewKey::new(relation, label),
+                Seen::new(alloc, tuples),
+            );
         }
     }
 
@@ -230,7 +234,7 @@ fn put(cache: &mut ViewCache, key: ViewKey, seen: Seen)
 fn follow_in(
     cache: &mut ViewCache,
     policy: &Policy,
-    rel: RelNo,
+    relation: RelNo,
     low: LabelNo,
     written: &Option<Place>,
 )
@@ -238,22 +242,28 @@ fn follow_in(
     requires labels { AllByRecursion (λ e. e.0.label < length policy.now.labels) cache.old.entries }
     requires spelled { IfSome written.now (λ p. IsSpelledKey p.key) }
     ensures cap { cache.new.cap ≡ cache.old.cap }
-    ensures followed { AreFollowed (labels_of policy.now) rel low (unwrap_or written.now no_place)
+    ensures followed { AreFollowed (labels_of policy.now) relation low (unwrap_or written.now no_place)
         cache.old.entries cache.new.entries }
 {
     for _done in 0..cache.len() {
-        turn(cache, policy, rel, low, written);
+        turn(cache, policy, relation, low, written);
     }
 }
 
 /// Makes the last view of a cache the first. Where a write may have changed it, it is noted, or the view is given up.
-fn turn(cache: &mut ViewCache, policy: &Policy, rel: RelNo, low: LabelNo, written: &Option<Place>)
+fn turn(
+    cache: &mut ViewCache,
+    policy: &Policy,
+    relation: RelNo,
+    low: LabelNo,
+    written: &Option<Place>,
+)
     requires low { low < length policy.now.labels }
     requires labels { AllByRecursion (λ e. e.0.label < length policy.now.labels) cache.old.entries }
     requires spelled { IfSome written.now (λ p. IsSpelledKey p.key) }
     ensures { (es : Kept) → (e : SpecKey × SpecSeen) → cache.old.entries ≡ es ++ e ∷ []
         → (new : Kept) × (cache.new ≡ lru_cache new cache.old.cap)
-        × IsFollowedBy (labels_of policy.now) rel low (unwrap_or written.now no_place) e es new }
+        × IsFollowedBy (labels_of policy.now) relation low (unwrap_or written.now no_place) e es new }
 {
     // That no two keys of a cache are equal.
     let _count = cache.len();
@@ -261,7 +271,7 @@ fn turn(cache: &mut ViewCache, policy: &Policy, rel: RelNo, low: LabelNo, writte
         return;
     };
     let key = *key;
-    if key.may_change(policy, rel, low) {
+    if key.may_change(policy, relation, low) {
         renew(cache, written);
     } else {
         let _kept = cache.promote(&key);

@@ -13,8 +13,8 @@ use Rattle.mls_machine.specs.Observation.{EventsFit, heard, run_shows, reader_of
 use Rattle.mls_machine.specs.Serving.{answer_to, answers_to}
 use Rattle.mls_sessions.specs.declared.cause.RunFault.{RunFault}
 use Rattle.mls_sessions.specs.Run.{IsWhole, IsStopped, IsFaultOf, printed_to}
-use Rattle.mls_runs.specs.declared.seat.Fate.{Fate}
-use Rattle.mls_runs.specs.declared.seat.Fate.TheVariants as fates
+use Rattle.mls_runs.specs.declared.shell_session.Fate.{Fate}
+use Rattle.mls_runs.specs.declared.shell_session.Fate.TheVariants as fates
 use Rattle.mls_runs.specs.Shell.{events_of}
 use Rattle.mls_runs.proofs.TalkLemmas.{no_events}
 use Rattle.mls_runs.specs.Marks.{mark_of, IsCutMark}

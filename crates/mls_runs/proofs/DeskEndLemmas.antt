@@ -6,6 +6,7 @@ use Rattle.std.specs.Borrow.{Bor}
 use Rattle.mls_filterview.specs.Content.{Content, no_content}
 use Rattle.mls_lattice.specs.Labels.{AreDistinct}
 use Rattle.mls_scheme.specs.declared.file.SchemesFile.{SchemesFile}
+use Rattle.mls_audit.specs.Sound.{IsSoundContent}
 use Rattle.mls_machine.specs.declared.stored.Stored.{Stored}
 use Rattle.mls_machine.specs.Site.{Site, site_labels}
 use Rattle.mls_machine.specs.Machine.{Sessions}
@@ -13,18 +14,18 @@ use Rattle.mls_machine.specs.Observation.{AreStored, AreRead, AreCertified, Pass
 use Rattle.mls_machine.proofs.KeepingLemmas.{keep_integrity}
 use Rattle.mls_machine.proofs.RunLemmas.{first_accepted_alike}
 use Rattle.mls_machine.proofs.ServingLemmas.{served_alike}
-use Rattle.mls_sessions.specs.World.{world_at, IsSound}
+use Rattle.mls_sessions.specs.World.{world_at}
 use Rattle.mls_sessions.specs.declared.cause.RunFault.{RunFault}
 use Rattle.mls_host.specs.declared.ending.Ending.{Ending}
 use Rattle.mls_host.specs.declared.reason.Reason.{Reason}
 use Rattle.mls_host.specs.declared.reason.Reason.TheVariants.{Memory}
-use Rattle.mls_host.specs.declared.refusal.Refusal.{Refusal}
-use Rattle.mls_host.specs.declared.refusal.Refusal.TheVariants.{Before}
+use Rattle.mls_host.specs.declared.stop.Stop.{Stop}
+use Rattle.mls_host.specs.declared.stop.Stop.TheVariants.{Before}
 use Rattle.mls_host.specs.declared.job.Inputs.{Inputs}
 use Rattle.mls_host.specs.Hosting.{Hosted}
 use Rattle.mls_host.specs.Storing.{AreStoredWith}
 use Rattle.mls_host.specs.Causes.{IsBarred, IsNotBegun, no_memory, no_store}
-use Rattle.mls_host.specs.Refusal.{IsEnd}
+use Rattle.mls_host.specs.Stop.{IsEnd}
 use Rattle.mls_host.specs.Running.{site_of, first_world}
 use Rattle.mls_host.proofs.RunningLemmas.{end_weaker}
 use Rattle.mls_host.specs.Words.{named}
@@ -34,13 +35,13 @@ use Rattle.mls_runs.specs.DeskRun.{IsDeskFrom, IsDeskRun}
 
 -- lines that are answered over a content, which is left as another
 pub desk_at : (echo : List ℕ → List ℕ) (site : Site) (sessions : Sessions) (first left : Content) (before after : Option (List ℕ)) (Broken : Type 0) (Wrote : List ℕ → Type 0) (end : Result Ending RunFault)
-    → AreDistinct (site_labels site) → AreRead site → AreCertified site → IsSound site first → IsSound site left
+    → AreDistinct (site_labels site) → AreRead site → AreCertified site → IsSoundContent site.policy site.schemes first → IsSoundContent site.policy site.schemes left
     → IsService echo site before after Broken Wrote end (first_world site first) (world_at site sessions left)
     → IsDesk echo site before after Broken Wrote end first left
 desk_at echo site sessions first left before after Broken Wrote end distinct read certified sound sound_left k =
     let w = first_world site first in
     let es = events_in k.service.turns in
-    let stored : AreStored site w.db = λ rel. (sound.content rel).stored in
+    let stored : AreStored site w.db = λ relation. (sound.content relation).stored in
     let secret : (n : ℕ) → PassesOnlyReleasesDown site w (take n es) = first_accepted_alike site distinct read certified w es stored k.fits in
     record {
       service = k.service;
@@ -60,7 +61,7 @@ module _ (h : Hosted) (file : SchemesFile) (site : Site) (before after : Option 
   abbrev Fresh : Result Ending RunFault → Type 0
   Fresh end = (left : Content) × IsDesk h.echo site before after Broken Wrote end no_content left
 
-  module _ (Nothing : Option (List ℕ) → Reason → Type 0) (store : Option (Bor (List ℕ))) (r : Result Ending Refusal) where
+  module _ (Nothing : Option (List ℕ) → Reason → Type 0) (store : Option (Bor (List ℕ))) (r : Result Ending Stop) where
     -- with nothing
     pub desk_from_memory : store ≡ None → IsEnd Fresh (Nothing None) r → IsEnd (From (named store)) (Nothing (named store)) r
     desk_from_memory none desk =
@@ -91,11 +92,11 @@ module _ (h : Hosted) (inputs : Inputs) (store : Option (List ℕ)) (Wrote : Lis
   abbrev Nothing : Reason → Type 0
   Nothing reason = IsNotBegun h.before inputs.setting.policy inputs.setting.file store reason × Wrote []
 
-  abbrev Ends : Result Ending Refusal → Type 0
+  abbrev Ends : Result Ending Stop → Type 0
   Ends r = IsEnd (IsDeskRun h inputs store Wrote) Nothing r
 
   -- at the exit of a `?`
-  pub desk_before : (r : Result Ending Refusal) → IsErrAnd r (λ e. e ≡ Before Memory) → Wrote [] → Ends r
+  pub desk_before : (r : Result Ending Stop) → IsErrAnd r (λ e. e ≡ Before Memory) → Wrote [] → Ends r
   desk_before r is wrote = carried Ends r (Before Memory) is (no_memory refl, wrote)
 
   module _ (stored : List Stored) (before after : Option (List ℕ)) (Broken : Type 0)
@@ -126,7 +127,7 @@ module _ (h : Hosted) (inputs : Inputs) (store : Option (List ℕ)) (Wrote : Lis
     abbrev Barred : Reason → Type 0
     Barred reason = IsBarred h.before inputs.setting.policy inputs.setting.file store reason × Wrote []
 
-    pub desk_over_stored : (r : Result Ending Refusal) → IsEnd Desks Barred r → Ends r
+    pub desk_over_stored : (r : Result Ending Stop) → IsEnd Desks Barred r → Ends r
     desk_over_stored r k =
         let g : (reason : Reason) → Barred reason → Nothing reason = λ reason n. (no_store n.0, n.1) in
         end_weaker Desks Barred (IsDeskRun h inputs store Wrote) Nothing desk_run g r k

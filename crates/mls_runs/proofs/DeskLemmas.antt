@@ -22,7 +22,7 @@ use Rattle.mls_sessions.specs.Run.{IsFaultOf}
 use Rattle.mls_host.specs.declared.ending.Ending.{Ending}
 use Rattle.mls_host.specs.Ending.{ending_if}
 use Rattle.mls_host.specs.Running.{standing}
-use Rattle.mls_runs.specs.declared.seat.Fate.{Fate}
+use Rattle.mls_runs.specs.declared.shell_session.Fate.{Fate}
 use Rattle.mls_runs.specs.Shell.{Turn, IsShellTurn, events_of, events_in, is_last, is_failed, is_lost, FateFits, IsRead}
 use Rattle.mls_runs.proofs.ShellLemmas.{end_of-append, all-append, events-snoc, any-snoc, none_failed, failed_there}
 use Rattle.mls_runs.proofs.TalkLemmas.{fate_fits, last_line, failed_last}
@@ -85,7 +85,7 @@ module _ {B : Type 0} (state : B → State) (is_clean : B → Type 0) (echo : Li
   so_far_start ready = record {
     turns = [];
     clean = λ c. c;
-    kept = record { rules = refl; ready = ready };
+    kept = record { site = refl; ready = ready };
     none_lost = refl;
     last_is = refl;
     fits = tt;
@@ -96,7 +96,7 @@ module _ {B : Type 0} (state : B → State) (is_clean : B → Type 0) (echo : Li
 
   module _ (now : Engine B) (left is : Option (List ℕ)) (s : SoFar now left is false) where
     same_site : site now ≡ at
-    same_site = ap site_of s.kept.rules
+    same_site = ap site_of s.kept.site
 
     -- a line is read, and something becomes of it
     pub record Heard (fate : Fate) (over shown : Option (List ℕ)) (Broken : Type 0) : Type 0 where
@@ -121,7 +121,7 @@ module _ {B : Type 0} (state : B → State) (is_clean : B → Type 0) (echo : Li
 
       module _ (new : Engine B) (after : Option (List ℕ)) (clean : is_clean new.base → is_clean now.base) (kept : IsKept state is_clean now new) where
         kept_now : IsKept state is_clean first new
-        kept_now = record { rules = kept.rules ∙ s.kept.rules; ready = kept.ready }
+        kept_now = record { site = kept.site ∙ s.kept.site; ready = kept.ready }
 
         -- what becomes of the line, from the world up to here
         moved : {r : Result (Unit {0}) RunFault} → (c : is_clean new.base) → IsFollowed (site now) (world_of state now) fate shown after (world_of state new) r

@@ -2,7 +2,7 @@
 use Rattle.std.proofs.Common.{◌≡◌, ℕ, zero, suc, ◌+◌, ◌-◌, if◌then◌else◌, List, [], ◌∷◌, ◌++◌, map, length, take, Option, Some, None, Result, Ok, Err, OnOk, IfErr, IfSome, refl, sym, ap, subst, ◌∙◌, arith, append-nil}
 use Rattle.std.specs.List.{AllByRecursion, concat}
 use Rattle.std.specs.Io.KnownBytes.{Appends}
-use Rattle.std.proofs.KnownBytes.{Appends-nil, Appends-trans}
+use Rattle.std.proofs.KnownBytes.{Appends-trans}
 use Rattle.std.proofs.lemmas.List.{append_assoc, map-append, length-append, length-map}
 use Rattle.sqlite_disk.specs.declared.Disk.{Ghosts}
 use Rattle.sqlite_disk.specs.declared.Files.{Files}
@@ -13,9 +13,9 @@ use Rattle.mls_lattice.specs.Policy.{Policy, labels_of}
 use Rattle.mls_scheme.specs.Scheme.{Schemes}
 use Rattle.mls_scheme.specs.declared.file.SchemesFile.{SchemesFile}
 use Rattle.mls_filterview.specs.Content.{Content}
+use Rattle.mls_audit.specs.Sound.{IsSoundContent}
 use Rattle.mls_fragments.specs.Again.{AreRefused}
 use Rattle.mls_fragments.specs.Holdings.{holdings_of}
-use Rattle.mls_fragments.specs.Finding.{IsSoundContent}
 use Rattle.mls_fragments.proofs.AgainLemmas.{kept_is_taken}
 use Rattle.mls_fragments.proofs.HoldingsLemmas.{sound_is_taken}
 use Rattle.mls_certcheck.specs.Secure.{AreStored}
@@ -23,14 +23,12 @@ use Rattle.mls_script.specs.declared.event.Event.{Event}
 use Rattle.mls_machine.specs.declared.form.Audience.{Audience}
 use Rattle.mls_machine.specs.declared.stored.Stored.{Stored}
 use Rattle.mls_machine.specs.Site.{Site}
-use Rattle.mls_machine.specs.Machine.{World, end_of}
+use Rattle.mls_machine.specs.Machine.{World}
 use Rattle.mls_machine.specs.Output.{run_lines, printed}
 use Rattle.mls_machine.specs.Observation.{AreCertified, EventsFit, heard}
-use Rattle.mls_machine.specs.Turning.{turn_lines, turned}
-use Rattle.mls_machine.specs.History.{RunAt, settled, run_at, turning_at, run_start, run_end, turning_lines, history_end, history_lines, history_bytes, HistoryFits, IsHistoryUnder, IsSiteUnder, ShowsOnlyReleasesInHistory}
+use Rattle.mls_machine.specs.History.{RunAt, settled, run_at, run_start, run_end, turning_lines, history_end, history_lines, history_bytes, HistoryFits, IsHistoryUnder, IsSiteUnder, ShowsOnlyReleasesInHistory}
 use Rattle.mls_machine.proofs.HistoryLemmas.{histories_keep, accepted_histories, histories_show}
 use Rattle.mls_machine.proofs.OneLineLemmas.{each-append}
-use Rattle.mls_sessions.specs.World.{entries_in}
 use Rattle.mls_sessions.specs.declared.cause.RunFault.{RunFault}
 use Rattle.mls_host.specs.Running.{site_of, IsRun}
 use Rattle.mls_runs.specs.declared.history.Run.{Run}
@@ -61,15 +59,6 @@ bytes_none ls audience w = refl
 bytes_one : (ls : Labels) (audience : Audience) (w : World) (site : Site) (es : List Event) → concat (history_bytes ls audience w (run_at site es ∷ [])) ≡ printed (heard ls audience.reader (run_lines audience.form site w es))
 unfolding history_lines
 bytes_one ls audience w site es = append-nil (printed (heard ls audience.reader (run_lines audience.form site w es)))
-
-bytes_turning : (ls : Labels) (audience : Audience) (w : World) (site : Site) → concat (history_bytes ls audience w (turning_at site ∷ [])) ≡ printed (heard ls audience.reader (turn_lines site.policy w.audit))
-unfolding history_lines run_lines
-bytes_turning ls audience w site =
-    append-nil (printed (heard ls audience.reader (turn_lines site.policy w.audit ++ []))) ∙ ap (λ l. printed (heard ls audience.reader l)) (append-nil (turn_lines site.policy w.audit))
-
-end_turning : (w : World) (site : Site) → history_end w (turning_at site ∷ []) ≡ settled (turned w)
-unfolding history_end end_of
-end_turning w site = refl
 
 end_none : (w : World) → history_end w [] ≡ w
 unfolding history_end
@@ -114,10 +103,6 @@ module _ (policy : Policy) (schemes : Schemes) where
   pub ready_run : (run : Run) → IsPrepared policy schemes run → IsReady (run_of policy schemes run)
   ready_run run h = (record { labels = refl; relations = refl; read = h.read }, h.fits, h.certified)
 
-  ready_runs : (runs : List Run) → AllByRecursion (IsPrepared policy schemes) runs → AreReady (runs_at runs)
-  ready_runs [] h = tt
-  ready_runs (run ∷ runs) h = (ready_run run h.0, ready_runs runs h.1)
-
   -- so is a run up to where it stopped
   ready_to : (r : RunAt) (end : Result (Unit {0}) RunFault) → IsReady r → IsReady (run_to r end)
   ready_to r (Ok u) h = h
@@ -136,7 +121,7 @@ module _ (policy : Policy) (schemes : Schemes) where
   certified (r ∷ rs) h = (h.0.2, certified rs h.1)
 
   stored_of : (c : Content) → IsSoundContent policy schemes c → AreStored (labels_of policy) schemes c.db
-  stored_of c sound = λ rel. (sound.content rel).stored
+  stored_of c sound = λ relation. (sound.content relation).stored
 
   module _ (distinct : AreDistinct (labels_of policy)) where
     -- a history is known by what it leaves
@@ -165,16 +150,6 @@ module _ (policy : Policy) (schemes : Schemes) where
     no_runs audience Wrote first sound wrote =
         history_run audience [] Wrote first first tt sound (subst Wrote (sym (bytes_none (labels_of policy) audience (world_of policy first))) wrote) (end_none (world_of policy first)) sound
 
-    -- a turning alone leaves the tuples
-    pub one_turning : (audience : Audience) (Wrote : List ℕ → Type 0) (first : Content) → IsSoundContent policy schemes first
-        → Wrote (printed (heard (labels_of policy) audience.reader (turn_lines policy (entries_in (length policy.labels) first.audit))))
-        → IsHistoryRun policy schemes audience (turning_at (site_of policy schemes []) ∷ []) Wrote first (record first { audit = [] })
-    one_turning audience Wrote first sound wrote =
-        let site = site_of policy schemes [] in
-        let ready : AreReady (turning_at site ∷ []) = ((record { labels = refl; relations = refl; read = tt }, tt, tt), tt) in
-        history_run audience (turning_at site ∷ []) Wrote first (record first { audit = [] }) ready sound (subst Wrote (sym (bytes_turning (labels_of policy) audience (world_of policy first) site)) wrote)
-        (end_turning (world_of policy first) site) (record { content = sound.content; entries = tt })
-
     module _ (stored : List Stored) (events : List Event) (audience : Audience) (ready : IsReady (run_at (site_of policy schemes stored) events)) where
       abbrev At : RunAt
       At = run_at (site_of policy schemes stored) events
@@ -186,7 +161,7 @@ module _ (policy : Policy) (schemes : Schemes) where
       one_run : (Wrote : List ℕ → Type 0) (first left : Content) → IsSoundContent policy schemes first → IsRun At.site audience events Wrote (Ok tt) first left → IsHistoryRun policy schemes audience (At ∷ []) Wrote first left
       one_run Wrote first left sound r =
           history_run audience (At ∷ []) Wrote first left (ready, tt) sound (subst Wrote (sym (bytes_one (labels_of policy) audience (world_of policy first) At.site events)) r.written)
-          (end_one (world_of policy first) At ∙ left_world Wrote (Ok tt) first left r) (record { content = r.sound.content; entries = r.sound.entries })
+          (end_one (world_of policy first) At ∙ left_world Wrote (Ok tt) first left r) r.sound
 
       -- with whole runs before it, up to where it stopped
       stands_behind : (rs : List RunAt) (P Wrote : List ℕ → Type 0) (end : Result (Unit {0}) RunFault) (first last left : Content) → AreReady rs → IsHistoryRun policy schemes audience rs P first last → IsRun At.site audience events Wrote end last left
@@ -340,9 +315,6 @@ pub record Goes {D : Type 0} (g : Ghosts D) (policy : Policy) (file : SchemesFil
   pub over : AreRunsOver g policy file audience start (runs_at policy file.schemes done) (Appends before after) now
 
 module _ {D : Type 0} (g : Ghosts D) (policy : Policy) (file : SchemesFile) (audience : Audience) (runs : List Run) (start : Files D) (before : Option (List ℕ)) where
-  pub goes_first : Goes g policy file audience runs start before [] runs 0 start before
-  goes_first = record { all = refl; count = refl; over = (Appends-nil before, refl) }
-
   pub goes_whole : (done rest : List Run) (number : ℕ) (now : Files D) (after : Option (List ℕ)) → Goes g policy file audience runs start before done rest number now after → rest ≡ []
       → AreRunsOver g policy file audience start (runs_at policy file.schemes runs) (Appends before after) now
   goes_whole done rest number now after h empty =

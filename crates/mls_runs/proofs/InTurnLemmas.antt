@@ -9,10 +9,10 @@ use Rattle.mls_lattice.proofs.KeptLemmas.{policy-kept}
 use Rattle.mls_scheme.specs.Scheme.{Schemes}
 use Rattle.mls_scheme.specs.declared.file.SchemesFile.{SchemesFile}
 use Rattle.mls_filterview.specs.Content.{Content}
-use Rattle.mls_statements.specs.declared.rows.MetaRow.{MetaRow}
+use Rattle.mls_tables.specs.declared.rows.MetaRow.{MetaRow}
 use Rattle.mls_filterview.specs.Stored.{AreContent}
+use Rattle.mls_audit.specs.Sound.{IsSoundContent}
 use Rattle.mls_fragments.specs.Holdings.{holdings_of, IsTakenOf}
-use Rattle.mls_fragments.specs.Finding.{IsSoundContent}
 use Rattle.mls_fragments.proofs.HoldingsLemmas.{sound_is_taken}
 use Rattle.mls_translang.specs.Tx.{Tx}
 use Rattle.mls_translang.specs.Fits.{IsReadUnder}
@@ -27,7 +27,7 @@ use Rattle.mls_machine.specs.History.{settled, run_at, run_end, history_end, his
 use Rattle.mls_machine.proofs.KeepingLemmas.{first_integrity}
 use Rattle.mls_machine.proofs.HistoryLemmas.{histories_pass}
 use Rattle.mls_sessions.specs.declared.cause.RunFault.{RunFault}
-use Rattle.mls_sessions.specs.World.{entries_in, IsSound}
+use Rattle.mls_sessions.specs.World.{entries_in}
 use Rattle.mls_host.specs.declared.words.Documents.{Documents}
 use Rattle.mls_host.specs.declared.words.Job.{Job}
 use Rattle.mls_host.specs.Words.{named}
@@ -37,7 +37,7 @@ use Rattle.mls_host.specs.declared.job.Inputs.{Inputs}
 use Rattle.mls_host.specs.Reading.{AreInputs}
 use Rattle.mls_host.specs.Storing.{AreStoredWith}
 use Rattle.mls_runs.specs.ScriptRun.{site_under}
-use Rattle.mls_host.specs.Running.{site_of, first_world, output, standing, IsLeftBy}
+use Rattle.mls_host.specs.Running.{first_world, output, standing, IsLeftBy}
 use Rattle.mls_runs.specs.InTurn.{setting, run, world_before, KeepsOne, RunsAreInTurn}
 use Rattle.mls_host.proofs.StoringLemmas.{stored_read}
 
@@ -86,9 +86,9 @@ left_world site first left es h = ap settled (sym h.1)
 -- ---- a store that keeps one content
 
 -- what is sound is so under the same labels and schemes
-sound_later : (policy later : Policy) (schemes same : Schemes) (stored : List Stored) (c : Content) → labels_of later ≡ labels_of policy → same ≡ schemes
-    → IsSound (site_of policy schemes stored) c → IsSoundContent later same c
-sound_later policy later schemes same stored c labels relations sound = record {
+sound_later : (policy later : Policy) (schemes same : Schemes) (c : Content) → labels_of later ≡ labels_of policy → same ≡ schemes
+    → IsSoundContent policy schemes c → IsSoundContent later same c
+sound_later policy later schemes same c labels relations sound = record {
   content = subst (λ ss. AreContent (labels_of later) ss c.db) (sym relations) (subst (λ ls. AreContent ls schemes c.db) (sym labels) sound.content);
   entries = let e : length later.labels ≡ length policy.labels = sym (same_count policy later labels) in rw e sound.entries;
 }
@@ -111,7 +111,7 @@ in_turn h W k V path one r s shape =
     let p = run r in
     let q = run s in
     let v = world_before r in
-    let sound = sound_later t.policy u.policy t.file.schemes u.file.schemes r.is.stored a.left shape.labels shape.schemes a.leads.sound in
+    let sound = sound_later t.policy u.policy t.file.schemes u.file.schemes a.left shape.labels shape.schemes a.leads.sound in
     let same : a.left ≡ b.first = taken_again h k path one u.policy u.file a.left b.first sound a.kept b.begins in
     let next : run_end v p ≡ world_before s
     = left_world p.site a.first a.left p.events a.leads.left_by ∙ (λ i. world_with (same_count t.policy u.policy shape.labels i) (same i)) in

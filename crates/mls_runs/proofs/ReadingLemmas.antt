@@ -9,25 +9,20 @@ use Rattle.mls_script.specs.declared.fault.ScriptFault.{ScriptFault}
 use Rattle.mls_script.specs.Reading.{script_at}
 use Rattle.mls_script.specs.Script.{Line, ReadsScript}
 use Rattle.mls_script.proofs.LawLemmas.{script_found}
-use Rattle.mls_tokens.specs.Typing.{HasNoFeed, IsNext, IsLong}
-use Rattle.mls_runs.specs.declared.seat.Fate.{Fate}
-use Rattle.mls_runs.specs.declared.seat.Fate.TheVariants as fates
+use Rattle.mls_tokens.specs.Typing.{HasNoFeed, IsNext}
+use Rattle.mls_runs.specs.declared.shell_session.Fate.{Fate}
+use Rattle.mls_runs.specs.declared.shell_session.Fate.TheVariants as fates
 use Rattle.mls_runs.specs.Typed.{Becomes}
 use Rattle.mls_runs.specs.Shell.{events_of, IsShellTurn, whole, long, cut, IsCut, IsRead}
 use Rattle.mls_runs.proofs.TypedLemmas.{read_line, read_in_vain}
 use Rattle.mls_runs.specs.Desk.{opens_other, other_name, IsFate, over, said, other, refused}
-use Rattle.mls_runs.specs.Reading.{fate_of_events, fate_read, fate_of}
+use Rattle.mls_runs.specs.Reading.{fate_read, fate_of}
 
 -- ---- what becomes of a line is found
 
 empty : (line : List ℕ) → nat_eq (length line) 0 ≡ true → line ≡ []
 empty [] h = refl
 empty (x ∷ xs) h = absurd (let e = eqb-true _ _ h in omega arith)
-
--- what is told of events is no end, and was read
-some_events : (b : Bool) (events : List Event) (fault : ScriptFault) → cond b (fates.Refused fault) (fates.Said events) ≡ fates.Over → ⊥
-some_events true events fault h = absurd cc
-some_events false events fault h = absurd cc
 
 module _ (policy : Policy) (schemes : Schemes) (line : List ℕ) where
   events_are : line ≢ [] → (events : List Event) → ReadsScript policy schemes line events → (b : Bool) → list_any opens_other events ≡ b

@@ -11,14 +11,14 @@ use Rattle.mls_machine.specs.Site.{Site}
 use Rattle.mls_sessions.specs.declared.cause.RunFault.{RunFault}
 use Rattle.mls_host.specs.Words.{named}
 use Rattle.mls_host.specs.declared.reason.Reason.{Reason}
-use Rattle.mls_host.specs.declared.refusal.Refusal.{Refusal}
-use Rattle.mls_host.specs.declared.refusal.Refusal.TheVariants.{Before}
+use Rattle.mls_host.specs.declared.stop.Stop.{Stop}
+use Rattle.mls_host.specs.declared.stop.Stop.TheVariants.{Before}
 use Rattle.mls_host.specs.Hosting.{Hosted}
 use Rattle.mls_host.specs.declared.reason.Reason.TheVariants.{Memory}
 use Rattle.mls_host.specs.declared.job.Inputs.{Inputs}
 use Rattle.mls_host.specs.Storing.{AreStoredWith}
 use Rattle.mls_host.specs.Causes.{IsBarred, IsNotBegun, no_memory, no_store}
-use Rattle.mls_host.specs.Refusal.{IsEnd}
+use Rattle.mls_host.specs.Stop.{IsEnd}
 use Rattle.mls_host.specs.Running.{IsRun}
 use Rattle.mls_host.proofs.RunningLemmas.{end_weaker}
 use Rattle.mls_runs.specs.ScriptRun.{audience_of, site_under, IsRunFrom, IsScriptRun}
@@ -26,7 +26,7 @@ use Rattle.mls_runs.specs.ScriptRun.{audience_of, site_under, IsRunFrom, IsScrip
 -- ---- where runs begin
 
 module _ (h : Hosted) (file : SchemesFile) (site : Site) (audience : Audience) (es : List Event) (Wrote : List ℕ → Type 0) (Nothing : Option (List ℕ) → Reason → Type 0)
-    (store : Option (Bor (List ℕ))) (r : Result (Unit {0}) Refusal) where
+    (store : Option (Bor (List ℕ))) (r : Result (Unit {0}) Stop) where
   -- with nothing
   pub from_memory : store ≡ None → IsEnd (λ end. (left : Content) × IsRun site audience es Wrote end no_content left) (Nothing None) r
       → IsEnd (IsRunFrom h file (named store) site audience es Wrote) (Nothing (named store)) r
@@ -49,7 +49,7 @@ module _ (h : Hosted) (inputs : Inputs) (store : Option (List ℕ)) (is_table : 
   NotBegun reason = IsNotBegun h.before inputs.setting.policy inputs.setting.file store reason × Wrote []
 
   -- the events of a script, over what is stored
-  pub script_run : (stored : List Stored) → AreStoredWith inputs.setting.policy inputs.certificates inputs.transactions stored → (r : Result (Unit {0}) Refusal)
+  pub script_run : (stored : List Stored) → AreStoredWith inputs.setting.policy inputs.certificates inputs.transactions stored → (r : Result (Unit {0}) Stop)
       → IsEnd (IsRunFrom h inputs.setting.file store (site_under inputs.setting stored) (audience_of inputs.setting is_table) inputs.events Wrote)
       (λ reason. IsBarred h.before inputs.setting.policy inputs.setting.file store reason × Wrote []) r
       → IsEnd (IsScriptRun h inputs store is_table Wrote) NotBegun r
@@ -62,6 +62,6 @@ module _ (h : Hosted) (inputs : Inputs) (store : Option (List ℕ)) (is_table : 
       (λ reason. IsBarred h.before inputs.setting.policy inputs.setting.file store reason × Wrote []) (IsScriptRun h inputs store is_table Wrote) NotBegun f g r run
 
   -- at the exit of a `?`
-  pub not_begun : (r : Result (Unit {0}) Refusal) → IsErrAnd r (λ e. e ≡ Before Memory) → Wrote [] → IsEnd (IsScriptRun h inputs store is_table Wrote) NotBegun r
+  pub not_begun : (r : Result (Unit {0}) Stop) → IsErrAnd r (λ e. e ≡ Before Memory) → Wrote [] → IsEnd (IsScriptRun h inputs store is_table Wrote) NotBegun r
   not_begun (Ok u) is k = absurd is
   not_begun (Err e) is k = subst (λ x. IsEnd (IsScriptRun h inputs store is_table Wrote) NotBegun (Err x)) (sym is) (no_memory refl, k)

@@ -9,69 +9,70 @@ use Rattle.mls_lattice.specs.Name.{is_name}
 use Rattle.mls_lattice.specs.Labels.{AreDistinct}
 use Rattle.mls_script.specs.declared.event.Event.{Event}
 use Rattle.mls_scheme.specs.declared.file.SchemesFile.{SchemesFile}
+use Rattle.mls_audit.specs.Sound.{IsSoundContent}
 use Rattle.mls_machine.specs.declared.stored.Stored.{Stored}
 use Rattle.mls_machine.specs.Site.{Site, site_labels}
 use Rattle.mls_machine.specs.Machine.{World, Sessions}
 use Rattle.mls_machine.specs.Observation.{AreStored, EventsFit, AreRead, AreCertified}
 use Rattle.mls_machine.proofs.KeepingLemmas.{keep_integrity}
 use Rattle.mls_machine.proofs.RunLemmas.{first_accepted_alike}
-use Rattle.mls_sessions.specs.World.{world_at, IsSound}
+use Rattle.mls_sessions.specs.World.{world_at}
 use Rattle.mls_sessions.specs.declared.cause.RunFault.{RunFault}
 use Rattle.mls_host.specs.declared.ending.Ending.{Ending}
-use Rattle.mls_runs.specs.declared.seat.Seat.{Seat}
+use Rattle.mls_runs.specs.declared.shell_session.ShellSession.{ShellSession}
 use Rattle.mls_host.specs.declared.reason.Reason.{Reason}
-use Rattle.mls_host.specs.declared.refusal.Refusal.{Refusal}
-use Rattle.mls_host.specs.declared.refusal.Refusal.TheVariants.{Before}
+use Rattle.mls_host.specs.declared.stop.Stop.{Stop}
+use Rattle.mls_host.specs.declared.stop.Stop.TheVariants.{Before}
 use Rattle.mls_host.specs.Hosting.{Hosted}
 use Rattle.mls_host.specs.declared.reason.Reason.TheVariants.{Memory}
 use Rattle.mls_host.specs.declared.job.Inputs.{Inputs}
 use Rattle.mls_host.specs.Storing.{AreStoredWith}
 use Rattle.mls_host.specs.Words.{named}
 use Rattle.mls_host.specs.Causes.{IsBarred, no_memory, no_store}
-use Rattle.mls_host.specs.Refusal.{IsEnd}
+use Rattle.mls_host.specs.Stop.{IsEnd}
 use Rattle.mls_host.specs.Running.{site_of, first_world}
 use Rattle.mls_runs.specs.Shell.{audience_at, opening, events_in, IsConversation, IsShell}
-use Rattle.mls_runs.specs.ShellRun.{seat_of, IsShellFrom, IsShellRun, IsShellRefused, not_begun}
+use Rattle.mls_runs.specs.ShellRun.{shell_session_of, IsShellFrom, IsShellRun, IsShellRefused, not_begun}
 use Rattle.mls_host.proofs.RunningLemmas.{run_at, end_weaker}
 
-pub opening_fits : (site : Site) (seat : Seat) → seat.level < length site.policy.labels → is_name seat.user ≡ true → EventsFit site (opening seat ∷ [])
-opening_fits site seat level name = (record { level = level; session = name; command = name }, tt)
+pub opening_fits : (site : Site) (session : ShellSession) → session.level < length site.policy.labels → is_name session.user ≡ true → EventsFit site (opening session ∷ [])
+opening_fits site session level name = (record { level = level; session = name; command = name }, tt)
 
 -- a conversation over a content that it leaves as another
-pub shell_at : (echo : List ℕ → List ℕ) (site : Site) (seat : Seat) (sessions : Sessions) (first left : Content) (before after was is : Option (List ℕ)) (Broken : Type 0)
+pub shell_at : (echo : List ℕ → List ℕ) (site : Site) (session : ShellSession) (sessions : Sessions) (first left : Content) (before after was is : Option (List ℕ)) (Broken : Type 0)
     (Told : List ℕ → Type 0) (end : Result Ending RunFault)
-    → AreDistinct (site_labels site) → AreRead site → AreCertified site → IsSound site first → IsSound site left
-    → IsConversation echo site seat before after was is Broken Told end (first_world site first) (world_at site sessions left)
-    → IsShell echo site seat before after Broken (Appends was is) Told end first left
-shell_at echo site seat sessions first left before after was is Broken Told end distinct read certified sound sound_left k =
+    → AreDistinct (site_labels site) → AreRead site → AreCertified site → IsSoundContent site.policy site.schemes first → IsSoundContent site.policy site.schemes left
+    → IsConversation echo site session before after was is Broken Told end (first_world site first) (world_at site sessions left)
+    → IsShell echo site session before after Broken (Appends was is) Told end first left
+shell_at echo site session sessions first left before after was is Broken Told end distinct read certified sound sound_left k =
     let w = first_world site first in
-    let es : List Event = opening seat ∷ events_in k.talk.turns in
-    let stored : AreStored site w.db = λ rel. (sound.content rel).stored in
+    let es : List Event = opening session ∷ events_in k.talk.turns in
+    let stored : AreStored site w.db = λ relation. (sound.content relation).stored in
     record {
       talk = k.talk;
       run = λ silent. let a = k.run silent in
-          run_at site (audience_at seat) sessions first left es was is k.talk.run_end sound_left
+          run_at site (audience_at session) sessions first left es was is k.talk.run_end sound_left
           (record { ok = a.whole; err = a.stopped; fault = a.fault; integrity = keep_integrity site distinct read w es stored k.fits; secret = first_accepted_alike site distinct read certified w es stored k.fits });
     }
 
 -- a conversation at what is the same site, from and to what are the same worlds
-pub conversation_at : (echo : List ℕ → List ℕ) (seat : Seat) (before after was is : Option (List ℕ)) (Broken : Type 0) (Told : List ℕ → Type 0) (end : Result Ending RunFault)
+pub conversation_at : (echo : List ℕ → List ℕ) (session : ShellSession) (before after was is : Option (List ℕ)) (Broken : Type 0) (Told : List ℕ → Type 0) (end : Result Ending RunFault)
     (s t : Site) (v x w y : World) → s ≡ t → v ≡ x → w ≡ y
-    → IsConversation echo s seat before after was is Broken Told end v w → IsConversation echo t seat before after was is Broken Told end x y
-conversation_at echo seat before after was is Broken Told end s t v x w y e f g k =
-    subst (λ w. IsConversation echo t seat before after was is Broken Told end x w) g
-    (subst (λ v. IsConversation echo t seat before after was is Broken Told end v w) f (subst (λ s. IsConversation echo s seat before after was is Broken Told end v w) e k))
+    → IsConversation echo s session before after was is Broken Told end v w → IsConversation echo t session before after was is Broken Told end x y
+conversation_at echo session before after was is Broken Told end s t v x w y e f g k =
+    subst (λ w. IsConversation echo t session before after was is Broken Told end x w) g
+    (subst (λ v. IsConversation echo t session before after was is Broken Told end v w) f (subst (λ s. IsConversation echo s session before after was is Broken Told end v w) e k))
 
 -- ---- where shells begin
 
-module _ (h : Hosted) (file : SchemesFile) (site : Site) (seat : Seat) (before after : Option (List ℕ)) (Broken : Type 0) (Wrote Told : List ℕ → Type 0) where
+module _ (h : Hosted) (file : SchemesFile) (site : Site) (session : ShellSession) (before after : Option (List ℕ)) (Broken : Type 0) (Wrote Told : List ℕ → Type 0) where
   abbrev From : Option (List ℕ) → Result Ending RunFault → Type 0
-  From store = IsShellFrom h before after Broken Wrote Told file store site seat
+  From store = IsShellFrom h before after Broken Wrote Told file store site session
 
   abbrev Fresh : Result Ending RunFault → Type 0
-  Fresh end = (left : Content) × IsShell h.echo site seat before after Broken Wrote Told end no_content left
+  Fresh end = (left : Content) × IsShell h.echo site session before after Broken Wrote Told end no_content left
 
-  module _ (Nothing : Option (List ℕ) → Reason → Type 0) (store : Option (Bor (List ℕ))) (r : Result Ending Refusal) where
+  module _ (Nothing : Option (List ℕ) → Reason → Type 0) (store : Option (Bor (List ℕ))) (r : Result Ending Stop) where
     -- with nothing
     pub shell_from_memory : store ≡ None → IsEnd Fresh (Nothing None) r → IsEnd (From (named store)) (Nothing (named store)) r
     shell_from_memory none shell =
@@ -86,9 +87,9 @@ module _ (h : Hosted) (file : SchemesFile) (site : Site) (seat : Seat) (before a
 -- ---- tasks
 
 -- a read of the lines has failed only where the host says that it may
-read_only_so : (echo : List ℕ → List ℕ) (site : Site) (seat : Seat) (before after : Option (List ℕ)) (Broken May : Type 0) (Wrote Told : List ℕ → Type 0) (end : Result Ending RunFault) (first left : Content)
-    → (Broken → May) → IsShell echo site seat before after Broken Wrote Told end first left → IsShell echo site seat before after May Wrote Told end first left
-read_only_so echo site seat before after Broken May Wrote Told end first left f k = record {
+read_only_so : (echo : List ℕ → List ℕ) (site : Site) (session : ShellSession) (before after : Option (List ℕ)) (Broken May : Type 0) (Wrote Told : List ℕ → Type 0) (end : Result Ending RunFault) (first left : Content)
+    → (Broken → May) → IsShell echo site session before after Broken Wrote Told end first left → IsShell echo site session before after May Wrote Told end first left
+read_only_so echo site session before after Broken May Wrote Told end first left f k = record {
   talk = record { turns = k.talk.turns; run_end = k.talk.run_end; lines = k.talk.lines; broken = λ b. f (k.talk.broken b); told = k.talk.told; ended = k.talk.ended };
   run = k.run;
 }
@@ -98,11 +99,11 @@ module _ (h : Hosted) (inputs : Inputs) (store : Option (List ℕ)) (label user 
   abbrev Nothing : Reason → Type 0
   Nothing reason = IsShellRefused h.before inputs.setting store reason × Wrote [] × Told []
 
-  abbrev Ends : Result Ending Refusal → Type 0
+  abbrev Ends : Result Ending Stop → Type 0
   Ends r = IsEnd (IsShellRun h inputs store label user Wrote Told) Nothing r
 
   -- at the exit of a `?`
-  pub shell_before : (r : Result Ending Refusal) → IsErrAnd r (λ e. e ≡ Before Memory) → Wrote [] → Told [] → Ends r
+  pub shell_before : (r : Result Ending Stop) → IsErrAnd r (λ e. e ≡ Before Memory) → Wrote [] → Told [] → Ends r
   shell_before r is wrote told = carried Ends r (Before Memory) is (not_begun (no_memory refl), wrote, told)
 
   module _ (stored : List Stored) (level : ℕ) (before after : Option (List ℕ)) (Broken : Type 0)
@@ -111,11 +112,11 @@ module _ (h : Hosted) (inputs : Inputs) (store : Option (List ℕ)) (label user 
     abbrev at : Site
     at = site_of inputs.setting.policy inputs.setting.file.schemes stored
 
-    abbrev seat : Seat
-    seat = seat_of label user level h.before.is_terminal h.before.is_watched
+    abbrev session : ShellSession
+    session = shell_session_of label user level h.before.is_terminal h.before.is_watched
 
     abbrev Shells : Result Ending RunFault → Type 0
-    Shells = IsShellFrom h before after Broken Wrote Told inputs.setting.file store at seat
+    Shells = IsShellFrom h before after Broken Wrote Told inputs.setting.file store at session
 
     shell_run : (end : Result Ending RunFault) → Shells end → IsShellRun h inputs store label user Wrote Told end
     shell_run end k = record {
@@ -131,7 +132,7 @@ module _ (h : Hosted) (inputs : Inputs) (store : Option (List ℕ)) (label user 
         left = o.left;
         begins = o.begins;
         kept = o.kept;
-        leads = read_only_so h.echo at seat before after Broken h.before.breaks Wrote Told end o.first o.left broken o.leads;
+        leads = read_only_so h.echo at session before after Broken h.before.breaks Wrote Told end o.first o.left broken o.leads;
       };
     }
 
@@ -139,7 +140,7 @@ module _ (h : Hosted) (inputs : Inputs) (store : Option (List ℕ)) (label user 
     abbrev Barred : Reason → Type 0
     Barred reason = IsBarred h.before inputs.setting.policy inputs.setting.file store reason × Wrote [] × Told []
 
-    pub shell_over_stored : (r : Result Ending Refusal) → IsEnd Shells Barred r → Ends r
+    pub shell_over_stored : (r : Result Ending Stop) → IsEnd Shells Barred r → Ends r
     shell_over_stored r k =
         let g : (reason : Reason) → Barred reason → Nothing reason = λ reason n. (not_begun (no_store n.0), n.1, n.2) in
         end_weaker Shells Barred (IsShellRun h inputs store label user Wrote Told) Nothing shell_run g r k

@@ -23,9 +23,9 @@ use Rattle.mls_host.specs.declared.errors.Errors.{Errors}
 use Rattle.mls_host.specs.declared.telling.Tally.{Tally}
 use Rattle.mls_host.specs.Hosting.{IsTold}
 use Rattle.mls_host.proofs.HostingLemmas.{told_more}
-use Rattle.mls_runs.specs.declared.seat.Seat.{Seat}
-use Rattle.mls_runs.specs.declared.seat.Fate.{Fate}
-use Rattle.mls_runs.specs.declared.seat.Fate.TheVariants as fates
+use Rattle.mls_runs.specs.declared.shell_session.ShellSession.{ShellSession}
+use Rattle.mls_runs.specs.declared.shell_session.Fate.{Fate}
+use Rattle.mls_runs.specs.declared.shell_session.Fate.TheVariants as fates
 use Rattle.mls_runs.specs.declared.tally.Verdict.{Verdict}
 use Rattle.mls_runs.specs.declared.tally.Verdict.TheVariants as verdicts
 use Rattle.mls_runs.specs.Tally.{tally_with}
@@ -157,57 +157,57 @@ nil_front (x ∷ xs) ys h = absurd cc
 pub events-snoc : (ts : List Turn) (t : Turn) → events_in (ts ++ t ∷ []) ≡ events_in ts ++ events_of t.fate
 events-snoc ts t = flat-snoc (λ (t : Turn). events_of t.fate) ts t
 
-pub told-snoc : (seat : Seat) (n : ℕ) (ts : List Turn) (t : Turn) (text more : List ℕ) → (seat.is_watched ≡ false → more ≡ []) → AreTold seat n ts text
-    → AreTold seat n (ts ++ t ∷ []) (text ++ (prompt_of seat ++ (told_of seat (n + length ts) t.fate ++ more)))
+pub told-snoc : (session : ShellSession) (n : ℕ) (ts : List Turn) (t : Turn) (text more : List ℕ) → (session.is_watched ≡ false → more ≡ []) → AreTold session n ts text
+    → AreTold session n (ts ++ t ∷ []) (text ++ (prompt_of session ++ (told_of session (n + length ts) t.fate ++ more)))
 unfolding AreTold
-told-snoc seat n [] t text more none h = record {
+told-snoc session n [] t text more none h = record {
   more = more;
   none = none;
   leads = ([], ap (λ l. l ++ here (n + 0)) h ∙ ap here same ∙ sym (append-nil (here n)), refl);
 }
   where
     here : ℕ → List ℕ
-    here k = prompt_of seat ++ (told_of seat k t.fate ++ more)
+    here k = prompt_of session ++ (told_of session k t.fate ++ more)
 
     same : n + 0 ≡ n
     same = omega arith
-told-snoc seat n (x ∷ ts) t text more none h =
+told-snoc session n (x ∷ ts) t text more none h =
     let (rest, is, are) = h.leads in
     record {
       more = h.more;
       none = h.none;
       leads = (
         rest ++ here (n + suc (length ts)),
-        ap (λ l. l ++ here (n + suc (length ts))) is ∙ append_assoc (prompt_of seat ++ (told_of seat n x.fate ++ h.more)) rest (here (n + suc (length ts))),
-        subst (λ (k : ℕ). AreTold seat (n + 1) (ts ++ t ∷ []) (rest ++ here k)) same (told-snoc seat (n + 1) ts t rest more none are),
+        ap (λ l. l ++ here (n + suc (length ts))) is ∙ append_assoc (prompt_of session ++ (told_of session n x.fate ++ h.more)) rest (here (n + suc (length ts))),
+        subst (λ (k : ℕ). AreTold session (n + 1) (ts ++ t ∷ []) (rest ++ here k)) same (told-snoc session (n + 1) ts t rest more none are),
       );
     }
   where
     here : ℕ → List ℕ
-    here k = prompt_of seat ++ (told_of seat k t.fate ++ more)
+    here k = prompt_of session ++ (told_of session k t.fate ++ more)
 
     same : n + 1 + length ts ≡ n + suc (length ts)
     same = omega arith
 
-plainly : (seat : Seat) (n : ℕ) (ts : List Turn) (text : List ℕ) → seat.is_watched ≡ false → AreTold seat n ts text → text ≡ told_from seat n ts
+plainly : (session : ShellSession) (n : ℕ) (ts : List Turn) (text : List ℕ) → session.is_watched ≡ false → AreTold session n ts text → text ≡ told_from session n ts
 unfolding told_from AreTold
-plainly seat n [] text off h = h
-plainly seat n (t ∷ ts) text off h =
+plainly session n [] text off h = h
+plainly session n (t ∷ ts) text off h =
     let (rest, is, are) = h.leads in
-    is ∙ ap (λ more. (prompt_of seat ++ (told_of seat n t.fate ++ more)) ++ rest) (h.none off)
-    ∙ ap (λ own. (prompt_of seat ++ own) ++ rest) (append-nil (told_of seat n t.fate))
-    ∙ ap (λ more. (prompt_of seat ++ told_of seat n t.fate) ++ more) (plainly seat (n + 1) ts rest off are)
+    is ∙ ap (λ more. (prompt_of session ++ (told_of session n t.fate ++ more)) ++ rest) (h.none off)
+    ∙ ap (λ own. (prompt_of session ++ own) ++ rest) (append-nil (told_of session n t.fate))
+    ∙ ap (λ more. (prompt_of session ++ told_of session n t.fate) ++ more) (plainly session (n + 1) ts rest off are)
 
 pub pipes_told : PipesAreToldNoMore
 pipes_told = plainly
 
 -- ---- more that is told
 
-module _ {E : Type 0} (contents : E → Option (List ℕ)) (seat : Seat) (a b : Errors E) (text : List ℕ) (h : IsTold contents a b text) where
-  pub said_more : (c : Errors E) → IsMore seat.is_watched (IsTold contents b c) → IsMore seat.is_watched (λ more. IsTold contents a c (text ++ more))
+module _ {E : Type 0} (contents : E → Option (List ℕ)) (session : ShellSession) (a b : Errors E) (text : List ℕ) (h : IsTold contents a b text) where
+  pub said_more : (c : Errors E) → IsMore session.is_watched (IsTold contents b c) → IsMore session.is_watched (λ more. IsTold contents a c (text ++ more))
   said_more c k = record { more = k.more; none = k.none; leads = told_more contents a b c text k.more h k.leads }
 
-  pub said_once : IsMore seat.is_watched (λ more. IsTold contents a b (text ++ more))
+  pub said_once : IsMore session.is_watched (λ more. IsTold contents a b (text ++ more))
   said_once = record { more = []; none = λ off. refl; leads = subst (IsTold contents a b) (sym (append-nil text)) h }
 
 -- ---- last lines, and those that were not read
@@ -281,85 +281,85 @@ few_more t n verdicts.Done h = record { lines = one_each h.lines; refused = at_m
 few_more t n verdicts.Refused h = record { lines = one_each h.lines; refused = one_each h.refused; misunderstood = at_most h.misunderstood }
 few_more t n verdicts.Misunderstood h = record { lines = one_each h.lines; refused = at_most h.refused; misunderstood = one_each h.misunderstood }
 
-module _ (site : Site) (seat : Seat) where
-  answers-append : (w : World) (es fs : List Event) → answers site seat w (es ++ fs) ≡ answers site seat w es ++ answers site seat (end_of site w es) fs
-  answers-append w es fs = prints-append site (audience_at seat) w es fs
+module _ (site : Site) (session : ShellSession) where
+  answers-append : (w : World) (es fs : List Event) → answers site session w (es ++ fs) ≡ answers site session w es ++ answers site session (end_of site w es) fs
+  answers-append w es fs = prints-append site (audience_at session) w es fs
 
   dialogue-snoc : (w : World) (ts : List Turn) (t : Turn)
-      → dialogue site seat w (ts ++ t ∷ []) ≡ dialogue site seat w ts ++ (t.shown ++ answers site seat (end_of site w (events_in ts)) (events_of t.fate))
+      → dialogue site session w (ts ++ t ∷ []) ≡ dialogue site session w ts ++ (t.shown ++ answers site session (end_of site w (events_in ts)) (events_of t.fate))
   unfolding dialogue end_of
-  dialogue-snoc w [] t = append-nil (t.shown ++ answers site seat w (events_of t.fate))
+  dialogue-snoc w [] t = append-nil (t.shown ++ answers site session w (events_of t.fate))
   dialogue-snoc w (x ∷ ts) t =
-      let here = x.shown ++ answers site seat w (events_of x.fate) in
+      let here = x.shown ++ answers site session w (events_of x.fate) in
       let v = end_of site w (events_of x.fate) in
       ap (λ l. here ++ l) (dialogue-snoc v ts t
-      ∙ ap (λ u. dialogue site seat v ts ++ (t.shown ++ answers site seat u (events_of t.fate))) (sym (end_of-append site w (events_of x.fate) (events_in ts))))
+      ∙ ap (λ u. dialogue site session v ts ++ (t.shown ++ answers site session u (events_of t.fate))) (sym (end_of-append site w (events_of x.fate) (events_in ts))))
       ∙ sym (append_assoc here _ _)
 
   verdicts-snoc : (w : World) (ts : List Turn) (t : Turn)
-      → verdicts_in site seat w (ts ++ t ∷ []) ≡ verdicts_in site seat w ts ++ verdict_of (are_done site (end_of site w (events_in ts)) (events_of t.fate)) t.fate ∷ []
+      → verdicts_in site session w (ts ++ t ∷ []) ≡ verdicts_in site session w ts ++ verdict_of (are_done site (end_of site w (events_in ts)) (events_of t.fate)) t.fate ∷ []
   unfolding verdicts_in end_of
   verdicts-snoc w [] t = refl
   verdicts-snoc w (x ∷ ts) t =
       let v = end_of site w (events_of x.fate) in
       ap (λ vs. verdict_of (are_done site w (events_of x.fate)) x.fate ∷ vs) (verdicts-snoc v ts t
-      ∙ ap (λ u. verdicts_in site seat v ts ++ verdict_of (are_done site u (events_of t.fate)) t.fate ∷ []) (sym (end_of-append site w (events_of x.fate) (events_in ts))))
+      ∙ ap (λ u. verdicts_in site session v ts ++ verdict_of (are_done site u (events_of t.fate)) t.fate ∷ []) (sym (end_of-append site w (events_of x.fate) (events_in ts))))
 
   -- ---- from the opening on
 
   module _ (w : World) where
     abbrev first : World
-    first = after_opening site seat w
+    first = after_opening site session w
 
-    world_is : (ts : List Turn) → end_of site w (opening seat ∷ events_in ts) ≡ end_of site first (events_in ts)
-    world_is ts = end_of-append site w (opening seat ∷ []) (events_in ts)
+    world_is : (ts : List Turn) → end_of site w (opening session ∷ events_in ts) ≡ end_of site first (events_in ts)
+    world_is ts = end_of-append site w (opening session ∷ []) (events_in ts)
 
-    pub world-snoc : (ts : List Turn) (t : Turn) → end_of site (end_of site w (opening seat ∷ events_in ts)) (events_of t.fate) ≡ end_of site w (opening seat ∷ events_in (ts ++ t ∷ []))
-    world-snoc ts t = sym (ap (λ es. end_of site w (opening seat ∷ es)) (events-snoc ts t) ∙ end_of-append site w (opening seat ∷ events_in ts) (events_of t.fate))
+    pub world-snoc : (ts : List Turn) (t : Turn) → end_of site (end_of site w (opening session ∷ events_in ts)) (events_of t.fate) ≡ end_of site w (opening session ∷ events_in (ts ++ t ∷ []))
+    world-snoc ts t = sym (ap (λ es. end_of site w (opening session ∷ es)) (events-snoc ts t) ∙ end_of-append site w (opening session ∷ events_in ts) (events_of t.fate))
 
     pub transcript-snoc : (ts : List Turn) (t : Turn)
-        → transcript site seat w (ts ++ t ∷ []) ≡ transcript site seat w ts ++ (t.shown ++ answers site seat (end_of site w (opening seat ∷ events_in ts)) (events_of t.fate))
+        → transcript site session w (ts ++ t ∷ []) ≡ transcript site session w ts ++ (t.shown ++ answers site session (end_of site w (opening session ∷ events_in ts)) (events_of t.fate))
     transcript-snoc ts t =
-        let opened = answers site seat w (opening seat ∷ []) in
-        ap (λ l. opened ++ l) (dialogue-snoc first ts t ∙ ap (λ u. dialogue site seat first ts ++ (t.shown ++ answers site seat u (events_of t.fate))) (sym (world_is ts)))
-        ∙ sym (append_assoc opened (dialogue site seat first ts) _)
+        let opened = answers site session w (opening session ∷ []) in
+        ap (λ l. opened ++ l) (dialogue-snoc first ts t ∙ ap (λ u. dialogue site session first ts ++ (t.shown ++ answers site session u (events_of t.fate))) (sym (world_is ts)))
+        ∙ sym (append_assoc opened (dialogue site session first ts) _)
 
     -- ---- what is shown before a line, and by it
 
-    pub shown_before : (ts : List Turn) (t : Turn) (line : ℕ) → line ≡ length (ts ++ t ∷ []) → shown_to site seat w (ts ++ t ∷ []) line ≡ transcript site seat w ts
+    pub shown_before : (ts : List Turn) (t : Turn) (line : ℕ) → line ≡ length (ts ++ t ∷ []) → shown_to site session w (ts ++ t ∷ []) line ≡ transcript site session w ts
     shown_before ts t line e =
-        ap (shown_to site seat w (ts ++ t ∷ [])) (e ∙ more) ∙ ap (transcript site seat w) (take-append_seam ts (t ∷ []))
+        ap (shown_to site session w (ts ++ t ∷ [])) (e ∙ more) ∙ ap (transcript site session w) (take-append_seam ts (t ∷ []))
       where
         more : length (ts ++ t ∷ []) ≡ suc (length ts)
         more = let m = length-snoc ts t in omega arith
 
-    pub shown_behind : (ts : List Turn) (line : ℕ) → line ≡ length ts → shown_to site seat w ts (suc line) ≡ transcript site seat w ts
-    shown_behind ts line e = ap (λ n. transcript site seat w (take n ts)) e ∙ ap (transcript site seat w) (take_all ts)
+    pub shown_behind : (ts : List Turn) (line : ℕ) → line ≡ length ts → shown_to site session w ts (suc line) ≡ transcript site session w ts
+    shown_behind ts line e = ap (λ n. transcript site session w (take n ts)) e ∙ ap (transcript site session w) (take_all ts)
 
-    dialogue_front : (v : World) (n : ℕ) (ts : List Turn) → (more : List ℕ) × (dialogue site seat v (take n ts) ++ more ≡ dialogue site seat v ts)
+    dialogue_front : (v : World) (n : ℕ) (ts : List Turn) → (more : List ℕ) × (dialogue site session v (take n ts) ++ more ≡ dialogue site session v ts)
     unfolding dialogue
-    dialogue_front v zero ts = (dialogue site seat v ts, refl)
+    dialogue_front v zero ts = (dialogue site session v ts, refl)
     dialogue_front v (suc n) [] = ([], refl)
     dialogue_front v (suc n) (t ∷ ts) =
-        let here = t.shown ++ answers site seat v (events_of t.fate) in
+        let here = t.shown ++ answers site session v (events_of t.fate) in
         let left = dialogue_front (end_of site v (events_of t.fate)) n ts in
         (left.0, append_assoc here _ left.0 ∙ ap (λ l. here ++ l) left.1)
 
     -- what is shown from a line on
-    pub shown_from : (ts : List Turn) (n : ℕ) → (more : List ℕ) × (shown_to site seat w ts n ++ more ≡ transcript site seat w ts)
-    shown_from ts zero = (transcript site seat w ts, refl)
+    pub shown_from : (ts : List Turn) (n : ℕ) → (more : List ℕ) × (shown_to site session w ts n ++ more ≡ transcript site session w ts)
+    shown_from ts zero = (transcript site session w ts, refl)
     shown_from ts (suc n) =
-        let opened = answers site seat w (opening seat ∷ []) in
+        let opened = answers site session w (opening session ∷ []) in
         let left = dialogue_front first n ts in
         (left.0, append_assoc opened _ left.0 ∙ ap (λ l. opened ++ l) left.1)
 
     -- ---- a line more
 
     module _ (echo : List ℕ → List ℕ) where
-      turns-snoc-at : (v : World) (a b c : Option (List ℕ)) (ts : List Turn) (t : Turn) → AreTurns echo site seat v a b ts → list_any (λ (t : Turn). is_last t.fate) ts ≡ false
-          → is_open seat (end_of site v (events_in ts)) ≡ true → IsShellTurn echo (IsFate site.policy site.schemes seat) b c t → AreTurns echo site seat v a c (ts ++ t ∷ [])
+      turns-snoc-at : (v : World) (a b c : Option (List ℕ)) (ts : List Turn) (t : Turn) → AreTurns echo site session v a b ts → list_any (λ (t : Turn). is_last t.fate) ts ≡ false
+          → is_open session (end_of site v (events_in ts)) ≡ true → IsShellTurn echo (IsFate site.policy site.schemes session) b c t → AreTurns echo site session v a c (ts ++ t ∷ [])
       unfolding AreTurns end_of
-      turns-snoc-at v a b c [] t h l o n = (c, o, subst (λ x. IsShellTurn echo (IsFate site.policy site.schemes seat) x c t) (sym h) n, (λ e. absurd (e refl)), refl)
+      turns-snoc-at v a b c [] t h l o n = (c, o, subst (λ x. IsShellTurn echo (IsFate site.policy site.schemes session) x c t) (sym h) n, (λ e. absurd (e refl)), refl)
       turns-snoc-at v a b c (x ∷ ts) t h l o n =
           let (left, opened, turn, on, more) = h in
           let none = or_none (is_last x.fate) (list_any (λ (t : Turn). is_last t.fate) ts) l in (
@@ -368,28 +368,28 @@ module _ (site : Site) (seat : Seat) where
             turn,
             (λ e. none.0),
             turns-snoc-at (end_of site v (events_of x.fate)) left b c ts t more none.1
-                (subst (λ u. is_open seat u ≡ true) (end_of-append site v (events_of x.fate) (events_in ts)) o) n,
+                (subst (λ u. is_open session u ≡ true) (end_of-append site v (events_of x.fate) (events_in ts)) o) n,
           )
 
-      pub turns-snoc : (a b c : Option (List ℕ)) (ts : List Turn) (t : Turn) → AreTurns echo site seat first a b ts → list_any (λ (t : Turn). is_last t.fate) ts ≡ false
-          → is_open seat (end_of site w (opening seat ∷ events_in ts)) ≡ true → IsShellTurn echo (IsFate site.policy site.schemes seat) b c t → AreTurns echo site seat first a c (ts ++ t ∷ [])
-      turns-snoc a b c ts t h l o n = turns-snoc-at first a b c ts t h l (subst (λ u. is_open seat u ≡ true) (world_is ts) o) n
+      pub turns-snoc : (a b c : Option (List ℕ)) (ts : List Turn) (t : Turn) → AreTurns echo site session first a b ts → list_any (λ (t : Turn). is_last t.fate) ts ≡ false
+          → is_open session (end_of site w (opening session ∷ events_in ts)) ≡ true → IsShellTurn echo (IsFate site.policy site.schemes session) b c t → AreTurns echo site session first a c (ts ++ t ∷ [])
+      turns-snoc a b c ts t h l o n = turns-snoc-at first a b c ts t h l (subst (λ u. is_open session u ≡ true) (world_is ts) o) n
 
     pub tally-snoc : (ts : List Turn) (t : Turn)
-        → tally_of site seat w (ts ++ t ∷ []) ≡ tally_with (tally_of site seat w ts) (verdict_of (are_done site (end_of site w (opening seat ∷ events_in ts)) (events_of t.fate)) t.fate)
+        → tally_of site session w (ts ++ t ∷ []) ≡ tally_with (tally_of site session w ts) (verdict_of (are_done site (end_of site w (opening session ∷ events_in ts)) (events_of t.fate)) t.fate)
     tally-snoc ts t =
-        ap tally (verdicts-snoc first ts t ∙ ap (λ u. verdicts_in site seat first ts ++ verdict_of (are_done site u (events_of t.fate)) t.fate ∷ []) (sym (world_is ts)))
-        ∙ counted (verdicts_in site seat first ts) _
+        ap tally (verdicts-snoc first ts t ∙ ap (λ u. verdicts_in site session first ts ++ verdict_of (are_done site u (events_of t.fate)) t.fate ∷ []) (sym (world_is ts)))
+        ∙ counted (verdicts_in site session first ts) _
 
   -- ---- where nothing is shown
 
-  quiet : (w : World) (ts : List Turn) → AllByRecursion (λ (t : Turn). t.shown ≡ []) ts → dialogue site seat w ts ≡ answers site seat w (events_in ts)
+  quiet : (w : World) (ts : List Turn) → AllByRecursion (λ (t : Turn). t.shown ≡ []) ts → dialogue site session w ts ≡ answers site session w (events_in ts)
   unfolding dialogue
-  quiet w [] h = sym (prints-none site (audience_at seat) w)
+  quiet w [] h = sym (prints-none site (audience_at session) w)
   quiet w (x ∷ ts) h =
       let v = end_of site w (events_of x.fate) in
-      ap (λ l. (l ++ answers site seat w (events_of x.fate)) ++ dialogue site seat v ts) h.0
-      ∙ ap (λ l. answers site seat w (events_of x.fate) ++ l) (quiet v ts h.1)
+      ap (λ l. (l ++ answers site session w (events_of x.fate)) ++ dialogue site session v ts) h.0
+      ∙ ap (λ l. answers site session w (events_of x.fate) ++ l) (quiet v ts h.1)
       ∙ sym (answers-append w (events_of x.fate) (events_in ts))
 
   pub silent_turn : (echo : List ℕ → List ℕ) (IsFateOf : List ℕ → Fate → Type 0) (a b : Option (List ℕ)) (t : Turn) → IsSilent echo → IsShellTurn echo IsFateOf a b t → t.shown ≡ []
@@ -397,16 +397,16 @@ module _ (site : Site) (seat : Seat) where
   silent_turn echo IsFateOf a b t silent (long l e f) = e
   silent_turn echo IsFateOf a b t silent (cut line rest r e c) = nil_front t.shown rest (e ∙ silent line)
 
-  quiet_turns : (echo : List ℕ → List ℕ) → IsSilent echo → (w : World) (a b : Option (List ℕ)) (ts : List Turn) → AreTurns echo site seat w a b ts → AllByRecursion (λ (t : Turn). t.shown ≡ []) ts
+  quiet_turns : (echo : List ℕ → List ℕ) → IsSilent echo → (w : World) (a b : Option (List ℕ)) (ts : List Turn) → AreTurns echo site session w a b ts → AllByRecursion (λ (t : Turn). t.shown ≡ []) ts
   unfolding AreTurns
   quiet_turns echo silent w a b [] h = tt
   quiet_turns echo silent w a b (t ∷ ts) h =
       let (left, opened, turn, on, more) = h in
-      (silent_turn echo (IsFate site.policy site.schemes seat) a left t silent turn, quiet_turns echo silent (end_of site w (events_of t.fate)) left b ts more)
+      (silent_turn echo (IsFate site.policy site.schemes session) a left t silent turn, quiet_turns echo silent (end_of site w (events_of t.fate)) left b ts more)
 
   -- the lines are those of a run
-  pub silent_lines : (echo : List ℕ → List ℕ) (w : World) (a b : Option (List ℕ)) (ts : List Turn) → IsSilent echo → AreTurns echo site seat (after_opening site seat w) a b ts
-      → transcript site seat w ts ≡ answers site seat w (opening seat ∷ events_in ts)
+  pub silent_lines : (echo : List ℕ → List ℕ) (w : World) (a b : Option (List ℕ)) (ts : List Turn) → IsSilent echo → AreTurns echo site session (after_opening site session w) a b ts
+      → transcript site session w ts ≡ answers site session w (opening session ∷ events_in ts)
   silent_lines echo w a b ts silent lines =
-      ap (λ l. answers site seat w (opening seat ∷ []) ++ l) (quiet (after_opening site seat w) ts (quiet_turns echo silent (after_opening site seat w) a b ts lines))
-      ∙ sym (answers-append w (opening seat ∷ []) (events_in ts))
+      ap (λ l. answers site session w (opening session ∷ []) ++ l) (quiet (after_opening site session w) ts (quiet_turns echo silent (after_opening site session w) a b ts lines))
+      ∙ sym (answers-append w (opening session ∷ []) (events_in ts))

@@ -20,9 +20,9 @@ use Rattle.mls_sessions.specs.Run.{are_done, IsWhole}
 use Rattle.mls_host.specs.Telling.{IsMore}
 use Rattle.mls_host.specs.declared.errors.Errors.{Errors}
 use Rattle.mls_host.specs.declared.telling.Tally.{Tally}
-use Rattle.mls_runs.specs.declared.seat.Seat.{Seat}
-use Rattle.mls_runs.specs.declared.seat.Fate.{Fate}
-use Rattle.mls_runs.specs.declared.seat.Fate.TheVariants as fates
+use Rattle.mls_runs.specs.declared.shell_session.ShellSession.{ShellSession}
+use Rattle.mls_runs.specs.declared.shell_session.Fate.{Fate}
+use Rattle.mls_runs.specs.declared.shell_session.Fate.TheVariants as fates
 use Rattle.mls_runs.specs.Tally.{tally_with}
 use Rattle.mls_host.specs.Ending.{ending_if}
 use Rattle.mls_host.specs.Hosting.{IsTold}
@@ -127,10 +127,10 @@ fits_at p q policy schemes same a b fate h =
 pub level_at : (p q : Site) (policy : Policy) → p ≡ q → q.policy ≡ policy → (level : ℕ) → level < length policy.labels → level < length p.policy.labels
 level_at p q policy same a level h = subst (λ (x : Site). level < length x.policy.labels) (sym same) (subst (λ (x : Policy). level < length x.labels) (sym a) h)
 
-pub read_at : (echo : List ℕ → List ℕ) (q : Site) (policy : Policy) (schemes : Schemes) (seat : Seat) (a b c d : Option (List ℕ)) (Broken : Type 0) (fate : Fate) → q.policy ≡ policy → q.schemes ≡ schemes
-    → IsRead echo (IsFate policy schemes seat) a b c d Broken fate → IsRead echo (IsFate q.policy q.schemes seat) a b c d Broken fate
-read_at echo q policy schemes seat a b c d Broken fate e f h =
-    subst (λ y. IsRead echo (IsFate q.policy y seat) a b c d Broken fate) (sym f) (subst (λ x. IsRead echo (IsFate x schemes seat) a b c d Broken fate) (sym e) h)
+pub read_at : (echo : List ℕ → List ℕ) (q : Site) (policy : Policy) (schemes : Schemes) (session : ShellSession) (a b c d : Option (List ℕ)) (Broken : Type 0) (fate : Fate) → q.policy ≡ policy → q.schemes ≡ schemes
+    → IsRead echo (IsFate policy schemes session) a b c d Broken fate → IsRead echo (IsFate q.policy q.schemes session) a b c d Broken fate
+read_at echo q policy schemes session a b c d Broken fate e f h =
+    subst (λ y. IsRead echo (IsFate q.policy y session) a b c d Broken fate) (sym f) (subst (λ x. IsRead echo (IsFate x schemes session) a b c d Broken fate) (sym e) h)
 
 -- a line behind which no other is read is the end, or it was not read, or the shell is given up at it
 pub last_line : (fate : Fate) (left : Option (List ℕ)) → is_last fate ≡ true → is_lost fate ≡ false → (fate ≡ fates.Over → IsAtEnd left) → IsAtEnd left ⊎ (is_failed fate ≡ true)
@@ -154,7 +154,7 @@ failed_last ts t left (inr h) = inr (any-snoc (λ (t : Turn). is_failed t.fate) 
 
 -- ---- the lines up to here
 
-module _ {B E : Type 0} (state : B → State) (is_clean : B → Type 0) (contents : E → Option (List ℕ)) (echo : List ℕ → List ℕ) (seat : Seat)
+module _ {B E : Type 0} (state : B → State) (is_clean : B → Type 0) (contents : E → Option (List ℕ)) (echo : List ℕ → List ℕ) (session : ShellSession)
     (first : Engine B) (quiet : Errors E) (given was : Option (List ℕ)) where
   abbrev at : Site
   at = site first
@@ -165,11 +165,11 @@ module _ {B E : Type 0} (state : B → State) (is_clean : B → Type 0) (content
   -- what is told of these lines, perhaps behind more
   pub record AreSoFarTold (turns : List Turn) (err : Errors E) : Type 0 where
     pub lines : List ℕ
-    pub are : AreTold seat 1 turns lines
-    pub opening : IsMore seat.is_watched (λ more. IsTold contents quiet err (more ++ lines))
+    pub are : AreTold session 1 turns lines
+    pub opening : IsMore session.is_watched (λ more. IsTold contents quiet err (more ++ lines))
 
   -- and behind it the last
-  all_told : (turns : List Turn) (last : List ℕ) (err final : Errors E) → AreSoFarTold turns err → IsTold contents err final last → AreAllTold seat turns last (IsTold contents quiet final)
+  all_told : (turns : List Turn) (last : List ℕ) (err final : Errors E) → AreSoFarTold turns err → IsTold contents err final last → AreAllTold session turns last (IsTold contents quiet final)
   all_told turns last err final h k = record {
     lines = h.lines;
     are = h.are;
@@ -186,26 +186,26 @@ module _ {B E : Type 0} (state : B → State) (is_clean : B → Type 0) (content
     pub last_is : list_any (λ (t : Turn). is_last t.fate) turns ≡ last
     pub told : AreSoFarTold turns err
     pub fits : EventsFit at (events_in turns)
-    pub lines : is_clean now.base → AreTurns echo at seat (after_opening at seat w) given left turns
-    pub world : is_clean now.base → world_of state now ≡ end_of at w (opening seat ∷ events_in turns)
-    pub written : is_clean now.base → Appends was is (transcript at seat w turns)
+    pub lines : is_clean now.base → AreTurns echo at session (after_opening at session w) given left turns
+    pub world : is_clean now.base → world_of state now ≡ end_of at w (opening session ∷ events_in turns)
+    pub written : is_clean now.base → Appends was is (transcript at session w turns)
     pub few : AreFew tally count
-    pub opened_is : is_clean now.base → was_opened ≡ is_open seat (after_opening at seat w)
-    pub tally_is : is_clean now.base → tally ≡ tally_of at seat w turns
+    pub opened_is : is_clean now.base → was_opened ≡ is_open session (after_opening at session w)
+    pub tally_is : is_clean now.base → tally ≡ tally_of at session w turns
 
   -- what is said of the session is said of the world
   pub record Opened (now : Engine B) (is : Option (List ℕ)) (was_opened : Bool) : Type 0 where
     pub clean : is_clean now.base → is_clean first.base
     pub kept : IsKept state is_clean first now
-    pub followed : is_clean now.base → IsFollowed at (audience_at seat) w (opening seat ∷ []) was is (world_of state now) 0 (Ok tt)
-    pub opened_is : was_opened ≡ is_open seat (world_of state now)
+    pub followed : is_clean now.base → IsFollowed at (audience_at session) w (opening session ∷ []) was is (world_of state now) 0 (Ok tt)
+    pub opened_is : was_opened ≡ is_open session (world_of state now)
 
-  pub so_far_start : (now : Engine B) (is : Option (List ℕ)) (was_opened : Bool) → Opened now is was_opened → (err : Errors E) → IsMore seat.is_watched (IsTold contents quiet err)
+  pub so_far_start : (now : Engine B) (is : Option (List ℕ)) (was_opened : Bool) → Opened now is was_opened → (err : Errors E) → IsMore session.is_watched (IsTold contents quiet err)
       → SoFar 0 now err given is was_opened (record { lines = 0; refused = 0; misunderstood = 0 }) false
   unfolding AreTold Rattle.mls_runs.specs.Shell.dialogue AreTurns verdicts_in
   so_far_start now is was_opened h err m =
-      let done : is_clean now.base → IsWhole at (audience_at seat) w (opening seat ∷ []) was is (world_of state now) =
-      λ c. followed_whole at (audience_at seat) w (opening seat ∷ []) was is (world_of state now) 0 (h.followed c) in
+      let done : is_clean now.base → IsWhole at (audience_at session) w (opening session ∷ []) was is (world_of state now) =
+      λ c. followed_whole at (audience_at session) w (opening session ∷ []) was is (world_of state now) 0 (h.followed c) in
       record {
         turns = [];
         count_is = refl;
@@ -217,23 +217,23 @@ module _ {B E : Type 0} (state : B → State) (is_clean : B → Type 0) (content
         fits = tt;
         lines = λ c. refl;
         world = λ c. (done c).world;
-        written = λ c. subst (Appends was is) (sym (append-nil (answers at seat w (opening seat ∷ [])))) (done c).bytes;
+        written = λ c. subst (Appends was is) (sym (append-nil (answers at session w (opening session ∷ [])))) (done c).bytes;
         few = record { lines = omega arith; refused = omega arith; misunderstood = omega arith };
-        opened_is = λ c. h.opened_is ∙ ap (is_open seat) (done c).world;
+        opened_is = λ c. h.opened_is ∙ ap (is_open session) (done c).world;
         tally_is = λ c. refl;
       }
 
   module _ (count : ℕ) (now : Engine B) (err : Errors E) (left is : Option (List ℕ)) (was_opened : Bool) (tally : Tally) (s : SoFar count now err left is was_opened tally false) where
     same_site : site now ≡ at
-    same_site = ap site_of s.kept.rules
+    same_site = ap site_of s.kept.site
 
     -- the prompt is shown, a line is read, something becomes of it, and that is told
     pub record Line (fate : Fate) (asked said : Errors E) (over shown : Option (List ℕ)) (Broken : Type 0) : Type 0 where
-      pub was_open : is_open seat (world_of state now) ≡ true
-      pub asked_is : IsTold contents err asked (prompt_of seat)
-      pub read : IsRead echo (IsFate at.policy at.schemes seat) left over is shown Broken fate
+      pub was_open : is_open session (world_of state now) ≡ true
+      pub asked_is : IsTold contents err asked (prompt_of session)
+      pub read : IsRead echo (IsFate at.policy at.schemes session) left over is shown Broken fate
       pub fits : FateFits at.policy at.schemes fate
-      pub said_is : IsMore seat.is_watched (λ more. IsTold contents asked said (told_of seat (count + 1) fate ++ more))
+      pub said_is : IsMore session.is_watched (λ more. IsTold contents asked said (told_of session (count + 1) fate ++ more))
 
     module _ (fate : Fate) (asked said : Errors E) (over shown : Option (List ℕ)) (Broken : Type 0) (l : Line fate asked said over shown Broken) where
       abbrev turn : Turn
@@ -245,18 +245,18 @@ module _ {B E : Type 0} (state : B → State) (is_clean : B → Type 0) (content
       told_now : AreSoFarTold turns said
       told_now = record {
         lines = s.told.lines ++ here (count + 1) fate;
-        are = subst (λ (x : Fate). AreTold seat 1 turns (s.told.lines ++ here (count + 1) x)) l.read.same
-            (subst (λ (n : ℕ). AreTold seat 1 turns (s.told.lines ++ here n turn.fate)) number (told-snoc seat 1 s.turns turn s.told.lines l.said_is.more l.said_is.none s.told.are));
+        are = subst (λ (x : Fate). AreTold session 1 turns (s.told.lines ++ here (count + 1) x)) l.read.same
+            (subst (λ (n : ℕ). AreTold session 1 turns (s.told.lines ++ here n turn.fate)) number (told-snoc session 1 s.turns turn s.told.lines l.said_is.more l.said_is.none s.told.are));
         opening = record {
           more = s.told.opening.more;
           none = s.told.opening.none;
           leads = subst (IsTold contents quiet said) (append_assoc s.told.opening.more s.told.lines (here (count + 1) fate))
-              (told_more contents quiet err said _ _ s.told.opening.leads (told_more contents err asked said (prompt_of seat) _ l.asked_is l.said_is.leads));
+              (told_more contents quiet err said _ _ s.told.opening.leads (told_more contents err asked said (prompt_of session) _ l.asked_is l.said_is.leads));
         };
       }
         where
           here : ℕ → Fate → List ℕ
-          here n x = prompt_of seat ++ (told_of seat n x ++ l.said_is.more)
+          here n x = prompt_of session ++ (told_of session n x ++ l.said_is.more)
 
           number : 1 + length s.turns ≡ count + 1
           number = let e = s.count_is in omega arith
@@ -264,8 +264,8 @@ module _ {B E : Type 0} (state : B → State) (is_clean : B → Type 0) (content
       fits_now : EventsFit at (events_in turns)
       fits_now = subst (EventsFit at) (sym (events-snoc s.turns turn)) (all-append _ (events_in s.turns) (events_of turn.fate) s.fits (subst (λ (x : Fate). EventsFit at (events_of x)) (sym l.read.same) (fate_fits at fate l.fits)))
 
-      lines_now : is_clean now.base → AreTurns echo at seat (after_opening at seat w) given over turns
-      lines_now c = turns-snoc at seat w echo given left over s.turns turn (s.lines c) s.last_is (subst (λ u. is_open seat u ≡ true) (s.world c) l.was_open) l.read.is_turn
+      lines_now : is_clean now.base → AreTurns echo at session (after_opening at session w) given over turns
+      lines_now c = turns-snoc at session w echo given left over s.turns turn (s.lines c) s.last_is (subst (λ u. is_open session u ≡ true) (s.world c) l.was_open) l.read.is_turn
 
       pub broken_now : list_any (λ (t : Turn). is_failed t.fate) turns ≡ true → Broken
       broken_now h = l.read.broken (sym l.read.same ∙ failed_there s.turns turn s.last_is h)
@@ -275,29 +275,29 @@ module _ {B E : Type 0} (state : B → State) (is_clean : B → Type 0) (content
 
       module _ (new : Engine B) (after : Option (List ℕ)) (clean : is_clean new.base → is_clean now.base) (kept : IsKept state is_clean now new) where
         kept_now : IsKept state is_clean first new
-        kept_now = record { rules = kept.rules ∙ s.kept.rules; ready = kept.ready }
+        kept_now = record { site = kept.site ∙ s.kept.site; ready = kept.ready }
 
         -- the events of the line, from the world up to here
-        moved : {r : Result (Unit {0}) RunFault} → (c : is_clean new.base) → IsFollowed (site now) (audience_at seat) (world_of state now) (events_of fate) shown after (world_of state new) (count + 1) r
-            → IsFollowed at (audience_at seat) (end_of at w (opening seat ∷ events_in s.turns)) (events_of turn.fate) shown after (world_of state new) (count + 1) r
+        moved : {r : Result (Unit {0}) RunFault} → (c : is_clean new.base) → IsFollowed (site now) (audience_at session) (world_of state now) (events_of fate) shown after (world_of state new) (count + 1) r
+            → IsFollowed at (audience_at session) (end_of at w (opening session ∷ events_in s.turns)) (events_of turn.fate) shown after (world_of state new) (count + 1) r
         moved {r} c h =
-            subst (λ (x : Fate). IsFollowed at (audience_at seat) (end_of at w (opening seat ∷ events_in s.turns)) (events_of x) shown after (world_of state new) (count + 1) r) (sym l.read.same)
-            (subst (λ (u : World). IsFollowed at (audience_at seat) u (events_of fate) shown after (world_of state new) (count + 1) r) (s.world (clean c))
-            (subst (λ (p : Site). IsFollowed p (audience_at seat) (world_of state now) (events_of fate) shown after (world_of state new) (count + 1) r) same_site h))
+            subst (λ (x : Fate). IsFollowed at (audience_at session) (end_of at w (opening session ∷ events_in s.turns)) (events_of x) shown after (world_of state new) (count + 1) r) (sym l.read.same)
+            (subst (λ (u : World). IsFollowed at (audience_at session) u (events_of fate) shown after (world_of state new) (count + 1) r) (s.world (clean c))
+            (subst (λ (p : Site). IsFollowed p (audience_at session) (world_of state now) (events_of fate) shown after (world_of state new) (count + 1) r) same_site h))
 
         moved_verdict : (done : Bool) → is_clean new.base → verdict_of done fate ≡ verdict_of (are_done (site now) (world_of state now) (events_of fate)) fate
-            → verdict_of done fate ≡ verdict_of (are_done at (end_of at w (opening seat ∷ events_in s.turns)) (events_of turn.fate)) turn.fate
+            → verdict_of done fate ≡ verdict_of (are_done at (end_of at w (opening session ∷ events_in s.turns)) (events_of turn.fate)) turn.fate
         moved_verdict done c h =
             h ∙ ap (λ (p : Site). verdict_of (are_done p (world_of state now) (events_of fate)) fate) same_site
             ∙ ap (λ (u : World). verdict_of (are_done at u (events_of fate)) fate) (s.world (clean c))
-            ∙ ap (λ (x : Fate). verdict_of (are_done at (end_of at w (opening seat ∷ events_in s.turns)) (events_of x)) x) (sym l.read.same)
+            ∙ ap (λ (x : Fate). verdict_of (are_done at (end_of at w (opening session ∷ events_in s.turns)) (events_of x)) x) (sym l.read.same)
 
-        pub so_far_more : is_lost fate ≡ false → (is_clean new.base → IsFollowed (site now) (audience_at seat) (world_of state now) (events_of fate) shown after (world_of state new) (count + 1) (Ok tt))
+        pub so_far_more : is_lost fate ≡ false → (is_clean new.base → IsFollowed (site now) (audience_at session) (world_of state now) (events_of fate) shown after (world_of state new) (count + 1) (Ok tt))
             → (done : Bool) → (is_clean new.base → verdict_of done fate ≡ verdict_of (are_done (site now) (world_of state now) (events_of fate)) fate)
             → SoFar (count + 1) new said over after was_opened (tally_with tally (verdict_of done fate)) (is_last fate)
         so_far_more found h all counts =
-            let done : is_clean new.base → IsWhole at (audience_at seat) (end_of at w (opening seat ∷ events_in s.turns)) (events_of turn.fate) shown after (world_of state new) =
-            λ c. followed_whole at (audience_at seat) (end_of at w (opening seat ∷ events_in s.turns)) (events_of turn.fate) shown after (world_of state new) (count + 1) (moved c (h c)) in
+            let done : is_clean new.base → IsWhole at (audience_at session) (end_of at w (opening session ∷ events_in s.turns)) (events_of turn.fate) shown after (world_of state new) =
+            λ c. followed_whole at (audience_at session) (end_of at w (opening session ∷ events_in s.turns)) (events_of turn.fate) shown after (world_of state new) (count + 1) (moved c (h c)) in
             record {
               turns = turns;
               count_is = count_now;
@@ -308,34 +308,34 @@ module _ {B E : Type 0} (state : B → State) (is_clean : B → Type 0) (content
               told = told_now;
               fits = fits_now;
               lines = λ c. lines_now (clean c);
-              world = λ c. (done c).world ∙ world-snoc at seat w s.turns turn;
-              written = λ c. subst (Appends was after) (sym (transcript-snoc at seat w s.turns turn))
-                  (Appends-trans was is after (transcript at seat w s.turns) _ (s.written (clean c)) (Appends-trans is shown after turn.shown _ l.read.shown (done c).bytes));
+              world = λ c. (done c).world ∙ world-snoc at session w s.turns turn;
+              written = λ c. subst (Appends was after) (sym (transcript-snoc at session w s.turns turn))
+                  (Appends-trans was is after (transcript at session w s.turns) _ (s.written (clean c)) (Appends-trans is shown after turn.shown _ l.read.shown (done c).bytes));
               few = few_more tally count (verdict_of all fate) s.few;
               opened_is = λ c. s.opened_is (clean c);
-              tally_is = λ c. (λ i. tally_with (s.tally_is (clean c) i) (moved_verdict all c (counts c) i)) ∙ sym (tally-snoc at seat w s.turns turn);
+              tally_is = λ c. (λ i. tally_with (s.tally_is (clean c) i) (moved_verdict all c (counts c) i)) ∙ sym (tally-snoc at session w s.turns turn);
             }
 
         -- a shell that is given up at the line
-        pub broken : EventsFit at (opening seat ∷ []) → (fault : RunFault) → (c : is_clean new.base)
-            → IsFollowed (site now) (audience_at seat) (world_of state now) (events_of fate) shown after (world_of state new) (count + 1) (Err fault)
-            → IsConversation echo at seat given over was after Broken (IsTold contents quiet said) (Err fault) w (world_of state new)
+        pub broken : EventsFit at (opening session ∷ []) → (fault : RunFault) → (c : is_clean new.base)
+            → IsFollowed (site now) (audience_at session) (world_of state now) (events_of fate) shown after (world_of state new) (count + 1) (Err fault)
+            → IsConversation echo at session given over was after Broken (IsTold contents quiet said) (Err fault) w (world_of state new)
         broken opens fault c h =
             let k = moved c h in
-            let world = end_of at w (opening seat ∷ events_in s.turns) in
-            let (part, rest, bytes, both) = first_part at (audience_at seat) world (events_of turn.fate) shown after (world_of state new) k.end k.answered in
-            let es = (opening seat ∷ events_in s.turns) ++ events_of turn.fate in
-            let same : es ≡ opening seat ∷ events_in turns = ap (λ (l : List Event). opening seat ∷ l) (sym (events-snoc s.turns turn)) in
-            let silent : IsSilent echo → IsWhole at (audience_at seat) w (opening seat ∷ events_in s.turns) was shown world =
+            let world = end_of at w (opening session ∷ events_in s.turns) in
+            let (part, rest, bytes, both) = first_part at (audience_at session) world (events_of turn.fate) shown after (world_of state new) k.end k.answered in
+            let es = (opening session ∷ events_in s.turns) ++ events_of turn.fate in
+            let same : es ≡ opening session ∷ events_in turns = ap (λ (l : List Event). opening session ∷ l) (sym (events-snoc s.turns turn)) in
+            let silent : IsSilent echo → IsWhole at (audience_at session) w (opening session ∷ events_in s.turns) was shown world =
             λ q. record {
-              bytes = subst (Appends was shown) (append-nil _) (Appends-trans was is shown (answers at seat w (opening seat ∷ events_in s.turns)) []
-                  (subst (Appends was is) (silent_lines at seat echo w given left s.turns q (s.lines (clean c))) (s.written (clean c)))
-                  (subst (Appends is shown) (silent_turn at seat echo (IsFate at.policy at.schemes seat) left over turn q l.read.is_turn) l.read.shown));
+              bytes = subst (Appends was shown) (append-nil _) (Appends-trans was is shown (answers at session w (opening session ∷ events_in s.turns)) []
+                  (subst (Appends was is) (silent_lines at session echo w given left s.turns q (s.lines (clean c))) (s.written (clean c)))
+                  (subst (Appends is shown) (silent_turn at session echo (IsFate at.policy at.schemes session) left over turn q l.read.is_turn) l.read.shown));
               world = refl;
             } in
             let line : fault.event ≡ length turns = k.line ∙ sym count_now in
-            let front = transcript at seat w s.turns in
-            let before : shown_to at seat w turns fault.event ≡ front = shown_before at seat w s.turns turn fault.event line in
+            let front = transcript at session w s.turns in
+            let before : shown_to at session w turns fault.event ≡ front = shown_before at session w s.turns turn fault.event line in
             record {
               talk = record {
                 turns = turns;
@@ -352,44 +352,44 @@ module _ {B E : Type 0} (state : B → State) (is_clean : B → Type 0) (content
                       (Appends-trans was is after front _ (s.written (clean c)) (Appends-trans is shown after turn.shown part l.read.shown bytes));
                   whole = ap (λ t. (t ++ (turn.shown ++ part)) ++ rest) before ∙ append_assoc front (turn.shown ++ part) rest
                       ∙ ap (λ t. front ++ t) (append_assoc turn.shown part rest ∙ ap (λ t. turn.shown ++ t) both)
-                      ∙ sym (transcript-snoc at seat w s.turns turn) ∙ sym (shown_behind at seat w turns fault.event line);
+                      ∙ sym (transcript-snoc at session w s.turns turn) ∙ sym (shown_behind at session w turns fault.event line);
                 };
               };
               fits = (opens.0, fits_now);
-              run = λ q. subst (λ (es : List Event). IsAnswered at (audience_at seat) w es was after (world_of state new) (later k.end)) same (later_answered k.end (silent q) k.answered);
+              run = λ q. subst (λ (es : List Event). IsAnswered at (audience_at session) w es was after (world_of state new) (later k.end)) same (later_answered k.end (silent q) k.answered);
             }
           where
             later : Result (Unit {0}) RunFault → Result (Unit {0}) RunFault
             later (Ok u) = Ok tt
-            later (Err f) = Err (record { event = length (opening seat ∷ events_in s.turns) + f.event; cause = f.cause; done = f.done })
+            later (Err f) = Err (record { event = length (opening session ∷ events_in s.turns) + f.event; cause = f.cause; done = f.done })
 
             later_cause : (end : Result (Unit {0}) RunFault) (fault : RunFault) → IfErr end (λ f. (f.cause ≡ fault.cause) × (f.done ≡ fault.done)) → IfErr (later end) (λ f. (f.cause ≡ fault.cause) × (f.done ≡ fault.done))
             later_cause (Ok u) fault h = tt
             later_cause (Err f) fault h = h
 
-            later_answered : (end : Result (Unit {0}) RunFault) → IsWhole at (audience_at seat) w (opening seat ∷ events_in s.turns) was shown (end_of at w (opening seat ∷ events_in s.turns))
-                → IsAnswered at (audience_at seat) (end_of at w (opening seat ∷ events_in s.turns)) (events_of turn.fate) shown after (world_of state new) end
-                → IsAnswered at (audience_at seat) w ((opening seat ∷ events_in s.turns) ++ events_of turn.fate) was after (world_of state new) (later end)
+            later_answered : (end : Result (Unit {0}) RunFault) → IsWhole at (audience_at session) w (opening session ∷ events_in s.turns) was shown (end_of at w (opening session ∷ events_in s.turns))
+                → IsAnswered at (audience_at session) (end_of at w (opening session ∷ events_in s.turns)) (events_of turn.fate) shown after (world_of state new) end
+                → IsAnswered at (audience_at session) w ((opening session ∷ events_in s.turns) ++ events_of turn.fate) was after (world_of state new) (later end)
             later_answered (Ok u) first h = record {
-              whole = whole_more at (audience_at seat) w (opening seat ∷ events_in s.turns) (events_of turn.fate) was shown after first.bytes (world_of state new) h.whole;
+              whole = whole_more at (audience_at session) w (opening session ∷ events_in s.turns) (events_of turn.fate) was shown after first.bytes (world_of state new) h.whole;
               stopped = tt;
               fault = tt;
             }
             later_answered (Err f) first h = record {
               whole = tt;
-              stopped = stopped_more at (audience_at seat) w (opening seat ∷ events_in s.turns) (events_of turn.fate) was shown after first.bytes (world_of state new) f h.fault h.stopped;
-              fault = fault_more at (audience_at seat) w (opening seat ∷ events_in s.turns) (events_of turn.fate) was shown after first.bytes (world_of state new) f h.fault;
+              stopped = stopped_more at (audience_at session) w (opening session ∷ events_in s.turns) (events_of turn.fate) was shown after first.bytes (world_of state new) f h.fault h.stopped;
+              fault = fault_more at (audience_at session) w (opening session ∷ events_in s.turns) (events_of turn.fate) was shown after first.bytes (world_of state new) f h.fault;
             }
 
   -- ---- how a shell ends
 
-  module _ (opens : EventsFit at (opening seat ∷ [])) (Broken : Type 0) where
+  module _ (opens : EventsFit at (opening session ∷ [])) (Broken : Type 0) where
     -- it is given up at the opening
-    pub broken_first : (new : Engine B) (after : Option (List ℕ)) (fault : RunFault) → IsFollowed at (audience_at seat) w (opening seat ∷ []) was after (world_of state new) 0 (Err fault)
-        → IsConversation echo at seat given given was after Broken (IsTold contents quiet quiet) (Err fault) w (world_of state new)
+    pub broken_first : (new : Engine B) (after : Option (List ℕ)) (fault : RunFault) → IsFollowed at (audience_at session) w (opening session ∷ []) was after (world_of state new) 0 (Err fault)
+        → IsConversation echo at session given given was after Broken (IsTold contents quiet quiet) (Err fault) w (world_of state new)
     unfolding AreTold Rattle.mls_runs.specs.Shell.dialogue AreTurns
     broken_first new after fault h =
-        let (part, rest, bytes, both) = first_part at (audience_at seat) w (opening seat ∷ []) was after (world_of state new) h.end h.answered in
+        let (part, rest, bytes, both) = first_part at (audience_at session) w (opening session ∷ []) was after (world_of state new) h.end h.answered in
         record {
           talk = record {
             turns = [];
@@ -402,8 +402,8 @@ module _ {B E : Type 0} (state : B → State) (is_clean : B → Type 0) (content
               cause = h.cause;
               part = part;
               rest = rest;
-              written = subst (λ n. Appends was after (shown_to at seat w [] n ++ part)) (sym h.line) bytes;
-              whole = subst (λ n. (shown_to at seat w [] n ++ part) ++ rest ≡ shown_to at seat w [] (suc n)) (sym h.line) (both ∙ sym (append-nil (answers at seat w (opening seat ∷ []))));
+              written = subst (λ n. Appends was after (shown_to at session w [] n ++ part)) (sym h.line) bytes;
+              whole = subst (λ n. (shown_to at session w [] n ++ part) ++ rest ≡ shown_to at session w [] (suc n)) (sym h.line) (both ∙ sym (append-nil (answers at session w (opening session ∷ []))));
             };
           };
           fits = opens;
@@ -411,32 +411,32 @@ module _ {B E : Type 0} (state : B → State) (is_clean : B → Type 0) (content
         }
 
     module _ (count : ℕ) (now : Engine B) (err : Errors E) (left is : Option (List ℕ)) (was_opened : Bool) (tally : Tally) (last : Bool) (s : SoFar count now err left is was_opened tally last) (c : is_clean now.base) where
-      all_answered : IsSilent echo → IsAnswered at (audience_at seat) w (opening seat ∷ events_in s.turns) was is (world_of state now) (Ok tt)
+      all_answered : IsSilent echo → IsAnswered at (audience_at session) w (opening session ∷ events_in s.turns) was is (world_of state now) (Ok tt)
       all_answered q = record {
-        whole = record { bytes = subst (Appends was is) (silent_lines at seat echo w given left s.turns q (s.lines c)) (s.written c); world = s.world c };
+        whole = record { bytes = subst (Appends was is) (silent_lines at session echo w given left s.turns q (s.lines c)) (s.written c); world = s.world c };
         stopped = tt;
         fault = tt;
       }
 
       -- it ends well
-      pub over : (is_open seat (world_of state now) ≡ true → IsAtEnd left ⊎ (list_any (λ (t : Turn). is_failed t.fate) s.turns ≡ true))
+      pub over : (is_open session (world_of state now) ≡ true → IsAtEnd left ⊎ (list_any (λ (t : Turn). is_failed t.fate) s.turns ≡ true))
           → (list_any (λ (t : Turn). is_failed t.fate) s.turns ≡ true → Broken)
-          → (final : Errors E) → IsTold contents err final (end_told seat tally)
-          → IsConversation echo at seat given left was is Broken (IsTold contents quiet final) (Ok (ending_if (not was_opened || is_short tally))) w (world_of state now)
+          → (final : Errors E) → IsTold contents err final (end_told session tally)
+          → IsConversation echo at session given left was is Broken (IsTold contents quiet final) (Ok (ending_if (not was_opened || is_short tally))) w (world_of state now)
       over all breaks final end = record {
         talk = record {
           turns = s.turns;
           run_end = Ok tt;
           lines = s.lines c;
           broken = breaks;
-          told = all_told s.turns (end_told seat (tally_of at seat w s.turns)) err final s.told (subst (λ t. IsTold contents err final (end_told seat t)) (s.tally_is c) end);
+          told = all_told s.turns (end_told session (tally_of at session w s.turns)) err final s.told (subst (λ t. IsTold contents err final (end_told session t)) (s.tally_is c) end);
           ended = (
             refl,
             record {
               written = s.written c;
               status = λ i. ending_if (not (s.opened_is c i) || is_short (s.tally_is c i));
               none_lost = s.none_lost;
-              all = λ o. all (subst (λ u. is_open seat u ≡ true) (sym (s.world c)) o);
+              all = λ o. all (subst (λ u. is_open session u ≡ true) (sym (s.world c)) o);
             },
           );
         };
@@ -449,15 +449,15 @@ module _ {B E : Type 0} (state : B → State) (is_clean : B → Type 0) (content
       none_broken f = absurd (true≢false (sym f ∙ none_failed s.turns s.last_is))
 
       -- it ends well where the session is closed
-      pub over_closed : is_open seat (world_of state now) ≡ false → (final : Errors E) → IsTold contents err final (end_told seat tally)
-          → IsConversation echo at seat given left was is Broken (IsTold contents quiet final) (Ok (ending_if (not was_opened || is_short tally))) w (world_of state now)
+      pub over_closed : is_open session (world_of state now) ≡ false → (final : Errors E) → IsTold contents err final (end_told session tally)
+          → IsConversation echo at session given left was is Broken (IsTold contents quiet final) (Ok (ending_if (not was_opened || is_short tally))) w (world_of state now)
       over_closed closed = over count now err left is was_opened tally false s c (λ o. absurd (true≢false (sym o ∙ closed))) none_broken
 
       -- it is given up between two lines
-      pub worn_out : (fault : RunFault) → fault.event ≡ count → IsConversation echo at seat given left was is Broken (IsTold contents quiet err) (Err fault) w (world_of state now)
+      pub worn_out : (fault : RunFault) → fault.event ≡ count → IsConversation echo at session given left was is Broken (IsTold contents quiet err) (Err fault) w (world_of state now)
       worn_out fault e =
           let line : fault.event ≡ length s.turns = e ∙ sym s.count_is in
-          let rest = shown_from at seat w s.turns fault.event in
+          let rest = shown_from at session w s.turns fault.event in
           record {
             talk = record {
               turns = s.turns;
@@ -471,7 +471,7 @@ module _ {B E : Type 0} (state : B → State) (is_clean : B → Type 0) (content
                 part = rest.0;
                 rest = [];
                 written = subst (Appends was is) (sym rest.1) (s.written c);
-                whole = append-nil (shown_to at seat w s.turns fault.event ++ rest.0) ∙ rest.1 ∙ sym (shown_behind at seat w s.turns fault.event line);
+                whole = append-nil (shown_to at session w s.turns fault.event ++ rest.0) ∙ rest.1 ∙ sym (shown_behind at session w s.turns fault.event line);
               };
             };
             fits = (opens.0, s.fits);
@@ -482,10 +482,10 @@ module _ {B E : Type 0} (state : B → State) (is_clean : B → Type 0) (content
     pub over_last : (count : ℕ) (now : Engine B) (err : Errors E) (left is : Option (List ℕ)) (was_opened : Bool) (tally : Tally) (s : SoFar count now err left is was_opened tally false)
         (fate : Fate) (asked said : Errors E) (past shown : Option (List ℕ)) (l : Line count now err left is was_opened tally s fate asked said past shown Broken)
         (new : Engine B) (after : Option (List ℕ)) (clean : is_clean new.base → is_clean now.base) (kept : IsKept state is_clean now new)
-        → is_lost fate ≡ false → (is_clean new.base → IsFollowed (site now) (audience_at seat) (world_of state now) (events_of fate) shown after (world_of state new) (count + 1) (Ok tt))
+        → is_lost fate ≡ false → (is_clean new.base → IsFollowed (site now) (audience_at session) (world_of state now) (events_of fate) shown after (world_of state new) (count + 1) (Ok tt))
         → (done : Bool) → (is_clean new.base → verdict_of done fate ≡ verdict_of (are_done (site now) (world_of state now) (events_of fate)) fate)
-        → is_last fate ≡ true → is_clean new.base → (final : Errors E) → IsTold contents said final (end_told seat (tally_with tally (verdict_of done fate)))
-        → IsConversation echo at seat given past was after Broken (IsTold contents quiet final) (Ok (ending_if (not was_opened || is_short (tally_with tally (verdict_of done fate))))) w (world_of state new)
+        → is_last fate ≡ true → is_clean new.base → (final : Errors E) → IsTold contents said final (end_told session (tally_with tally (verdict_of done fate)))
+        → IsConversation echo at session given past was after Broken (IsTold contents quiet final) (Ok (ending_if (not was_opened || is_short (tally_with tally (verdict_of done fate))))) w (world_of state new)
     unfolding so_far_more
     over_last count now err left is was_opened tally s fate asked said past shown l new after clean kept found h done counts last c =
         over (count + 1) new said past after was_opened (tally_with tally (verdict_of done fate)) (is_last fate)

@@ -1,36 +1,21 @@
 -- Audit lists that are turned over stores.
-use Rattle.std.proofs.Common.{◌≡◌, ℕ, List, [], Option, Some, None, Result, Ok, Err, refl, sym, subst, ◌∙◌}
+use Rattle.std.proofs.Common.{◌≡◌, ℕ, List, [], Option, Some, None, Result, Ok, Err, refl, sym, subst}
 use Rattle.std.specs.Borrow.{Bor}
-use Rattle.std.specs.FinMap.{get-empty}
-use Rattle.mls_lattice.specs.Labels.{Labels}
 use Rattle.mls_lattice.specs.Policy.{labels_of}
-use Rattle.mls_scheme.specs.declared.tuple.Element.{Element}
-use Rattle.mls_scheme.specs.Scheme.{Schemes}
-use Rattle.mls_scheme.specs.Table.{place_cmp}
 use Rattle.mls_filterview.specs.Content.{Content, no_content}
-use Rattle.mls_filterview.specs.Stored.{AreContent}
-use Rattle.mls_fragments.specs.Finding.{IsSoundContent}
+use Rattle.mls_audit.specs.Sound.{IsSoundContent}
+use Rattle.mls_audit.proofs.SoundLemmas.{nothing_sound}
 use Rattle.mls_sessions.specs.declared.cause.RunFault.{RunFault}
 use Rattle.mls_sessions.specs.Turning.{IsTurned, list_text}
 use Rattle.mls_host.specs.declared.job.Setting.{Setting}
 use Rattle.mls_host.specs.declared.reason.Reason.{Reason}
-use Rattle.mls_host.specs.declared.refusal.Refusal.{Refusal}
-use Rattle.mls_host.specs.Causes.{IsBarred}
+use Rattle.mls_host.specs.declared.stop.Stop.{Stop}
 use Rattle.mls_host.specs.Hosting.{Hosted}
-use Rattle.mls_host.specs.Refusal.{IsEnd}
+use Rattle.mls_host.specs.Stop.{IsEnd}
 use Rattle.mls_host.specs.Words.{named}
 use Rattle.mls_machine.proofs.HistoryLemmas.{turned_alike, turned_lines}
 use Rattle.mls_runs.specs.History.{world_of}
 use Rattle.mls_runs.specs.TurnRun.{IsTurning, IsTurnRun}
-
-none_there : {A : Type 0} (es : List Element) (o : Option (List Element)) → o ≡ None → o ≡ Some es → A
-none_there es o none some = let e : None ≡ Some es = sym none ∙ some in absurd cc
-
-no_tuples : (ls : Labels) (schemes : Schemes) → AreContent ls schemes no_content.db
-no_tuples ls schemes rel = record {
-  stored = λ p es h. none_there es _ (get-empty place_cmp p) h;
-  fits = λ p es h. none_there es _ (get-empty place_cmp p) h;
-}
 
 module _ (setting : Setting) (Wrote : List ℕ → Type 0) where
   -- what is left is content, as what was there
@@ -57,9 +42,9 @@ module _ (setting : Setting) (Wrote : List ℕ → Type 0) where
     pub no_list : (store : Option (Bor (List ℕ))) → store ≡ None → Wrote [] → IsEnd (Turns (named store)) (Nothing (named store)) (Ok tt)
     no_list store is wrote =
         let written : Wrote (list_text setting.policy setting.reader no_content) = subst Wrote (sym (none_shown setting.reader)) wrote in
-        let sound : IsSoundContent setting.policy setting.file.schemes no_content = record { content = no_tuples (labels_of setting.policy) setting.file.schemes; entries = tt } in
+        let sound : IsSoundContent setting.policy setting.file.schemes no_content = nothing_sound setting.policy setting.file.schemes in
         subst (λ (s : Option (Bor (List ℕ))). IsEnd (Turns (named s)) (Nothing (named s)) (Ok tt)) (sym is)
         (λ clean. record { first = no_content; left = no_content; begins = refl; kept = tt; leads = turning no_content no_content (Ok tt) (written, refl) sound })
 
-    pub at_store : (store : Option (Bor (List ℕ))) (path : Bor (List ℕ)) → store ≡ Some path → (r : Result (Unit {0}) Refusal) → IsEnd (Turns (Some path.now)) (Nothing (Some path.now)) r → IsEnd (Turns (named store)) (Nothing (named store)) r
+    pub at_store : (store : Option (Bor (List ℕ))) (path : Bor (List ℕ)) → store ≡ Some path → (r : Result (Unit {0}) Stop) → IsEnd (Turns (Some path.now)) (Nothing (Some path.now)) r → IsEnd (Turns (named store)) (Nothing (named store)) r
     at_store store path is r k = subst (λ (s : Option (Bor (List ℕ))). IsEnd (Turns (named s)) (Nothing (named s)) r) (sym is) k

@@ -9,6 +9,7 @@ use Rattle.mls_tokens.specs.declared.token.Placed.{Placed}
 use Rattle.mls_tokens.specs.Scanning.{tokens_at}
 use Rattle.mls_scheme.specs.Scheme.{Schemes, AreUnder}
 use Rattle.mls_filterview.specs.Content.{Content}
+use Rattle.mls_audit.specs.Sound.{IsSoundContent}
 use Rattle.mls_script.specs.declared.event.Event.{Event}
 use Rattle.mls_script.specs.declared.event.Command.{Command}
 use Rattle.mls_script.specs.declared.event.Command.TheVariants.{Open}
@@ -24,12 +25,11 @@ use Rattle.mls_machine.specs.Serving.{answers_to, ServesOnlyReleases}
 use Rattle.mls_sessions.specs.declared.cause.RunCause.TheVariants.{Memory, Write}
 use Rattle.mls_sessions.specs.declared.cause.RunFault.{RunFault}
 use Rattle.mls_sessions.specs.Run.{IsFaultOf}
-use Rattle.mls_sessions.specs.World.{IsSound}
 use Rattle.mls_host.specs.declared.ending.Ending.{Ending}
 use Rattle.mls_host.specs.Ending.{ending_if}
 use Rattle.mls_host.specs.Running.{first_world, standing, IsLeftBy}
-use Rattle.mls_runs.specs.declared.seat.Fate.{Fate}
-use Rattle.mls_runs.specs.declared.seat.Fate.TheVariants.{Over, Said, Refused}
+use Rattle.mls_runs.specs.declared.shell_session.Fate.{Fate}
+use Rattle.mls_runs.specs.declared.shell_session.Fate.TheVariants.{Over, Said, Refused}
 use Rattle.mls_runs.specs.Shell.{Turn, IsShellTurn, FateFits, events_of, events_in, is_last, is_failed, is_lost}
 use Rattle.mls_runs.specs.Marks.{mark_of}
 
@@ -145,7 +145,7 @@ module _ (echo : List ℕ → List ℕ) (site : Site) (before after : Option (Li
     pub service : IsServed (first_world site first)
     pub left_by : IsLeftBy site first (standing (events_in service.turns) service.run_end) left
     -- a next one may begin with what is left
-    pub sound : IsSound site left
+    pub sound : IsSoundContent site.policy site.schemes left
     -- each database on the way has the four integrity properties
     pub integrity : KeepsIntegrity site (first_world site first) (events_in service.turns)
     -- no information flows down but what is released

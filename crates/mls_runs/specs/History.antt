@@ -9,10 +9,10 @@ use Rattle.mls_lattice.specs.Policy.{Policy, labels_of}
 use Rattle.mls_scheme.specs.Scheme.{Schemes}
 use Rattle.mls_scheme.specs.declared.file.SchemesFile.{SchemesFile}
 use Rattle.mls_filterview.specs.Content.{Content}
-use Rattle.mls_statements.specs.declared.rows.MetaRow.{MetaRow}
+use Rattle.mls_audit.specs.Sound.{IsSoundContent}
+use Rattle.mls_tables.specs.declared.rows.MetaRow.{MetaRow}
 use Rattle.mls_fragments.specs.Again.{AreKept, AreRefused, FindsHoldings, MayKeep}
 use Rattle.mls_fragments.specs.Holdings.{holdings_of, IsTakenOf}
-use Rattle.mls_fragments.specs.Finding.{IsSoundContent}
 use Rattle.mls_fragments.specs.declared.open_fault.OpenFault.{OpenFault}
 use Rattle.mls_machine.specs.declared.form.Audience.{Audience}
 use Rattle.mls_machine.specs.Machine.{World, no_sessions}

@@ -7,8 +7,8 @@ use Rattle.mls_script.specs.Fault.{code_of, word_of}
 use Rattle.mls_sessions.specs.declared.cause.RunCause.{RunCause}
 use Rattle.mls_sessions.specs.declared.cause.RunCause.TheVariants.{Store, Write}
 use Rattle.mls_sessions.specs.Run.{IsPart}
-use Rattle.mls_runs.specs.declared.seat.Fate.{Fate}
-use Rattle.mls_runs.specs.declared.seat.Fate.TheVariants.{Over, Blank, Help, Asked, Said, Refused, TooLong, Unreadable, Lost}
+use Rattle.mls_runs.specs.declared.shell_session.Fate.{Fate}
+use Rattle.mls_runs.specs.declared.shell_session.Fate.TheVariants.{Over, Blank, Help, Asked, Said, Refused, TooLong, Unreadable, Lost}
 
 -- the code and the name of the fault, and its column
 abbrev pub refused_mark : ScriptFault → List ℕ

@@ -6,8 +6,8 @@ use Rattle.mls_scheme.specs.Scheme.{Schemes}
 use Rattle.mls_script.specs.declared.event.Event.{Event}
 use Rattle.mls_script.specs.declared.fault.ScriptFault.{ScriptFault}
 use Rattle.mls_script.specs.Reading.{script_at}
-use Rattle.mls_runs.specs.declared.seat.Fate.{Fate}
-use Rattle.mls_runs.specs.declared.seat.Fate.TheVariants.{Over, Said, Refused}
+use Rattle.mls_runs.specs.declared.shell_session.Fate.{Fate}
+use Rattle.mls_runs.specs.declared.shell_session.Fate.TheVariants.{Over, Said, Refused}
 use Rattle.mls_runs.specs.Desk.{opens_other, other_name}
 
 abbrev pub fate_of_events : List ℕ → List Event → Fate

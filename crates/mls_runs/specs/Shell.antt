@@ -27,10 +27,10 @@ use Rattle.mls_tokens.specs.Typing.{IsNext, IsLong}
 use Rattle.mls_host.specs.declared.ending.Ending.{Ending}
 use Rattle.mls_host.specs.declared.telling.Tally.{Tally}
 use Rattle.mls_runs.specs.declared.help.TheConstants.{HELP}
-use Rattle.mls_runs.specs.declared.seat.Seat.{Seat}
-use Rattle.mls_runs.specs.declared.seat.Fate.{Fate}
-use Rattle.mls_runs.specs.declared.seat.Fate.TheVariants.{Over, Blank, Help, Asked, Said, Refused, TooLong}
-use Rattle.mls_runs.specs.declared.seat.Fate.TheVariants.{Unreadable, Lost}
+use Rattle.mls_runs.specs.declared.shell_session.ShellSession.{ShellSession}
+use Rattle.mls_runs.specs.declared.shell_session.Fate.{Fate}
+use Rattle.mls_runs.specs.declared.shell_session.Fate.TheVariants.{Over, Blank, Help, Asked, Said, Refused, TooLong}
+use Rattle.mls_runs.specs.declared.shell_session.Fate.TheVariants.{Unreadable, Lost}
 use Rattle.mls_runs.specs.declared.tally.Verdict.{Verdict}
 use Rattle.mls_runs.specs.declared.tally.Verdict.TheVariants as verdicts
 use Rattle.mls_host.specs.Ending.{ending_if}
@@ -40,73 +40,73 @@ use Rattle.mls_host.specs.Telling.{IsMore, prompt_text, line_told, fault_told, t
 -- ---- who sits there
 
 -- the words that stand before each command in a script
-abbrev pub prefix_of : Seat → List ℕ
-prefix_of seat = seat.label ++ codes " " ++ seat.user ++ codes " "
+abbrev pub prefix_of : ShellSession → List ℕ
+prefix_of session = session.label ++ codes " " ++ session.user ++ codes " "
 
-abbrev pub prompt_of : Seat → List ℕ
-prompt_of seat = if seat.has_prompt then prompt_text seat.label seat.user else []
+abbrev pub prompt_of : ShellSession → List ℕ
+prompt_of session = if session.has_prompt then prompt_text session.label session.user else []
 
 -- its level, which is shown tables where somebody types at a terminal
-abbrev pub audience_at : Seat → Audience
-audience_at seat = reader_of seat.level (form_of seat.has_prompt)
+abbrev pub audience_at : ShellSession → Audience
+audience_at session = reader_of session.level (form_of session.has_prompt)
 
-abbrev pub opening : Seat → Event
-opening seat = record { level = seat.level; session = seat.user; command = Open seat.user }
+abbrev pub opening : ShellSession → Event
+opening session = record { level = session.level; session = session.user; command = Open session.user }
 
-abbrev pub is_open : Seat → World → Bool
-is_open seat w = is_some (w.sessions seat.level seat.user)
+abbrev pub is_open : ShellSession → World → Bool
+is_open session w = is_some (w.sessions session.level session.user)
 
 -- an event of the session
-abbrev pub is_own : Seat → Event → Bool
-is_own seat e = nat_eq e.level seat.level && bytes_eq e.session seat.user
+abbrev pub is_own : ShellSession → Event → Bool
+is_own session e = nat_eq e.level session.level && bytes_eq e.session session.user
 
 -- A shell may begin: what is stored was read and checked under the policy, and the first event opens the session of a
 -- user at a level.
-pub record MayTalk (site : Site) (seat : Seat) (events : List Event) : Type 0 where
+pub record MayTalk (site : Site) (session : ShellSession) (events : List Event) : Type 0 where
   pub under : AreUnder (length site.policy.labels) site.schemes
   pub read : AreRead site
   pub certified : AreCertified site
-  pub level : seat.level < length site.policy.labels
-  pub user : is_name seat.user ≡ true
-  pub first : events ≡ opening seat ∷ []
+  pub level : session.level < length site.policy.labels
+  pub user : is_name session.user ≡ true
+  pub first : events ≡ opening session ∷ []
 
 -- ---- what becomes of a line, whatever the database
 
 -- events, all of the session
-abbrev pub fate_of_events : Seat → List Event → Fate
-fate_of_events seat events =
-    if list_all (is_own seat) events then Said events else Refused (record { line = 1; column = 1; cause = Expected })
+abbrev pub fate_of_events : ShellSession → List Event → Fate
+fate_of_events session events =
+    if list_all (is_own session) events then Said events else Refused (record { line = 1; column = 1; cause = Expected })
 
 -- at a terminal a line asks what is declared, or for help with something
-abbrev pub is_asked : Seat → List ℕ → Bool
-is_asked seat line =
-    seat.has_prompt && (bytes_eq line (codes "describe\n") || starts_with nat_eq line (codes "help "))
+abbrev pub is_asked : ShellSession → List ℕ → Bool
+is_asked session line =
+    session.has_prompt && (bytes_eq line (codes "describe\n") || starts_with nat_eq line (codes "help "))
 
 -- at a terminal `quit` and `exit` mean `close`
-abbrev pub meant : Seat → List ℕ → List ℕ
-meant seat line =
-    if seat.has_prompt && (bytes_eq line (codes "quit\n") || bytes_eq line (codes "exit\n")) then codes "close\n" else line
+abbrev pub meant : ShellSession → List ℕ → List ℕ
+meant session line =
+    if session.has_prompt && (bytes_eq line (codes "quit\n") || bytes_eq line (codes "exit\n")) then codes "close\n" else line
 
 -- it is no end, and asks for no help
-abbrev pub IsCommand : Seat → List ℕ → Type 0
-IsCommand seat line = (line ≢ []) × (line ≢ codes "help\n") × (is_asked seat line ≡ false)
+abbrev pub IsCommand : ShellSession → List ℕ → Type 0
+IsCommand session line = (line ≢ []) × (line ≢ codes "help\n") × (is_asked session line ≡ false)
 
 -- behind the words of the session what a line means tells events; or it tells none so, and nothing by itself; or it is
 -- refused for the first fault behind these words
-pub data IsFate (policy : Policy) (schemes : Schemes) (seat : Seat) (line : List ℕ) (fate : Fate) : Type 0 where
-  over : line ≡ [] → fate ≡ Over → IsFate policy schemes seat line fate
-  help : line ≡ codes "help\n" → fate ≡ Help → IsFate policy schemes seat line fate
-  asked : is_asked seat line ≡ true → fate ≡ Asked → IsFate policy schemes seat line fate
-  said : (events : List Event) → IsCommand seat line
-      → ReadsScript policy schemes (prefix_of seat ++ meant seat line) events
-      → fate ≡ fate_of_events seat events → IsFate policy schemes seat line fate
-  blank : IsCommand seat line
-      → ((events : List Event) → ReadsScript policy schemes (prefix_of seat ++ meant seat line) events → ⊥)
-      → ReadsScript policy schemes (meant seat line) [] → fate ≡ Blank → IsFate policy schemes seat line fate
-  refused : (fault : ScriptFault) → IsCommand seat line
-      → script_at policy schemes (prefix_of seat ++ meant seat line) ≡ Err fault
-      → (ReadsScript policy schemes (meant seat line) [] → ⊥) → fate ≡ Refused fault
-      → IsFate policy schemes seat line fate
+pub data IsFate (policy : Policy) (schemes : Schemes) (session : ShellSession) (line : List ℕ) (fate : Fate) : Type 0 where
+  over : line ≡ [] → fate ≡ Over → IsFate policy schemes session line fate
+  help : line ≡ codes "help\n" → fate ≡ Help → IsFate policy schemes session line fate
+  asked : is_asked session line ≡ true → fate ≡ Asked → IsFate policy schemes session line fate
+  said : (events : List Event) → IsCommand session line
+      → ReadsScript policy schemes (prefix_of session ++ meant session line) events
+      → fate ≡ fate_of_events session events → IsFate policy schemes session line fate
+  blank : IsCommand session line
+      → ((events : List Event) → ReadsScript policy schemes (prefix_of session ++ meant session line) events → ⊥)
+      → ReadsScript policy schemes (meant session line) [] → fate ≡ Blank → IsFate policy schemes session line fate
+  refused : (fault : ScriptFault) → IsCommand session line
+      → script_at policy schemes (prefix_of session ++ meant session line) ≡ Err fault
+      → (ReadsScript policy schemes (meant session line) [] → ⊥) → fate ≡ Refused fault
+      → IsFate policy schemes session line fate
 
 -- its events fit; and it is lost for memory or the writer, never for the store
 abbrev pub FateFits : Policy → Schemes → Fate → Type 0
@@ -119,16 +119,16 @@ events_of (Said events) = events
 events_of fate = []
 
 -- the column in what was typed
-abbrev pub column_of : Seat → ℕ → ℕ
-column_of seat column = max (column - length (prefix_of seat)) 1
+abbrev pub column_of : ShellSession → ℕ → ℕ
+column_of session column = max (column - length (prefix_of session)) 1
 
 -- what is said of it on standard error
-abbrev pub told_of : Seat → ℕ → Fate → List ℕ
-told_of seat number Help = HELP.now
-told_of seat number (Refused fault) = fault_told number (column_of seat fault.column) fault.cause
-told_of seat number TooLong = line_told number (codes "too long")
-told_of seat number Unreadable = line_told number (codes "unreadable")
-told_of seat number fate = []
+abbrev pub told_of : ShellSession → ℕ → Fate → List ℕ
+told_of session number Help = HELP.now
+told_of session number (Refused fault) = fault_told number (column_of session fault.column) fault.cause
+told_of session number TooLong = line_told number (codes "too long")
+told_of session number Unreadable = line_told number (codes "unreadable")
+told_of session number fate = []
 
 -- no line is read behind it
 abbrev pub is_last : Fate → Bool
@@ -189,8 +189,8 @@ abbrev pub is_short : Tally → Bool
 is_short t = nat_lt 0 t.refused || nat_lt 0 t.misunderstood
 
 -- what is told at the end where nobody types at a terminal
-abbrev pub end_told : Seat → Tally → List ℕ
-end_told seat t = if seat.has_prompt then [] else tally_told t
+abbrev pub end_told : ShellSession → Tally → List ℕ
+end_told session t = if session.has_prompt then [] else tally_told t
 
 -- ---- lines that are typed one after another
 
@@ -213,10 +213,10 @@ pub data IsShellTurn (echo : List ℕ → List ℕ) (IsFateOf : List ℕ → Fat
 abbrev pub events_in : List Turn → List Event
 events_in = flat_map (λ t. events_of t.fate)
 
-module _ (site : Site) (seat : Seat) where
+module _ (site : Site) (session : ShellSession) where
   -- what the session's level sees of the replies to events
   abbrev pub answers : World → List Event → List ℕ
-  answers w es = run_shows site (audience_at seat) w es
+  answers w es = run_shows site (audience_at session) w es
 
   -- each line as it is shown, and right behind it its answers
   unfoldable pub dialogue : World → List Turn → List ℕ
@@ -225,10 +225,10 @@ module _ (site : Site) (seat : Seat) where
 
   -- the world in which the first line is read
   abbrev pub after_opening : World → World
-  after_opening w = end_of site w (opening seat ∷ [])
+  after_opening w = end_of site w (opening session ∷ [])
 
   abbrev pub transcript : World → List Turn → List ℕ
-  transcript w turns = answers w (opening seat ∷ []) ++ dialogue (after_opening w) turns
+  transcript w turns = answers w (opening session ∷ []) ++ dialogue (after_opening w) turns
 
   -- what is shown before a line: nothing before the opening, which is as a line 0
   abbrev pub shown_to : World → List Turn → ℕ → List ℕ
@@ -246,36 +246,36 @@ module _ (site : Site) (seat : Seat) where
 
   -- not all is done: the opening is denied, or a line is refused or not understood
   abbrev pub has_refused : World → List Turn → Bool
-  has_refused w turns = not (is_open seat (after_opening w)) || is_short (tally_of w turns)
+  has_refused w turns = not (is_open session (after_opening w)) || is_short (tally_of w turns)
 
   -- what is told behind all lines, of a shell that is not given up
   abbrev pub last_told : World → List Turn → Result Ending RunFault → List ℕ
-  last_told w turns (Ok ending) = end_told seat (tally_of w turns)
+  last_told w turns (Ok ending) = end_told session (tally_of w turns)
   last_told w turns (Err fault) = []
 
 -- what is told where nobody reads it at a terminal, from the line of a number on: the prompt before each line, and
 -- what is said of it
-unfoldable pub told_from : Seat → ℕ → List Turn → List ℕ
-told_from seat number [] = []
-told_from seat number (t ∷ ts) = (prompt_of seat ++ told_of seat number t.fate) ++ told_from seat (number + 1) ts
+unfoldable pub told_from : ShellSession → ℕ → List Turn → List ℕ
+told_from session number [] = []
+told_from session number (t ∷ ts) = (prompt_of session ++ told_of session number t.fate) ++ told_from session (number + 1) ts
 
 -- what is told, from the line of a number on: of each line the same, and behind it perhaps more
-unfoldable pub AreTold : Seat → ℕ → List Turn → List ℕ → Type 0
-AreTold seat number [] text = text ≡ []
-AreTold seat number (t ∷ ts) text = IsMore seat.is_watched (λ more.
-    (rest : List ℕ) × (text ≡ (prompt_of seat ++ (told_of seat number t.fate ++ more)) ++ rest)
-    × AreTold seat (number + 1) ts rest)
+unfoldable pub AreTold : ShellSession → ℕ → List Turn → List ℕ → Type 0
+AreTold session number [] text = text ≡ []
+AreTold session number (t ∷ ts) text = IsMore session.is_watched (λ more.
+    (rest : List ℕ) × (text ≡ (prompt_of session ++ (told_of session number t.fate ++ more)) ++ rest)
+    × AreTold session (number + 1) ts rest)
 
 -- what is told of a shell: perhaps more behind its opening, then what is told of its lines, and the last
-pub record AreAllTold (seat : Seat) (turns : List Turn) (last : List ℕ) (Told : List ℕ → Type 0) : Type 0 where
+pub record AreAllTold (session : ShellSession) (turns : List Turn) (last : List ℕ) (Told : List ℕ → Type 0) : Type 0 where
   pub lines : List ℕ
-  pub are : AreTold seat 1 turns lines
-  pub opening : IsMore seat.is_watched (λ more. Told (more ++ lines ++ last))
+  pub are : AreTold session 1 turns lines
+  pub opening : IsMore session.is_watched (λ more. Told (more ++ lines ++ last))
 
 -- where nobody reads it, what is told of lines is what stands above
 abbrev pub PipesAreToldNoMore : Type 0
-PipesAreToldNoMore = (seat : Seat) (number : ℕ) (turns : List Turn) (text : List ℕ) → seat.is_watched ≡ false
-    → AreTold seat number turns text → text ≡ told_from seat number turns
+PipesAreToldNoMore = (session : ShellSession) (number : ℕ) (turns : List Turn) (text : List ℕ) → session.is_watched ≡ false
+    → AreTold session number turns text → text ≡ told_from session number turns
 
 -- no line is shown
 abbrev pub IsSilent : (List ℕ → List ℕ) → Type 0
@@ -283,13 +283,13 @@ IsSilent echo = (line : List ℕ) → echo line ≡ []
 
 -- ---- how a shell ends
 
-module _ (site : Site) (seat : Seat) (w : World) (turns : List Turn) (Wrote : List ℕ → Type 0) where
+module _ (site : Site) (session : ShellSession) (w : World) (turns : List Turn) (Wrote : List ℕ → Type 0) where
   -- all is written; and where the session is still open, all lines were read, or a read failed
   pub record IsWellEnded (left : Option (List ℕ)) (ending : Ending) : Type 0 where
-    pub written : Wrote (transcript site seat w turns)
-    pub status : ending ≡ ending_if (has_refused site seat w turns)
+    pub written : Wrote (transcript site session w turns)
+    pub status : ending ≡ ending_if (has_refused site session w turns)
     pub none_lost : list_any (λ t. is_lost t.fate) turns ≡ false
-    pub all : is_open seat (end_of site w (opening seat ∷ events_in turns)) ≡ true
+    pub all : is_open session (end_of site w (opening session ∷ events_in turns)) ≡ true
         → IsAtEnd left ⊎ (list_any (λ t. is_failed t.fate) turns ≡ true)
 
   -- it is given up at the last line that was read, or, as at line 0, at the opening: at one of its events, or before
@@ -299,8 +299,8 @@ module _ (site : Site) (seat : Seat) (w : World) (turns : List Turn) (Wrote : Li
     pub cause : IfErr end (λ f. (f.cause ≡ fault.cause) × (f.done ≡ fault.done))
     pub part : List ℕ
     pub rest : List ℕ
-    pub written : Wrote (shown_to site seat w turns fault.event ++ part)
-    pub whole : (shown_to site seat w turns fault.event ++ part) ++ rest ≡ shown_to site seat w turns (suc fault.event)
+    pub written : Wrote (shown_to site session w turns fault.event ++ part)
+    pub whole : (shown_to site session w turns fault.event ++ part) ++ rest ≡ shown_to site session w turns (suc fault.event)
 
   -- how the run of the events ends, by how the shell does
   abbrev pub IsEndOf : Option (List ℕ) → Result (Unit {0}) RunFault → Result Ending RunFault → Type 0
@@ -309,15 +309,15 @@ module _ (site : Site) (seat : Seat) (w : World) (turns : List Turn) (Wrote : Li
 
 -- ---- the whole
 
-module _ (echo : List ℕ → List ℕ) (site : Site) (seat : Seat) where
+module _ (echo : List ℕ → List ℕ) (site : Site) (session : ShellSession) where
   -- lines are read one after another, none lost, each while the session is open, and none behind a last one
   -- What is still to come stands between the lines, so a line, its reading, what is shown and what becomes of it are
   -- one fact (`IsTurn`), which desks share. Of a reader that tells nothing of its bytes any line comes next.
   unfoldable pub AreTurns : World → Option (List ℕ) → Option (List ℕ) → List Turn → Type 0
   AreTurns w before after [] = before ≡ after
   AreTurns w before after (t ∷ ts) =
-      (left : Option (List ℕ)) × (is_open seat w ≡ true)
-      × IsShellTurn echo (IsFate site.policy site.schemes seat) before left t
+      (left : Option (List ℕ)) × (is_open session w ≡ true)
+      × IsShellTurn echo (IsFate site.policy site.schemes session) before left t
       × (ts ≢ [] → is_last t.fate ≡ false) × AreTurns (end_of site w (events_of t.fate)) left after ts
 
   module _ (before after : Option (List ℕ)) (Broken : Type 0) (Wrote Told : List ℕ → Type 0)
@@ -326,17 +326,17 @@ module _ (echo : List ℕ → List ℕ) (site : Site) (seat : Seat) where
     pub record IsTalk (w : World) : Type 0 where
       pub turns : List Turn
       pub run_end : Result (Unit {0}) RunFault
-      pub lines : AreTurns (after_opening site seat w) before after turns
+      pub lines : AreTurns (after_opening site session w) before after turns
       pub broken : list_any (λ t. is_failed t.fate) turns ≡ true → Broken
-      pub told : AreAllTold seat turns (last_told site seat w turns end) Told
-      pub ended : IsEndOf site seat w turns Wrote after run_end end
+      pub told : AreAllTold session turns (last_told site session w turns end) Told
+      pub ended : IsEndOf site session w turns Wrote after run_end end
 
     -- A shell over a content, which it leaves as another. Where the host shows nothing of the lines, it is the run of
     -- the opening and of all events that are told, for the session's level alone, and writes what that writes.
     pub record IsShell (first left : Content) : Type 0 where
       pub talk : IsTalk (first_world site first)
       pub run : IsSilent echo
-          → IsRun site (audience_at seat) (opening seat ∷ events_in talk.turns) Wrote talk.run_end first left
+          → IsRun site (audience_at session) (opening session ∷ events_in talk.turns) Wrote talk.run_end first left
 
 -- ---- between two lines
 
@@ -367,9 +367,9 @@ pub record IsRead (echo : List ℕ → List ℕ) (IsFateOf : List ℕ → Fate �
   pub broken : fate ≡ Unreadable → Broken
 
 -- a talk from a world to another
-pub record IsConversation (echo : List ℕ → List ℕ) (site : Site) (seat : Seat) (before after was is : Option (List ℕ))
+pub record IsConversation (echo : List ℕ → List ℕ) (site : Site) (session : ShellSession) (before after was is : Option (List ℕ))
     (Broken : Type 0) (Told : List ℕ → Type 0) (end : Result Ending RunFault) (w new : World) : Type 0 where
-  pub talk : IsTalk echo site seat before after Broken (Appends was is) Told end w
-  pub fits : EventsFit site (opening seat ∷ events_in talk.turns)
+  pub talk : IsTalk echo site session before after Broken (Appends was is) Told end w
+  pub fits : EventsFit site (opening session ∷ events_in talk.turns)
   pub run : IsSilent echo
-      → IsAnswered site (audience_at seat) w (opening seat ∷ events_in talk.turns) was is new talk.run_end
+      → IsAnswered site (audience_at session) w (opening session ∷ events_in talk.turns) was is new talk.run_end

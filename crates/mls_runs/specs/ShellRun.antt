@@ -5,7 +5,7 @@ use Rattle.mls_machine.specs.declared.stored.Stored.{Stored}
 use Rattle.mls_machine.specs.Site.{Site}
 use Rattle.mls_sessions.specs.declared.cause.RunFault.{RunFault}
 use Rattle.mls_host.specs.declared.ending.Ending.{Ending}
-use Rattle.mls_runs.specs.declared.seat.Seat.{Seat}
+use Rattle.mls_runs.specs.declared.shell_session.ShellSession.{ShellSession}
 use Rattle.mls_host.specs.declared.reason.Reason.{Reason}
 use Rattle.mls_host.specs.declared.reason.Reason.TheVariants.{Label}
 use Rattle.mls_host.specs.declared.job.Setting.{Setting}
@@ -17,8 +17,8 @@ use Rattle.mls_host.specs.Running.{site_of}
 use Rattle.mls_runs.specs.Shell.{IsShell}
 
 -- who sits at a shell, by its words
-abbrev pub seat_of : List ℕ → List ℕ → ℕ → Bool → Bool → Seat
-seat_of label user level has_prompt is_watched = record {
+abbrev pub shell_session_of : List ℕ → List ℕ → ℕ → Bool → Bool → ShellSession
+shell_session_of label user level has_prompt is_watched = record {
   level = level;
   label = label;
   user = user;
@@ -28,9 +28,9 @@ seat_of label user level has_prompt is_watched = record {
 
 module _ (h : Hosted) (before after : Option (List ℕ)) (Broken : Type 0) (Wrote Told : List ℕ → Type 0) where
   -- what is typed is answered over a store, where that is clean
-  abbrev pub IsShellFrom : SchemesFile → Option (List ℕ) → Site → Seat → Result Ending RunFault → Type 0
-  IsShellFrom file store site seat end =
-      IsClean h store → IsOver h site.policy file store (IsShell h.echo site seat before after Broken Wrote Told end)
+  abbrev pub IsShellFrom : SchemesFile → Option (List ℕ) → Site → ShellSession → Result Ending RunFault → Type 0
+  IsShellFrom file store site session end =
+      IsClean h store → IsOver h site.policy file store (IsShell h.echo site session before after Broken Wrote Told end)
 
 -- what the host says is typed is answered, at a label for a user, over what is stored of the transactions with the
 -- certificates
@@ -45,7 +45,7 @@ pub record IsShellRun (h : Hosted) (inputs : Inputs) (store : Option (List ℕ))
   pub typed : h.before.types before
   pub shell : IsShellFrom h before after h.before.breaks Wrote Told inputs.setting.file store
       (site_of inputs.setting.policy inputs.setting.file.schemes stored)
-      (seat_of label user level h.before.is_terminal h.before.is_watched) end
+      (shell_session_of label user level h.before.is_terminal h.before.is_watched) end
 
 -- a shell is not begun: it has no level; or there is no memory; or its store is barred
 pub data IsShellRefused (h : Hosting) (s : Setting) (store : Option (List ℕ)) (reason : Reason) : Type 0 where

@@ -2,7 +2,7 @@
 use Rattle.std.specs.Prelude.{◌≡◌, ℕ, List, Option, Result}
 use Rattle.mls_lattice.specs.Policy.{Policy, labels_of}
 use Rattle.mls_filterview.specs.Content.{Content}
-use Rattle.mls_fragments.specs.Finding.{IsSoundContent}
+use Rattle.mls_audit.specs.Sound.{IsSoundContent}
 use Rattle.mls_machine.specs.Machine.{World}
 use Rattle.mls_machine.specs.Observation.{AgreeAt, out}
 use Rattle.mls_machine.specs.Turning.{turn_lines, turned}

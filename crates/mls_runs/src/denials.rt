@@ -3,6 +3,7 @@ use crate::explaining::Listener;
 use crate::words::{clearance, first_beyond, label_name, relation_name, trusted};
 use mls_lattice::LabelNo;
 use mls_machine::Denial;
+use mls_scheme::Write;
 use mls_script::Command;
 use std::alloc::AllocError;
 
@@ -31,7 +32,7 @@ pub(crate) fn denial_text(
 }
 
 fn unknown_user_to(text: &mut String, to: &Listener<'_>) -> Result<(), AllocError> {
-    let user = to.seat.user.as_str();
+    let user = to.session.user.as_str();
     writeln!(text, "  The policy has no user {user}.")?;
     text.push_str("  Declare the user there, or spell the name as it is declared.\n")
 }
@@ -39,11 +40,9 @@ fn unknown_user_to(text: &mut String, to: &Listener<'_>) -> Result<(), AllocErro
 /// The name of what a command needs a right on.
 fn object_of<'a>(to: &Listener<'a>, command: &'a Command) -> &'a str {
     match command {
-        Command::View { rel, .. }
-        | Command::Dump { rel }
-        | Command::Insert { rel, .. }
-        | Command::Update { rel, .. }
-        | Command::Delete { rel, .. } => relation_name(to.schemes, *rel),
+        Command::View { relation, .. }
+        | Command::Dump { relation }
+        | Command::Write { relation, .. } => relation_name(to.schemes, *relation),
         Command::Call { tx, .. } => tx.as_str(),
         Command::Open(_) | Command::Close | Command::Audit => "",
     }
@@ -53,14 +52,17 @@ fn object_of<'a>(to: &Listener<'a>, command: &'a Command) -> &'a str {
 fn right_of(command: &Command) -> (&'static str, &'static str) {
     match command {
         Command::View { .. } | Command::Dump { .. } => ("read", "no read and no write"),
-        Command::Insert { .. } => ("write", "no append and no write"),
+        Command::Write {
+            write: Write::Insert { .. },
+            ..
+        } => ("write", "no append and no write"),
         Command::Call { .. } => ("run", "no execute"),
         _ => ("change", "no write"),
     }
 }
 
 fn no_right_to(text: &mut String, to: &Listener<'_>, command: &Command) -> Result<(), AllocError> {
-    let user = to.seat.user.as_str();
+    let user = to.session.user.as_str();
     let object = object_of(to, command);
     let (deed, modes) = right_of(command);
     writeln!(
@@ -72,14 +74,17 @@ fn no_right_to(text: &mut String, to: &Listener<'_>, command: &Command) -> Resul
 /// The label that a command names and another does not dominate, the first if there are several.
 fn named_beyond(to: &Listener<'_>, command: &Command, limit: LabelNo) -> Option<LabelNo> {
     match command {
-        Command::Open(_) | Command::Dump { .. } => Some(to.seat.level),
+        Command::Open(_) | Command::Dump { .. } => Some(to.session.level),
         Command::View { label, .. } => Some(*label),
-        Command::Update {
-            key_class,
-            from,
-            ..
-        } => first_beyond(to.policy, limit, &[*key_class, *from]),
-        Command::Delete { key_class, .. } => Some(*key_class),
+        Command::Write { write, .. } => match write {
+            Write::Insert { .. } => None,
+            Write::Update {
+                key_class,
+                from,
+                ..
+            } => first_beyond(to.policy, limit, &[*key_class, *from]),
+            Write::Delete { key_class, .. } => Some(*key_class),
+        },
         _ => None,
     }
 }
@@ -89,7 +94,7 @@ fn not_cleared_to(
     to: &Listener<'_>,
     command: &Command,
 ) -> Result<(), AllocError> {
-    let user = to.seat.user.as_str();
+    let user = to.session.user.as_str();
     let Some(limit) = clearance(to.policy, user) else {
         return Ok(());
     };
@@ -118,7 +123,7 @@ fn not_dominated_to(
     to: &Listener<'_>,
     command: &Command,
 ) -> Result<(), AllocError> {
-    let level = to.seat.label.as_str();
+    let level = to.session.label.as_str();
     if let Command::Call { tx, .. } = command {
         let tx = tx.as_str();
         writeln!(
@@ -127,7 +132,7 @@ fn not_dominated_to(
         )?;
         return text.push_str("  Open a session at that label.\n");
     }
-    if let Some(label) = named_beyond(to, command, to.seat.level) {
+    if let Some(label) = named_beyond(to, command, to.session.level) {
         let label = label_name(to.policy, label);
         writeln!(
             text,
@@ -143,7 +148,7 @@ fn not_dominated_to(
 
 /// Appends in which interval the user is trusted.
 fn trusted_to(text: &mut String, to: &Listener<'_>) -> Result<(), AllocError> {
-    let user = to.seat.user.as_str();
+    let user = to.session.user.as_str();
     match trusted(to.policy, user) {
         Some((low, high)) => {
             let (low, high) = (label_name(to.policy, low), label_name(to.policy, high));

@@ -63,7 +63,7 @@ fn padded_to(text: &mut String, word: &str, width: usize) -> Result<(), AllocErr
 
 /// Whether the session sees a label.
 fn is_seen(to: &Listener<'_>, label: LabelNo) -> bool {
-    is_dominated(to.policy, label, to.seat.level)
+    is_dominated(to.policy, label, to.session.level)
 }
 
 /// What is said of an attribute, if the session sees it: its lowest class.
@@ -71,7 +71,7 @@ fn seen_column(to: &Listener<'_>, attributes: &Attributes, place: usize) -> Opti
     if place >= attributes.len() {
         return None;
     }
-    let column = attributes.get(place);
+    let column = *attributes.get(place);
     if is_seen(to, column.low) {
         Some(column)
     } else {
@@ -174,10 +174,10 @@ fn relations_to(text: &mut String, to: &Listener<'_>) -> Result<(), AllocError> 
 
 /// Whether an object is no relation that the session does not see.
 fn is_told(to: &Listener<'_>, object: &str) -> bool {
-    let Some(rel) = to.schemes.relation(object) else {
+    let Some(relation) = to.schemes.relation(object) else {
         return true;
     };
-    match relation_of(to.schemes, rel) {
+    match relation_of(to.schemes, relation) {
         Some(scheme) => is_shown(to, scheme),
         None => true,
     }
@@ -219,7 +219,7 @@ fn modes_to(text: &mut String, modes: Modes) -> Result<(), AllocError> {
 
 /// Appends the rights of the user.
 fn rights_to(text: &mut String, to: &Listener<'_>) -> Result<(), AllocError> {
-    let name = to.seat.user.as_str();
+    let name = to.session.user.as_str();
     let Some(user) = to.policy.user(name) else {
         return Ok(());
     };
@@ -239,7 +239,7 @@ fn rights_to(text: &mut String, to: &Listener<'_>) -> Result<(), AllocError> {
 /// Appends the labels that the session sees.
 fn labels_to(text: &mut String, to: &Listener<'_>) -> Result<(), AllocError> {
     text.push_str("  Labels up to ")?;
-    text.push_str(to.seat.label.as_str())?;
+    text.push_str(to.session.label.as_str())?;
     let mut front = ": ";
     for place in 0..to.policy.label_count() {
         let label = LabelNo::new(place as u8);

@@ -5,7 +5,7 @@ ghost use Rattle.mls_host.specs.Words.{named};
 ghost use Rattle.mls_host.specs.Causes.{IsBarred, IsNotBegun};
 ghost use Rattle.mls_host.specs.Hosting.{hosted, IsAppended};
 ghost use Rattle.mls_host.specs.Reading.{AreReady};
-ghost use Rattle.mls_host.specs.Refusal.{IsEnd};
+ghost use Rattle.mls_host.specs.Stop.{IsEnd};
 ghost use Rattle.mls_host.specs.Running.{site_of};
 ghost use Rattle.mls_host.specs.Stopping.{IsCaused, IsCausedInMemory};
 ghost use Rattle.mls_runs.specs.Desk.{MayServe, IsDesk};
@@ -13,7 +13,7 @@ ghost use Rattle.mls_runs.specs.DeskRun.{IsDeskFrom, IsDeskRun};
 
 use crate::desk::desk_over_base;
 use mls_fragments::OpenFault;
-use mls_host::{Ending, Host, Inputs, Reason, Refusal, ended, stored_of};
+use mls_host::{Ending, Host, Inputs, Reason, Stop, ended, stored_of};
 use mls_lattice::{Items, Policy};
 use mls_memory::MemoryBase;
 use mls_scheme::SchemesFile;
@@ -30,7 +30,7 @@ fn desk_in_memory<L: TypedLines, W: Write>(
     stored: Items<Stored>,
     lines: &mut L,
     out: &mut W,
-) -> Result<Ending, Refusal>
+) -> Result<Ending, Stop>
     requires may { MayServe (site_of policy.now file.now.schemes stored) }
     ensures ends { IsEnd (λ end. (left : Content) × IsDesk L.echo (site_of policy.now file.now.schemes stored)
         (L.remaining lines.old) (L.remaining lines.new) (L.breaks lines.new) (IsAppended W.contents out.old out.new)
@@ -40,7 +40,7 @@ fn desk_in_memory<L: TypedLines, W: Write>(
 {
     let base = match MemoryBase::open(alloc, policy, file) {
         Ok(base) => base,
-        Err(fault) => return Err(Refusal::Before(Reason::Store(fault))),
+        Err(fault) => return Err(Stop::Before(Reason::Store(fault))),
     };
     let (outcome, left) = desk_over_base(alloc, policy, &file.schemes, stored, base, lines, out);
     left.close();
@@ -57,7 +57,7 @@ fn desk_in_store<H: Host, L: TypedLines, W: Write>(
     stored: Items<Stored>,
     lines: &mut L,
     out: &mut W,
-) -> Result<Ending, Refusal>
+) -> Result<Ending, Stop>
     requires may { MayServe (site_of policy.now file.now.schemes stored) }
     ensures ends { IsEnd (IsDeskFrom (hosted H.hosting L.echo host.old host.new) (L.remaining lines.old)
         (L.remaining lines.new) (L.breaks lines.new) (IsAppended W.contents out.old out.new) file.now (Some path.now)
@@ -68,7 +68,7 @@ fn desk_in_store<H: Host, L: TypedLines, W: Write>(
 {
     let base = match host.store(alloc, path, policy, file) {
         Ok(base) => base,
-        Err(fault) => return Err(Refusal::Before(Reason::Store(fault))),
+        Err(fault) => return Err(Stop::Before(Reason::Store(fault))),
     };
     let (outcome, left) = desk_over_base(alloc, policy, &file.schemes, stored, base, lines, out);
     let closed = host.keep(path, left);
@@ -85,7 +85,7 @@ fn desk_over_store<H: Host, L: TypedLines, W: Write>(
     stored: Items<Stored>,
     lines: &mut L,
     out: &mut W,
-) -> Result<Ending, Refusal>
+) -> Result<Ending, Stop>
     requires may { MayServe (site_of policy.now file.now.schemes stored) }
     ensures ends { IsEnd (IsDeskFrom (hosted H.hosting L.echo host.old host.new) (L.remaining lines.old)
         (L.remaining lines.new) (L.breaks lines.new) (IsAppended W.contents out.old out.new) file.now
@@ -107,7 +107,7 @@ pub fn run_desk<H: Host, W: Write>(
     store: Option<&str>,
     inputs: Inputs,
     out: &mut W,
-) -> Result<Ending, Refusal>
+) -> Result<Ending, Stop>
     requires ready { AreReady inputs }
     ensures desk { IsEnd (IsDeskRun (hosted H.hosting H.Lines.echo host.old host.new) inputs (named store.entry)
         (IsAppended W.contents out.old out.new))

@@ -2,7 +2,7 @@
 use crate::denials::denial_text;
 use crate::describing::asked_text;
 use crate::refusals::refusal_text;
-use crate::seat::{Fate, Seat};
+use crate::shell_session::{Fate, ShellSession};
 use crate::telling::column_of;
 use crate::typed::text_of;
 use mls_advice::{advice_of, declared_names, form_at, nearest_line, token_at, typed_excerpt};
@@ -35,7 +35,7 @@ pub(crate) struct Listener<'a> {
     pub(crate) alloc: Global,
     pub(crate) policy: &'a Policy,
     pub(crate) schemes: &'a Schemes,
-    pub(crate) seat: &'a Seat,
+    pub(crate) session: &'a ShellSession,
 }
 
 impl Listener<'_> {
@@ -45,7 +45,7 @@ impl Listener<'_> {
         events: &[Event],
         notice: Option<Notice>,
     ) -> Result<String, AllocError> {
-        if notice.is_none() && self.seat.has_prompt {
+        if notice.is_none() && self.session.has_prompt {
             return String::from_str(self.alloc, GREETING);
         }
         self.event_text(events, notice)
@@ -54,7 +54,9 @@ impl Listener<'_> {
     /// Why an event was not done, where somebody reads that.
     fn event_text(&self, events: &[Event], notice: Option<Notice>) -> Result<String, AllocError> {
         match (events.first(), notice) {
-            (Some(event), Some(notice)) if self.seat.is_watched => self.notice_text(event, notice),
+            (Some(event), Some(notice)) if self.session.is_watched => self.notice_text(
+                event, notice,
+            ),
             _ => Ok(String::new(self.alloc)),
         }
     }
@@ -75,17 +77,17 @@ impl Listener<'_> {
     ) -> Result<String, AllocError> {
         match fate {
             Fate::Said(events) => self.event_text(events, notice),
-            Fate::Refused(fault) if self.seat.is_watched => self.fault_text(line, fault),
-            Fate::TooLong if self.seat.is_watched => String::from_str(self.alloc, TOO_LONG),
+            Fate::Refused(fault) if self.session.is_watched => self.fault_text(line, fault),
+            Fate::TooLong if self.session.is_watched => String::from_str(self.alloc, TOO_LONG),
             Fate::Asked => asked_text(self, line),
-            Fate::Help if self.seat.has_prompt => String::from_str(self.alloc, MORE_HELP),
+            Fate::Help if self.session.has_prompt => String::from_str(self.alloc, MORE_HELP),
             _ => Ok(String::new(self.alloc)),
         }
     }
 
     /// The line with a caret where it goes wrong, what could stand there, and what to do.
     fn fault_text(&self, line: &[u8], fault: &ScriptFault) -> Result<String, AllocError> {
-        let column = column_of(self.seat, fault.column);
+        let column = column_of(self.session, fault.column);
         let mut text = typed_excerpt(self.alloc, column, line)?;
         match fault.cause {
             ScriptCause::Expected => self.form_to(&mut text, line)?,
@@ -98,10 +100,10 @@ impl Listener<'_> {
 
     /// Appends the form of the command in a line.
     fn form_to(&self, text: &mut String, line: &[u8]) -> Result<(), AllocError> {
-        let whole = text_of(self.alloc, self.seat, line)?;
+        let whole = text_of(self.alloc, self.session, line)?;
         match form_at(1, &whole).split_once("LABEL SESSION ") {
             Some((_, form)) => write!(text, "  The form: {form}"),
-            None if self.seat.has_prompt => {
+            None if self.session.has_prompt => {
                 text.push_str(NO_VERB)?;
                 text.push_str(MORE_WORDS)
             }

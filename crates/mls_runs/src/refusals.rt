@@ -4,7 +4,7 @@ use crate::words::{
     attribute_name, first_outside, is_outside, key_to, label_name, relation_name, relation_of,
 };
 use mls_lattice::LabelNo;
-use mls_scheme::{Attributes, RelNo, Value};
+use mls_scheme::{Attributes, RelNo, Value, Write};
 use mls_script::Command;
 use mls_updates::Outcome;
 use std::alloc::AllocError;
@@ -12,49 +12,38 @@ use std::alloc::AllocError;
 /// What a write is about: a tuple, by its key, key class and class, and the attributes that get other values.
 #[derive(Drop)]
 struct Target<'a> {
-    rel: RelNo,
+    relation: RelNo,
     key: &'a [Option<Value>],
     key_class: LabelNo,
     class: LabelNo,
     sets: &'a [(usize, Option<Value>)],
 }
 
+/// The class of the tuple that a write finds, and the attributes that get other values.
+fn changed<'a>(
+    level: LabelNo,
+    write: &'a Write<Option<Value>>,
+) -> (LabelNo, &'a [(usize, Option<Value>)]) {
+    match write {
+        Write::Update { from, sets, .. } => (*from, sets),
+        _ => (level, &[]),
+    }
+}
+
 /// What a command of a session at a level writes.
 fn target_of<'a>(level: LabelNo, command: &'a Command) -> Option<Target<'a>> {
-    match command {
-        Command::Insert { rel, key, .. } => Some(Target {
-            rel: *rel,
-            key,
-            key_class: level,
-            class: level,
-            sets: &[],
-        }),
-        Command::Update {
-            rel,
-            key,
-            key_class,
-            from,
-            sets,
-        } => Some(Target {
-            rel: *rel,
-            key,
-            key_class: *key_class,
-            class: *from,
-            sets,
-        }),
-        Command::Delete {
-            rel,
-            key,
-            key_class,
-        } => Some(Target {
-            rel: *rel,
-            key,
-            key_class: *key_class,
-            class: level,
-            sets: &[],
-        }),
-        _ => None,
-    }
+    let Command::Write { relation, write } = command else {
+        return None;
+    };
+    let key_class = write.key_class(level);
+    let (class, sets) = changed(level, write);
+    Some(Target {
+        relation: *relation,
+        key: write.key(),
+        key_class,
+        class,
+        sets,
+    })
 }
 
 /// Why a write is refused.
@@ -64,7 +53,7 @@ pub(crate) fn refusal_text(
     outcome: Outcome,
 ) -> Result<String, AllocError> {
     let mut text = String::new(to.alloc);
-    if let Some(target) = target_of(to.seat.level, command) {
+    if let Some(target) = target_of(to.session.level, command) {
         refusal_to(&mut text, to, &target, outcome)?;
     }
     Ok(text)
@@ -113,7 +102,7 @@ fn key_null_to(
     to: &Listener<'_>,
     target: &Target<'_>,
 ) -> Result<(), AllocError> {
-    let Some(scheme) = relation_of(to.schemes, target.rel) else {
+    let Some(scheme) = relation_of(to.schemes, target.relation) else {
         return Ok(());
     };
     let (relation, attribute) = (scheme.name(), null_in_key(scheme.keys(), target.key));
@@ -131,7 +120,7 @@ fn tuple_to(
     target: &Target<'_>,
     there: &str,
 ) -> Result<(), AllocError> {
-    let relation = relation_name(to.schemes, target.rel);
+    let relation = relation_name(to.schemes, target.relation);
     write!(text, "  {relation} has {there} of the key ")?;
     key_to(text, target.key)
 }
@@ -141,14 +130,14 @@ fn duplicate_to(
     to: &Listener<'_>,
     target: &Target<'_>,
 ) -> Result<(), AllocError> {
-    let level = to.seat.label.as_str();
+    let level = to.session.label.as_str();
     tuple_to(text, to, target, "a tuple")?;
     writeln!(text, " of class {level} already.")?;
     text.push_str("  Update it, or insert under another key.\n")
 }
 
 fn derived_to(text: &mut String, to: &Listener<'_>, target: &Target<'_>) -> Result<(), AllocError> {
-    let level = to.seat.label.as_str();
+    let level = to.session.label.as_str();
     let key_class = label_name(to.policy, target.key_class);
     tuple_to(text, to, target, "a tuple")?;
     writeln!(
@@ -163,8 +152,8 @@ fn no_tuple_to(
     to: &Listener<'_>,
     target: &Target<'_>,
 ) -> Result<(), AllocError> {
-    let relation = relation_name(to.schemes, target.rel);
-    let level = to.seat.label.as_str();
+    let relation = relation_name(to.schemes, target.relation);
+    let level = to.session.label.as_str();
     let key_class = label_name(to.policy, target.key_class);
     let class = label_name(to.policy, target.class);
     tuple_to(text, to, target, "no tuple")?;
@@ -183,11 +172,11 @@ fn no_tuple_to(
 }
 
 fn null_to(text: &mut String, to: &Listener<'_>, target: &Target<'_>) -> Result<(), AllocError> {
-    let Some(scheme) = relation_of(to.schemes, target.rel) else {
+    let Some(scheme) = relation_of(to.schemes, target.relation) else {
         return Ok(());
     };
     let attribute = null_in_sets(scheme.others(), target.sets);
-    let level = to.seat.label.as_str();
+    let level = to.session.label.as_str();
     let key_class = label_name(to.policy, target.key_class);
     writeln!(
         text,
@@ -201,8 +190,8 @@ fn inherited_to(
     to: &Listener<'_>,
     target: &Target<'_>,
 ) -> Result<(), AllocError> {
-    let relation = relation_name(to.schemes, target.rel);
-    let level = to.seat.label.as_str();
+    let relation = relation_name(to.schemes, target.relation);
+    let level = to.session.label.as_str();
     writeln!(
         text,
         "  A value that is set belongs to a lower tuple: in `view {relation} at {level}` its class is not {level}."
@@ -221,7 +210,7 @@ fn first_set_outside(
     sets: &[(usize, Option<Value>)],
 ) -> Option<usize> {
     for set in sets {
-        if is_outside(to.policy, to.seat.level, attributes, set.0) {
+        if is_outside(to.policy, to.session.level, attributes, set.0) {
             return Some(set.0);
         }
     }
@@ -241,7 +230,7 @@ fn outside_to(
     let (name, column) = (attributes.name(place), attributes.get(place));
     let low = label_name(to.policy, column.low);
     let high = label_name(to.policy, column.high);
-    let level = to.seat.label.as_str();
+    let level = to.session.label.as_str();
     writeln!(
         text,
         "  {name} has classes from {low} to {high}, and the session is at {level}."
@@ -254,7 +243,7 @@ fn interval_to(
     to: &Listener<'_>,
     target: &Target<'_>,
 ) -> Result<(), AllocError> {
-    let Some(scheme) = relation_of(to.schemes, target.rel) else {
+    let Some(scheme) = relation_of(to.schemes, target.relation) else {
         return Ok(());
     };
     let others = scheme.others();
@@ -264,9 +253,9 @@ fn interval_to(
             None => Ok(()),
         };
     }
-    match first_outside(to.policy, to.seat.level, scheme.keys()) {
+    match first_outside(to.policy, to.session.level, scheme.keys()) {
         Some(place) => outside_to(text, to, scheme.keys(), place),
-        None => match first_outside(to.policy, to.seat.level, others) {
+        None => match first_outside(to.policy, to.session.level, others) {
             Some(place) => outside_to(text, to, others, place),
             None => Ok(()),
         },

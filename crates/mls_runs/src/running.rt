@@ -1,20 +1,20 @@
 //! Scripts that are run over a database: over an empty one in memory, or over that of a store.
 ghost use Rattle.std.specs.Prelude.{◌≡◌, [], false, Some};
 ghost use Rattle.mls_filterview.specs.Content.{Content, no_content};
+ghost use Rattle.mls_audit.specs.Sound.{IsSoundContent};
 ghost use Rattle.mls_sessions.specs.Engine.{Leaves};
-ghost use Rattle.mls_sessions.specs.World.{IsSound};
 ghost use Rattle.mls_host.specs.Hosting.{hosted, IsAppended};
 ghost use Rattle.mls_host.specs.Stopping.{IsCaused, IsCausedInMemory};
 ghost use Rattle.mls_host.specs.Causes.{IsBarred, IsNotBegun};
 ghost use Rattle.mls_host.specs.Reading.{AreReady};
 ghost use Rattle.mls_host.specs.Words.{named};
-ghost use Rattle.mls_host.specs.Refusal.{IsEnd};
+ghost use Rattle.mls_host.specs.Stop.{IsEnd};
 ghost use Rattle.mls_host.specs.Running.{site_of, IsRun};
 ghost use Rattle.mls_runs.specs.ScriptRun.{MayRun, IsRunFrom, IsScriptRun};
 
 use mls_filterview::Base;
 use mls_fragments::OpenFault;
-use mls_host::{Host, Inputs, Reason, Refusal, ended, form_of, stored_of};
+use mls_host::{Host, Inputs, Reason, Stop, ended, form_of, stored_of};
 use mls_lattice::{Items, Policy};
 use mls_machine::Audience;
 use mls_memory::MemoryBase;
@@ -37,7 +37,7 @@ pub fn run_over_base<B: Base, W: Write>(
 ) -> (Result<(), RunFault>, B)
     requires may { MayRun (site_of policy.now schemes.now stored) audience events.now }
     requires idle { (B.state base).begun ≡ false }
-    requires sound { B.is_clean base → IsSound (site_of policy.now schemes.now stored) (B.state base).now }
+    requires sound { B.is_clean base → IsSoundContent policy.now schemes.now (B.state base).now }
     ensures leaves { Leaves B.state B.is_clean B.failures base result.1 result.0 }
     ensures run { B.is_clean result.1 → IsRun (site_of policy.now schemes.now stored) audience events.now
         (IsAppended W.contents out.old out.new) result.0 (B.state base).now (B.state result.1).now }
@@ -56,7 +56,7 @@ fn run_in_memory<W: Write>(
     events: &[Event],
     audience: Audience,
     out: &mut W,
-) -> Result<(), Refusal>
+) -> Result<(), Stop>
     requires may { MayRun (site_of policy.now file.now.schemes stored) audience events.now }
     ensures ends { IsEnd (λ end. (left : Content) × IsRun (site_of policy.now file.now.schemes stored) audience events.now
         (IsAppended W.contents out.old out.new) end no_content left)
@@ -65,7 +65,7 @@ fn run_in_memory<W: Write>(
 {
     let base = match MemoryBase::open(alloc, policy, file) {
         Ok(base) => base,
-        Err(fault) => return Err(Refusal::Before(Reason::Store(fault))),
+        Err(fault) => return Err(Stop::Before(Reason::Store(fault))),
     };
     let (outcome, left) = run_over_base(
         alloc,
@@ -92,7 +92,7 @@ fn run_in_store<H: Host, W: Write>(
     events: &[Event],
     audience: Audience,
     out: &mut W,
-) -> Result<(), Refusal>
+) -> Result<(), Stop>
     requires may { MayRun (site_of policy.now file.now.schemes stored) audience events.now }
     ensures ends { IsEnd (IsRunFrom (hosted H.hosting H.Lines.echo host.old host.new) file.now (Some path.now)
         (site_of policy.now file.now.schemes stored) audience events.now (IsAppended W.contents out.old out.new))
@@ -102,7 +102,7 @@ fn run_in_store<H: Host, W: Write>(
 {
     let base = match host.store(alloc, path, policy, file) {
         Ok(base) => base,
-        Err(fault) => return Err(Refusal::Before(Reason::Store(fault))),
+        Err(fault) => return Err(Stop::Before(Reason::Store(fault))),
     };
     let (outcome, left) = run_over_base(
         alloc,
@@ -129,7 +129,7 @@ fn run_events<H: Host, W: Write>(
     events: &[Event],
     audience: Audience,
     out: &mut W,
-) -> Result<(), Refusal>
+) -> Result<(), Stop>
     requires may { MayRun (site_of policy.now file.now.schemes stored) audience events.now }
     ensures ends { IsEnd (IsRunFrom (hosted H.hosting H.Lines.echo host.old host.new) file.now (named store.entry)
         (site_of policy.now file.now.schemes stored) audience events.now (IsAppended W.contents out.old out.new))
@@ -155,7 +155,7 @@ pub fn run_script<H: Host, W: Write>(
     inputs: Inputs,
     is_table: bool,
     out: &mut W,
-) -> Result<(), Refusal>
+) -> Result<(), Stop>
     requires ready { AreReady inputs }
     ensures run { IsEnd (IsScriptRun (hosted H.hosting H.Lines.echo host.old host.new) inputs (named store.entry) is_table
         (IsAppended W.contents out.old out.new))

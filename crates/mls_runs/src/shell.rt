@@ -1,8 +1,8 @@
 //! A shell: a session whose commands are typed, each answered before the next is read.
 ghost use Rattle.std.specs.Prelude.{◌≡◌, ◌<◌, ◌∷◌, ◌||◌, [], false, not, length, Some, is_some, OnOk, Err};
+ghost use Rattle.mls_audit.specs.Sound.{IsSoundContent};
 ghost use Rattle.mls_machine.specs.Observation.{EventsFit};
 ghost use Rattle.mls_sessions.specs.Engine.{site, world_of, IsEngineReady, Continues, Leaves};
-ghost use Rattle.mls_sessions.specs.World.{IsSound};
 ghost use Rattle.mls_sessions.specs.Run.{are_done};
 ghost use Rattle.mls_host.specs.Ending.{ending_if};
 ghost use Rattle.mls_host.specs.Hosting.{IsAppended, IsTold};
@@ -10,7 +10,7 @@ ghost use Rattle.mls_host.specs.Running.{site_of};
 ghost use Rattle.mls_runs.specs.Shell.{opening, audience_at, told_of, events_of, verdict_of, is_short, end_told, is_last, is_lost, FateFits, MayTalk, IsFollowed, IsConversation, IsShell};
 
 use crate::explaining::Listener;
-use crate::seat::{Fate, Seat};
+use crate::shell_session::{Fate, ShellSession};
 use crate::tally::{is_short, tally_with};
 use crate::telling::{ask, tell_end, tell_fate, tell_more};
 use crate::typed::next_fate;
@@ -26,34 +26,34 @@ use std::alloc::Global;
 use std::io::Write;
 
 /// Its level, which is shown tables where somebody types at a terminal.
-fn audience_at(seat: &Seat) -> Audience
-    ensures { result ≡ audience_at seat.now }
+fn audience_at(session: &ShellSession) -> Audience
+    ensures { result ≡ audience_at session.now }
 {
     Audience {
-        reader: Some(seat.level),
-        form: form_of(seat.has_prompt),
+        reader: Some(session.level),
+        form: form_of(session.has_prompt),
     }
 }
 
 /// Answers the events of a line, for the level of the session alone. A fault is told as one of the line.
 fn answer<B: Base, W: Write>(
     engine: &mut Engine<B>,
-    seat: &Seat,
+    session: &ShellSession,
     line: usize,
     events: &[Event],
     out: &mut W,
 ) -> Result<(), RunFault>
     requires ready { IsEngineReady B.state B.is_clean engine.old }
     requires fits { EventsFit (site engine.old) events.now }
-    requires level { seat.now.level < length (site engine.old).policy.labels }
+    requires level { session.now.level < length (site engine.old).policy.labels }
     ensures continues { Continues B.state B.is_clean B.failures engine.old engine.new result }
-    ensures followed { B.is_clean engine.new.base → IsFollowed (site engine.old) (audience_at seat.now)
+    ensures followed { B.is_clean engine.new.base → IsFollowed (site engine.old) (audience_at session.now)
         (world_of B.state engine.old) events.now (W.contents out.old) (W.contents out.new)
         (world_of B.state engine.new) line result }
     ensures noticed { B.is_clean engine.new.base → OnOk result (is_some engine.new.notice
         ≡ not (are_done (site engine.old) (world_of B.state engine.old) events.now)) }
 {
-    match run_to(engine, events, audience_at(seat), out) {
+    match run_to(engine, events, audience_at(session), out) {
         Ok(()) => Ok(()),
         Err(fault) => Err(RunFault {
             event: line,
@@ -66,16 +66,16 @@ fn answer<B: Base, W: Write>(
 /// Does what becomes of a line.
 fn follow<B: Base, W: Write>(
     engine: &mut Engine<B>,
-    seat: &Seat,
+    session: &ShellSession,
     line: usize,
     fate: &Fate,
     out: &mut W,
 ) -> Result<(), RunFault>
     requires ready { IsEngineReady B.state B.is_clean engine.old }
     requires fits { FateFits (site engine.old).policy (site engine.old).schemes fate.now }
-    requires level { seat.now.level < length (site engine.old).policy.labels }
+    requires level { session.now.level < length (site engine.old).policy.labels }
     ensures continues { Continues B.state B.is_clean B.failures engine.old engine.new result }
-    ensures followed { B.is_clean engine.new.base → IsFollowed (site engine.old) (audience_at seat.now)
+    ensures followed { B.is_clean engine.new.base → IsFollowed (site engine.old) (audience_at session.now)
         (world_of B.state engine.old) (events_of fate.now) (W.contents out.old) (W.contents out.new)
         (world_of B.state engine.new) line result }
     ensures found { OnOk result (is_lost fate.now ≡ false) }
@@ -83,7 +83,7 @@ fn follow<B: Base, W: Write>(
         ≡ verdict_of (are_done (site engine.old) (world_of B.state engine.old) (events_of fate.now)) fate.now) }
 {
     match fate {
-        Fate::Said(events) => answer(engine, seat, line, events, out),
+        Fate::Said(events) => answer(engine, session, line, events, out),
         Fate::Lost(cause) => Err(RunFault {
             event: line,
             cause: *cause,
@@ -104,11 +104,16 @@ pub fn is_last(fate: &Fate) -> bool
 }
 
 /// Ends a shell that is not given up: tells how many lines are done, and says whether all are.
-fn finish<E: Write>(err: &mut Errors<E>, seat: &Seat, was_opened: bool, tally: &Tally) -> Ending
-    ensures told { IsTold E.contents err.old err.new (end_told seat.now tally.now) }
+fn finish<E: Write>(
+    err: &mut Errors<E>,
+    session: &ShellSession,
+    was_opened: bool,
+    tally: &Tally,
+) -> Ending
+    ensures told { IsTold E.contents err.old err.new (end_told session.now tally.now) }
     ensures is { result ≡ ending_if (not was_opened || is_short tally.now) }
 {
-    tell_end(err, seat, tally);
+    tell_end(err, session, tally);
     ending_if(!was_opened || is_short(tally))
 }
 
@@ -119,7 +124,7 @@ fn converse<B: Base, L: TypedLines, W: Write, E: Write>(
     engine: &mut Engine<B>,
     policy: &Policy,
     schemes: &Schemes,
-    seat: &Seat,
+    session: &ShellSession,
     first: &[Event],
     lines: &mut L,
     out: &mut W,
@@ -128,11 +133,11 @@ fn converse<B: Base, L: TypedLines, W: Write, E: Write>(
     requires ready { IsEngineReady B.state B.is_clean engine.old }
     requires policy { (site engine.old).policy ≡ policy.now }
     requires schemes { (site engine.old).schemes ≡ schemes.now }
-    requires first { first.now ≡ opening seat.now ∷ [] }
-    requires fits { EventsFit (site engine.old) (opening seat.now ∷ []) }
-    requires level { seat.now.level < length policy.now.labels }
+    requires first { first.now ≡ opening session.now ∷ [] }
+    requires fits { EventsFit (site engine.old) (opening session.now ∷ []) }
+    requires level { session.now.level < length policy.now.labels }
     ensures continues { Continues B.state B.is_clean B.failures engine.old engine.new result }
-    ensures conversation { B.is_clean engine.new.base → IsConversation L.echo (site engine.old) seat.now
+    ensures conversation { B.is_clean engine.new.base → IsConversation L.echo (site engine.old) session.now
         (L.remaining lines.old) (L.remaining lines.new) (W.contents out.old) (W.contents out.new) (L.breaks lines.new)
         (IsTold E.contents err.old err.new) result (world_of B.state engine.old) (world_of B.state engine.new) }
 {
@@ -140,30 +145,30 @@ fn converse<B: Base, L: TypedLines, W: Write, E: Write>(
         alloc,
         policy,
         schemes,
-        seat,
+        session,
     };
-    answer(engine, seat, 0, first, out)?;
-    tell_more(err, seat, listener.opening_text(first, engine.notice()));
-    let was_opened = engine.is_open(seat.level, seat.user.as_str());
+    answer(engine, session, 0, first, out)?;
+    tell_more(err, session, listener.opening_text(first, engine.notice()));
+    let was_opened = engine.is_open(session.level, session.user.as_str());
     let mut tally = Tally {
         lines: 0,
         refused: 0,
         misunderstood: 0,
     };
     for before in 0..usize::MAX {
-        if !engine.is_open(seat.level, seat.user.as_str()) {
-            return Ok(finish(err, seat, was_opened, &tally));
+        if !engine.is_open(session.level, session.user.as_str()) {
+            return Ok(finish(err, session, was_opened, &tally));
         }
-        ask(err, seat);
+        ask(err, session);
         let mut heard = Vec::new(alloc);
-        let fate = next_fate(alloc, policy, schemes, seat, lines, out, &mut heard);
-        tell_fate(err, seat, before + 1, &fate);
-        follow(engine, seat, before + 1, &fate, out)?;
+        let fate = next_fate(alloc, policy, schemes, session, lines, out, &mut heard);
+        tell_fate(err, session, before + 1, &fate);
+        follow(engine, session, before + 1, &fate, out)?;
         let notice = engine.notice();
-        tell_more(err, seat, listener.line_text(&heard, &fate, notice));
+        tell_more(err, session, listener.line_text(&heard, &fate, notice));
         tally = tally_with(tally, &fate, notice);
         if is_last(&fate) {
-            return Ok(finish(err, seat, was_opened, &tally));
+            return Ok(finish(err, session, was_opened, &tally));
         }
     }
     Err(RunFault {
@@ -184,17 +189,17 @@ pub fn shell_over_base<B: Base, L: TypedLines, W: Write, E: Write>(
     schemes: &Schemes,
     stored: Items<Stored>,
     base: B,
-    seat: &Seat,
+    session: &ShellSession,
     first: &[Event],
     lines: &mut L,
     out: &mut W,
     err: &mut Errors<E>,
 ) -> (Result<Ending, RunFault>, B)
-    requires may { MayTalk (site_of policy.now schemes.now stored) seat.now first.now }
+    requires may { MayTalk (site_of policy.now schemes.now stored) session.now first.now }
     requires idle { (B.state base).begun ≡ false }
-    requires sound { B.is_clean base → IsSound (site_of policy.now schemes.now stored) (B.state base).now }
+    requires sound { B.is_clean base → IsSoundContent policy.now schemes.now (B.state base).now }
     ensures leaves { Leaves B.state B.is_clean B.failures base result.1 result.0 }
-    ensures shell { B.is_clean result.1 → IsShell L.echo (site_of policy.now schemes.now stored) seat.now
+    ensures shell { B.is_clean result.1 → IsShell L.echo (site_of policy.now schemes.now stored) session.now
         (L.remaining lines.old) (L.remaining lines.new) (L.breaks lines.new) (IsAppended W.contents out.old out.new)
         (IsTold E.contents err.old err.new) result.0 (B.state base).now (B.state result.1).now }
 {
@@ -204,7 +209,7 @@ pub fn shell_over_base<B: Base, L: TypedLines, W: Write, E: Write>(
         &mut engine,
         policy,
         schemes,
-        seat,
+        session,
         first,
         lines,
         out,

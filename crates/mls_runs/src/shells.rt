@@ -6,17 +6,17 @@ ghost use Rattle.mls_host.specs.Hosting.{hosted, IsAppended, IsTold};
 ghost use Rattle.mls_host.specs.Stopping.{IsCaused, IsCausedInMemory};
 ghost use Rattle.mls_host.specs.Words.{named};
 ghost use Rattle.mls_host.specs.Causes.{IsBarred};
-ghost use Rattle.mls_host.specs.Refusal.{IsEnd};
+ghost use Rattle.mls_host.specs.Stop.{IsEnd};
 ghost use Rattle.mls_host.specs.Reading.{AreReady};
 ghost use Rattle.mls_host.specs.Running.{site_of};
 ghost use Rattle.mls_runs.specs.Shell.{opening, MayTalk, IsShell};
-ghost use Rattle.mls_runs.specs.ShellRun.{seat_of, IsShellFrom, IsShellRun, IsShellRefused};
+ghost use Rattle.mls_runs.specs.ShellRun.{shell_session_of, IsShellFrom, IsShellRun, IsShellRefused};
 
-use crate::seat::Seat;
 use crate::shell::shell_over_base;
+use crate::shell_session::ShellSession;
 use crate::typed::opening;
 use mls_fragments::OpenFault;
-use mls_host::{Ending, Errors, Host, Inputs, Reason, Refusal, ended, stored_of};
+use mls_host::{Ending, Errors, Host, Inputs, Reason, Stop, ended, stored_of};
 use mls_lattice::{Items, LabelNo, Policy, Str};
 use mls_memory::MemoryBase;
 use mls_scheme::SchemesFile;
@@ -32,14 +32,14 @@ fn shell_in_memory<L: TypedLines, W: Write, E: Write>(
     policy: &Policy,
     file: &SchemesFile,
     stored: Items<Stored>,
-    seat: &Seat,
+    session: &ShellSession,
     first: &[Event],
     lines: &mut L,
     out: &mut W,
     err: &mut Errors<E>,
-) -> Result<Ending, Refusal>
-    requires may { MayTalk (site_of policy.now file.now.schemes stored) seat.now first.now }
-    ensures ends { IsEnd (λ end. (left : Content) × IsShell L.echo (site_of policy.now file.now.schemes stored) seat.now
+) -> Result<Ending, Stop>
+    requires may { MayTalk (site_of policy.now file.now.schemes stored) session.now first.now }
+    ensures ends { IsEnd (λ end. (left : Content) × IsShell L.echo (site_of policy.now file.now.schemes stored) session.now
         (L.remaining lines.old) (L.remaining lines.new) (L.breaks lines.new) (IsAppended W.contents out.old out.new)
         (IsTold E.contents err.old err.new) end no_content left)
         (λ reason. (reason ≡ Reason.Store OpenFault.Memory) × IsAppended W.contents out.old out.new []
@@ -48,11 +48,11 @@ fn shell_in_memory<L: TypedLines, W: Write, E: Write>(
 {
     let base = match MemoryBase::open(alloc, policy, file) {
         Ok(base) => base,
-        Err(fault) => return Err(Refusal::Before(Reason::Store(fault))),
+        Err(fault) => return Err(Stop::Before(Reason::Store(fault))),
     };
     let schemes = &file.schemes;
     let (outcome, left) = shell_over_base(
-        alloc, policy, schemes, stored, base, seat, first, lines, out, err,
+        alloc, policy, schemes, stored, base, session, first, lines, out, err,
     );
     left.close();
     ended(outcome, Ok(()))
@@ -66,28 +66,28 @@ fn shell_in_store<H: Host, L: TypedLines, W: Write, E: Write>(
     policy: &Policy,
     file: &SchemesFile,
     stored: Items<Stored>,
-    seat: &Seat,
+    session: &ShellSession,
     first: &[Event],
     lines: &mut L,
     out: &mut W,
     err: &mut Errors<E>,
-) -> Result<Ending, Refusal>
-    requires may { MayTalk (site_of policy.now file.now.schemes stored) seat.now first.now }
+) -> Result<Ending, Stop>
+    requires may { MayTalk (site_of policy.now file.now.schemes stored) session.now first.now }
     ensures ends { IsEnd (IsShellFrom (hosted H.hosting L.echo host.old host.new) (L.remaining lines.old)
         (L.remaining lines.new) (L.breaks lines.new) (IsAppended W.contents out.old out.new)
         (IsTold E.contents err.old err.new) file.now (Some path.now) (site_of policy.now file.now.schemes stored)
-        seat.now)
+        session.now)
         (λ reason. IsBarred (H.hosting host.old) policy.now file.now (Some path.now) reason
         × IsAppended W.contents out.old out.new [] × IsTold E.contents err.old err.new []) result }
     ensures caused { IsCaused (hosted H.hosting L.echo host.old host.new) (Some path.now) result }
 {
     let base = match host.store(alloc, path, policy, file) {
         Ok(base) => base,
-        Err(fault) => return Err(Refusal::Before(Reason::Store(fault))),
+        Err(fault) => return Err(Stop::Before(Reason::Store(fault))),
     };
     let schemes = &file.schemes;
     let (outcome, left) = shell_over_base(
-        alloc, policy, schemes, stored, base, seat, first, lines, out, err,
+        alloc, policy, schemes, stored, base, session, first, lines, out, err,
     );
     let closed = host.keep(path, left);
     ended(outcome, closed)
@@ -101,26 +101,26 @@ fn shell_over_store<H: Host, L: TypedLines, W: Write, E: Write>(
     policy: &Policy,
     file: &SchemesFile,
     stored: Items<Stored>,
-    seat: &Seat,
+    session: &ShellSession,
     first: &[Event],
     lines: &mut L,
     out: &mut W,
     err: &mut Errors<E>,
-) -> Result<Ending, Refusal>
-    requires may { MayTalk (site_of policy.now file.now.schemes stored) seat.now first.now }
+) -> Result<Ending, Stop>
+    requires may { MayTalk (site_of policy.now file.now.schemes stored) session.now first.now }
     ensures ends { IsEnd (IsShellFrom (hosted H.hosting L.echo host.old host.new) (L.remaining lines.old)
         (L.remaining lines.new) (L.breaks lines.new) (IsAppended W.contents out.old out.new)
         (IsTold E.contents err.old err.new) file.now (named store.entry) (site_of policy.now file.now.schemes stored)
-        seat.now)
+        session.now)
         (λ reason. IsBarred (H.hosting host.old) policy.now file.now (named store.entry) reason
         × IsAppended W.contents out.old out.new [] × IsTold E.contents err.old err.new []) result }
     ensures caused { IsCaused (hosted H.hosting L.echo host.old host.new) (named store.entry) result }
 {
     match store {
-        None => shell_in_memory(alloc, policy, file, stored, seat, first, lines, out, err),
+        None => shell_in_memory(alloc, policy, file, stored, session, first, lines, out, err),
         Some(path) => {
             shell_in_store(
-                alloc, host, path, policy, file, stored, seat, first, lines, out, err,
+                alloc, host, path, policy, file, stored, session, first, lines, out, err,
             )
         }
     }
@@ -134,19 +134,19 @@ fn seated(
     level: LabelNo,
     has_prompt: bool,
     is_watched: bool,
-) -> Result<(Seat, Vec<Event>), AllocError>
-    ensures seat { IfOk result (λ s. s.0 ≡ seat_of label.now user.now level has_prompt is_watched) }
+) -> Result<(ShellSession, Vec<Event>), AllocError>
+    ensures session { IfOk result (λ s. s.0 ≡ shell_session_of label.now user.now level has_prompt is_watched) }
     ensures first { IfOk result (λ s. s.1.items ≡ opening s.0 ∷ []) }
 {
-    let seat = Seat {
+    let session = ShellSession {
         level,
         label: Str::copy_of(alloc, label)?,
         user: Str::copy_of(alloc, user)?,
         has_prompt,
         is_watched,
     };
-    let first = opening(alloc, &seat)?;
-    Ok((seat, first))
+    let first = opening(alloc, &session)?;
+    Ok((session, first))
 }
 
 /// A shell for a user, at the label of a name, over what a job stores. The opening is made as an event and
@@ -160,7 +160,7 @@ pub fn run_shell<H: Host, W: Write, E: Write>(
     user: &str,
     out: &mut W,
     err: &mut Errors<E>,
-) -> Result<Ending, Refusal>
+) -> Result<Ending, Stop>
     requires ready { AreReady inputs }
     requires user { is_name user.now ≡ true }
     ensures shell { IsEnd (IsShellRun (hosted H.hosting H.Lines.echo host.old host.new) inputs (named store.entry) label.now
@@ -177,11 +177,11 @@ pub fn run_shell<H: Host, W: Write, E: Write>(
     } = inputs;
     let level = match setting.reader {
         Some(level) => level,
-        None => return Err(Refusal::Before(Reason::Label)),
+        None => return Err(Stop::Before(Reason::Label)),
     };
     let (policy, file) = (&setting.policy, &setting.file);
     let stored = stored_of(alloc, policy, transactions, &certificates)?;
-    let (seat, first) = seated(
+    let (session, first) = seated(
         alloc,
         label,
         user,
@@ -191,6 +191,6 @@ pub fn run_shell<H: Host, W: Write, E: Write>(
     )?;
     let mut lines = host.lines();
     shell_over_store(
-        alloc, host, store, policy, file, stored, &seat, &first, &mut lines, out, err,
+        alloc, host, store, policy, file, stored, &session, &first, &mut lines, out, err,
     )
 }

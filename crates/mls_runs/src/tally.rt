@@ -3,7 +3,7 @@ ghost use Rattle.std.specs.Prelude.{◌≡◌, ◌+◌, ◌<◌, ◌^◌, not, i
 ghost use Rattle.mls_runs.specs.Shell.{verdict_of, is_short};
 ghost use Rattle.mls_runs.specs.Tally.{tally_with};
 
-use crate::seat::Fate;
+use crate::shell_session::Fate;
 use mls_host::Tally;
 use mls_sessions::Notice;
 

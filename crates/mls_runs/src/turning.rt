@@ -3,12 +3,12 @@ ghost use Rattle.std.specs.Prelude.{[], Some};
 ghost use Rattle.mls_host.specs.Causes.{IsBarred};
 ghost use Rattle.mls_host.specs.Hosting.{hosted, IsAppended};
 ghost use Rattle.mls_host.specs.Reading.{IsConsistent};
-ghost use Rattle.mls_host.specs.Refusal.{IsEnd};
+ghost use Rattle.mls_host.specs.Stop.{IsEnd};
 ghost use Rattle.mls_host.specs.Stopping.{IsCaused};
 ghost use Rattle.mls_host.specs.Words.{named};
 ghost use Rattle.mls_runs.specs.TurnRun.{IsTurnRun};
 
-use mls_host::{Host, Reason, Refusal, Setting, ended};
+use mls_host::{Host, Reason, Setting, Stop, ended};
 use mls_sessions::turn;
 use std::alloc::Global;
 use std::io::Write;
@@ -20,7 +20,7 @@ fn turn_in_store<H: Host, W: Write>(
     path: &str,
     setting: &Setting,
     out: &mut W,
-) -> Result<(), Refusal>
+) -> Result<(), Stop>
     requires { IsConsistent setting.now }
     ensures ends { IsEnd (λ end. IsTurnRun setting.now (IsAppended W.contents out.old out.new) end
         (hosted H.hosting H.Lines.echo host.old host.new) (Some path.now))
@@ -30,7 +30,7 @@ fn turn_in_store<H: Host, W: Write>(
 {
     let mut base = match host.store(alloc, path, &setting.policy, &setting.file) {
         Ok(base) => base,
-        Err(fault) => return Err(Refusal::Before(Reason::Store(fault))),
+        Err(fault) => return Err(Stop::Before(Reason::Store(fault))),
     };
     let outcome = turn(alloc, &setting.policy, &mut base, setting.reader, out);
     let closed = host.keep(path, base);
@@ -44,7 +44,7 @@ pub fn turn_store<H: Host, W: Write>(
     store: Option<&str>,
     setting: &Setting,
     out: &mut W,
-) -> Result<(), Refusal>
+) -> Result<(), Stop>
     requires { IsConsistent setting.now }
     ensures ends { IsEnd (λ end. IsTurnRun setting.now (IsAppended W.contents out.old out.new) end
         (hosted H.hosting H.Lines.echo host.old host.new) (named store.entry))

@@ -8,7 +8,7 @@ ghost use Rattle.mls_script.specs.Reading.{IsRead as IsScriptRead, script_at};
 ghost use Rattle.mls_runs.specs.Shell.{prefix_of, opening, is_own, fate_of_events, is_asked, meant, IsFate, FateFits, IsRead};
 ghost use Rattle.mls_runs.specs.Typed.{fate_of_fault, fate_of, Becomes};
 
-use crate::seat::{Fate, Seat};
+use crate::shell_session::{Fate, ShellSession};
 use mls_lattice::{Items, Policy, Str};
 use mls_scheme::Schemes;
 use mls_script::{Command, Event, ScriptCause, ScriptFault, script};
@@ -18,29 +18,29 @@ use std::alloc::{AllocError, Global};
 use std::io::Write;
 
 /// The event that opens the session. It is made from the words and never from a text, of which an LF in a word would make two lines.
-pub(crate) fn opening(alloc: Global, seat: &Seat) -> Result<Vec<Event>, AllocError>
-    ensures { IfOk result (λ v. v.items ≡ opening seat.now ∷ []) }
+pub(crate) fn opening(alloc: Global, session: &ShellSession) -> Result<Vec<Event>, AllocError>
+    ensures { IfOk result (λ v. v.items ≡ opening session.now ∷ []) }
 {
     let mut events = Vec::new(alloc);
     events.push(Event {
-        level: seat.level,
-        session: Str::copy_of(alloc, seat.user.as_str())?,
-        command: Command::Open(Str::copy_of(alloc, seat.user.as_str())?),
+        level: session.level,
+        session: Str::copy_of(alloc, session.user.as_str())?,
+        command: Command::Open(Str::copy_of(alloc, session.user.as_str())?),
     })?;
     Ok(events)
 }
 
-fn is_own(seat: &Seat, event: &Event) -> bool
-    ensures { result ≡ is_own seat.now event.now }
+fn is_own(session: &ShellSession, event: &Event) -> bool
+    ensures { result ≡ is_own session.now event.now }
 {
-    event.level == seat.level && event.session.as_str() == seat.user.as_str()
+    event.level == session.level && event.session.as_str() == session.user.as_str()
 }
 
-fn are_own(seat: &Seat, events: &[Event]) -> bool
-    ensures { result ≡ list_all (is_own seat.now) events.now }
+fn are_own(session: &ShellSession, events: &[Event]) -> bool
+    ensures { result ≡ list_all (is_own session.now) events.now }
 {
     for event in events {
-        if !is_own(seat, event) {
+        if !is_own(session, event) {
             return false;
         }
     }
@@ -48,10 +48,10 @@ fn are_own(seat: &Seat, events: &[Event]) -> bool
 }
 
 /// What becomes of a line that tells events.
-fn fate_of_events(seat: &Seat, events: Vec<Event>) -> Fate
-    ensures { result ≡ fate_of_events seat.now events.items }
+fn fate_of_events(session: &ShellSession, events: Vec<Event>) -> Fate
+    ensures { result ≡ fate_of_events session.now events.items }
 {
-    if are_own(seat, &events) {
+    if are_own(session, &events) {
         Fate::Said(Items::from(events))
     } else {
         Fate::Refused(ScriptFault {
@@ -86,10 +86,14 @@ fn fate_of_fault(
 }
 
 /// A line behind the words that stand before it in a script.
-pub(crate) fn text_of(alloc: Global, seat: &Seat, line: &[u8]) -> Result<Vec<u8>, AllocError>
-    ensures { IfOk result (λ v. v.items ≡ prefix_of seat.now ++ line.now) }
+pub(crate) fn text_of(
+    alloc: Global,
+    session: &ShellSession,
+    line: &[u8],
+) -> Result<Vec<u8>, AllocError>
+    ensures { IfOk result (λ v. v.items ≡ prefix_of session.now ++ line.now) }
 {
-    let (label, user) = (seat.label.as_str(), seat.user.as_str());
+    let (label, user) = (session.label.as_str(), session.user.as_str());
     let mut text = format!(in alloc; "{label} {user} ")?.into_bytes();
     text.extend_from_slice(line)?;
     Ok(text)
@@ -100,14 +104,14 @@ fn events_of(
     alloc: Global,
     policy: &Policy,
     schemes: &Schemes,
-    seat: &Seat,
+    session: &ShellSession,
     line: &[u8],
 ) -> Result<Vec<Event>, ScriptFault>
     ensures exact { IsScriptRead (λ v. v.items) result (script_at policy.now schemes.now
-        (prefix_of seat.now ++ line.now)) }
+        (prefix_of session.now ++ line.now)) }
     ensures fits { IfOk result (λ v. AllByRecursion (EventFits policy.now schemes.now) v.items) }
 {
-    match text_of(alloc, seat, line) {
+    match text_of(alloc, session, line) {
         Ok(text) => script(alloc, policy, schemes, &text),
         Err(_) => Err(ScriptFault {
             line: 1,
@@ -125,10 +129,10 @@ fn is_help(line: &[u8]) -> bool
 }
 
 /// Whether a line asks for more at a terminal.
-fn is_asked(seat: &Seat, line: &[u8]) -> bool
-    ensures { result ≡ is_asked seat.now line.now }
+fn is_asked(session: &ShellSession, line: &[u8]) -> bool
+    ensures { result ≡ is_asked session.now line.now }
 {
-    seat.has_prompt && (line == b"describe\n".as_slice() || line.starts_with(b"help "))
+    session.has_prompt && (line == b"describe\n".as_slice() || line.starts_with(b"help "))
 }
 
 fn is_farewell(line: &[u8]) -> bool
@@ -138,10 +142,10 @@ fn is_farewell(line: &[u8]) -> bool
 }
 
 /// What a line means.
-fn meant<'a>(seat: &Seat, line: &'a [u8]) -> &'a [u8]
-    ensures { result.now ≡ meant seat.now line.now }
+fn meant<'a>(session: &ShellSession, line: &'a [u8]) -> &'a [u8]
+    ensures { result.now ≡ meant session.now line.now }
 {
-    if seat.has_prompt && is_farewell(line) {
+    if session.has_prompt && is_farewell(line) {
         b"close\n"
     } else {
         line
@@ -149,8 +153,14 @@ fn meant<'a>(seat: &Seat, line: &'a [u8]) -> &'a [u8]
 }
 
 /// What becomes of a line.
-fn fate_of(alloc: Global, policy: &Policy, schemes: &Schemes, seat: &Seat, line: &[u8]) -> Fate
-    ensures is { Becomes (fate_of policy.now schemes.now seat.now line.now) result }
+fn fate_of(
+    alloc: Global,
+    policy: &Policy,
+    schemes: &Schemes,
+    session: &ShellSession,
+    line: &[u8],
+) -> Fate
+    ensures is { Becomes (fate_of policy.now schemes.now session.now line.now) result }
     ensures fits { FateFits policy.now schemes.now result }
 {
     if line.is_empty() {
@@ -159,12 +169,12 @@ fn fate_of(alloc: Global, policy: &Policy, schemes: &Schemes, seat: &Seat, line:
     if is_help(line) {
         return Fate::Help;
     }
-    if is_asked(seat, line) {
+    if is_asked(session, line) {
         return Fate::Asked;
     }
-    let line = meant(seat, line);
-    match events_of(alloc, policy, schemes, seat, line) {
-        Ok(events) => fate_of_events(seat, events),
+    let line = meant(session, line);
+    match events_of(alloc, policy, schemes, session, line) {
+        Ok(events) => fate_of_events(session, events),
         Err(fault) if fault.cause == ScriptCause::Memory => Fate::Lost(RunCause::Memory),
         Err(fault) => fate_of_fault(alloc, policy, schemes, line, fault),
     }
@@ -175,12 +185,12 @@ pub(crate) fn next_fate<L: TypedLines, W: Write>(
     alloc: Global,
     policy: &Policy,
     schemes: &Schemes,
-    seat: &Seat,
+    session: &ShellSession,
     lines: &mut L,
     out: &mut W,
     heard: &mut Vec<u8>,
 ) -> Fate
-    ensures read { IsRead L.echo (IsFate policy.now schemes.now seat.now) (L.remaining lines.old) (L.remaining lines.new)
+    ensures read { IsRead L.echo (IsFate policy.now schemes.now session.now) (L.remaining lines.old) (L.remaining lines.new)
         (W.contents out.old) (W.contents out.new) (L.breaks lines.new) result }
     ensures fits { FateFits policy.now schemes.now result }
 {
@@ -188,7 +198,7 @@ pub(crate) fn next_fate<L: TypedLines, W: Write>(
     let _names = (policy.label_count(), schemes.count());
     match lines.next_line(alloc, out) {
         Ok(Typed::Line(line)) => {
-            let fate = fate_of(alloc, policy, schemes, seat, &line);
+            let fate = fate_of(alloc, policy, schemes, session, &line);
             *heard = line;
             fate
         }

@@ -49,16 +49,16 @@ pub(crate) fn trusted(policy: &Policy, user: &str) -> Option<(LabelNo, LabelNo)>
 
 // ---- relations and attributes
 
-pub(crate) fn relation_of(schemes: &Schemes, rel: RelNo) -> Option<&Scheme> {
-    if rel.index() < schemes.count() {
-        Some(schemes.scheme(rel))
+pub(crate) fn relation_of(schemes: &Schemes, relation: RelNo) -> Option<&Scheme> {
+    if relation.index() < schemes.count() {
+        Some(schemes.scheme(relation))
     } else {
         None
     }
 }
 
-pub(crate) fn relation_name(schemes: &Schemes, rel: RelNo) -> &str {
-    match relation_of(schemes, rel) {
+pub(crate) fn relation_name(schemes: &Schemes, relation: RelNo) -> &str {
+    match relation_of(schemes, relation) {
         Some(scheme) => scheme.name(),
         None => "",
     }

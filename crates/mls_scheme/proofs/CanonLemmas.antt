@@ -5,31 +5,31 @@ use Rattle.std.proofs.lemmas.List.{flat_map_more, take_more}
 use Rattle.std.proofs.lemmas.Option.{slice_get_within, get_or_from_slice_get, same_Some, none-some}
 use Rattle.mls_lattice.specs.Policy.{Name}
 use Rattle.mls_scheme.specs.declared.attributes.Column.{Column}
-use Rattle.mls_scheme.specs.Scheme.{Attribute, IsAmongLabels, attribute_named, column_of}
+use Rattle.mls_scheme.specs.Scheme.{Attribute, IsAmongLabels, column_of}
 
 -- an attribute is its name and the rest
-whole : (o : Option Attribute) (name : Name) (c : Column) → option_map (λ a. a.name) o ≡ Some name → option_map column_of o ≡ Some c → o ≡ Some (attribute_named name c)
+whole : (o : Option Attribute) (name : Name) (c : Column) → option_map (λ a. a.0) o ≡ Some name → option_map column_of o ≡ Some c → o ≡ Some (name, c)
 whole None name c e f = absurd cc
 whole (Some a) name c e f =
-    let named : a.name ≡ name = cc in
+    let named : a.0 ≡ name = cc in
     let rest : column_of a ≡ c = cc in
-    λ i. Some (attribute_named (named i) (rest i))
+    λ i. Some ((named i), (rest i))
 
 pub lines_more : (f : Attribute → List ℕ) (attributes : List Attribute) (k : ℕ) (name : Name) (c : Column) (start : List ℕ)
-    → option_map (λ a. a.name) (slice_get attributes k) ≡ Some name → option_map column_of (slice_get attributes k) ≡ Some c
-    → (start ++ flat_map f (take k attributes)) ++ f (attribute_named name c) ≡ start ++ flat_map f (take (k + 1) attributes)
+    → option_map (λ a. a.0) (slice_get attributes k) ≡ Some name → option_map column_of (slice_get attributes k) ≡ Some c
+    → (start ++ flat_map f (take k attributes)) ++ f (name, c) ≡ start ++ flat_map f (take (k + 1) attributes)
 lines_more f attributes k name c start e g =
     let here = whole (slice_get attributes k) name c e g in
-    let a = attribute_named name c in
+    let a : Attribute = (name, c) in
     flat_map_more f start (take k attributes) a
     ∙ ap (λ xs. start ++ flat_map f xs) (sym (take_more attributes k a (slice_get_within attributes k a here) ∙ ap (λ x. take k attributes ++ x ∷ []) (get_or_from_slice_get attributes k a a here)))
 
 -- the attribute of a place, from its name and the rest
 pub attribute_there : (attributes : List Attribute) (k : ℕ) (name : Name) (c : Column)
-    → option_map (λ a. a.name) (slice_get attributes k) ≡ Some name → option_map column_of (slice_get attributes k) ≡ Some c
-    → (attribute_named name c ≡ get_or attributes k (attribute_named name c)) × (k < length attributes)
+    → option_map (λ a. a.0) (slice_get attributes k) ≡ Some name → option_map column_of (slice_get attributes k) ≡ Some c
+    → ((name, c) ≡ get_or attributes k (name, c)) × (k < length attributes)
 attribute_there attributes k name c e g =
-    let a = attribute_named name c in
+    let a : Attribute = (name, c) in
     let here = whole (slice_get attributes k) name c e g in
     (sym (get_or_from_slice_get attributes k a a here), slice_get_within attributes k a here)
 

@@ -68,12 +68,6 @@ module _ (p : Policy) where
   past_lines (s ∷ schemes) a more e = absurd (apart (ap (λ (x : List ℕ). get_or x 0 0) e))
 
   module _ (s : Scheme) (text rest : List ℕ) (headed : text ≡ head_lines p s ++ rest) (n : ℕ) (after : List ℕ) (lines : BeginWith line s.others rest n after) where
-    pub relation_found : CoversKey (labels_of p) n s → BeginsWith p s text n after
-    relation_found covers = record {
-      had = (lines.few, covers);
-      split = headed ∙ ap (λ (x : List ℕ). head_lines p s ++ x) lines.split ∙ sym (append_assoc (head_lines p s) (flat_map line (take n s.others)) after);
-    }
-
     pub relation_one : (m : ℕ) (other : List ℕ) → IsPastAttributes p other → BeginsWith p s text m other → (n ≡ m) × (after ≡ other)
     relation_one m other past begins =
         let same : rest ≡ flat_map line (take m s.others) ++ other =
@@ -93,9 +87,6 @@ module _ (p : Policy) where
   pub record Before (all : Schemes) (text : List ℕ) (front : List ℕ) (schemes : Schemes) (rest : List ℕ) : Type 0 where
     pub completes : (ms : List ℕ) → AreLines p schemes rest ms → AreLines p all text (front ++ ms)
     pub only : (ms : List ℕ) → AreLines p all text ms → (more : List ℕ) × (ms ≡ front ++ more) × AreLines p schemes rest more
-
-  pub before-start : (all : Schemes) (text : List ℕ) → Before all text [] all text
-  before-start all text = record { completes = λ ms lines. lines; only = λ ms lines. (ms, refl, lines) }
 
   module _ (all : Schemes) (text front : List ℕ) where
     lines_more : (s : Scheme) (schemes : Schemes) (rest : List ℕ) (n : ℕ) (after : List ℕ) → BeginsWith p s rest n after → (ms : List ℕ) → AreLines p schemes after ms → AreLines p (s ∷ schemes) rest (n ∷ ms)
@@ -154,20 +145,11 @@ first_lines One Two rest other e = absurd (first_apart (ap (λ (x : List ℕ). g
 first_lines Two One rest other e = absurd (first_apart (sym (ap (λ (x : List ℕ). get_or x 8 0) e)))
 
 module _ (p : Policy) (schemes : Schemes) where
-  pub extends_found : (old rest counts : List ℕ) → ((v : Version) × (old ≡ first_line v ++ rest)) → AreLines p schemes rest counts → Extends p schemes old counts
-  extends_found old rest counts (v, first) lines = record { version = v; counts_are = lines.counts_are; text = first ∙ ap (λ (x : List ℕ). first_line v ++ x) lines.split }
-
   extends_lines : (old rest counts : List ℕ) → ((v : Version) × (old ≡ first_line v ++ rest)) → Extends p schemes old counts → AreLines p schemes rest counts
   extends_lines old rest counts (v, first) e = record {
     counts_are = e.counts_are;
     split = first_lines v e.version rest (flat_map (relation_lines p) (schemes_before counts schemes)) (sym first ∙ e.text);
   }
-
-  pub extends_none : (old rest : List ℕ) → ((v : Version) × (old ≡ first_line v ++ rest)) → ((counts : List ℕ) → AreLines p schemes rest counts → ⊥) → (counts : List ℕ) → Extends p schemes old counts → ⊥
-  extends_none old rest first none counts e = none counts (extends_lines old rest counts first e)
-
-  pub extends_headless : (old : List ℕ) → ((v : Version) (more : List ℕ) → old ≢ first_line v ++ more) → (counts : List ℕ) → Extends p schemes old counts → ⊥
-  extends_headless old none counts e = none e.version (flat_map (relation_lines p) (schemes_before counts schemes)) e.text
 
 -- ---- the old numbers are one
 

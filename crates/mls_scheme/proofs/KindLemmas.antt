@@ -7,17 +7,14 @@ use Rattle.std.specs.Int.{w64}
 use Rattle.std.specs.Str.{is_utf8}
 use Rattle.std.proofs.lemmas.Bool.{and_parts, lt-ltb, ltb-true}
 use Rattle.std.proofs.lemmas.Str.{is_utf8-from_IsUtf8, IsUtf8-from_is_utf8}
-use Rattle.mls_lattice.specs.Labels.{Labels}
 use Rattle.mls_scheme.specs.declared.value.Kind.{Kind}
 use Rattle.mls_scheme.specs.declared.value.Kind.TheVariants as kinds
 use Rattle.mls_scheme.specs.declared.value.Value.{Value}
 use Rattle.mls_scheme.specs.declared.value.Value.TheVariants.{Int, Text}
-use Rattle.mls_scheme.specs.declared.tuple.Element.{Element}
-use Rattle.mls_scheme.specs.declared.place.Place.{Place}
 use Rattle.mls_scheme.specs.Value.{is_signed, is_text, is_kind, fits_kind}
 use Rattle.mls_scheme.specs.Scheme.{Attribute, Scheme, IsScheme}
-use Rattle.mls_scheme.specs.Spelling.{HasSpelling, IsShort, IsSpelledKey}
-use Rattle.mls_scheme.specs.Fits.{IsKeyOf, Fits, in_interval}
+use Rattle.mls_scheme.specs.Spelling.{HasSpelling, IsSpelledKey}
+use Rattle.mls_scheme.specs.Fits.{IsKeyOf}
 
 -- ---- in code each number has 64 bits, and each text is UTF-8
 
@@ -56,13 +53,13 @@ fits-spelled (Some v) k h = kind-spelled v k h
 
 -- ---- keys
 
-values-spelled : (ats : List Attribute) (vs : List Value) → AllZip (λ a v. is_kind v a.kind ≡ true) ats vs → AllByRecursion HasSpelling vs
+values-spelled : (ats : List Attribute) (vs : List Value) → AllZip (λ a v. is_kind v a.1.kind ≡ true) ats vs → AllByRecursion HasSpelling vs
 values-spelled [] [] h = tt
 values-spelled [] (v ∷ vs) h = absurd h
 values-spelled (a ∷ ats) [] h = absurd h
-values-spelled (a ∷ ats) (v ∷ vs) h = (kind-spelled v a.kind h.0, values-spelled ats vs h.1)
+values-spelled (a ∷ ats) (v ∷ vs) h = (kind-spelled v a.1.kind h.0, values-spelled ats vs h.1)
 
-kinds-length : (ats : List Attribute) (vs : List Value) → AllZip (λ a v. is_kind v a.kind ≡ true) ats vs → length vs ≡ length ats
+kinds-length : (ats : List Attribute) (vs : List Value) → AllZip (λ a v. is_kind v a.1.kind ≡ true) ats vs → length vs ≡ length ats
 kinds-length [] [] h = refl
 kinds-length [] (v ∷ vs) h = absurd h
 kinds-length (a ∷ ats) [] h = absurd h
@@ -72,38 +69,10 @@ kinds-length (a ∷ ats) (v ∷ vs) h = ap suc (kinds-length ats vs h.1)
 pub key_of-spelled : (scheme : Scheme) (key : List Value) → IsKeyOf scheme key → IsSpelledKey key
 key_of-spelled scheme key h = record { count = h.count; each = values-spelled scheme.keys key h.kinds }
 
-pub short-each : (key : List Value) → AllByRecursion HasSpelling key → AllByRecursion IsShort key
-short-each [] h = tt
-short-each (v ∷ vs) h = (h.0.1, short-each vs h.1)
-
-pub spelled-short : (key : List Value) → IsSpelledKey key → AllByRecursion IsShort key
-spelled-short key h = short-each key h.each
-
 -- values of the kinds of the key attributes are a key, since a scheme has one to four of these
-pub key_of-kinds : (scheme : Scheme) (key : List Value) → IsScheme scheme → AllZip (λ a v. is_kind v a.kind ≡ true) scheme.keys key → IsKeyOf scheme key
+pub key_of-kinds : (scheme : Scheme) (key : List Value) → IsScheme scheme → AllZip (λ a v. is_kind v a.1.kind ≡ true) scheme.keys key → IsKeyOf scheme key
 key_of-kinds scheme key is kinds =
     let len = kinds-length scheme.keys key kinds in
     let some = is.some_key in
     let few = is.few_keys in
     record { count = record { some = omega (arith, len, some); few = omega (arith, len, few) }; kinds = kinds }
-
-module _ (ls : Labels) (class : ℕ) where
-  kinds-of : (ats : List Attribute) (vs : List Value) → AllZip (λ a v. (is_kind v a.kind ≡ true) × (in_interval ls class a ≡ true)) ats vs → AllZip (λ a v. is_kind v a.kind ≡ true) ats vs
-  kinds-of [] [] h = tt
-  kinds-of [] (v ∷ vs) h = absurd h
-  kinds-of (a ∷ ats) [] h = absurd h
-  kinds-of (a ∷ ats) (v ∷ vs) h = (h.0.0, kinds-of ats vs h.1)
-
--- a tuple that fits its scheme has a key of it, and values with spellings
-pub fits-key : (ls : Labels) (scheme : Scheme) (p : Place) (es : List Element) → IsScheme scheme → Fits ls scheme p es → IsKeyOf scheme p.key
-fits-key ls scheme p es is h = key_of-kinds scheme p.key is (kinds-of ls p.key_class scheme.keys p.key h.key)
-
-elements-spelled : (ls : Labels) (ats : List Attribute) (es : List Element) → AllZip (λ a e. (fits_kind e.value a.kind ≡ true) × (in_interval ls e.class a ≡ true)) ats es
-    → AllByRecursion (λ e. IfSome e.value HasSpelling) es
-elements-spelled ls [] [] h = tt
-elements-spelled ls [] (e ∷ es) h = absurd h
-elements-spelled ls (a ∷ ats) [] h = absurd h
-elements-spelled ls (a ∷ ats) (e ∷ es) h = (fits-spelled e.value a.kind h.0.0, elements-spelled ls ats es h.1)
-
-pub fits-elements : (ls : Labels) (scheme : Scheme) (p : Place) (es : List Element) → Fits ls scheme p es → AllByRecursion (λ e. IfSome e.value HasSpelling) es
-fits-elements ls scheme p es h = elements-spelled ls scheme.others es h.others

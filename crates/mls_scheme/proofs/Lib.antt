@@ -1,7 +1,7 @@
 pub mod KindLemmas
 pub mod OrderLemmas
 pub mod TableLemmas
-pub mod AttributeLemmas
+pub mod NamedLemmas
 pub mod KeySteps
 pub mod KeyLemmas
 pub mod SchemeSteps

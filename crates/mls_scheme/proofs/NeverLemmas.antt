@@ -12,8 +12,9 @@ use Rattle.mls_lattice.proofs.NeverLemmas.{IsNever, never-then, never-found, nev
 use Rattle.mls_scheme.specs.declared.fault.SchemeFault.{SchemeFault}
 use Rattle.mls_scheme.specs.declared.fault.SchemeFault.TheVariants.{NotToml, Repeated, UnknownName, EmptyInterval, Memory, NoKey, KeyIntervals}
 use Rattle.mls_scheme.specs.Fault.{scheme_fault_of}
+use Rattle.mls_scheme.specs.Named.{has_name}
 use Rattle.mls_scheme.specs.Scheme.{Attribute, Schemes, column_of}
-use Rattle.mls_scheme.specs.Reading.{Gives, lift, gather, name_field, text_field, kind_named, label_named, label_field, column_at, has_attribute, new_name, attribute_at, has_key_interval, key_at, other_at, key_items, other_items, attributes_at, has_relation, scheme_at, relation_items, schemes_at}
+use Rattle.mls_scheme.specs.Reading.{Gives, lift, gather, name_field, text_field, kind_named, label_named, label_field, column_at, new_name, attribute_at, has_key_interval, key_at, other_at, key_items, other_items, attributes_at, has_relation, scheme_at, relation_items, schemes_at}
 
 pub gives-never : {X Y : Type 0} (view : X → Y) (r : Result X SchemeFault) (read : Result Y SchemeFault) → Gives view r read → IsNever NotToml read → IsNever NotToml r
 gives-never view = never-given (λ e. e ≡ Memory) view NotToml (λ same. absurd cc)
@@ -87,7 +88,7 @@ attribute-never : (p : Policy) (before : List Attribute) (d : Data) → IsNever 
 unfolding attribute_at
 attribute-never p before d =
     never-then _ _ _ (lifted _ (table-never d)) (λ fields. never-then _ _ _ (field-never (codes "name") fields) (λ name.
-    never-then _ _ _ (new_name-never (has_attribute before name)) (λ new. never-then _ _ _ (column-never p fields) (λ column. tt))))
+    never-then _ _ _ (new_name-never (has_name before name)) (λ new. never-then _ _ _ (column-never p fields) (λ column. tt))))
 
 key-never : (p : Policy) (before : List Attribute) (d : Data) → IsNever NotToml (key_at p before d)
 unfolding key_at

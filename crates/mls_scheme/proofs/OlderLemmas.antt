@@ -5,8 +5,8 @@ use Rattle.std.specs.Str.{bytes_eq}
 use Rattle.std.proofs.lemmas.List.{take-append-drop, drop_more}
 use Rattle.mls_lattice.specs.Policy.{Name, Policy, AreNames}
 use Rattle.mls_scheme.specs.declared.attributes.Column.{Column}
-use Rattle.mls_scheme.specs.Scheme.{Attribute, Scheme, Schemes, IsScheme, AreSchemes, IsAmongLabels, AreUnder, scheme_of, no_scheme, attribute_named, column_of}
-use Rattle.mls_scheme.specs.Reading.{has_attribute}
+use Rattle.mls_scheme.specs.Named.{has_name}
+use Rattle.mls_scheme.specs.Scheme.{Attribute, Scheme, Schemes, IsScheme, AreSchemes, IsAmongLabels, AreUnder, scheme_of, no_scheme, column_of}
 use Rattle.mls_scheme.specs.Extending.{scheme_before, schemes_before, HadOthers, Extends}
 use Rattle.mls_scheme.proofs.CanonLemmas.{attribute_there}
 use Rattle.mls_scheme.proofs.GatherLemmas.{fresh}
@@ -25,7 +25,7 @@ all_take : {X : Type 0} (P : X → Type 0) (xs : List X) (n : ℕ) → AllByRecu
 all_take P xs n h = all_first P (take n xs) (drop n xs) (subst (AllByRecursion P) (sym (take-append-drop n xs)) h)
 
 abbrev name_of : Attribute → Name
-name_of a = a.name
+name_of a = a.0
 
 names_first : (xs ys : List Attribute) → AreNames (map name_of (xs ++ ys)) → AreNames (map name_of xs)
 names_first [] ys h = tt
@@ -62,10 +62,10 @@ before_is n s valid =
     }
 
 -- the name of an attribute is none of those before it
-pub first_new : (attributes : List Attribute) (k : ℕ) (name : Name) (c : Column) → IsDistinct bytes_eq (map (λ a. a.name) attributes)
-    → option_map (λ a. a.name) (slice_get attributes k) ≡ Some name → option_map column_of (slice_get attributes k) ≡ Some c → has_attribute (take k attributes) name ≡ false
+pub first_new : (attributes : List Attribute) (k : ℕ) (name : Name) (c : Column) → IsDistinct bytes_eq (map (λ a. a.0) attributes)
+    → option_map (λ a. a.0) (slice_get attributes k) ≡ Some name → option_map column_of (slice_get attributes k) ≡ Some c → has_name (take k attributes) name ≡ false
 first_new attributes k name c apart e g =
-    let a = attribute_named name c in
+    let a : Attribute = (name, c) in
     let there = attribute_there attributes k name c e g in
     let here : attributes ≡ take k attributes ++ a ∷ drop (k + 1) attributes =
     sym (take-append-drop k attributes) ∙ ap (λ xs. take k attributes ++ xs) (drop_more attributes k a there.1 ∙ ap (λ x. x ∷ drop (k + 1) attributes) (sym there.0)) in
@@ -123,13 +123,13 @@ before_under count (n ∷ counts) [] h = tt
 before_under count (n ∷ counts) (s ∷ schemes) h = (record { keys = h.0.keys; others = all_take (IsAmongLabels count) s.others n h.0.others }, before_under count counts schemes h.1)
 
 -- a relation by its number
-pub before_at : (counts : List ℕ) (schemes : Schemes) (rel : ℕ) → length counts ≡ length schemes → rel < length schemes
-    → scheme_of (schemes_before counts schemes) rel ≡ scheme_before (get_or counts rel 0) (scheme_of schemes rel)
-before_at [] [] rel e within = absurd (omega (arith, within))
-before_at [] (s ∷ schemes) rel e within = absurd cc
-before_at (n ∷ counts) [] rel e within = absurd cc
+pub before_at : (counts : List ℕ) (schemes : Schemes) (relation : ℕ) → length counts ≡ length schemes → relation < length schemes
+    → scheme_of (schemes_before counts schemes) relation ≡ scheme_before (get_or counts relation 0) (scheme_of schemes relation)
+before_at [] [] relation e within = absurd (omega (arith, within))
+before_at [] (s ∷ schemes) relation e within = absurd cc
+before_at (n ∷ counts) [] relation e within = absurd cc
 before_at (n ∷ counts) (s ∷ schemes) zero e within = refl
-before_at (n ∷ counts) (s ∷ schemes) (suc rel) e within = before_at counts schemes rel (omega (arith, e)) (omega (arith, within))
+before_at (n ∷ counts) (s ∷ schemes) (suc relation) e within = before_at counts schemes relation (omega (arith, e)) (omega (arith, within))
 
 -- one relation more
 before_next : (counts : List ℕ) (schemes : Schemes) (k : ℕ) (m : ℕ) (d : Scheme) → k < length counts → k < length schemes
@@ -160,5 +160,5 @@ module _ (p : Policy) (schemes : Schemes) (old counts : List ℕ) (extends : Ext
       by (n ∷ ns) [] h = absurd h
       by (n ∷ ns) (s ∷ ss) h = (h.0.0, by ns ss h.1)
 
-  pub extends_at : (rel : ℕ) → rel < length schemes → HadOthers p (get_or counts rel 0) (scheme_of schemes rel)
-  extends_at rel within = count_there (HadOthers p) counts schemes rel 0 no_scheme extends.counts_are within
+  pub extends_at : (relation : ℕ) → relation < length schemes → HadOthers p (get_or counts relation 0) (scheme_of schemes relation)
+  extends_at relation within = count_there (HadOthers p) counts schemes relation 0 no_scheme extends.counts_are within

@@ -16,8 +16,9 @@ use Rattle.mls_lattice.proofs.ReadsPolicyLemmas.{one_document}
 use Rattle.mls_scheme.specs.declared.fault.SchemeFault.{SchemeFault}
 use Rattle.mls_scheme.specs.declared.fault.SchemeFault.TheVariants.{NotToml, Memory, EmptyInterval, KeyIntervals}
 use Rattle.mls_scheme.specs.declared.attributes.Column.{Column}
-use Rattle.mls_scheme.specs.Scheme.{Attribute, Scheme, Schemes, attribute_named, column_of, no_attribute, first_key, HasInterval, IsScheme, AreSchemes, IsAmongLabels, AreUnder, HaveIntervals}
-use Rattle.mls_scheme.specs.Reading.{Gives, lift, gather, name_field, text_field, kind_named, label_field, column_at, has_attribute, new_name, attribute_at, has_key_interval, key_at, other_at, key_items, other_items, attributes_at, has_relation, scheme_at, relation_items, schemes_at}
+use Rattle.mls_scheme.specs.Named.{has_name}
+use Rattle.mls_scheme.specs.Scheme.{Attribute, Scheme, Schemes, column_of, no_attribute, first_key, HasInterval, IsScheme, AreSchemes, IsAmongLabels, AreUnder, HaveIntervals}
+use Rattle.mls_scheme.specs.Reading.{Gives, lift, gather, name_field, text_field, kind_named, label_field, column_at, new_name, attribute_at, has_key_interval, key_at, other_at, key_items, other_items, attributes_at, has_relation, scheme_at, relation_items, schemes_at}
 use Rattle.mls_scheme.specs.Document.{tables_of, HoldsTables, kind_word, SaysAttribute, SaysRelation, Says, ReadsSchemes, SaysOnce}
 use Rattle.mls_scheme.proofs.GatherLemmas.{Each, Step, gather_found, gather_again, items_len-tables_of, Each-left, Each-right, Each-both, distinct_found, distinct_again}
 use Rattle.mls_scheme.proofs.FieldLemmas.{table_found, name_found, name_again, text_field_found, text_field_again, kind_found, kind_again, label_found, label_again, version_found, version_again, key_found, key_again, other_found, other_again, relation_found, relation_again}
@@ -29,7 +30,7 @@ new_found : {A : Type 0} (taken : Bool) (r : Result A SchemeFault) (x : A) → (
 new_found true r x e = absurd cc
 new_found false r x e = (refl, e)
 
-says_column : (p : Policy) (fields : Members) (name : Name) (c : Column) → name_field (codes "name") fields ≡ Ok name → column_at p fields ≡ Ok c → SaysAttribute p fields (attribute_named name c)
+says_column : (p : Policy) (fields : Members) (name : Name) (c : Column) → name_field (codes "name") fields ≡ Ok name → column_at p fields ≡ Ok c → SaysAttribute p fields (name, c)
 unfolding column_at
 says_column p fields name c named e =
     let n = name_found (codes "name") fields name named in
@@ -40,7 +41,7 @@ says_column p fields name c named e =
     let g = pass_ok (below (labels_of p) d.0 f.0) EmptyInterval _ c f.2 in
     let made : Result Column SchemeFault = Ok (record { kind = b.0; low = d.0; high = f.0 }) in
     let same : made ≡ Ok c = g.1 in
-    let whole : SaysAttribute p fields (attribute_named name (record { kind = b.0; low = d.0; high = f.0 })) = record {
+    let whole : SaysAttribute p fields (name, (record { kind = b.0; low = d.0; high = f.0 })) = record {
       name = n.0;
       named = n.1;
       kind = text_field_found (codes "kind") fields a.0 a.1 ∙ ap (λ w. Some (string w)) (kind_found a.0 b.0 b.1);
@@ -48,43 +49,43 @@ says_column p fields name c named e =
       high = label_found p (codes "high") fields f.0 f.1;
       interval = g.0;
     } in
-    subst (λ x. SaysAttribute p fields (attribute_named name x)) (ap (λ r. column_or r) same) whole
+    subst (λ x. SaysAttribute p fields (name, x)) (ap (λ r. column_or r) same) whole
   where
     column_or : Result Column SchemeFault → Column
     column_or (Ok x) = x
     column_or (Err e) = column_of no_attribute
 
 abbrev IsNewAfter : List Attribute → List Attribute → Attribute → Type 0
-IsNewAfter base before a = has_attribute (base ++ before) a.name ≡ false
+IsNewAfter base before a = has_name (base ++ before) a.0 ≡ false
 
 attribute_found : (p : Policy) (before : List Attribute) (d : Data) (a : Attribute) → attribute_at p before d ≡ Ok a → Step (SaysAttribute p) (IsNewAfter []) before d a
 unfolding attribute_at
 attribute_found p before d a e =
     let f = bind_ok (lift (table_at d)) _ a e in
     let n = bind_ok (name_field (codes "name") f.0) _ a f.2 in
-    let w = new_found (has_attribute before n.0) _ a n.2 in
+    let w = new_found (has_name before n.0) _ a n.2 in
     let c = bind_ok (column_at p f.0) _ a w.1 in
-    let made : Result Attribute SchemeFault = Ok (attribute_named n.0 c.0) in
+    let made : Result Attribute SchemeFault = Ok (n.0, c.0) in
     let same : made ≡ Ok a = c.2 in
-    let here : attribute_named n.0 c.0 ≡ a = ap (λ r. attribute_or r) same in
+    let here : ◌≡◌ {A = Attribute} (n.0, c.0) a = ap (λ r. attribute_or r) same in
     let says : SaysAttribute p f.0 a = subst (SaysAttribute p f.0) here (says_column p f.0 n.0 c.0 n.1 c.1) in
-    let fresh : has_attribute before a.name ≡ false = subst (λ (x : Attribute). has_attribute before x.name ≡ false) here w.0 in
+    let fresh : has_name before a.0 ≡ false = subst (λ (x : Attribute). has_name before x.0 ≡ false) here w.0 in
     record { fields = f.0; text = table_found d f.0 f.1; says = says; follows = fresh }
   where
     attribute_or : Result Attribute SchemeFault → Attribute
     attribute_or (Ok x) = x
     attribute_or (Err e) = no_attribute
 
-attribute_again : (p : Policy) (before : List Attribute) (fields : Members) (a : Attribute) → SaysAttribute p fields a → has_attribute before a.name ≡ false → attribute_at p before (table fields) ≡ Ok a
+attribute_again : (p : Policy) (before : List Attribute) (fields : Members) (a : Attribute) → SaysAttribute p fields a → has_name before a.0 ≡ false → attribute_at p before (table fields) ≡ Ok a
 unfolding attribute_at column_at
 attribute_again p before fields a s fresh =
     rw (
-      name_again (codes "name") fields a.name s.name s.named,
+      name_again (codes "name") fields a.0 s.name s.named,
       fresh,
-      text_field_again (codes "kind") fields (kind_word a.kind) s.kind,
-      kind_again a.kind,
-      label_again p (codes "low") fields a.low s.low,
-      label_again p (codes "high") fields a.high s.high,
+      text_field_again (codes "kind") fields (kind_word a.1.kind) s.kind,
+      kind_again a.1.kind,
+      label_again p (codes "low") fields a.1.low s.low,
+      label_again p (codes "high") fields a.1.high s.high,
       s.interval,
     ) refl
 
@@ -112,13 +113,13 @@ key_step_again p before fields a s follows = rw (attribute_again p before fields
 interval_found : (k : Attribute) (before new : List Attribute) → Each HasKeyInterval (k ∷ before) new → AllByRecursion (HasInterval k) new
 interval_found k before [] each = tt
 interval_found k before (a ∷ new) each =
-    let both = and_parts (nat_eq k.low a.low) (nat_eq k.high a.high) each.0 in
-    ((sym (eqb-true k.low a.low both.0), sym (eqb-true k.high a.high both.1)), interval_found k (before ++ a ∷ []) new each.1)
+    let both = and_parts (nat_eq k.1.low a.1.low) (nat_eq k.1.high a.1.high) each.0 in
+    ((sym (eqb-true k.1.low a.1.low both.0), sym (eqb-true k.1.high a.1.high both.1)), interval_found k (before ++ a ∷ []) new each.1)
 
 interval_again : (k : Attribute) (before new : List Attribute) → AllByRecursion (HasInterval k) new → Each HasKeyInterval (k ∷ before) new
 interval_again k before [] all = tt
 interval_again k before (a ∷ new) all =
-    (and_from (nat_eq k.low a.low) (nat_eq k.high a.high) (eq-eqb k.low a.low (sym all.0.0)) (eq-eqb k.high a.high (sym all.0.1)), interval_again k (before ++ a ∷ []) new all.1)
+    (and_from (nat_eq k.1.low a.1.low) (nat_eq k.1.high a.1.high) (eq-eqb k.1.low a.1.low (sym all.0.0)) (eq-eqb k.1.high a.1.high (sym all.0.1)), interval_again k (before ++ a ∷ []) new all.1)
 
 one_interval_found : (name : Name) (keys others : List Attribute) → Each HasKeyInterval [] keys → AllByRecursion (HasInterval (first_key (record { name = name; keys = keys; others = others }))) keys
 one_interval_found name [] others each = tt
@@ -151,7 +152,7 @@ record Parts (p : Policy) (fields : Members) (s : Scheme) : Type 0 where
   other_text : other_items fields ≡ Ok other_ds
   others : gather (other_at p s.keys) [] other_ds ≡ Ok s.others
 
-names_says : (p : Policy) (ts us : List Members) (keys others : List Attribute) → AllZip (SaysAttribute p) ts keys → AllZip (SaysAttribute p) us others → AreNames (map (λ (a : Attribute). a.name) (keys ++ others))
+names_says : (p : Policy) (ts us : List Members) (keys others : List Attribute) → AllZip (SaysAttribute p) ts keys → AllZip (SaysAttribute p) us others → AreNames (map (λ (a : Attribute). a.0) (keys ++ others))
 names_says p [] [] [] [] h g = tt
 names_says p [] [] [] (a ∷ others) h g = absurd g
 names_says p [] (u ∷ us) [] [] h g = absurd g
@@ -194,9 +195,9 @@ parts_says p fields s named r =
     let key_len : items_len r.key_ds ≡ length s.keys = ap items_len ks.text ∙ items_len-tables_of (SaysAttribute p) ks.tables s.keys keys in
     let other_len : items_len r.other_ds ≡ length s.others = ap items_len os.text ∙ items_len-tables_of (SaysAttribute p) os.tables s.others others in
     let follow : Each FollowsKeys [] s.keys = subst (Each FollowsKeys []) same_keys ks.follow in
-    let keys_apart : IsDistinct bytes_eq (map (λ (a : Attribute). a.name) s.keys) = distinct_found (λ (a : Attribute). a.name) [] [] s.keys tt (Each-left (IsNewAfter []) HasKeyInterval [] s.keys follow) in
-    let apart : IsDistinct bytes_eq (map (λ (a : Attribute). a.name) (s.keys ++ s.others)) =
-    distinct_found (λ (a : Attribute). a.name) s.keys [] s.others (rw (append-nil s.keys) keys_apart) (subst (Each (IsNewAfter s.keys) []) same_others os.follow) in
+    let keys_apart : IsDistinct bytes_eq (map (λ (a : Attribute). a.0) s.keys) = distinct_found (λ (a : Attribute). a.0) [] [] s.keys tt (Each-left (IsNewAfter []) HasKeyInterval [] s.keys follow) in
+    let apart : IsDistinct bytes_eq (map (λ (a : Attribute). a.0) (s.keys ++ s.others)) =
+    distinct_found (λ (a : Attribute). a.0) s.keys [] s.others (rw (append-nil s.keys) keys_apart) (subst (Each (IsNewAfter s.keys) []) same_others os.follow) in
     let some = k.some in
     let few = k.few in
     let few_others = o.few in
@@ -250,13 +251,13 @@ scheme_step_again p before fields s r fresh =
     let some = r.valid.some_key in
     let few = r.valid.few_keys in
     let few_others = r.valid.few_others in
-    let whole : IsDistinct bytes_eq (map (λ (a : Attribute). a.name) (s.keys ++ s.others)) = r.valid.distinct in
+    let whole : IsDistinct bytes_eq (map (λ (a : Attribute). a.0) (s.keys ++ s.others)) = r.valid.distinct in
     let follow : Each FollowsKeys [] s.keys = Each-both (IsNewAfter []) HasKeyInterval [] s.keys
-    (distinct_again (λ (a : Attribute). a.name) [] [] s.keys (front (λ (a : Attribute). a.name) s.keys s.others whole))
+    (distinct_again (λ (a : Attribute). a.0) [] [] s.keys (front (λ (a : Attribute). a.0) s.keys s.others whole))
     (one_interval_again s.name s.keys s.others r.valid.one_interval) in
     let keys : gather (key_at p) [] (tables_of r.key_tables) ≡ Ok s.keys = gather_again (key_at p) (SaysAttribute p) FollowsKeys (key_step_again p) [] r.key_tables s.keys r.keys follow in
     let others : gather (other_at p s.keys) [] (tables_of r.other_tables) ≡ Ok s.others =
-    gather_again (other_at p s.keys) (SaysAttribute p) (IsNewAfter s.keys) (other_step_again p s.keys) [] r.other_tables s.others r.others (distinct_again (λ (a : Attribute). a.name) s.keys [] s.others whole) in
+    gather_again (other_at p s.keys) (SaysAttribute p) (IsNewAfter s.keys) (other_step_again p s.keys) [] r.other_tables s.others r.others (distinct_again (λ (a : Attribute). a.0) s.keys [] s.others whole) in
     rw (
       name_again (codes "name") fields s.name r.name r.valid.named,
       fresh,
@@ -345,7 +346,7 @@ pub schemes_valid : (p : Policy) (document : Members) (v : Version) (ds : Items)
 schemes_valid p document v ds schemes version text e = (relations_says p document v ds schemes version text e).valid
 
 among : (p : Policy) (fields : Members) (a : Attribute) → SaysAttribute p fields a → IsAmongLabels (length p.labels) a
-among p fields a s = record { low = position_within (λ l. bytes_eq l.name s.low.name) p.labels a.low s.low.declared; high = position_within (λ l. bytes_eq l.name s.high.name) p.labels a.high s.high.declared }
+among p fields a s = record { low = position_within (λ l. bytes_eq l.name s.low.name) p.labels a.1.low s.low.declared; high = position_within (λ l. bytes_eq l.name s.high.name) p.labels a.1.high s.high.declared }
 
 all_among : (p : Policy) (ts : List Members) (attributes : List Attribute) → AllZip (SaysAttribute p) ts attributes → AllByRecursion (IsAmongLabels (length p.labels)) attributes
 all_among p [] [] h = tt
@@ -360,7 +361,7 @@ all_under p (t ∷ ts) [] h = absurd h
 all_under p (t ∷ ts) (s ∷ schemes) h =
     (record { keys = all_among p h.0.key_tables s.keys h.0.keys; others = all_among p h.0.other_tables s.others h.0.others }, all_under p ts schemes h.1)
 
-all_intervals : (p : Policy) (ts : List Members) (attributes : List Attribute) → AllZip (SaysAttribute p) ts attributes → AllByRecursion (λ a. below (labels_of p) a.low a.high ≡ true) attributes
+all_intervals : (p : Policy) (ts : List Members) (attributes : List Attribute) → AllZip (SaysAttribute p) ts attributes → AllByRecursion (λ a. below (labels_of p) a.1.low a.1.high ≡ true) attributes
 all_intervals p [] [] h = tt
 all_intervals p [] (a ∷ attributes) h = absurd h
 all_intervals p (t ∷ ts) [] h = absurd h

@@ -27,7 +27,7 @@ relation_again schemes valid = found_again (λ s. s.name) schemes no_scheme vali
 
 module _ (scheme : Scheme) (valid : IsScheme scheme) where
   abbrev name_of : Attribute → Name
-  name_of a = a.name
+  name_of a = a.0
 
   pub split_apart : IsDistinct bytes_eq (map name_of scheme.keys ++ map name_of scheme.others)
   split_apart = subst (IsDistinct bytes_eq) (map-append name_of scheme.keys scheme.others) valid.distinct
@@ -35,10 +35,10 @@ module _ (scheme : Scheme) (valid : IsScheme scheme) where
   pub split_names : AreNames (map name_of scheme.keys ++ map name_of scheme.others)
   split_names = subst AreNames (map-append name_of scheme.keys scheme.others) valid.names
 
-  pub other_again : (n : ℕ) → n < length scheme.others → position (λ a. bytes_eq a.name (other_of scheme n).name) scheme.others ≡ Some n
+  pub other_again : (n : ℕ) → n < length scheme.others → position (λ a. bytes_eq a.0 (other_of scheme n).0) scheme.others ≡ Some n
   other_again = found_again name_of scheme.others no_attribute (distinct_behind bytes_eq (map name_of scheme.keys) (map name_of scheme.others) split_apart)
 
-  pub other_is_name : (n : ℕ) → n < length scheme.others → is_name (other_of scheme n).name ≡ true
+  pub other_is_name : (n : ℕ) → n < length scheme.others → is_name (other_of scheme n).0 ≡ true
   other_is_name = is_name_at name_of scheme.others no_attribute (every_back (λ x. is_name x ≡ true) _ (map name_of scheme.keys) (map name_of scheme.others) split_names refl)
 
 pub column_there : (attributes : List Attribute) (i : ℕ) (c : Column) → i < length attributes → option_map column_of (slice_get attributes i) ≡ Some c → column_of (get_or attributes i no_attribute) ≡ c

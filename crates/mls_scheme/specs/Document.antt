@@ -34,12 +34,12 @@ pub record NamesLabel (p : Policy) (field : Option Data) (label : ℕ) : Type 0 
   pub declared : position (λ l. bytes_eq l.name name) p.labels ≡ Some label
 
 pub record SaysAttribute (p : Policy) (fields : Members) (a : Attribute) : Type 0 where
-  pub name : get_member (codes "name") fields ≡ Some (string a.name)
-  pub named : is_name a.name ≡ true
-  pub kind : get_member (codes "kind") fields ≡ Some (string (kind_word a.kind))
-  pub low : NamesLabel p (get_member (codes "low") fields) a.low
-  pub high : NamesLabel p (get_member (codes "high") fields) a.high
-  pub interval : below (labels_of p) a.low a.high ≡ true
+  pub name : get_member (codes "name") fields ≡ Some (string a.0)
+  pub named : is_name a.0 ≡ true
+  pub kind : get_member (codes "kind") fields ≡ Some (string (kind_word a.1.kind))
+  pub low : NamesLabel p (get_member (codes "low") fields) a.1.low
+  pub high : NamesLabel p (get_member (codes "high") fields) a.1.high
+  pub interval : below (labels_of p) a.1.low a.1.high ≡ true
 
 pub record SaysRelation (p : Policy) (fields : Members) (s : Scheme) : Type 0 where
   pub name : get_member (codes "name") fields ≡ Some (string s.name)

@@ -19,12 +19,12 @@ schemes_before (n ∷ counts) (s ∷ schemes) = scheme_before n s ∷ schemes_be
 
 -- an attribute may have every class from low to high
 abbrev pub Contains : Labels → ℕ → ℕ → Attribute → Type 0
-Contains ls low high a = (below ls a.low low ≡ true) × (below ls high a.high ≡ true)
+Contains ls low high a = (below ls a.1.low low ≡ true) × (below ls high a.1.high ≡ true)
 
 -- each attribute past the first n may have every class that the key may have: it begins as null at the key
 -- class
 abbrev pub CoversKey : Labels → ℕ → Scheme → Type 0
-CoversKey ls n s = AllByRecursion (Contains ls (first_key s).low (first_key s).high) (drop n s.others)
+CoversKey ls n s = AllByRecursion (Contains ls (first_key s).1.low (first_key s).1.high) (drop n s.others)
 
 -- so many of the attributes outside the key are old, and the others cover the key
 abbrev pub HadOthers : Policy → ℕ → Scheme → Type 0

@@ -3,6 +3,7 @@
 pub mod Value
 pub mod Tuple
 pub mod Table
+pub mod Named
 pub mod Order
 pub mod Scheme
 pub mod Fault
@@ -15,3 +16,4 @@ pub mod Spelling
 pub mod KeyReading
 pub mod KeyWords
 pub mod Extending
+pub mod Writes

@@ -14,7 +14,8 @@ use Rattle.mls_scheme.specs.declared.value.Kind.{Kind}
 use Rattle.mls_scheme.specs.declared.value.Kind.TheVariants.{Int, Text}
 use Rattle.mls_scheme.specs.declared.attributes.Column.{Column}
 use Rattle.mls_scheme.specs.Fault.{scheme_fault_of}
-use Rattle.mls_scheme.specs.Scheme.{Attribute, Scheme, Schemes, column_of}
+use Rattle.mls_scheme.specs.Scheme.{Attribute, Scheme, Schemes}
+use Rattle.mls_scheme.specs.Named.{has_name}
 
 -- What a function returned, seen by view, is what reading gives, unless memory ran out.
 abbrev pub Gives : {X Y : Type 0} → (X → Y) → Result X SchemeFault → Result Y SchemeFault → Type 0
@@ -59,9 +60,6 @@ column_at p fields = do
   high ← label_field p.labels (codes "high") fields
   if below (labels_of p) low high then Ok (record { kind = kind; low = low; high = high }) else Err EmptyInterval
 
-abbrev pub has_attribute : List Attribute → Name → Bool
-has_attribute attributes name = list_any (λ a. bytes_eq a.name name) attributes
-
 abbrev pub new_name : Bool → Result (Unit {0}) SchemeFault
 new_name taken = if taken then Err Repeated else Ok tt
 
@@ -70,18 +68,18 @@ unfoldable pub attribute_at : Policy → List Attribute → Data → Result Attr
 attribute_at p before d = do
   fields ← lift (table_at d)
   name ← name_field (codes "name") fields
-  new ← new_name (has_attribute before name)
+  new ← new_name (has_name before name)
   column ← column_at p fields
-  Ok (record { name = name; kind = column.kind; low = column.low; high = column.high })
+  Ok (name, column)
 
 -- the interval of the first key attribute, where there is one
 abbrev pub has_key_interval : List Attribute → Column → Bool
 has_key_interval [] c = true
-has_key_interval (k ∷ ks) c = nat_eq k.low c.low && nat_eq k.high c.high
+has_key_interval (k ∷ ks) c = nat_eq k.1.low c.low && nat_eq k.1.high c.high
 
 -- a key attribute after those before
 unfoldable pub key_at : Policy → List Attribute → Data → Result Attribute SchemeFault
-key_at p before d = attribute_at p before d >>= λ a. if has_key_interval before (column_of a) then Ok a else Err KeyIntervals
+key_at p before d = attribute_at p before d >>= λ a. if has_key_interval before a.1 then Ok a else Err KeyIntervals
 
 -- an attribute outside the key, after the key and those before
 unfoldable pub other_at : Policy → List Attribute → List Attribute → Data → Result Attribute SchemeFault

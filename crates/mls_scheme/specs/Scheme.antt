@@ -1,20 +1,16 @@
 -- Multilevel schemes (Jajodia and Sandhu 1991): relations, their attributes and the intervals of these.
-use Rattle.std.specs.Prelude.{◌≡◌, true, ℕ, ◌<◌, ◌≤◌, List, [], ◌++◌, map, length, slice_index_or, String, string_bytes}
+use Rattle.std.specs.Prelude.{◌≡◌, true, ℕ, ◌<◌, ◌≤◌, List, [], ◌++◌, map, length, slice_index_or}
 use Rattle.std.specs.List.{AllByRecursion, IsDistinct}
 use Rattle.std.specs.Str.{bytes_eq}
 use Rattle.mls_lattice.specs.Labels.{Labels, below}
 use Rattle.mls_lattice.specs.Name.{is_name}
 use Rattle.mls_lattice.specs.Policy.{Name, AreNames}
-use Rattle.mls_scheme.specs.declared.value.Kind.{Kind}
 use Rattle.mls_scheme.specs.declared.value.Kind.TheVariants.{Int}
 use Rattle.mls_scheme.specs.declared.attributes.Column.{Column}
 
--- low and high are numbers of labels
-pub record Attribute : Type 0 where
-  pub name : Name
-  pub kind : Kind
-  pub low : ℕ
-  pub high : ℕ
+-- a name, and what is said beside it
+abbrev pub Attribute : Type 0
+Attribute = Name × Column
 
 -- a relation: its name, its key attributes and the others
 pub record Scheme : Type 0 where
@@ -31,25 +27,18 @@ no_scheme = record { name = []; keys = []; others = [] }
 
 -- a relation by its number
 abbrev pub scheme_of : Schemes → ℕ → Scheme
-scheme_of schemes rel = slice_index_or schemes rel no_scheme
+scheme_of schemes relation = slice_index_or schemes relation no_scheme
 
 abbrev pub no_attribute : Attribute
-no_attribute = record { name = []; kind = Int; low = 0; high = 0 }
+no_attribute = ([], record { kind = Int; low = 0; high = 0 })
 
 -- an attribute outside the key, by its number
 abbrev pub other_of : Scheme → ℕ → Attribute
 other_of scheme i = slice_index_or scheme.others i no_attribute
 
--- ---- what is kept of an attribute beside its name
-
+-- what is said of an attribute beside its name
 abbrev pub column_of : Attribute → Column
-column_of a = record { kind = a.kind; low = a.low; high = a.high }
-
-abbrev pub attribute_named : Name → Column → Attribute
-attribute_named name c = record { name = name; kind = c.kind; low = c.low; high = c.high }
-
-abbrev pub attribute_of : {Z : Type 0} → String Z × Column → Attribute
-attribute_of e = attribute_named (string_bytes e.0) e.1
+column_of a = a.1
 
 -- ---- what holds of all schemes
 
@@ -58,7 +47,7 @@ abbrev pub first_key : Scheme → Attribute
 first_key scheme = slice_index_or scheme.keys 0 no_attribute
 
 abbrev pub HasInterval : Attribute → Attribute → Type 0
-HasInterval a b = (b.low ≡ a.low) × (b.high ≡ a.high)
+HasInterval a b = (b.1.low ≡ a.1.low) × (b.1.high ≡ a.1.high)
 
 -- the names are NAMEs, and no attribute has that of another
 pub record IsScheme (scheme : Scheme) : Type 0 where
@@ -66,8 +55,8 @@ pub record IsScheme (scheme : Scheme) : Type 0 where
   pub some_key : 0 < length scheme.keys
   pub few_keys : length scheme.keys ≤ 4
   pub few_others : length scheme.others ≤ 15
-  pub names : AreNames (map (λ a. a.name) (scheme.keys ++ scheme.others))
-  pub distinct : IsDistinct bytes_eq (map (λ a. a.name) (scheme.keys ++ scheme.others))
+  pub names : AreNames (map (λ a. a.0) (scheme.keys ++ scheme.others))
+  pub distinct : IsDistinct bytes_eq (map (λ a. a.0) (scheme.keys ++ scheme.others))
   pub one_interval : AllByRecursion (HasInterval (first_key scheme)) scheme.keys
 
 pub record AreSchemes (schemes : Schemes) : Type 0 where
@@ -78,8 +67,8 @@ pub record AreSchemes (schemes : Schemes) : Type 0 where
 
 -- low and high are numbers of count labels
 pub record IsAmongLabels (count : ℕ) (a : Attribute) : Type 0 where
-  pub low : a.low < count
-  pub high : a.high < count
+  pub low : a.1.low < count
+  pub high : a.1.high < count
 
 pub record IsUnder (count : ℕ) (scheme : Scheme) : Type 0 where
   pub keys : AllByRecursion (IsAmongLabels count) scheme.keys
@@ -91,8 +80,8 @@ AreUnder count = AllByRecursion (IsUnder count)
 
 -- no attribute has an empty interval
 pub record HasIntervals (ls : Labels) (scheme : Scheme) : Type 0 where
-  pub keys : AllByRecursion (λ a. below ls a.low a.high ≡ true) scheme.keys
-  pub others : AllByRecursion (λ a. below ls a.low a.high ≡ true) scheme.others
+  pub keys : AllByRecursion (λ a. below ls a.1.low a.1.high ≡ true) scheme.keys
+  pub others : AllByRecursion (λ a. below ls a.1.low a.1.high ≡ true) scheme.others
 
 abbrev pub HaveIntervals : Labels → Schemes → Type 0
 HaveIntervals ls = AllByRecursion (HasIntervals ls)

@@ -1,7 +1,7 @@
 //! The canonical text.
 ghost use Rattle.std.specs.Prelude.{◌≡◌, ◌<◌, ◌++◌, length, string_bytes, OnOk};
 ghost use Rattle.std.specs.List.{AllByRecursion, flat_map};
-ghost use Rattle.mls_scheme.specs.Scheme.{IsAmongLabels, IsUnder, AreUnder, attribute_named};
+ghost use Rattle.mls_scheme.specs.Scheme.{IsAmongLabels, IsUnder, AreUnder};
 ghost use Rattle.mls_scheme.specs.Canon.{attribute_line, head_lines, relation_lines};
 
 use crate::attributes::{Attributes, Column};
@@ -20,7 +20,7 @@ pub(crate) fn attribute_to(
     requires low { column.low < length policy.now.labels }
     requires high { column.high < length policy.now.labels }
     ensures { OnOk result (string_bytes text.new ≡ string_bytes text.old
-        ++ attribute_line policy.now word.now (attribute_named name.now column)) }
+        ++ attribute_line policy.now word.now (name.now, column)) }
 {
     let kind = column.kind.word();
     let low = policy.name(column.low);
@@ -46,7 +46,7 @@ fn attributes_to(
             policy,
             word,
             attributes.name(place),
-            attributes.get(place),
+            *attributes.get(place),
         )?;
     }
     Ok(())

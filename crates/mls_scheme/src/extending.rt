@@ -50,7 +50,7 @@ fn attributes_before<'a>(
     for place in 0..attributes.len() {
         let name = attributes.name(place);
         let mut line = String::new(alloc);
-        attribute_to(&mut line, policy, "attribute", name, attributes.get(place))?;
+        attribute_to(&mut line, policy, "attribute", name, *attributes.get(place))?;
         match after_line(rest, &line) {
             Some(after) => rest = after,
             None => return Ok((place, rest)),
@@ -85,7 +85,7 @@ fn all_contain(
     ensures { (result ≡ true) ↔ AllByRecursion (Contains (labels_of policy.now) low high) (drop count attributes.now) }
 {
     for place in count..attributes.len() {
-        if !contains(policy, attributes.get(place), low, high) {
+        if !contains(policy, *attributes.get(place), low, high) {
             return false;
         }
     }

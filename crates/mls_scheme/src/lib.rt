@@ -16,12 +16,14 @@ mod fits;
 mod key_fault;
 mod key_reading;
 mod key_writing;
+mod named;
 mod number;
 mod place;
 mod reading;
 mod scheme;
 mod tuple;
 mod value;
+mod write;
 
 pub use attributes::{Attributes, Column};
 pub use fault::SchemeFault;
@@ -30,11 +32,13 @@ pub use fits::{fits_kind, in_interval};
 pub use key_fault::KeyFault;
 pub use key_reading::{key_of, value_of};
 pub use key_writing::{key_bytes, value_bytes};
+pub use named::Named;
 pub use number::RelNo;
 pub use place::Place;
 pub use scheme::{Scheme, Schemes};
-pub use tuple::{Element, Tuple, same_elements, tuple_class};
+pub use tuple::{Element, Tuple, tuple_class};
 pub use value::{Kind, Value, copy_key, order_keys, same_key};
+pub use write::Write;
 
 /// The orders of values and of places are total, and only equal ones tie.
 pub fn places_are_ordered()

@@ -1,8 +1,8 @@
 //! Schemes from the tables of a document.
 ghost use Rattle.std.specs.Prelude.{◌≡◌, ◌++◌, [], false, IfOk, string_bytes};
 ghost use Rattle.toml.specs.View.{view, items_view, table_view};
-ghost use Rattle.mls_scheme.specs.Scheme.{attribute_of};
-ghost use Rattle.mls_scheme.specs.Reading.{Gives, column_at, attribute_at, has_attribute, has_key_interval, key_at, other_at, gather, attributes_at, has_relation, scheme_at, schemes_at};
+ghost use Rattle.mls_scheme.specs.Named.{item_of, has_name};
+ghost use Rattle.mls_scheme.specs.Reading.{Gives, column_at, attribute_at, has_key_interval, key_at, other_at, gather, attributes_at, has_relation, scheme_at, schemes_at};
 
 use crate::attributes::{Attributes, Column};
 use crate::fault::SchemeFault;
@@ -32,9 +32,9 @@ fn column_of(policy: &Policy, fields: &Table, at: &mut Trail) -> Result<Column, 
 }
 
 /// Whether a name is taken by an attribute.
-#[tactic(auto, using(crate::proofs::AttributeLemmas::name_steps))]
+#[tactic(auto, using(crate::proofs::NamedLemmas::name_steps))]
 fn is_taken(keys: &Attributes, others: &Attributes, name: &str) -> bool
-    ensures { result ≡ has_attribute (keys.now ++ others.now) name.now }
+    ensures { result ≡ has_name (keys.now ++ others.now) name.now }
 {
     keys.has(name) || others.has(name)
 }
@@ -48,8 +48,8 @@ fn read_attribute(
     value: &Value,
     at: &mut Trail,
 ) -> Result<(String, Column), SchemeFault>
-    ensures reads { Gives attribute_of result (attribute_at policy.now (keys.now ++ others.now) (view value.now)) }
-    ensures fresh { IfOk result (λ a. has_attribute (keys.now ++ others.now) (string_bytes a.0) ≡ false) }
+    ensures reads { Gives item_of result (attribute_at policy.now (keys.now ++ others.now) (view value.now)) }
+    ensures fresh { IfOk result (λ a. has_name (keys.now ++ others.now) (string_bytes a.0) ≡ false) }
 {
     let fields = fields_of(value)?;
     let name = name_field(fields, at.field(2, "name"))?;
@@ -79,8 +79,8 @@ fn read_key_attribute(
     value: &Value,
     at: &mut Trail,
 ) -> Result<(String, Column), SchemeFault>
-    ensures reads { Gives attribute_of result (key_at policy.now keys.now (view value.now)) }
-    ensures fresh { IfOk result (λ a. has_attribute keys.now (string_bytes a.0) ≡ false) }
+    ensures reads { Gives item_of result (key_at policy.now keys.now (view value.now)) }
+    ensures fresh { IfOk result (λ a. has_name keys.now (string_bytes a.0) ≡ false) }
 {
     let none = Attributes::new(alloc);
     let attribute = read_attribute(alloc, policy, &none, keys, value, at)?;
@@ -92,7 +92,7 @@ fn read_key_attribute(
     }
 }
 
-#[tactic(auto, using(crate::proofs::AttributeLemmas::name_steps), unfolding(crate::specs::Reading::other_at))]
+#[tactic(auto, using(crate::proofs::NamedLemmas::name_steps), unfolding(crate::specs::Reading::other_at))]
 fn read_other_attribute(
     alloc: Global,
     policy: &Policy,
@@ -101,8 +101,8 @@ fn read_other_attribute(
     value: &Value,
     at: &mut Trail,
 ) -> Result<(String, Column), SchemeFault>
-    ensures reads { Gives attribute_of result (other_at policy.now keys.now others.now (view value.now)) }
-    ensures fresh { IfOk result (λ a. has_attribute others.now (string_bytes a.0) ≡ false) }
+    ensures reads { Gives item_of result (other_at policy.now keys.now others.now (view value.now)) }
+    ensures fresh { IfOk result (λ a. has_name others.now (string_bytes a.0) ≡ false) }
 {
     read_attribute(alloc, policy, keys, others, value, at)
 }
@@ -121,7 +121,7 @@ fn read_key_attributes(
     for value in items {
         at.next(1);
         let attribute = read_key_attribute(alloc, policy, &keys, value, at)?;
-        keys.push(attribute)?;
+        keys.push(attribute.0, attribute.1)?;
     }
     Ok(keys)
 }
@@ -141,7 +141,7 @@ fn read_other_attributes(
     for value in items {
         at.next(1);
         let attribute = read_other_attribute(alloc, policy, keys, &others, value, at)?;
-        others.push(attribute)?;
+        others.push(attribute.0, attribute.1)?;
     }
     Ok(others)
 }

@@ -5,7 +5,7 @@ ghost use Rattle.std.specs.Str.{bytes_eq};
 ghost use Rattle.mls_scheme.specs.Scheme.{Scheme as Relation, scheme_of, IsScheme, AreSchemes, AreUnder};
 ghost use Rattle.mls_scheme.specs.Extending.{scheme_before, schemes_before, Extends};
 
-use crate::attributes::Attributes;
+use crate::attributes::{Attributes, first_of};
 use crate::extending::{after_first, relations_before};
 use crate::number::RelNo;
 use mls_lattice::{Items, Policy, Str};
@@ -68,8 +68,8 @@ impl Scheme {
     {
         let name = Str::copy_of(alloc, self.name())?;
         let keys = self.keys();
-        let keys = keys.first(alloc, keys.len())?;
-        let others = self.others().first(alloc, count)?;
+        let keys = first_of(alloc, keys, keys.len())?;
+        let others = first_of(alloc, self.others(), count)?;
         Ok(Scheme::new(name, keys, others))
     }
 }
@@ -119,7 +119,7 @@ impl Schemes {
     /// The number of the relation of a name.
     pub fn relation(&self, name: &str) -> Option<RelNo>
         ensures exact { result ≡ position (λ s. bytes_eq s.name name.now) self.now }
-        ensures within { IfSome result (λ rel. rel < length self.now) }
+        ensures within { IfSome result (λ relation. relation < length self.now) }
     {
         match position_of(&self.relations, name) {
             Some(place) => Some(RelNo::new(place as u8)),
@@ -128,12 +128,12 @@ impl Schemes {
     }
 
     /// A relation by its number.
-    pub fn scheme(&self, rel: RelNo) -> &Scheme
-        requires { rel < length self.now }
-        ensures row { result.now ≡ scheme_of self.now rel }
+    pub fn scheme(&self, relation: RelNo) -> &Scheme
+        requires { relation < length self.now }
+        ensures row { result.now ≡ scheme_of self.now relation }
         ensures valid { IsScheme result.now }
     {
-        let scheme = &self.relations[rel.index()];
+        let scheme = &self.relations[relation.index()];
         // for what holds of each scheme
         let _keys = scheme.keys();
         scheme

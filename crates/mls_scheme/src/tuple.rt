@@ -69,7 +69,7 @@ impl Tuple {
 }
 
 /// Whether two lists of elements are the same.
-pub fn same_elements(left: &[Element], right: &[Element]) -> bool
+fn same_elements(left: &[Element], right: &[Element]) -> bool
     ensures { IsTrue result ↔ (left.now ≡ right.now) }
 {
     left == right

@@ -163,13 +163,13 @@ kinds_again (a ∷ as') (v ∷ vs) places end h = rw h.0 (kinds_again as' vs (dr
 -- ---- new values
 
 abbrev IsSetting : Scheme → ℕ × Option Value → Setting → Type 0
-IsSetting scheme y s = (s.name ≡ (other_of scheme y.0).name) × (s.value ≡ y.1)
+IsSetting scheme y s = (s.name ≡ (other_of scheme y.0).0) × (s.value ≡ y.1)
 
-pub setting_read : (scheme : Scheme) (y : ℕ × Option Value) (us : List Token) (l : Left) → is_name (other_of scheme y.0).name ≡ true → without_places l.placed ≡ set_tokens scheme y ++ us → Gets (pass_setting l) l (IsSetting scheme y) us
+pub setting_read : (scheme : Scheme) (y : ℕ × Option Value) (us : List Token) (l : Left) → is_name (other_of scheme y.0).0 ≡ true → without_places l.placed ≡ set_tokens scheme y ++ us → Gets (pass_setting l) l (IsSetting scheme y) us
 unfolding pass_setting
 setting_read scheme y us l named e =
     gets_more (λ n. pass (is_sign Equals) n.1 >>= λ q. pass_value q.1 >>= λ v. done (record { name = n.0.0; name_at = n.0.1; value = v.0.0; value_at = v.0.1 }) v.1)
-    (name_gets (other_of scheme y.0).name (Sign Equals ∷ value_token y.1 ∷ us) l named e)
+    (name_gets (other_of scheme y.0).0 (Sign Equals ∷ value_token y.1 ∷ us) l named e)
     (λ n m same t. gets_more (λ q. pass_value q.1 >>= λ v. done (record { name = n.0; name_at = n.1; value = v.0.0; value_at = v.0.1 }) v.1) (sign_gets Equals (value_token y.1 ∷ us) m t)
     (λ q m2 h t2. gets_more (λ v. done (record { name = n.0; name_at = n.1; value = v.0.0; value_at = v.0.1 }) v.1) (value_read y.1 us m2 t2)
     (λ v m3 equal t3. gets_done (record { name = n.0; name_at = n.1; value = v.0; value_at = v.1 }) m3 (IsSetting scheme y) us (same, equal) t3)))
@@ -184,15 +184,15 @@ fresh (m ∷ ms) ns n h =
     rw (flipped m n apart.0) (fresh ms ns n (IsDistinct-tail nat_eq m (ms ++ n ∷ ns) h))
 
 set_again : (scheme : Scheme) → IsScheme scheme → (front : Sets) (y : ℕ × Option Value) (s : Setting) → IsSetting scheme y s → y.0 < length scheme.others → list_any (nat_eq y.0) (map (λ x. x.0) front) ≡ false
-    → fits_kind y.1 (other_of scheme y.0).kind ≡ true → set_at scheme front s ≡ Ok y
+    → fits_kind y.1 (other_of scheme y.0).1.kind ≡ true → set_at scheme front s ≡ Ok y
 unfolding set_at place_at
 set_again scheme valid front y s is known new kind =
-    let found : position (λ a. bytes_eq a.name s.name) scheme.others ≡ Some y.0 = ap (λ (x : Name). position (λ a. bytes_eq a.name x) scheme.others) is.0 ∙ other_again scheme valid y.0 known in
-    let fits : fits_kind s.value (other_of scheme y.0).kind ≡ true = ap (λ (x : Option Value). fits_kind x (other_of scheme y.0).kind) is.1 ∙ kind in
+    let found : position (λ a. bytes_eq a.0 s.name) scheme.others ≡ Some y.0 = ap (λ (x : Name). position (λ a. bytes_eq a.0 x) scheme.others) is.0 ∙ other_again scheme valid y.0 known in
+    let fits : fits_kind s.value (other_of scheme y.0).1.kind ≡ true = ap (λ (x : Option Value). fits_kind x (other_of scheme y.0).1.kind) is.1 ∙ kind in
     rw (found, new, fits) (ap (λ (x : Option Value). Ok (y.0, x)) is.1)
 
 sets_again : (scheme : Scheme) → IsScheme scheme → (ys : Sets) (ss : List Setting) (front : Sets) → AllZip (IsSetting scheme) ys ss → AllByRecursion (λ y. y.0 < length scheme.others) ys
-    → IsDistinct nat_eq (map (λ y. y.0) (front ++ ys)) → AllByRecursion (λ y. fits_kind y.1 (other_of scheme y.0).kind ≡ true) ys → pushed (push_set (Some scheme)) (Ok front) ss ≡ Ok (front ++ ys)
+    → IsDistinct nat_eq (map (λ y. y.0) (front ++ ys)) → AllByRecursion (λ y. fits_kind y.1 (other_of scheme y.0).1.kind ≡ true) ys → pushed (push_set (Some scheme)) (Ok front) ss ≡ Ok (front ++ ys)
 sets_again scheme valid [] [] front h known distinct kinds = ap (λ (x : Sets). Ok x) (sym (append-nil front))
 sets_again scheme valid [] (s ∷ ss) front h known distinct kinds = absurd h
 sets_again scheme valid (y ∷ ys) [] front h known distinct kinds = absurd h
@@ -204,7 +204,7 @@ sets_again scheme valid (y ∷ ys) (s ∷ ss) front h known distinct kinds =
     ∙ sets_again scheme valid ys ss (front ++ y ∷ []) h.1 known.1 (subst (λ (x : Sets). IsDistinct nat_eq (map (λ y. y.0) x)) (sym moved) distinct) kinds.1
     ∙ ap (λ (x : Sets). Ok x) moved
 
-names_good : (scheme : Scheme) → IsScheme scheme → (ys : Sets) → AllByRecursion (λ y. y.0 < length scheme.others) ys → AllByRecursion (λ y. is_name (other_of scheme y.0).name ≡ true) ys
+names_good : (scheme : Scheme) → IsScheme scheme → (ys : Sets) → AllByRecursion (λ y. y.0 < length scheme.others) ys → AllByRecursion (λ y. is_name (other_of scheme y.0).0 ≡ true) ys
 names_good scheme valid [] h = tt
 names_good scheme valid (y ∷ ys) h = (other_is_name scheme valid y.0 h.0, names_good scheme valid ys h.1)
 
@@ -214,5 +214,5 @@ unfolding pass_sets
 sets_read scheme valid [] us l fit end e = absurd (let some = fit.some in omega arith)
 sets_read scheme valid (y ∷ ys) us l fit end e =
     let good = names_good scheme valid (y ∷ ys) fit.known in
-    let items = all_read pass_setting (push_set (Some scheme)) (set_tokens scheme) (IsSetting scheme) (λ y. is_name (other_of scheme y.0).name ≡ true) (λ y us l named e. setting_read scheme y us l named e) ys (Ok []) l y us good.0 good.1 end e in
+    let items = all_read pass_setting (push_set (Some scheme)) (set_tokens scheme) (IsSetting scheme) (λ y. is_name (other_of scheme y.0).0 ≡ true) (λ y us l named e. setting_read scheme y us l named e) ys (Ok []) l y us good.0 good.1 end e in
     record { value = pushed (push_set (Some scheme)) (Ok []) items.values; rest = items.rest; is = items.is; holds = sets_again scheme valid (y ∷ ys) items.values [] items.alike fit.known fit.distinct fit.kinds; tokens = items.tokens; stop = items.stop }

@@ -15,8 +15,8 @@ abbrev pub misfit_from : List Attribute → List (Option Value) → List ℕ →
 misfit_from attributes values places end i = misfit (drop i attributes) (drop i values) (drop i places) end
 
 module _ (attributes : List Attribute) (values : List (Option Value)) (places : List ℕ) (end i : ℕ) (v : Option Value) (c : Column) (here : i < length attributes) (lt : i < length values) (is : v ≡ get_or values i v) (column : option_map column_of (slice_get attributes i) ≡ Some c) where
-  fits_here : fits_kind (get_or values i None) (get_or attributes i no_attribute).kind ≡ fits_kind v c.kind
-  fits_here = ap (λ (x : Option Value). fits_kind x (get_or attributes i no_attribute).kind) (get_or_default values i None v lt ∙ sym is) ∙ ap (λ (x : Column). fits_kind v x.kind) (column_there attributes i c here column)
+  fits_here : fits_kind (get_or values i None) (get_or attributes i no_attribute).1.kind ≡ fits_kind v c.kind
+  fits_here = ap (λ (x : Option Value). fits_kind x (get_or attributes i no_attribute).1.kind) (get_or_default values i None v lt ∙ sym is) ∙ ap (λ (x : Column). fits_kind v x.kind) (column_there attributes i c here column)
 
   opened : misfit_from attributes values places end i ≡ misfit (get_or attributes i no_attribute ∷ drop (i + 1) attributes) (get_or values i None ∷ drop (i + 1) values) (drop i places) end
   opened = ap (λ x. misfit x (drop i values) (drop i places) end) (drop_more attributes i no_attribute here) ∙ ap (λ x. misfit (get_or attributes i no_attribute ∷ drop (i + 1) attributes) x (drop i places) end) (drop_more values i None lt)
@@ -48,7 +48,7 @@ module _ (attributes : List Attribute) (values : List (Option Value)) (places : 
 
 pub ruleset fit_steps = (fit_more, fit_here, fit_all, fit_not)
 
-pub kind_found : (scheme : Scheme) (n : ℕ) (v : Option Value) (c : Column) → n < length scheme.others → option_map column_of (slice_get scheme.others n) ≡ Some c → fits_kind v (other_of scheme n).kind ≡ fits_kind v c.kind
+pub kind_found : (scheme : Scheme) (n : ℕ) (v : Option Value) (c : Column) → n < length scheme.others → option_map column_of (slice_get scheme.others n) ≡ Some c → fits_kind v (other_of scheme n).1.kind ≡ fits_kind v c.kind
 kind_found scheme n v c within column = ap (λ (x : Column). fits_kind v x.kind) (column_there scheme.others n c within column)
 
 pub ruleset kind_steps = (kind_found)

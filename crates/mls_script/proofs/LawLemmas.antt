@@ -75,8 +75,8 @@ module _ (policy : Policy) (schemes : Schemes) where
     fits : AllByRecursion IsToken tokens → AllByRecursion (PartFits policy schemes d) (parts_of v) → AllByRecursion IsToken (parts_tokens policy schemes d (parts_of v))
         → CommandFits policy schemes (command_of v d q)
 
-  in_relation : (d : Draft) → d.rel < length schemes → drafted_relation schemes (Ok d) ≡ Some d.rel
-  in_relation d within = rw (lt-ltb d.rel (length schemes) within) refl
+  in_relation : (d : Draft) → d.relation < length schemes → drafted_relation schemes (Ok d) ≡ Some d.relation
+  in_relation d within = rw (lt-ltb d.relation (length schemes) within) refl
 
   no_tail : (v : Verb) (d : Draft) (q : Query) (l : Left) (y : Result Query LineFault × Left)
       → ((p : Query) → TellsTail policy schemes (command_of v d p) [])
@@ -87,11 +87,11 @@ module _ (policy : Policy) (schemes : Schemes) where
       subst (TailFound v d q l) (ap (λ (z : Result Query LineFault × Left). z.1) pair)
       (record { tokens = []; passed = passed_none l; tells = λ all. none q; fits = λ all h tokens. fits q h tokens })
 
-  a_query : (v : Verb) (counts : Bool) (d : Draft) (q : Query) (l : Left) (y : Result Query LineFault × Left) → command_of v d q ≡ commands.View d.rel d.label q counts
-      → (AllByRecursion (PartFits policy schemes d) (parts_of v) → (d.rel < length schemes) × (d.label < length policy.labels)) → d.rel < length schemes
+  a_query : (v : Verb) (counts : Bool) (d : Draft) (q : Query) (l : Left) (y : Result Query LineFault × Left) → command_of v d q ≡ commands.View d.relation d.label q counts
+      → (AllByRecursion (PartFits policy schemes d) (parts_of v) → (d.relation < length schemes) × (d.label < length policy.labels)) → d.relation < length schemes
       → query_at policy schemes counts (drafted_relation schemes (Ok d)) l ≡ Ok y → y.0 ≡ Ok q → TailFound v d q l y.1
   a_query v counts d q l y same known within e was =
-      let found = query_found policy schemes d.rel counts l y q (ap (λ o. query_at policy schemes counts o l) (sym (in_relation d within)) ∙ e) was in
+      let found = query_found policy schemes d.relation counts l y q (ap (λ o. query_at policy schemes counts o l) (sym (in_relation d within)) ∙ e) was in
       record {
         tokens = found.tokens;
         passed = found.passed;
@@ -107,9 +107,9 @@ module _ (policy : Policy) (schemes : Schemes) where
   tail_found View d q l y fits e was = a_query View false d q l y refl (λ h. (h.0, h.1.0)) fits.0 e was
   tail_found Count d q l y fits e was = a_query Count true d q l y refl (λ h. (h.0, h.1.0)) fits.0 e was
   tail_found Dump d q l y fits e was = no_tail Dump d q l y (λ p. refl) (λ p h tokens. h.0) e was
-  tail_found Insert d q l y fits e was = no_tail Insert d q l y (λ p. refl) (λ p h tokens. (h.0, h.1.0, h.1.1.0)) e was
-  tail_found Update d q l y fits e was = no_tail Update d q l y (λ p. refl) (λ p h tokens. (h.0, h.1.0, h.1.1.0, h.1.1.1.0, h.1.1.1.1.0)) e was
-  tail_found Delete d q l y fits e was = no_tail Delete d q l y (λ p. refl) (λ p h tokens. (h.0, h.1.0, h.1.1.0)) e was
+  tail_found Insert d q l y fits e was = no_tail Insert d q l y (λ p. refl) (λ p h tokens. (h.0, (h.1.0, h.1.1.0))) e was
+  tail_found Update d q l y fits e was = no_tail Update d q l y (λ p. refl) (λ p h tokens. (h.0, (h.1.0, h.1.1.0, h.1.1.1.0, h.1.1.1.1.0))) e was
+  tail_found Delete d q l y fits e was = no_tail Delete d q l y (λ p. refl) (λ p h tokens. (h.0, (h.1.0, h.1.1.0))) e was
   tail_found Call d q l y fits e was = no_tail Call d q l y (λ p. refl) (λ p h tokens. (h.0, list_kinds d.values [] tokens.1)) e was
 
   -- the draft that an event is told by says the same

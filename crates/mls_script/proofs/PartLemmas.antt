@@ -51,7 +51,7 @@ misfit_found [] [] places end e = tt
 misfit_found [] (v ∷ vs) places end e = absurd cc
 misfit_found (a ∷ as') [] places end e = absurd cc
 misfit_found (a ∷ as') (v ∷ vs) places end e =
-    elim (cases_Bool (fits_kind v a.kind)) [
+    elim (cases_Bool (fits_kind v a.1.kind)) [
       | inl fits ↦ (fits, misfit_found as' vs (drop 1 places) end (rw fits at e))
       | inr other ↦ absurd (let h = rw other at e in cc)
     ]
@@ -60,18 +60,18 @@ fit_found : (l : Listed) (o : Option ℕ) (vs : List (Option Value)) → fit_or 
 fit_found l None vs e = (refl, same_ok (fit_or l None) l.values vs refl e)
 fit_found l (Some at) vs e = absurd cc
 
-scheme_found : (schemes : Schemes) (rel : ℕ) (scheme : Scheme) → slice_get schemes rel ≡ Some scheme → scheme_of schemes rel ≡ scheme
-scheme_found [] rel scheme e = absurd cc
+scheme_found : (schemes : Schemes) (relation : ℕ) (scheme : Scheme) → slice_get schemes relation ≡ Some scheme → scheme_of schemes relation ≡ scheme
+scheme_found [] relation scheme e = absurd cc
 scheme_found (s ∷ ss) zero scheme e = cc
 scheme_found (s ∷ ss) (suc n) scheme e = scheme_found ss n scheme e
 
-held_found : (schemes : Schemes) (p : Part) (rel : ℕ) (o : Option Scheme) (l : Listed) (vs : List (Option Value)) → slice_get schemes rel ≡ o → held (option_map (attributes_of p) o) l ≡ Ok vs
-    → (l.values ≡ vs) × HaveKinds (attributes_of p (scheme_of schemes rel)) vs
-held_found schemes p rel None l vs is e = absurd cc
-held_found schemes p rel (Some scheme) l vs is e =
+held_found : (schemes : Schemes) (p : Part) (relation : ℕ) (o : Option Scheme) (l : Listed) (vs : List (Option Value)) → slice_get schemes relation ≡ o → held (option_map (attributes_of p) o) l ≡ Ok vs
+    → (l.values ≡ vs) × HaveKinds (attributes_of p (scheme_of schemes relation)) vs
+held_found schemes p relation None l vs is e = absurd cc
+held_found schemes p relation (Some scheme) l vs is e =
     let f = fit_found l (misfit (attributes_of p scheme) l.values l.places l.end) vs e in
     let kinds = misfit_found (attributes_of p scheme) l.values l.places l.end f.0 in
-    (f.1, subst (λ (x : List (Option Value)). HaveKinds (attributes_of p (scheme_of schemes rel)) x) f.1 (subst (λ (s : Scheme). HaveKinds (attributes_of p s) l.values) (sym (scheme_found schemes rel scheme is)) kinds))
+    (f.1, subst (λ (x : List (Option Value)). HaveKinds (attributes_of p (scheme_of schemes relation)) x) f.1 (subst (λ (s : Scheme). HaveKinds (attributes_of p s) l.values) (sym (scheme_found schemes relation scheme is)) kinds))
 
 -- ---- new values
 
@@ -79,18 +79,18 @@ held_found schemes p rel (Some scheme) l vs is e =
 record AreSet (scheme : Scheme) (sets : Sets) : Type 0 where
   known : AllByRecursion (λ s. s.0 < length scheme.others) sets
   distinct : IsDistinct nat_eq (map (λ s. s.0) sets)
-  kinds : AllByRecursion (λ s. fits_kind s.1 (other_of scheme s.0).kind ≡ true) sets
+  kinds : AllByRecursion (λ s. fits_kind s.1 (other_of scheme s.0).1.kind ≡ true) sets
 
 set_none : (scheme : Scheme) → AreSet scheme []
 unfolding IsDistinct
 set_none scheme = record { known = tt; distinct = tt; kinds = tt }
 
 record SetFound (scheme : Scheme) (sets : Sets) (s : Setting) (x : ℕ × Option Value) : Type 0 where
-  name : (other_of scheme x.0).name ≡ s.name
+  name : (other_of scheme x.0).0 ≡ s.name
   value : x.1 ≡ s.value
   known : x.0 < length scheme.others
   new : list_any (nat_eq x.0) (map (λ y. y.0) sets) ≡ false
-  kind : fits_kind x.1 (other_of scheme x.0).kind ≡ true
+  kind : fits_kind x.1 (other_of scheme x.0).1.kind ≡ true
 
 new_found : (sets : Sets) (s : Setting) (m n : ℕ) → new_or sets s m ≡ Ok n → (list_any (nat_eq n) (map (λ y. y.0) sets) ≡ false) × (m ≡ n)
 new_found sets s m n e =
@@ -99,9 +99,9 @@ new_found sets s m n e =
       | inr fresh ↦ let same : m ≡ n = let h = rw fresh at e in cc in (subst (λ (k : ℕ). list_any (nat_eq k) (map (λ y. y.0) sets) ≡ false) same fresh, same)
     ]
 
-kind_found : (scheme : Scheme) (s : Setting) (n : ℕ) (x : ℕ × Option Value) → kind_or scheme s n ≡ Ok x → (fits_kind s.value (other_of scheme n).kind ≡ true) × ((n, s.value) ≡ x)
+kind_found : (scheme : Scheme) (s : Setting) (n : ℕ) (x : ℕ × Option Value) → kind_or scheme s n ≡ Ok x → (fits_kind s.value (other_of scheme n).1.kind ≡ true) × ((n, s.value) ≡ x)
 kind_found scheme s n x e =
-    elim (cases_Bool (fits_kind s.value (other_of scheme n).kind)) [
+    elim (cases_Bool (fits_kind s.value (other_of scheme n).1.kind)) [
       | inl fits ↦ (fits, let h = rw fits at e in cc)
       | inr other ↦ absurd (let h = rw other at e in cc)
     ]
@@ -110,13 +110,13 @@ set_found : (scheme : Scheme) (sets : Sets) (s : Setting) (x : ℕ × Option Val
 unfolding set_at place_at
 set_found scheme sets s x e =
     let place = bind_ok (place_at scheme sets s) (λ n. kind_or scheme s n) x e in
-    let found = bind_ok (known_or s.name_at (position (λ a. bytes_eq a.name s.name) scheme.others)) (λ n. new_or sets s n) place.0 place.1 in
+    let found = bind_ok (known_or s.name_at (position (λ a. bytes_eq a.0 s.name) scheme.others)) (λ n. new_or sets s n) place.0 place.1 in
     let new = new_found sets s found.0 place.0 found.2 in
-    let at = position-Some (λ a. bytes_eq a.name s.name) scheme.others found.0 no_attribute (known_found s.name_at _ found.0 found.1) in
-    let name = (bytes_eq-Decides (other_of scheme found.0).name s.name).0 at.1 in
+    let at = position-Some (λ a. bytes_eq a.0 s.name) scheme.others found.0 no_attribute (known_found s.name_at _ found.0 found.1) in
+    let name = (bytes_eq-Decides (other_of scheme found.0).0 s.name).0 at.1 in
     let kind = kind_found scheme s place.0 x place.2 in
     subst (λ (y : ℕ × Option Value). SetFound scheme sets s y) kind.1 (record {
-      name = subst (λ (k : ℕ). (other_of scheme k).name ≡ s.name) new.1 name;
+      name = subst (λ (k : ℕ). (other_of scheme k).0 ≡ s.name) new.1 name;
       value = refl;
       known = subst (λ (k : ℕ). k < length scheme.others) new.1 at.0;
       new = new.0;
@@ -127,7 +127,7 @@ set_more : (scheme : Scheme) (sets : Sets) (s : Setting) (x : ℕ × Option Valu
 set_more scheme sets s x f h = record {
   known = all_by_recursion_push (λ y. y.0 < length scheme.others) sets x h.known f.known;
   distinct = subst (IsDistinct nat_eq) (sym (map-append (λ y. y.0) sets (x ∷ []))) (IsDistinct-push nat_eq_equiv (map (λ y. y.0) sets) x.0 h.distinct f.new);
-  kinds = all_by_recursion_push (λ y. fits_kind y.1 (other_of scheme y.0).kind ≡ true) sets x h.kinds f.kind;
+  kinds = all_by_recursion_push (λ y. fits_kind y.1 (other_of scheme y.0).1.kind ≡ true) sets x h.kinds f.kind;
 }
 
 set_said : (scheme : Scheme) (sets : Sets) (s : Setting) (x : ℕ × Option Value) → SetFound scheme sets s x → setting_tokens s ≡ set_tokens scheme x
@@ -176,12 +176,12 @@ record SetsFound (scheme : Scheme) (sets : Sets) (l r : Left) : Type 0 where
   passed : Passed (separated (set_tokens scheme) sets) l r
   fit : SetsFit scheme sets
 
-sets_found : (schemes : Schemes) (rel : ℕ) (o : Option Scheme) (l : Left) (y : Result Sets LineFault × Left) (sets : Sets) → slice_get schemes rel ≡ o → pass_sets o l ≡ Ok y → y.0 ≡ Ok sets → SetsFound (scheme_of schemes rel) sets l y.1
+sets_found : (schemes : Schemes) (relation : ℕ) (o : Option Scheme) (l : Left) (y : Result Sets LineFault × Left) (sets : Sets) → slice_get schemes relation ≡ o → pass_sets o l ≡ Ok y → y.0 ≡ Ok sets → SetsFound (scheme_of schemes relation) sets l y.1
 unfolding pass_sets
-sets_found schemes rel None l y sets is e was =
+sets_found schemes relation None l y sets is e was =
     let items = all_found pass_setting (push_set None) setting_tokens setting_found (Ok []) l y e in
     absurd (let h = sym (err_pushed None _ items.tail) ∙ items.whole ∙ was in cc)
-sets_found schemes rel (Some scheme) l y sets is e was =
+sets_found schemes relation (Some scheme) l y sets is e was =
     let items = all_found pass_setting (push_set (Some scheme)) setting_tokens setting_found (Ok []) l y e in
     let more = sets_more scheme (items.head ∷ items.tail) (Ok []) sets (items.whole ∙ was) in
     let none : [] ≡ more.front = let h = more.was in cc in
@@ -189,7 +189,7 @@ sets_found schemes rel (Some scheme) l y sets is e was =
     let said : separated setting_tokens (items.head ∷ items.tail) ≡ separated (set_tokens scheme) sets =
     separated_is setting_tokens (items.head ∷ items.tail) ∙ ap (separated (λ (ts : List Token). ts)) (more.said ∙ ap (map (set_tokens scheme)) (sym whole)) ∙ sym (separated_is (set_tokens scheme) sets) in
     let set = more.fit (subst (AreSet scheme) none (set_none scheme)) in
-    subst (λ (s : Scheme). SetsFound s sets l y.1) (sym (scheme_found schemes rel scheme is)) (record {
+    subst (λ (s : Scheme). SetsFound s sets l y.1) (sym (scheme_found schemes relation scheme is)) (record {
       passed = subst (λ ts. Passed ts l y.1) said items.passed;
       fit = record { some = some more.new sets items.head items.tail whole more.said; known = set.known; distinct = set.distinct; kinds = set.kinds };
     })
@@ -224,7 +224,7 @@ upto k d = record {
   level = if nat_lt 0 k then d.level else 0;
   session = if nat_lt 1 k then d.session else [];
   name = if nat_lt 2 k then d.name else [];
-  rel = if nat_lt 3 k then d.rel else 0;
+  relation = if nat_lt 3 k then d.relation else 0;
   key = if nat_lt 4 k then d.key else [];
   values = if nat_lt 5 k then d.values else [];
   label = if nat_lt 6 k then d.label else 0;
@@ -244,7 +244,7 @@ narrowed j k d le = λ i. record {
   level = nested 0 j k d.level 0 le i;
   session = nested 1 j k d.session [] le i;
   name = nested 2 j k d.name [] le i;
-  rel = nested 3 j k d.rel 0 le i;
+  relation = nested 3 j k d.relation 0 le i;
   key = nested 4 j k d.key [] le i;
   values = nested 5 j k d.values [] le i;
   label = nested 6 j k d.label 0 le i;
@@ -262,14 +262,14 @@ module _ (policy : Policy) (schemes : Schemes) where
   PartFits d Level = d.level < length policy.labels
   PartFits d Session = is_name d.session ≡ true
   PartFits d Named = is_name d.name ≡ true
-  PartFits d Relation = d.rel < length schemes
-  PartFits d Key = HaveKinds (scheme_of schemes d.rel).keys d.key
-  PartFits d Values = HaveKinds (scheme_of schemes d.rel).others d.values
+  PartFits d Relation = d.relation < length schemes
+  PartFits d Key = HaveKinds (scheme_of schemes d.relation).keys d.key
+  PartFits d Values = HaveKinds (scheme_of schemes d.relation).others d.values
   PartFits d Arguments = ⊤
   PartFits d At = d.label < length policy.labels
   PartFits d Class = d.label < length policy.labels
   PartFits d From = d.from < length policy.labels
-  PartFits d Settings = SetsFit (scheme_of schemes d.rel) d.sets
+  PartFits d Settings = SetsFit (scheme_of schemes d.relation) d.sets
 
   -- what a part says depends on the fields up to its own
   abbrev Says : Part → Draft → Left → Left → Type 0
@@ -350,26 +350,26 @@ module _ (policy : Policy) (schemes : Schemes) where
   found_relation looked l y d e was =
       let n = bind_ok (pass_name l) (λ n. Ok (with_relation looked (relation_named schemes n.0), n.1)) y e in
       let pair = same_ok (relation_at schemes looked l) (with_relation looked (relation_named schemes n.0.0), n.0.1) y (ap (λ r. r >>= λ n. Ok (with_relation looked (relation_named schemes n.0), n.1)) n.1) e in
-      let front = bind_ok looked (λ d. relation_named schemes n.0.0 >>= λ m. Ok (record d { rel = m })) d (ap (λ (z : Looked × Left). z.0) pair ∙ was) in
-      let m = bind_ok (relation_named schemes n.0.0) (λ m. Ok (record front.0 { rel = m })) d front.2 in
-      let done : Looked = Ok (record front.0 { rel = m.0 }) in
-      let same : record front.0 { rel = m.0 } ≡ d = same_ok done (record front.0 { rel = m.0 }) d refl m.2 in
-      let rel = relation_found schemes n.0.0.0 m.0 (known_found n.0.0.1 _ m.0 m.1) in
-      let passed : Passed (Word (relation_name schemes m.0) ∷ []) l y.1 = subst (λ (s : Name). Passed (Word s ∷ []) l y.1) (sym rel.1) (subst (λ (z : Looked × Left). Passed (Word n.0.0.0 ∷ []) l z.1) pair (name_found l n.0 n.1).passed) in
-      record { front = front.0; was = front.1; kept = ap (upto 3) same; says = subst (λ x. Says Relation x l y.1) same (rel.0, passed) }
+      let front = bind_ok looked (λ d. relation_named schemes n.0.0 >>= λ m. Ok (record d { relation = m })) d (ap (λ (z : Looked × Left). z.0) pair ∙ was) in
+      let m = bind_ok (relation_named schemes n.0.0) (λ m. Ok (record front.0 { relation = m })) d front.2 in
+      let done : Looked = Ok (record front.0 { relation = m.0 }) in
+      let same : record front.0 { relation = m.0 } ≡ d = same_ok done (record front.0 { relation = m.0 }) d refl m.2 in
+      let relation = relation_found schemes n.0.0.0 m.0 (known_found n.0.0.1 _ m.0 m.1) in
+      let passed : Passed (Word (relation_name schemes m.0) ∷ []) l y.1 = subst (λ (s : Name). Passed (Word s ∷ []) l y.1) (sym relation.1) (subst (λ (z : Looked × Left). Passed (Word n.0.0.0 ∷ []) l z.1) pair (name_found l n.0 n.1).passed) in
+      record { front = front.0; was = front.1; kept = ap (upto 3) same; says = subst (λ x. Says Relation x l y.1) same (relation.0, passed) }
 
   found_list : (p : Part) (looked : Looked) (l : Left) (y : Looked × Left) (d : Draft)
       → ((e : Draft) (vs : List (Option Value)) → upto (rank p) e ≡ upto (rank p) (put_values p e vs))
-      → ((e : Draft) (vs : List (Option Value)) (r : Left) → HaveKinds (attributes_of p (scheme_of schemes e.rel)) vs → Passed (list_tokens vs) l r → Says p (put_values p e vs) l r)
+      → ((e : Draft) (vs : List (Option Value)) (r : Left) → HaveKinds (attributes_of p (scheme_of schemes e.relation)) vs → Passed (list_tokens vs) l r → Says p (put_values p e vs) l r)
       → list_at schemes p looked l ≡ Ok y → y.0 ≡ Ok d → ContentFound p looked d l y.1
   found_list p looked l y d kept says e was =
       let vs = bind_ok (pass_list l) (λ vs. Ok (with_values schemes p looked vs.0, vs.1)) y e in
       let pair = same_ok (list_at schemes p looked l) (with_values schemes p looked vs.0.0, vs.0.1) y (ap (λ r. r >>= λ vs. Ok (with_values schemes p looked vs.0, vs.1)) vs.1) e in
-      let front = bind_ok looked (λ d. held (option_map (attributes_of p) (slice_get schemes d.rel)) vs.0.0 >>= λ ws. Ok (put_values p d ws)) d (ap (λ (z : Looked × Left). z.0) pair ∙ was) in
-      let ws = bind_ok (held (option_map (attributes_of p) (slice_get schemes front.0.rel)) vs.0.0) (λ ws. Ok (put_values p front.0 ws)) d front.2 in
+      let front = bind_ok looked (λ d. held (option_map (attributes_of p) (slice_get schemes d.relation)) vs.0.0 >>= λ ws. Ok (put_values p d ws)) d (ap (λ (z : Looked × Left). z.0) pair ∙ was) in
+      let ws = bind_ok (held (option_map (attributes_of p) (slice_get schemes front.0.relation)) vs.0.0) (λ ws. Ok (put_values p front.0 ws)) d front.2 in
       let done : Looked = Ok (put_values p front.0 ws.0) in
       let same : put_values p front.0 ws.0 ≡ d = same_ok done (put_values p front.0 ws.0) d refl ws.2 in
-      let fit = held_found schemes p front.0.rel (slice_get schemes front.0.rel) vs.0.0 ws.0 refl ws.1 in
+      let fit = held_found schemes p front.0.relation (slice_get schemes front.0.relation) vs.0.0 ws.0 refl ws.1 in
       let passed : Passed (list_tokens ws.0) l y.1 = subst (λ (x : List (Option Value)). Passed (list_tokens x) l y.1) fit.0 (subst (λ (z : Looked × Left). Passed (list_tokens vs.0.0.values) l z.1) pair (list_found l vs.0 vs.1)) in
       record {
         front = front.0;
@@ -395,18 +395,18 @@ module _ (policy : Policy) (schemes : Schemes) where
       let pair = same_ok done (with_sets (Err f) s.0.0, s.0.1) y refl s.2 in
       absurd (let h : with_sets (Err f) s.0.0 ≡ Ok d = ap (λ (z : Looked × Left). z.0) pair ∙ was in cc)
   found_sets (Ok front) l y d e was =
-      let s = bind_ok (pass_sets (slice_get schemes front.rel) l) (λ s. Ok (with_sets (Ok front) s.0, s.1)) y e in
+      let s = bind_ok (pass_sets (slice_get schemes front.relation) l) (λ s. Ok (with_sets (Ok front) s.0, s.1)) y e in
       let done : Result (Looked × Left) TokenFault = Ok (with_sets (Ok front) s.0.0, s.0.1) in
       let pair = same_ok done (with_sets (Ok front) s.0.0, s.0.1) y refl s.2 in
       let sets = bind_ok s.0.0 (λ x. Ok (record front { sets = x })) d (ap (λ (z : Looked × Left). z.0) pair ∙ was) in
       let put : Looked = Ok (record front { sets = sets.0 }) in
       let same : record front { sets = sets.0 } ≡ d = same_ok put (record front { sets = sets.0 }) d refl sets.2 in
-      let found = sets_found schemes front.rel (slice_get schemes front.rel) l s.0 sets.0 refl s.1 sets.1 in
+      let found = sets_found schemes front.relation (slice_get schemes front.relation) l s.0 sets.0 refl s.1 sets.1 in
       record {
         front = front;
         was = refl;
         kept = ap (upto 8) same;
-        says = subst (λ x. Says Settings x l y.1) same (found.fit, subst (λ (z : Looked × Left). Passed (separated (set_tokens (scheme_of schemes front.rel)) sets.0) l z.1) pair found.passed);
+        says = subst (λ x. Says Settings x l y.1) same (found.fit, subst (λ (z : Looked × Left). Passed (separated (set_tokens (scheme_of schemes front.relation)) sets.0) l z.1) pair found.passed);
       }
 
   content_found : (p : Part) (looked : Looked) (l : Left) (y : Looked × Left) (d : Draft) → content_at policy schemes p looked l ≡ Ok y → y.0 ≡ Ok d → ContentFound p looked d l y.1

@@ -116,28 +116,28 @@ first_read false (Some n) us l whole off e =
 
 -- ---- the condition
 
-module _ (policy : Policy) (schemes : Schemes) (rel : ℕ) where
-  where_read : IsPolicy policy → AreSchemes schemes → rel < length schemes → (t : Option core.Expr) (ts : List Token) (l : Left) → TellsTest policy schemes rel t ts → without_places l.placed ≡ ts
-      → Gets (where_at policy schemes (Some rel) l) l (λ x. x ≡ Ok t) []
+module _ (policy : Policy) (schemes : Schemes) (relation : ℕ) where
+  where_read : IsPolicy policy → AreSchemes schemes → relation < length schemes → (t : Option core.Expr) (ts : List Token) (l : Left) → TellsTest policy schemes relation t ts → without_places l.placed ≡ ts
+      → Gets (where_at policy schemes (Some relation) l) l (λ x. x ≡ Ok t) []
   unfolding where_at
   where_read is_policy valid within None ts l tells e =
-      gets_is (where_behind policy schemes (Some rel) l (taken (is_word (codes "where")) l)) (done (Ok None) l) l (λ x. x ≡ Ok None) []
-      (ap (where_behind policy schemes (Some rel) l) (not_taken (is_word (codes "where")) [] l tt (e ∙ tells)))
+      gets_is (where_behind policy schemes (Some relation) l (taken (is_word (codes "where")) l)) (done (Ok None) l) l (λ x. x ≡ Ok None) []
+      (ap (where_behind policy schemes (Some relation) l) (not_taken (is_word (codes "where")) [] l tt (e ∙ tells)))
       (gets_done (Ok None) l (λ x. x ≡ Ok None) [] refl (e ∙ tells))
   where_read is_policy valid within (Some test) ts l tells e =
       let word = took_word (codes "where") tells.condition l (e ∙ tells.tokens) in
-      let read = conditions_are_read policy schemes is_policy valid rel word.rest test tells.condition [] within tells.tells tt (word.tokens ∙ sym (append-nil tells.condition)) in
+      let read = conditions_are_read policy schemes is_policy valid relation word.rest test tells.condition [] within tells.tells tt (word.tokens ∙ sym (append-nil tells.condition)) in
       record {
         value = Ok (Some test);
         rest = read.rest;
-        is = ap (where_behind policy schemes (Some rel) l) word.is ∙ ap (λ r. read_of r >>= λ c. Ok (test_of true c.0, c.1)) read.is;
+        is = ap (where_behind policy schemes (Some relation) l) word.is ∙ ap (λ r. read_of r >>= λ c. Ok (test_of true c.0, c.1)) read.is;
         holds = refl;
         tokens = read.tokens;
         stop = read.stop ∙ word.stop;
       }
 
   -- a condition begins with its word
-  where_next : (w : Name) (t : Option core.Expr) (ts : List Token) → bytes_eq (codes "where") w ≡ false → TellsTest policy schemes rel t ts → NotNext (is_word w) ts
+  where_next : (w : Name) (t : Option core.Expr) (ts : List Token) → bytes_eq (codes "where") w ≡ false → TellsTest policy schemes relation t ts → NotNext (is_word w) ts
   where_next w None ts off tells = subst (NotNext (is_word w)) (sym tells) tt
   where_next w (Some test) ts off tells = subst (NotNext (is_word w)) (sym tells.tokens) off
 
@@ -162,7 +162,7 @@ module _ (policy : Policy) (schemes : Schemes) (rel : ℕ) where
   first_no_comma None ts off = off
   first_no_comma (Some n) ts off = refl
 
-  test_no_comma : (t : Option core.Expr) (ts : List Token) → TellsTest policy schemes rel t ts → NotNext (is_sign Comma) ts
+  test_no_comma : (t : Option core.Expr) (ts : List Token) → TellsTest policy schemes relation t ts → NotNext (is_sign Comma) ts
   test_no_comma None ts tells = subst (NotNext (is_sign Comma)) (sym tells) tt
   test_no_comma (Some test) ts tells = subst (NotNext (is_sign Comma)) (sym tells.tokens) refl
 
@@ -170,7 +170,7 @@ module _ (policy : Policy) (schemes : Schemes) (rel : ℕ) where
   highest_no_comma true ts off = refl
   highest_no_comma false ts off = off
 
-  pub query_no_comma : (q : Query) (ts : List Token) → TellsTest policy schemes rel q.test ts
+  pub query_no_comma : (q : Query) (ts : List Token) → TellsTest policy schemes relation q.test ts
       → NotNext (is_sign Comma) (highest_tokens q.highest ++ (class_tokens policy q.class ++ (first_tokens q.first ++ ts)))
   query_no_comma q ts tells =
       highest_no_comma q.highest (class_tokens policy q.class ++ (first_tokens q.first ++ ts))
@@ -193,10 +193,10 @@ module _ (policy : Policy) (schemes : Schemes) (rel : ℕ) where
   -- what is behind the word for the highest
   abbrev behind_at : Bool → Bool × Left → Result (Result Query LineFault × Left) LineFault
   behind_at counts h =
-      form_of (class_at policy h.1) >>= λ c. form_of (first_at counts c.1) >>= λ f. where_at policy schemes (Some rel) f.1 >>= λ t. done (query_from h.0 c.0 f.0 t.0) t.1
+      form_of (class_at policy h.1) >>= λ c. form_of (first_at counts c.1) >>= λ f. where_at policy schemes (Some relation) f.1 >>= λ t. done (query_from h.0 c.0 f.0 t.0) t.1
 
-  pub query_read : IsPolicy policy → AreSchemes schemes → rel < length schemes → (counts : Bool) (q : Query) (ts : List Token) (l : Left) → QueryFits policy schemes rel q counts → TellsQuery policy schemes rel q ts → without_places l.placed ≡ ts
-      → Gets (query_at policy schemes counts (Some rel) l) l (λ x. x ≡ Ok q) []
+  pub query_read : IsPolicy policy → AreSchemes schemes → relation < length schemes → (counts : Bool) (q : Query) (ts : List Token) (l : Left) → QueryFits policy schemes relation q counts → TellsQuery policy schemes relation q ts → without_places l.placed ≡ ts
+      → Gets (query_at policy schemes counts (Some relation) l) l (λ x. x ≡ Ok q) []
   unfolding query_at
   query_read is_policy valid within counts q ts l fits tells e =
       let behind_first = tells.behind in
@@ -206,9 +206,9 @@ module _ (policy : Policy) (schemes : Schemes) (rel : ℕ) where
       highest_read q.highest behind l
       (class_next q.class behind_class (first_is_next q.first behind_first (where_next (codes "highest") q.test behind_first refl tells.test))) (e ∙ tells.tokens) in
       let more =
-      gets_more (λ c. form_of (first_at counts c.1) >>= λ f. where_at policy schemes (Some rel) f.1 >>= λ t. done (query_from q.highest c.0 f.0 t.0) t.1)
+      gets_more (λ c. form_of (first_at counts c.1) >>= λ f. where_at policy schemes (Some relation) f.1 >>= λ t. done (query_from q.highest c.0 f.0 t.0) t.1)
       (form_again (class_read policy is_policy q.class behind_class h.rest fits.class (first_next q.first behind_first (where_next (codes "class") q.test behind_first refl tells.test)) h.tokens))
-      (λ c m same t. gets_more (λ f. where_at policy schemes (Some rel) f.1 >>= λ t. done (query_from q.highest c f.0 t.0) t.1)
+      (λ c m same t. gets_more (λ f. where_at policy schemes (Some relation) f.1 >>= λ t. done (query_from q.highest c f.0 t.0) t.1)
       (form_again (first_read counts q.first behind_first m fits.whole (where_next (codes "first") q.test behind_first refl tells.test) t))
       (λ f m2 same2 t2. gets_more (λ t. done (query_from q.highest c f t.0) t.1) (where_read is_policy valid within q.test behind_first m2 tells.test t2)
       (λ test m3 same3 t3. gets_done (query_from q.highest c f test) m3 (λ x. x ≡ Ok q) []

@@ -167,48 +167,48 @@ test_found : (r : Result core.Expr PlacedFault) (t : Option core.Expr) → test_
 test_found (Ok e) t h = (e, refl, ok_is {E = LineFault} (Some e) t h)
 test_found (Err f) t h = absurd cc
 
-module _ (policy : Policy) (schemes : Schemes) (rel : ℕ) where
+module _ (policy : Policy) (schemes : Schemes) (relation : ℕ) where
   -- tokens were passed; and where they are those of a text, they tell the test, which fits
   record TestFound (l : Left) (t : Option core.Expr) (r : Left) : Type 0 where
     tokens : List Token
     passed : Passed tokens l r
-    tells : AreOfText tokens → TellsTest policy schemes rel t tokens
-    fits : AreOfText tokens → IfSome t (IsConditionOf schemes rel)
+    tells : AreOfText tokens → TellsTest policy schemes relation t tokens
+    fits : AreOfText tokens → IfSome t (IsConditionOf schemes relation)
 
-  one_test : (l m r : Left) (at : ℕ) (read : Result core.Expr PlacedFault) (t : Option core.Expr) → taken (is_word (codes "where")) l ≡ Some (at, m) → condition_at policy schemes rel m ≡ Ok (read, r)
+  one_test : (l m r : Left) (at : ℕ) (read : Result core.Expr PlacedFault) (t : Option core.Expr) → taken (is_word (codes "where")) l ≡ Some (at, m) → condition_at policy schemes relation m ≡ Ok (read, r)
       → test_of true read ≡ Ok t → TestFound l t r
   one_test l m r at read t is reads e =
       let word = word_taken (codes "where") l (at, m) is in
-      let found = condition_found policy schemes rel m (read, r) reads in
+      let found = condition_found policy schemes relation m (read, r) reads in
       let test = test_found read t e in
       let told = found.told test.0 test.1 in
       subst (λ (x : Option core.Expr). TestFound l x r) test.2 (record {
         tokens = Word (codes "where") ∷ found.tokens;
         passed = passed_more (Word (codes "where") ∷ []) found.tokens l m r word found.passed;
         tells = λ all. record { condition = found.tokens; tokens = refl; tells = told all.1 };
-        fits = λ all. told_of_row schemes rel policy test.0 found.tokens (told all.1);
+        fits = λ all. told_of_row schemes relation policy test.0 found.tokens (told all.1);
       })
 
-  where_found : (l : Left) (y : Result (Option core.Expr) LineFault × Left) (t : Option core.Expr) → where_at policy schemes (Some rel) l ≡ Ok y → y.0 ≡ Ok t → TestFound l t y.1
+  where_found : (l : Left) (y : Result (Option core.Expr) LineFault × Left) (t : Option core.Expr) → where_at policy schemes (Some relation) l ≡ Ok y → y.0 ≡ Ok t → TestFound l t y.1
   unfolding where_at
   where_found l y t e was = behind (taken (is_word (codes "where")) l) refl e
     where
-      behind : (o : Option (ℕ × Left)) → taken (is_word (codes "where")) l ≡ o → where_behind policy schemes (Some rel) l o ≡ Ok y → TestFound l t y.1
+      behind : (o : Option (ℕ × Left)) → taken (is_word (codes "where")) l ≡ o → where_behind policy schemes (Some relation) l o ≡ Ok y → TestFound l t y.1
       behind None is h =
           told (TestFound l) (Ok None) l y t h was
           (λ same. subst (λ (x : Option core.Expr). TestFound l x l) (ok_is {E = LineFault} None t same) (record { tokens = []; passed = passed_none l; tells = λ _. refl; fits = λ _. tt }))
       behind (Some x) is h =
-          let c = bind_ok (read_of (condition_at policy schemes rel x.1)) (λ c. Ok (test_of true c.0, c.1)) y h in
+          let c = bind_ok (read_of (condition_at policy schemes relation x.1)) (λ c. Ok (test_of true c.0, c.1)) y h in
           told (TestFound l) (test_of true c.0.0) c.0.1 y t c.2 was
-          (λ same. one_test l x.1 c.0.1 x.0 c.0.0 t is (read_found (condition_at policy schemes rel x.1) c.0 c.1) same)
+          (λ same. one_test l x.1 c.0.1 x.0 c.0.0 t is (read_found (condition_at policy schemes relation x.1) c.0 c.1) same)
 
   -- ---- a query
 
   pub record QueryFound (counts : Bool) (l : Left) (q : Query) (r : Left) : Type 0 where
     pub tokens : List Token
     pub passed : Passed tokens l r
-    pub tells : AreOfText tokens → TellsQuery policy schemes rel q tokens
-    pub fits : AreOfText tokens → QueryFits policy schemes rel q counts
+    pub tells : AreOfText tokens → TellsQuery policy schemes relation q tokens
+    pub fits : AreOfText tokens → QueryFits policy schemes relation q counts
 
   record PartsSaid (highest : Bool) (class : Result (Option ClassTest) LineFault) (first : Result (Option ℕ) LineFault) (test : Result (Option core.Expr) LineFault) (q : Query) : Type 0 where
     highest_is : q.highest ≡ highest
@@ -225,13 +225,13 @@ module _ (policy : Policy) (schemes : Schemes) (rel : ℕ) where
   parts_said highest (Ok c) (Err x) test q e = absurd cc
   parts_said highest (Ok c) (Ok f) (Err x) q e = absurd cc
 
-  pub query_found : (counts : Bool) (l : Left) (y : Result Query LineFault × Left) (q : Query) → query_at policy schemes counts (Some rel) l ≡ Ok y → y.0 ≡ Ok q → QueryFound counts l q y.1
+  pub query_found : (counts : Bool) (l : Left) (y : Result Query LineFault × Left) (q : Query) → query_at policy schemes counts (Some relation) l ≡ Ok y → y.0 ≡ Ok q → QueryFound counts l q y.1
   unfolding query_at
   query_found counts l y q e was =
       let h = highest_at l in
-      let c = bind_ok (form_of (class_at policy h.1)) (λ c. form_of (first_at counts c.1) >>= λ f. where_at policy schemes (Some rel) f.1 >>= λ t. Ok (query_from h.0 c.0 f.0 t.0, t.1)) y e in
-      let f = bind_ok (form_of (first_at counts c.0.1)) (λ f. where_at policy schemes (Some rel) f.1 >>= λ t. Ok (query_from h.0 c.0.0 f.0 t.0, t.1)) y c.2 in
-      let t = bind_ok (where_at policy schemes (Some rel) f.0.1) (λ t. Ok (query_from h.0 c.0.0 f.0.0 t.0, t.1)) y f.2 in
+      let c = bind_ok (form_of (class_at policy h.1)) (λ c. form_of (first_at counts c.1) >>= λ f. where_at policy schemes (Some relation) f.1 >>= λ t. Ok (query_from h.0 c.0 f.0 t.0, t.1)) y e in
+      let f = bind_ok (form_of (first_at counts c.0.1)) (λ f. where_at policy schemes (Some relation) f.1 >>= λ t. Ok (query_from h.0 c.0.0 f.0 t.0, t.1)) y c.2 in
+      let t = bind_ok (where_at policy schemes (Some relation) f.0.1) (λ t. Ok (query_from h.0 c.0.0 f.0.0 t.0, t.1)) y f.2 in
       told (QueryFound counts l) (query_from h.0 c.0.0 f.0.0 t.0.0) t.0.1 y q t.2 was (λ same.
       let said = parts_said h.0 c.0.0 f.0.0 t.0.0 q same in
       let highest : Passed (highest_tokens q.highest) l h.1 = subst (λ (b : Bool). Passed (highest_tokens b) l h.1) (sym said.highest_is) (highest_found l) in

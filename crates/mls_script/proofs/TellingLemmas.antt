@@ -24,6 +24,7 @@ use Rattle.mls_tokens.specs.Scanning.{Left, without_places, tokens_at}
 use Rattle.mls_tokens.specs.Passing.{is_word, is_sign, has_ended, pass_end}
 use Rattle.mls_tokens.proofs.TokensLemmas.{tokens_exact}
 use Rattle.mls_tokens.proofs.NextLemmas.{Gets, gets_more, done, gets_done, gets_is, took, NotNext, not_taken, word_gets, name_gets, over_again, not_over}
+use Rattle.mls_scheme.specs.declared.write.Write.TheVariants as writes
 use Rattle.mls_script.specs.declared.event.Event.{Event}
 use Rattle.mls_script.specs.declared.event.Command.{Command}
 use Rattle.mls_script.specs.declared.event.Command.TheVariants as commands
@@ -57,7 +58,7 @@ abbrev put : Part → Draft → Draft → Draft
 put Level d f = record f { level = d.level }
 put Session d f = record f { session = d.session }
 put Named d f = record f { name = d.name }
-put Relation d f = record f { rel = d.rel }
+put Relation d f = record f { relation = d.relation }
 put Key d f = record f { key = d.key }
 put Values d f = record f { values = d.values }
 put Arguments d f = record f { values = d.values }
@@ -85,36 +86,36 @@ module _ (policy : Policy) (schemes : Schemes) (is_policy : IsPolicy policy) (ar
       gets_more (λ x. done (with_name p (Ok f) x.0.0) x.1) (name_gets s us l named e)
       (λ x m same t. gets_done (with_name p (Ok f) x.0) m (λ looked. looked ≡ with_name p (Ok f) s) us (ap (with_name p (Ok f)) same) t)
 
-  relation_read : (n : ℕ) (f : Draft) (us : List Token) (l : Left) → n < length schemes → without_places l.placed ≡ Word (relation_name schemes n) ∷ us → Reads (relation_at schemes (Ok f)) l (record f { rel = n }) us
+  relation_read : (n : ℕ) (f : Draft) (us : List Token) (l : Left) → n < length schemes → without_places l.placed ≡ Word (relation_name schemes n) ∷ us → Reads (relation_at schemes (Ok f)) l (record f { relation = n }) us
   relation_read n f us l within e =
       gets_more (λ x. done (with_relation (Ok f) (relation_named schemes x.0)) x.1) (name_gets (relation_name schemes n) us l ((scheme_is schemes are_schemes n within).named) e)
-      (λ x m same t. gets_done (with_relation (Ok f) (relation_named schemes x)) m (λ looked. looked ≡ Ok (record f { rel = n })) us
+      (λ x m same t. gets_done (with_relation (Ok f) (relation_named schemes x)) m (λ looked. looked ≡ Ok (record f { relation = n })) us
       (ap (with_relation (Ok f)) (ap (λ (s : Name). relation_named schemes (s, x.1)) same ∙ relation_again schemes are_schemes n x.1 within)) t)
 
-  held_again : (p : Part) (rel : ℕ) (l : Listed) (vs : List (Option Value)) → rel < length schemes → l.values ≡ vs → HaveKinds (attributes_of p (scheme_of schemes rel)) vs → held (option_map (attributes_of p) (slice_get schemes rel)) l ≡ Ok vs
-  held_again p rel l vs within same kinds =
-      ap (λ o. held (option_map (attributes_of p) o) l) (slice_get-get_or schemes rel no_scheme within)
-      ∙ ap (fit_or l) (kinds_again (attributes_of p (scheme_of schemes rel)) l.values l.places l.end (subst (HaveKinds (attributes_of p (scheme_of schemes rel))) (sym same) kinds))
+  held_again : (p : Part) (relation : ℕ) (l : Listed) (vs : List (Option Value)) → relation < length schemes → l.values ≡ vs → HaveKinds (attributes_of p (scheme_of schemes relation)) vs → held (option_map (attributes_of p) (slice_get schemes relation)) l ≡ Ok vs
+  held_again p relation l vs within same kinds =
+      ap (λ o. held (option_map (attributes_of p) o) l) (slice_get-get_or schemes relation no_scheme within)
+      ∙ ap (fit_or l) (kinds_again (attributes_of p (scheme_of schemes relation)) l.values l.places l.end (subst (HaveKinds (attributes_of p (scheme_of schemes relation))) (sym same) kinds))
       ∙ ap (λ (x : List (Option Value)). Ok x) same
 
-  list_part_read : (p : Part) (vs : List (Option Value)) (f : Draft) (us : List Token) (l : Left) → f.rel < length schemes → HaveKinds (attributes_of p (scheme_of schemes f.rel)) vs → without_places l.placed ≡ list_tokens vs ++ us
+  list_part_read : (p : Part) (vs : List (Option Value)) (f : Draft) (us : List Token) (l : Left) → f.relation < length schemes → HaveKinds (attributes_of p (scheme_of schemes f.relation)) vs → without_places l.placed ≡ list_tokens vs ++ us
       → Reads (list_at schemes p (Ok f)) l (put_values p f vs) us
   list_part_read p vs f us l within kinds e =
       gets_more (λ x. done (with_values schemes p (Ok f) x.0) x.1) (list_read vs us l e)
       (λ x m same t. gets_done (with_values schemes p (Ok f) x) m (λ looked. looked ≡ Ok (put_values p f vs)) us
-      (ap (λ r. r >>= λ vs. Ok (put_values p f vs)) (held_again p f.rel x vs within same kinds)) t)
+      (ap (λ r. r >>= λ vs. Ok (put_values p f vs)) (held_again p f.relation x vs within same kinds)) t)
 
   arguments_read : (vs : List (Option Value)) (f : Draft) (us : List Token) (l : Left) → without_places l.placed ≡ list_tokens vs ++ us → Reads (arguments_at (Ok f)) l (record f { values = vs }) us
   arguments_read vs f us l e =
       gets_more (λ x. done (with_arguments (Ok f) x.0.values) x.1) (list_read vs us l e)
       (λ x m same t. gets_done (with_arguments (Ok f) x.values) m (λ looked. looked ≡ Ok (record f { values = vs })) us (ap (with_arguments (Ok f)) same) t)
 
-  sets_part_read : (sets : Sets) (f : Draft) (us : List Token) (l : Left) → f.rel < length schemes → SetsFit (scheme_of schemes f.rel) sets → NotNext (is_sign Comma) us → without_places l.placed ≡ separated (set_tokens (scheme_of schemes f.rel)) sets ++ us
+  sets_part_read : (sets : Sets) (f : Draft) (us : List Token) (l : Left) → f.relation < length schemes → SetsFit (scheme_of schemes f.relation) sets → NotNext (is_sign Comma) us → without_places l.placed ≡ separated (set_tokens (scheme_of schemes f.relation)) sets ++ us
       → Reads (sets_at schemes (Ok f)) l (record f { sets = sets }) us
   sets_part_read sets f us l within fit end e =
-      gets_is (sets_at schemes (Ok f) l) (pass_sets (Some (scheme_of schemes f.rel)) l >>= λ x. done (with_sets (Ok f) x.0) x.1) l (λ looked. looked ≡ Ok (record f { sets = sets })) us
-      (ap (λ o. pass_sets o l >>= λ x. Ok (with_sets (Ok f) x.0, x.1)) (slice_get-get_or schemes f.rel no_scheme within))
-      (gets_more (λ x. done (with_sets (Ok f) x.0) x.1) (sets_read (scheme_of schemes f.rel) (scheme_is schemes are_schemes f.rel within) sets us l fit end e)
+      gets_is (sets_at schemes (Ok f) l) (pass_sets (Some (scheme_of schemes f.relation)) l >>= λ x. done (with_sets (Ok f) x.0) x.1) l (λ looked. looked ≡ Ok (record f { sets = sets })) us
+      (ap (λ o. pass_sets o l >>= λ x. Ok (with_sets (Ok f) x.0, x.1)) (slice_get-get_or schemes f.relation no_scheme within))
+      (gets_more (λ x. done (with_sets (Ok f) x.0) x.1) (sets_read (scheme_of schemes f.relation) (scheme_is schemes are_schemes f.relation within) sets us l fit end e)
       (λ x m same t. gets_done (with_sets (Ok f) x) m (λ looked. looked ≡ Ok (record f { sets = sets })) us (ap (with_sets (Ok f)) same) t))
 
   -- a key, other values and new values stand behind their relation
@@ -123,19 +124,19 @@ module _ (policy : Policy) (schemes : Schemes) (is_policy : IsPolicy policy) (ar
   Knows Session d f = ⊤
   Knows Named d f = ⊤
   Knows Relation d f = ⊤
-  Knows Key d f = (f.rel ≡ d.rel) × (d.rel < length schemes)
-  Knows Values d f = (f.rel ≡ d.rel) × (d.rel < length schemes)
+  Knows Key d f = (f.relation ≡ d.relation) × (d.relation < length schemes)
+  Knows Values d f = (f.relation ≡ d.relation) × (d.relation < length schemes)
   Knows Arguments d f = ⊤
   Knows At d f = ⊤
   Knows Class d f = ⊤
   Knows From d f = ⊤
-  Knows Settings d f = (f.rel ≡ d.rel) × (d.rel < length schemes)
+  Knows Settings d f = (f.relation ≡ d.relation) × (d.relation < length schemes)
 
   abbrev KnowsAll : List Part → Draft → Draft → Type 0
   KnowsAll [] d f = ⊤
   KnowsAll (p ∷ ps) d f = Knows p d f × KnowsAll ps d (put p d f)
 
-  within_of : (d f : Draft) → (f.rel ≡ d.rel) × (d.rel < length schemes) → f.rel < length schemes
+  within_of : (d f : Draft) → (f.relation ≡ d.relation) × (d.relation < length schemes) → f.relation < length schemes
   within_of d f h = subst (λ n. n < length schemes) (sym h.0) h.1
 
   content_read : (p : Part) (d f : Draft) (us : List Token) (l : Left) → Knows p d f → PartFits policy schemes d p → NotNext (is_sign Comma) us → without_places l.placed ≡ said policy schemes d p ++ us
@@ -144,7 +145,7 @@ module _ (policy : Policy) (schemes : Schemes) (is_policy : IsPolicy policy) (ar
   content_read Level d f us l known fits end e = label_read Level d.level f us l fits e
   content_read Session d f us l known fits end e = name_part_read Session d.session f us l fits e
   content_read Named d f us l known fits end e = name_part_read Named d.name f us l fits e
-  content_read Relation d f us l known fits end e = relation_read d.rel f us l fits e
+  content_read Relation d f us l known fits end e = relation_read d.relation f us l fits e
   content_read Key d f us l known fits end e = list_part_read Key d.key f us l (within_of d f known) (subst (λ n. HaveKinds (scheme_of schemes n).keys d.key) (sym known.0) fits) e
   content_read Values d f us l known fits end e = list_part_read Values d.values f us l (within_of d f known) (subst (λ n. HaveKinds (scheme_of schemes n).others d.values) (sym known.0) fits) e
   content_read Arguments d f us l known fits end e = arguments_read d.values f us l e
@@ -251,12 +252,12 @@ event_again : (level : ℕ) (session : Name) (c : Command)
 event_again level session (commands.Open user) = refl
 event_again level session commands.Close = refl
 event_again level session commands.Audit = refl
-event_again level session (commands.View rel label query false) = refl
-event_again level session (commands.View rel label query true) = refl
-event_again level session (commands.Dump rel) = refl
-event_again level session (commands.Insert rel key values) = refl
-event_again level session (commands.Update rel key key_class from sets) = refl
-event_again level session (commands.Delete rel key key_class) = refl
+event_again level session (commands.View relation label query false) = refl
+event_again level session (commands.View relation label query true) = refl
+event_again level session (commands.Dump relation) = refl
+event_again level session (commands.Write relation (writes.Insert key values)) = refl
+event_again level session (commands.Write relation (writes.Update key key_class from sets)) = refl
+event_again level session (commands.Write relation (writes.Delete key key_class)) = refl
 event_again level session (commands.Call tx args) = refl
 
 module _ (policy : Policy) (schemes : Schemes) where
@@ -264,23 +265,23 @@ module _ (policy : Policy) (schemes : Schemes) where
   front_same level session (commands.Open user) = refl
   front_same level session commands.Close = refl
   front_same level session commands.Audit = refl
-  front_same level session (commands.View rel label query counts) = refl
-  front_same level session (commands.Dump rel) = refl
-  front_same level session (commands.Insert rel key values) = refl
-  front_same level session (commands.Update rel key key_class from sets) = refl
-  front_same level session (commands.Delete rel key key_class) = refl
+  front_same level session (commands.View relation label query counts) = refl
+  front_same level session (commands.Dump relation) = refl
+  front_same level session (commands.Write relation (writes.Insert key values)) = refl
+  front_same level session (commands.Write relation (writes.Update key key_class from sets)) = refl
+  front_same level session (commands.Write relation (writes.Delete key key_class)) = refl
   front_same level session (commands.Call tx args) = refl
 
   parts_fit : (b : Draft) (c : Command) → CommandFits policy schemes c → AllByRecursion (PartFits policy schemes (draft_of b c)) (parts_of (verb_of c))
   parts_fit b (commands.Open user) h = (h, tt)
   parts_fit b commands.Close h = tt
   parts_fit b commands.Audit h = tt
-  parts_fit b (commands.View rel label query false) h = (h.0, (h.1, tt))
-  parts_fit b (commands.View rel label query true) h = (h.0, (h.1, tt))
-  parts_fit b (commands.Dump rel) h = (h, tt)
-  parts_fit b (commands.Insert rel key values) h = (h.0, (h.1, (h.2, tt)))
-  parts_fit b (commands.Update rel key key_class from sets) h = (h.0, (h.1, (h.2, (h.3, (h.4, tt)))))
-  parts_fit b (commands.Delete rel key key_class) h = (h.0, (h.1, (h.2, tt)))
+  parts_fit b (commands.View relation label query false) h = (h.0, (h.1, tt))
+  parts_fit b (commands.View relation label query true) h = (h.0, (h.1, tt))
+  parts_fit b (commands.Dump relation) h = (h, tt)
+  parts_fit b (commands.Write relation (writes.Insert key values)) h = (h.0, (h.1.0, (h.1.1, tt)))
+  parts_fit b (commands.Write relation (writes.Update key key_class from sets)) h = (h.0, (h.1.0, (h.1.1, (h.1.2, (h.1.3, tt)))))
+  parts_fit b (commands.Write relation (writes.Delete key key_class)) h = (h.0, (h.1.0, (h.1.1, tt)))
   parts_fit b (commands.Call tx args) h = (h.0, (tt, tt))
 
   module _ (is_policy : IsPolicy policy) (are_schemes : AreSchemes schemes) where
@@ -288,12 +289,12 @@ module _ (policy : Policy) (schemes : Schemes) where
     parts_known b f (commands.Open user) h = (tt, tt)
     parts_known b f commands.Close h = tt
     parts_known b f commands.Audit h = tt
-    parts_known b f (commands.View rel label query false) h = (tt, (tt, tt))
-    parts_known b f (commands.View rel label query true) h = (tt, (tt, tt))
-    parts_known b f (commands.Dump rel) h = (tt, tt)
-    parts_known b f (commands.Insert rel key values) h = (tt, ((refl, h.0), ((refl, h.0), tt)))
-    parts_known b f (commands.Update rel key key_class from sets) h = (tt, ((refl, h.0), (tt, (tt, ((refl, h.0), tt)))))
-    parts_known b f (commands.Delete rel key key_class) h = (tt, ((refl, h.0), (tt, tt)))
+    parts_known b f (commands.View relation label query false) h = (tt, (tt, tt))
+    parts_known b f (commands.View relation label query true) h = (tt, (tt, tt))
+    parts_known b f (commands.Dump relation) h = (tt, tt)
+    parts_known b f (commands.Write relation (writes.Insert key values)) h = (tt, ((refl, h.0), ((refl, h.0), tt)))
+    parts_known b f (commands.Write relation (writes.Update key key_class from sets)) h = (tt, ((refl, h.0), (tt, (tt, ((refl, h.0), tt)))))
+    parts_known b f (commands.Write relation (writes.Delete key key_class)) h = (tt, ((refl, h.0), (tt, tt)))
     parts_known b f (commands.Call tx args) h = (tt, (tt, tt))
 
     -- what stands behind the parts is the query, or nothing
@@ -302,16 +303,16 @@ module _ (policy : Policy) (schemes : Schemes) where
     tail_read b (commands.Open user) ts l fits tells e = gets_done (Ok no_query) l (λ x. x ≡ Ok no_query) [] refl (e ∙ tells)
     tail_read b commands.Close ts l fits tells e = gets_done (Ok no_query) l (λ x. x ≡ Ok no_query) [] refl (e ∙ tells)
     tail_read b commands.Audit ts l fits tells e = gets_done (Ok no_query) l (λ x. x ≡ Ok no_query) [] refl (e ∙ tells)
-    tail_read b (commands.View rel label query false) ts l fits tells e =
-        gets_is (query_at policy schemes false (drafted_relation schemes (Ok (record b { rel = rel; label = label }))) l) (query_at policy schemes false (Some rel) l) l (λ x. x ≡ Ok query) []
-        (rw (lt-ltb rel (length schemes) fits.0) refl) (query_read policy schemes rel is_policy are_schemes fits.0 false query ts l fits.2 tells e)
-    tail_read b (commands.View rel label query true) ts l fits tells e =
-        gets_is (query_at policy schemes true (drafted_relation schemes (Ok (record b { rel = rel; label = label }))) l) (query_at policy schemes true (Some rel) l) l (λ x. x ≡ Ok query) []
-        (rw (lt-ltb rel (length schemes) fits.0) refl) (query_read policy schemes rel is_policy are_schemes fits.0 true query ts l fits.2 tells e)
-    tail_read b (commands.Dump rel) ts l fits tells e = gets_done (Ok no_query) l (λ x. x ≡ Ok no_query) [] refl (e ∙ tells)
-    tail_read b (commands.Insert rel key values) ts l fits tells e = gets_done (Ok no_query) l (λ x. x ≡ Ok no_query) [] refl (e ∙ tells)
-    tail_read b (commands.Update rel key key_class from sets) ts l fits tells e = gets_done (Ok no_query) l (λ x. x ≡ Ok no_query) [] refl (e ∙ tells)
-    tail_read b (commands.Delete rel key key_class) ts l fits tells e = gets_done (Ok no_query) l (λ x. x ≡ Ok no_query) [] refl (e ∙ tells)
+    tail_read b (commands.View relation label query false) ts l fits tells e =
+        gets_is (query_at policy schemes false (drafted_relation schemes (Ok (record b { relation = relation; label = label }))) l) (query_at policy schemes false (Some relation) l) l (λ x. x ≡ Ok query) []
+        (rw (lt-ltb relation (length schemes) fits.0) refl) (query_read policy schemes relation is_policy are_schemes fits.0 false query ts l fits.2 tells e)
+    tail_read b (commands.View relation label query true) ts l fits tells e =
+        gets_is (query_at policy schemes true (drafted_relation schemes (Ok (record b { relation = relation; label = label }))) l) (query_at policy schemes true (Some relation) l) l (λ x. x ≡ Ok query) []
+        (rw (lt-ltb relation (length schemes) fits.0) refl) (query_read policy schemes relation is_policy are_schemes fits.0 true query ts l fits.2 tells e)
+    tail_read b (commands.Dump relation) ts l fits tells e = gets_done (Ok no_query) l (λ x. x ≡ Ok no_query) [] refl (e ∙ tells)
+    tail_read b (commands.Write relation (writes.Insert key values)) ts l fits tells e = gets_done (Ok no_query) l (λ x. x ≡ Ok no_query) [] refl (e ∙ tells)
+    tail_read b (commands.Write relation (writes.Update key key_class from sets)) ts l fits tells e = gets_done (Ok no_query) l (λ x. x ≡ Ok no_query) [] refl (e ∙ tells)
+    tail_read b (commands.Write relation (writes.Delete key key_class)) ts l fits tells e = gets_done (Ok no_query) l (λ x. x ≡ Ok no_query) [] refl (e ∙ tells)
     tail_read b (commands.Call tx args) ts l fits tells e = gets_done (Ok no_query) l (λ x. x ≡ Ok no_query) [] refl (e ∙ tells)
 
     -- no query begins with a comma
@@ -319,11 +320,9 @@ module _ (policy : Policy) (schemes : Schemes) where
     tail_no_comma (commands.Open user) ts tells = subst (NotNext (is_sign Comma)) (sym tells) tt
     tail_no_comma commands.Close ts tells = subst (NotNext (is_sign Comma)) (sym tells) tt
     tail_no_comma commands.Audit ts tells = subst (NotNext (is_sign Comma)) (sym tells) tt
-    tail_no_comma (commands.View rel label query counts) ts tells = subst (NotNext (is_sign Comma)) (sym tells.tokens) (query_no_comma policy schemes rel query tells.behind tells.test)
-    tail_no_comma (commands.Dump rel) ts tells = subst (NotNext (is_sign Comma)) (sym tells) tt
-    tail_no_comma (commands.Insert rel key values) ts tells = subst (NotNext (is_sign Comma)) (sym tells) tt
-    tail_no_comma (commands.Update rel key key_class from sets) ts tells = subst (NotNext (is_sign Comma)) (sym tells) tt
-    tail_no_comma (commands.Delete rel key key_class) ts tells = subst (NotNext (is_sign Comma)) (sym tells) tt
+    tail_no_comma (commands.View relation label query counts) ts tells = subst (NotNext (is_sign Comma)) (sym tells.tokens) (query_no_comma policy schemes relation query tells.behind tells.test)
+    tail_no_comma (commands.Dump relation) ts tells = subst (NotNext (is_sign Comma)) (sym tells) tt
+    tail_no_comma (commands.Write relation write) ts tells = subst (NotNext (is_sign Comma)) (sym tells) tt
     tail_no_comma (commands.Call tx args) ts tells = subst (NotNext (is_sign Comma)) (sym tells) tt
 
     abbrev heads : Event → List Token

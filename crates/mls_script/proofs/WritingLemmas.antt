@@ -14,6 +14,7 @@ use Rattle.mls_lattice.proofs.NamedLemmas.{label_is_name}
 use Rattle.mls_scheme.specs.declared.value.Value.{Value}
 use Rattle.mls_scheme.specs.declared.value.Value.TheVariants as values
 use Rattle.mls_scheme.specs.Value.{fits_kind}
+use Rattle.mls_scheme.specs.declared.write.Write.TheVariants.{Insert, Update, Delete}
 use Rattle.mls_scheme.specs.Scheme.{Attribute, Scheme, Schemes, IsScheme, AreSchemes, scheme_of, other_of}
 use Rattle.mls_scheme.specs.Fits.{HaveKinds}
 use Rattle.mls_scheme.proofs.KindLemmas.{kind-spelled}
@@ -30,7 +31,7 @@ use Rattle.mls_translang.proofs.NumberLemmas.{int_spelled}
 use Rattle.mls_translang.proofs.SpelledLemmas.{named, word_spelled}
 use Rattle.mls_script.specs.declared.event.Event.{Event}
 use Rattle.mls_script.specs.declared.event.Command.{Command}
-use Rattle.mls_script.specs.declared.event.Command.TheVariants.{Open, Close, Audit, View, Dump, Insert, Update, Delete, Call}
+use Rattle.mls_script.specs.declared.event.Command.TheVariants.{Open, Close, Audit, View, Dump, Write, Call}
 use Rattle.mls_script.specs.Event.{Sets, SetsFit, HasSomeKind, CommandFits, EventFits}
 use Rattle.mls_script.specs.Tokens.{relation_name, value_token, list_tokens, set_tokens, event_tokens}
 use Rattle.mls_script.specs.QueryTokens.{TellsTail}
@@ -207,7 +208,7 @@ some_kinds : (ats : List Attribute) (vs : List (Option Value)) → HaveKinds ats
 some_kinds [] [] h = tt
 some_kinds [] (v ∷ vs) h = absurd h
 some_kinds (a ∷ ats) [] h = absurd h
-some_kinds (a ∷ ats) (v ∷ vs) h = ((a.kind, h.0), some_kinds ats vs h.1)
+some_kinds (a ∷ ats) (v ∷ vs) h = ((a.1.kind, h.0), some_kinds ats vs h.1)
 
 values_written : (ats : List Attribute) (vs : List (Option Value)) → HaveKinds ats vs → are_writable vs ≡ true → IsWritten (list_tokens vs) (list_text vs)
 values_written ats vs kinds h = list_written vs (arguments_hold vs (some_kinds ats vs kinds) h)
@@ -221,17 +222,17 @@ module _ (scheme : Scheme) (valid : IsScheme scheme) where
   set_written : (s : ℕ × Option Value) → SetHolds s → IsWritten (set_tokens scheme s) (set_text scheme s)
   set_written s h =
       let value = spaced (value_token s.1 ∷ []) (cell_text s.1) (value_written s.1 h.1.0 h.1.1) in
-      subst (IsWritten (set_tokens scheme s)) (sym (append_assoc (other_of scheme s.0).name (codes " = ") (cell_text s.1)))
-      (next (Word (other_of scheme s.0).name ∷ []) (Sign_token sign.Equals ∷ value_token s.1 ∷ []) (other_of scheme s.0).name (61 ∷ 32 ∷ cell_text s.1)
-      (name_written (other_of scheme s.0).name (other_is_name scheme valid s.0 h.0))
+      subst (IsWritten (set_tokens scheme s)) (sym (append_assoc (other_of scheme s.0).0 (codes " = ") (cell_text s.1)))
+      (next (Word (other_of scheme s.0).0 ∷ []) (Sign_token sign.Equals ∷ value_token s.1 ∷ []) (other_of scheme s.0).0 (61 ∷ 32 ∷ cell_text s.1)
+      (name_written (other_of scheme s.0).0 (other_is_name scheme valid s.0 h.0))
       (sign_written sign.Equals (value_token s.1 ∷ []) (32 ∷ cell_text s.1) (λ e. absurd (omega (arith, e)), tt) (λ b. refl) value))
 
-  sets_hold : (sets : Sets) → AllByRecursion (λ s. s.0 < length scheme.others) sets → AllByRecursion (λ s. fits_kind s.1 (other_of scheme s.0).kind ≡ true) sets
+  sets_hold : (sets : Sets) → AllByRecursion (λ s. s.0 < length scheme.others) sets → AllByRecursion (λ s. fits_kind s.1 (other_of scheme s.0).1.kind ≡ true) sets
       → list_all (λ s. is_writable_value s.1) sets ≡ true → AllByRecursion SetHolds sets
   sets_hold [] known kinds h = tt
   sets_hold (s ∷ sets) known kinds h =
       let p = and_parts (is_writable_value s.1) (list_all (λ s. is_writable_value s.1) sets) h in
-      ((known.0, (((other_of scheme s.0).kind, kinds.0), p.0)), sets_hold sets known.1 kinds.1 p.1)
+      ((known.0, (((other_of scheme s.0).1.kind, kinds.0), p.0)), sets_hold sets known.1 kinds.1 p.1)
 
   sets_written : (sets : Sets) → SetsFit scheme sets → list_all (λ s. is_writable_value s.1) sets ≡ true → IsWritten (separated (set_tokens scheme) sets) (listed (set_text scheme) sets)
   sets_written sets fits h = listed_written (set_tokens scheme) (set_text scheme) SetHolds set_written sets (sets_hold sets fits.known fits.kinds h)
@@ -250,23 +251,23 @@ module _ (policy : Policy) (schemes : Schemes) (is_policy : IsPolicy policy) (ar
   label_written : (n : ℕ) → n < length policy.labels → IsWritten (Word (label_name policy.labels n) ∷ []) (label_name policy.labels n)
   label_written n within = name_written (label_name policy.labels n) (label_is_name policy is_policy n within)
 
-  relation_written : (rel : ℕ) → rel < length schemes → IsWritten (Word (relation_name schemes rel) ∷ []) (relation_name schemes rel)
-  relation_written rel within = name_written (relation_name schemes rel) ((scheme_is schemes are_schemes rel within).named)
+  relation_written : (relation : ℕ) → relation < length schemes → IsWritten (Word (relation_name schemes relation) ∷ []) (relation_name schemes relation)
+  relation_written relation within = name_written (relation_name schemes relation) ((scheme_is schemes are_schemes relation within).named)
 
   -- a word of commands, a blank and what follows
   behind_word : (w : Name) (us : List Token) (b : List ℕ) → IsSpelled (Word w) → IsWritten us b → IsWritten (Word w ∷ us) (w ++ 32 ∷ b)
   behind_word w us b h g = next (Word w ∷ []) us w b (word_written w h) g
 
-  keyed_written : (verb : Name) (rel : ℕ) (key : List (Option Value)) → IsSpelled (Word verb) → rel < length schemes → HaveKinds (scheme_of schemes rel).keys key → are_writable key ≡ true
-      → IsWritten (Word verb ∷ Word (relation_name schemes rel) ∷ Word (codes "key") ∷ list_tokens key) (keyed schemes (verb ++ codes " ") rel key)
-  keyed_written verb rel key word within kinds h =
-      let name = relation_name schemes rel in
-      let is : verb ++ 32 ∷ (name ++ 32 ∷ (codes "key " ++ list_text key)) ≡ keyed schemes (verb ++ codes " ") rel key = simp append_assoc in
+  keyed_written : (verb : Name) (relation : ℕ) (key : List (Option Value)) → IsSpelled (Word verb) → relation < length schemes → HaveKinds (scheme_of schemes relation).keys key → are_writable key ≡ true
+      → IsWritten (Word verb ∷ Word (relation_name schemes relation) ∷ Word (codes "key") ∷ list_tokens key) (keyed schemes (verb ++ codes " ") relation key)
+  keyed_written verb relation key word within kinds h =
+      let name = relation_name schemes relation in
+      let is : verb ++ 32 ∷ (name ++ 32 ∷ (codes "key " ++ list_text key)) ≡ keyed schemes (verb ++ codes " ") relation key = simp append_assoc in
       subst (IsWritten (Word verb ∷ Word name ∷ Word (codes "key") ∷ list_tokens key)) is
       (behind_word verb (Word name ∷ Word (codes "key") ∷ list_tokens key) (name ++ 32 ∷ (codes "key " ++ list_text key)) word
       (next (Word name ∷ []) (Word (codes "key") ∷ list_tokens key) name (codes "key " ++ list_text key)
-      (relation_written rel within)
-      (behind_word (codes "key") (list_tokens key) (list_text key) (word_spelled (codes "key") refl refl refl) (values_written (scheme_of schemes rel).keys key kinds h))))
+      (relation_written relation within)
+      (behind_word (codes "key") (list_tokens key) (list_text key) (word_spelled (codes "key") refl refl refl) (values_written (scheme_of schemes relation).keys key kinds h))))
 
   -- a word and a label
   labelled : (w : Name) (n : ℕ) (us : List Token) (b : List ℕ) → IsSpelled (Word w) → n < length policy.labels → IsWritten us b
@@ -275,12 +276,12 @@ module _ (policy : Policy) (schemes : Schemes) (is_policy : IsPolicy policy) (ar
       behind_word w (Word (label_name policy.labels n) ∷ us) (label_name policy.labels n ++ 32 ∷ b) word
       (next (Word (label_name policy.labels n) ∷ []) us (label_name policy.labels n) b (label_written n within) h)
 
-  sets_behind : (rel : ℕ) (sets : Sets) → rel < length schemes → SetsFit (scheme_of schemes rel) sets → list_all (λ s. is_writable_value s.1) sets ≡ true
-      → IsWritten (Word (codes "set") ∷ (separated (set_tokens (scheme_of schemes rel)) sets ++ [])) (codes "set " ++ listed (set_text (scheme_of schemes rel)) sets)
-  sets_behind rel sets within fits h =
-      let scheme = scheme_of schemes rel in
+  sets_behind : (relation : ℕ) (sets : Sets) → relation < length schemes → SetsFit (scheme_of schemes relation) sets → list_all (λ s. is_writable_value s.1) sets ≡ true
+      → IsWritten (Word (codes "set") ∷ (separated (set_tokens (scheme_of schemes relation)) sets ++ [])) (codes "set " ++ listed (set_text (scheme_of schemes relation)) sets)
+  sets_behind relation sets within fits h =
+      let scheme = scheme_of schemes relation in
       behind_word (codes "set") (separated (set_tokens scheme) sets ++ []) (listed (set_text scheme) sets) (word_spelled (codes "set") refl refl refl)
-      (ended (separated (set_tokens scheme) sets) (listed (set_text scheme) sets) (sets_written scheme (scheme_is schemes are_schemes rel within) sets fits h))
+      (ended (separated (set_tokens scheme) sets) (listed (set_text scheme) sets) (sets_written scheme (scheme_is schemes are_schemes relation within) sets fits h))
 
   -- a level, a session and what follows
   begun : (level : ℕ) (session : Name) (us : List Token) (b : List ℕ) → level < length policy.labels → is_name session ≡ true → IsWritten us b
@@ -300,43 +301,41 @@ module _ (policy : Policy) (schemes : Schemes) (is_policy : IsPolicy policy) (ar
     line_written (Open user) fits h = absurd cc
     line_written Close fits h = absurd cc
     line_written Audit fits h = absurd cc
-    line_written (View rel label query counts) fits h = absurd cc
-    line_written (Dump rel) fits h = absurd cc
-    line_written (Insert rel key values) fits h =
+    line_written (View relation label query counts) fits h = absurd cc
+    line_written (Dump relation) fits h = absurd cc
+    line_written (Write relation (Insert key values)) fits h =
         let p = and_parts (are_writable key) (are_writable values) h in
-        let head = Word (codes "insert") ∷ Word (relation_name schemes rel) ∷ Word (codes "key") ∷ list_tokens key in
-        begun level session (head ++ Word (codes "values") ∷ (list_tokens values ++ [])) (command_text policy schemes (Insert rel key values)) within is
-        (subst (IsWritten (head ++ Word (codes "values") ∷ (list_tokens values ++ []))) (sym (append_assoc (keyed schemes (codes "insert ") rel key) (codes " values ") (list_text values)))
-        (next head (Word (codes "values") ∷ (list_tokens values ++ [])) (keyed schemes (codes "insert ") rel key) (codes "values " ++ list_text values)
-        (keyed_written (codes "insert") rel key (word_spelled (codes "insert") refl refl refl) fits.0 fits.1 p.0)
+        let head = Word (codes "insert") ∷ Word (relation_name schemes relation) ∷ Word (codes "key") ∷ list_tokens key in
+        begun level session (head ++ Word (codes "values") ∷ (list_tokens values ++ [])) (command_text policy schemes (Write relation (Insert key values))) within is
+        (subst (IsWritten (head ++ Word (codes "values") ∷ (list_tokens values ++ []))) (sym (append_assoc (keyed schemes (codes "insert ") relation key) (codes " values ") (list_text values)))
+        (next head (Word (codes "values") ∷ (list_tokens values ++ [])) (keyed schemes (codes "insert ") relation key) (codes "values " ++ list_text values)
+        (keyed_written (codes "insert") relation key (word_spelled (codes "insert") refl refl refl) fits.0 fits.1.0 p.0)
         (behind_word (codes "values") (list_tokens values ++ []) (list_text values) (word_spelled (codes "values") refl refl refl)
-        (ended (list_tokens values) (list_text values) (values_written (scheme_of schemes rel).others values fits.2 p.1)))))
-    line_written (Update rel key key_class from sets) fits h =
+        (ended (list_tokens values) (list_text values) (values_written (scheme_of schemes relation).others values fits.1.1 p.1)))))
+    line_written (Write relation (Update key key_class from sets)) fits h =
         let p = and_parts (are_writable key) (list_all (λ s. is_writable_value s.1) sets) h in
-        let head = Word (codes "update") ∷ Word (relation_name schemes rel) ∷ Word (codes "key") ∷ list_tokens key in
-        let changes = Word (codes "set") ∷ (separated (set_tokens (scheme_of schemes rel)) sets ++ []) in
+        let head = Word (codes "update") ∷ Word (relation_name schemes relation) ∷ Word (codes "key") ∷ list_tokens key in
+        let changes = Word (codes "set") ∷ (separated (set_tokens (scheme_of schemes relation)) sets ++ []) in
         let tail = Word (codes "class") ∷ Word (label_name policy.labels key_class) ∷ Word (codes "from") ∷ Word (label_name policy.labels from) ∷ changes in
-        let set_end = codes "set " ++ listed (set_text (scheme_of schemes rel)) sets in
+        let set_end = codes "set " ++ listed (set_text (scheme_of schemes relation)) sets in
         let from_end = codes "from " ++ (label_name policy.labels from ++ 32 ∷ set_end) in
         let whole = codes "class " ++ (label_name policy.labels key_class ++ 32 ∷ from_end) in
-        begun level session (head ++ tail) (command_text policy schemes (Update rel key key_class from sets)) within is
-        (subst (IsWritten (head ++ tail)) (update_text (keyed schemes (codes "update ") rel key) (label_name policy.labels key_class) (label_name policy.labels from) (listed (set_text (scheme_of schemes rel)) sets))
-        (next head tail (keyed schemes (codes "update ") rel key) whole
-        (keyed_written (codes "update") rel key (word_spelled (codes "update") refl refl refl) fits.0 fits.1 p.0)
-        (labelled (codes "class") key_class (Word (codes "from") ∷ Word (label_name policy.labels from) ∷ changes) from_end (word_spelled (codes "class") refl refl refl) fits.2
-        (labelled (codes "from") from changes set_end (word_spelled (codes "from") refl refl refl) fits.3 (sets_behind rel sets fits.0 fits.4 p.1)))))
-    line_written (Delete rel key key_class) fits h = absurd cc
+        begun level session (head ++ tail) (command_text policy schemes (Write relation (Update key key_class from sets))) within is
+        (subst (IsWritten (head ++ tail)) (update_text (keyed schemes (codes "update ") relation key) (label_name policy.labels key_class) (label_name policy.labels from) (listed (set_text (scheme_of schemes relation)) sets))
+        (next head tail (keyed schemes (codes "update ") relation key) whole
+        (keyed_written (codes "update") relation key (word_spelled (codes "update") refl refl refl) fits.0 fits.1.0 p.0)
+        (labelled (codes "class") key_class (Word (codes "from") ∷ Word (label_name policy.labels from) ∷ changes) from_end (word_spelled (codes "class") refl refl refl) fits.1.1
+        (labelled (codes "from") from changes set_end (word_spelled (codes "from") refl refl refl) fits.1.2 (sets_behind relation sets fits.0 fits.1.3 p.1)))))
+    line_written (Write relation (Delete key key_class)) fits h = absurd cc
     line_written (Call tx args) fits h = absurd cc
 
   none_behind : (c : Command) → is_writable_command c ≡ true → TellsTail policy schemes c []
   none_behind (Open user) h = refl
   none_behind Close h = refl
   none_behind Audit h = refl
-  none_behind (View rel label query counts) h = absurd cc
-  none_behind (Dump rel) h = refl
-  none_behind (Insert rel key values) h = refl
-  none_behind (Update rel key key_class from sets) h = refl
-  none_behind (Delete rel key key_class) h = refl
+  none_behind (View relation label query counts) h = absurd cc
+  none_behind (Dump relation) h = refl
+  none_behind (Write relation write) h = refl
   none_behind (Call tx args) h = refl
 
   -- ---- all lines

@@ -6,13 +6,15 @@ use Rattle.mls_lattice.specs.Policy.{Policy}
 use Rattle.mls_scheme.specs.declared.value.Kind.{Kind}
 use Rattle.mls_scheme.specs.declared.value.Value.{Value}
 use Rattle.mls_scheme.specs.Value.{fits_kind}
+use Rattle.mls_scheme.specs.declared.write.Write.{Write as WriteOf}
+use Rattle.mls_scheme.specs.declared.write.Write.TheVariants.{Insert, Update, Delete}
 use Rattle.mls_scheme.specs.Scheme.{Scheme, Schemes, scheme_of, other_of}
 use Rattle.mls_scheme.specs.Fits.{HaveKinds}
 use Rattle.mls_parser.specs.Condition.{IsConditionOf}
 use Rattle.mls_queries.specs.declared.query.Query.{Query}
 use Rattle.mls_script.specs.declared.event.Event.{Event}
 use Rattle.mls_script.specs.declared.event.Command.{Command}
-use Rattle.mls_script.specs.declared.event.Command.TheVariants.{Open, Close, Audit, View, Dump, Insert, Update, Delete, Call}
+use Rattle.mls_script.specs.declared.event.Command.TheVariants.{Open, Close, Audit, View, Dump, Write, Call}
 
 -- new values of attributes outside the key, by their numbers
 abbrev pub Sets : Type 0
@@ -23,32 +25,33 @@ pub record SetsFit (scheme : Scheme) (sets : Sets) : Type 0 where
   pub some : 0 < length sets
   pub known : AllByRecursion (λ s. s.0 < length scheme.others) sets
   pub distinct : IsDistinct nat_eq (map (λ s. s.0) sets)
-  pub kinds : AllByRecursion (λ s. fits_kind s.1 (other_of scheme s.0).kind ≡ true) sets
+  pub kinds : AllByRecursion (λ s. fits_kind s.1 (other_of scheme s.0).1.kind ≡ true) sets
 
 -- a value of some kind, or null
 abbrev pub HasSomeKind : Option Value → Type 0
 HasSomeKind v = (k : Kind) × (fits_kind v k ≡ true)
 
 -- a query on the rows of a relation; where they are counted it asks for no first ones
-pub record QueryFits (policy : Policy) (schemes : Schemes) (rel : ℕ) (query : Query) (counts : Bool) : Type 0 where
+pub record QueryFits (policy : Policy) (schemes : Schemes) (relation : ℕ) (query : Query) (counts : Bool) : Type 0 where
   pub class : IfSome query.class (λ c. c.label < length policy.labels)
-  pub test : IfSome query.test (IsConditionOf schemes rel)
+  pub test : IfSome query.test (IsConditionOf schemes relation)
   pub whole : counts ≡ true → query.first ≡ None
+
+-- operands by number and kind, and declared labels
+abbrev pub IsWriteOf : Policy → Scheme → WriteOf (Option Value) → Type 0
+IsWriteOf policy scheme (Insert key values) = HaveKinds scheme.keys key × HaveKinds scheme.others values
+IsWriteOf policy scheme (Update key key_class from sets) =
+    HaveKinds scheme.keys key × (key_class < length policy.labels) × (from < length policy.labels) × SetsFit scheme sets
+IsWriteOf policy scheme (Delete key key_class) = HaveKinds scheme.keys key × (key_class < length policy.labels)
 
 abbrev pub CommandFits : Policy → Schemes → Command → Type 0
 CommandFits policy schemes (Open user) = is_name user ≡ true
 CommandFits policy schemes Close = ⊤
 CommandFits policy schemes Audit = ⊤
-CommandFits policy schemes (View rel label query counts) =
-    (rel < length schemes) × (label < length policy.labels) × QueryFits policy schemes rel query counts
-CommandFits policy schemes (Dump rel) = rel < length schemes
-CommandFits policy schemes (Insert rel key values) =
-    (rel < length schemes) × HaveKinds (scheme_of schemes rel).keys key × HaveKinds (scheme_of schemes rel).others values
-CommandFits policy schemes (Update rel key key_class from sets) =
-    (rel < length schemes) × HaveKinds (scheme_of schemes rel).keys key × (key_class < length policy.labels) × (from < length policy.labels)
-    × SetsFit (scheme_of schemes rel) sets
-CommandFits policy schemes (Delete rel key key_class) =
-    (rel < length schemes) × HaveKinds (scheme_of schemes rel).keys key × (key_class < length policy.labels)
+CommandFits policy schemes (View relation label query counts) =
+    (relation < length schemes) × (label < length policy.labels) × QueryFits policy schemes relation query counts
+CommandFits policy schemes (Dump relation) = relation < length schemes
+CommandFits policy schemes (Write relation write) = (relation < length schemes) × IsWriteOf policy (scheme_of schemes relation) write
 CommandFits policy schemes (Call tx args) = (is_name tx ≡ true) × AllByRecursion HasSomeKind args
 
 pub record EventFits (policy : Policy) (schemes : Schemes) (e : Event) : Type 0 where

@@ -1,6 +1,7 @@
 -- The grammar of commands: a verb, and the parts that follow it. What the parts say is drafted; the draft and the verb are
 -- the event.
 use Rattle.std.specs.Prelude.{ℕ, true, false, if◌then◌else◌, List, [], ◌∷◌, codes, Option, Some, None}
+use Rattle.mls_scheme.specs.declared.write.Write.TheVariants as writes
 use Rattle.mls_queries.specs.declared.query.Query.{Query}
 use Rattle.mls_script.specs.declared.event.Event.{Event}
 use Rattle.mls_script.specs.declared.event.Command.{Command}
@@ -56,7 +57,7 @@ part_word Sets = Some (codes "set")
 
 -- nothing is said yet
 abbrev pub blank : Draft
-blank = record { level = 0; session = []; name = []; rel = 0; key = []; values = []; label = 0; from = 0; sets = [] }
+blank = record { level = 0; session = []; name = []; relation = 0; key = []; values = []; label = 0; from = 0; sets = [] }
 
 -- all rows
 abbrev pub no_query : Query
@@ -67,12 +68,12 @@ abbrev pub command_of : Verb → Draft → Query → Command
 command_of Open d q = commands.Open d.name
 command_of Close d q = commands.Close
 command_of Audit d q = commands.Audit
-command_of View d q = commands.View d.rel d.label q false
-command_of Count d q = commands.View d.rel d.label q true
-command_of Dump d q = commands.Dump d.rel
-command_of Insert d q = commands.Insert d.rel d.key d.values
-command_of Update d q = commands.Update d.rel d.key d.label d.from d.sets
-command_of Delete d q = commands.Delete d.rel d.key d.label
+command_of View d q = commands.View d.relation d.label q false
+command_of Count d q = commands.View d.relation d.label q true
+command_of Dump d q = commands.Dump d.relation
+command_of Insert d q = commands.Write d.relation (writes.Insert d.key d.values)
+command_of Update d q = commands.Write d.relation (writes.Update d.key d.label d.from d.sets)
+command_of Delete d q = commands.Write d.relation (writes.Delete d.key d.label)
 command_of Call d q = commands.Call d.name d.values
 
 abbrev pub event_of : Verb → Draft → Query → Event
@@ -84,11 +85,11 @@ abbrev pub verb_of : Command → Verb
 verb_of (commands.Open user) = Open
 verb_of commands.Close = Close
 verb_of commands.Audit = Audit
-verb_of (commands.View rel label query counts) = if counts then Count else View
-verb_of (commands.Dump rel) = Dump
-verb_of (commands.Insert rel key values) = Insert
-verb_of (commands.Update rel key key_class from sets) = Update
-verb_of (commands.Delete rel key key_class) = Delete
+verb_of (commands.View relation label query counts) = if counts then Count else View
+verb_of (commands.Dump relation) = Dump
+verb_of (commands.Write relation (writes.Insert key values)) = Insert
+verb_of (commands.Write relation (writes.Update key key_class from sets)) = Update
+verb_of (commands.Write relation (writes.Delete key key_class)) = Delete
 verb_of (commands.Call tx args) = Call
 
 -- over what the line begins with
@@ -96,16 +97,16 @@ abbrev pub draft_of : Draft → Command → Draft
 draft_of d (commands.Open user) = record d { name = user }
 draft_of d commands.Close = d
 draft_of d commands.Audit = d
-draft_of d (commands.View rel label query counts) = record d { rel = rel; label = label }
-draft_of d (commands.Dump rel) = record d { rel = rel }
-draft_of d (commands.Insert rel key values) = record d { rel = rel; key = key; values = values }
-draft_of d (commands.Update rel key key_class from sets) = record d { rel = rel; key = key; label = key_class; from = from; sets = sets }
-draft_of d (commands.Delete rel key key_class) = record d { rel = rel; key = key; label = key_class }
+draft_of d (commands.View relation label query counts) = record d { relation = relation; label = label }
+draft_of d (commands.Dump relation) = record d { relation = relation }
+draft_of d (commands.Write relation (writes.Insert key values)) = record d { relation = relation; key = key; values = values }
+draft_of d (commands.Write relation (writes.Update key key_class from sets)) = record d { relation = relation; key = key; label = key_class; from = from; sets = sets }
+draft_of d (commands.Write relation (writes.Delete key key_class)) = record d { relation = relation; key = key; label = key_class }
 draft_of d (commands.Call tx args) = record d { name = tx; values = args }
 
 abbrev pub drafted : Event → Draft
 drafted e = draft_of (record blank { level = e.level; session = e.session }) e.command
 
 abbrev pub query_of : Command → Query
-query_of (commands.View rel label query counts) = query
+query_of (commands.View relation label query counts) = query
 query_of command = no_query

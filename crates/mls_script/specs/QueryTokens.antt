@@ -38,22 +38,22 @@ first_tokens (Some n) = Word (codes "first") ∷ Int (pos n) ∷ []
 
 module _ (policy : Policy) (schemes : Schemes) where
   -- a condition on rows of a relation, behind its word: its parentheses are free
-  pub record TellsWhere (rel : ℕ) (test : core.Expr) (ts : List Token) : Type 0 where
+  pub record TellsWhere (relation : ℕ) (test : core.Expr) (ts : List Token) : Type 0 where
     pub condition : List Token
     pub tokens : ts ≡ Word (codes "where") ∷ condition
-    pub tells : TellsCondition policy schemes rel test condition
+    pub tells : TellsCondition policy schemes relation test condition
 
   abbrev pub TellsTest : ℕ → Option core.Expr → List Token → Type 0
-  TellsTest rel None ts = ts ≡ []
-  TellsTest rel (Some test) ts = TellsWhere rel test ts
+  TellsTest relation None ts = ts ≡ []
+  TellsTest relation (Some test) ts = TellsWhere relation test ts
 
-  pub record TellsQuery (rel : ℕ) (q : Query) (ts : List Token) : Type 0 where
+  pub record TellsQuery (relation : ℕ) (q : Query) (ts : List Token) : Type 0 where
     pub behind : List Token
     pub tokens :
         ts ≡ highest_tokens q.highest ++ (class_tokens policy q.class ++ (first_tokens q.first ++ behind))
-    pub test : TellsTest rel q.test behind
+    pub test : TellsTest relation q.test behind
 
   -- what stands behind the parts of a command: nothing but the query of a view
   abbrev pub TellsTail : Command → List Token → Type 0
-  TellsTail (commands.View rel label query counts) ts = TellsQuery rel query ts
+  TellsTail (commands.View relation label query counts) ts = TellsQuery relation query ts
   TellsTail command ts = ts ≡ []

@@ -134,22 +134,22 @@ query_from highest class first test =
 
 module _ (policy : Policy) (schemes : Schemes) where
   abbrev pub where_behind : Option ℕ → Left → Option (ℕ × Left) → Result (Result (Option core.Expr) LineFault × Left) LineFault
-  where_behind rel l None = Ok (Ok None, l)
-  where_behind rel l (Some x) =
-      read_of (condition_at policy schemes (unwrap_or rel 0) x.1) >>= λ c. Ok (test_of (is_some rel) c.0, c.1)
+  where_behind relation l None = Ok (Ok None, l)
+  where_behind relation l (Some x) =
+      read_of (condition_at policy schemes (unwrap_or relation 0) x.1) >>= λ c. Ok (test_of (is_some relation) c.0, c.1)
 
   unfoldable pub where_at : Option ℕ → Left → Result (Result (Option core.Expr) LineFault × Left) LineFault
-  where_at rel l = where_behind rel l (taken (is_word (codes "where")) l)
+  where_at relation l = where_behind relation l (taken (is_word (codes "where")) l)
 
   -- ---- a query
 
   unfoldable pub query_at : Bool → Option ℕ → Left → Result (Result Query LineFault × Left) LineFault
-  query_at counts rel l =
-      form_of (class_at policy (highest_at l).1) >>= λ c. form_of (first_at counts c.1) >>= λ f. where_at rel f.1
+  query_at counts relation l =
+      form_of (class_at policy (highest_at l).1) >>= λ c. form_of (first_at counts c.1) >>= λ f. where_at relation f.1
       >>= λ t. Ok (query_from (highest_at l).0 c.0 f.0 t.0, t.1)
 
   -- what stands behind the parts of a verb
   abbrev pub tail_at : Verb → Option ℕ → Left → Result (Result Query LineFault × Left) LineFault
-  tail_at verb.View rel l = query_at false rel l
-  tail_at verb.Count rel l = query_at true rel l
-  tail_at _ rel l = Ok (Ok no_query, l)
+  tail_at verb.View relation l = query_at false relation l
+  tail_at verb.Count relation l = query_at true relation l
+  tail_at _ relation l = Ok (Ok no_query, l)

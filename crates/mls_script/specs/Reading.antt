@@ -95,7 +95,7 @@ abbrev pub misfit : List Attribute → List (Option Value) → List ℕ → ℕ 
 misfit [] [] places end = None
 misfit [] (v ∷ vs) places end = Some end
 misfit (a ∷ as') [] places end = Some end
-misfit (a ∷ as') (v ∷ vs) places end = if fits_kind v a.kind then misfit as' vs (drop 1 places) end else Some (slice_index_or places 0 end)
+misfit (a ∷ as') (v ∷ vs) places end = if fits_kind v a.1.kind then misfit as' vs (drop 1 places) end else Some (slice_index_or places 0 end)
 
 abbrev pub fit_or : Listed → Option ℕ → Result (List (Option Value)) LineFault
 fit_or l None = Ok l.values
@@ -127,10 +127,10 @@ new_or sets s n = if list_any (nat_eq n) (map (λ x. x.0) sets) then Err (line_f
 
 -- the number of the attribute, which has no new value yet
 unfoldable pub place_at : Scheme → Sets → Setting → Result ℕ LineFault
-place_at scheme sets s = known_or s.name_at (position (λ a. bytes_eq a.name s.name) scheme.others) >>= λ n. new_or sets s n
+place_at scheme sets s = known_or s.name_at (position (λ a. bytes_eq a.0 s.name) scheme.others) >>= λ n. new_or sets s n
 
 abbrev pub kind_or : Scheme → Setting → ℕ → Result (ℕ × Option Value) LineFault
-kind_or scheme s n = if fits_kind s.value (other_of scheme n).kind then Ok (n, s.value) else Err (line_fault s.value_at Kind)
+kind_or scheme s n = if fits_kind s.value (other_of scheme n).1.kind then Ok (n, s.value) else Err (line_fault s.value_at Kind)
 
 -- and the value, which has its kind
 unfoldable pub set_at : Scheme → Sets → Setting → Result (ℕ × Option Value) LineFault
@@ -176,19 +176,19 @@ abbrev pub with_name : Part → Looked → Name → Looked
 with_name p looked s = looked >>= λ d. Ok (put_name p d s)
 
 abbrev pub with_relation : Looked → Result ℕ LineFault → Looked
-with_relation looked found = looked >>= λ d. found >>= λ n. Ok (record d { rel = n })
+with_relation looked found = looked >>= λ d. found >>= λ n. Ok (record d { relation = n })
 
 abbrev pub with_sets : Looked → Result Sets LineFault → Looked
 with_sets looked found = looked >>= λ d. found >>= λ s. Ok (record d { sets = s })
 
 abbrev pub with_values : Schemes → Part → Looked → Listed → Looked
-with_values schemes p looked l = looked >>= λ d. held (option_map (attributes_of p) (slice_get schemes d.rel)) l >>= λ vs. Ok (put_values p d vs)
+with_values schemes p looked l = looked >>= λ d. held (option_map (attributes_of p) (slice_get schemes d.relation)) l >>= λ vs. Ok (put_values p d vs)
 
 abbrev pub with_arguments : Looked → List (Option Value) → Looked
 with_arguments looked vs = looked >>= λ d. Ok (record d { values = vs })
 
 abbrev pub drafted_scheme : Schemes → Looked → Option Scheme
-drafted_scheme schemes (Ok d) = slice_get schemes d.rel
+drafted_scheme schemes (Ok d) = slice_get schemes d.relation
 drafted_scheme schemes (Err e) = None
 
 abbrev pub label_at : Policy → Part → Looked → Left → Result (Looked × Left) TokenFault
@@ -224,7 +224,7 @@ verb_among (v ∷ vs) l = verb_or (λ r. verb_among vs r) l v (taken (is_word (v
 
 -- the number of the relation that the parts name, if there is one and they had no fault
 abbrev pub drafted_relation : Schemes → Looked → Option ℕ
-drafted_relation schemes (Ok d) = if nat_lt d.rel (length schemes) then Some d.rel else None
+drafted_relation schemes (Ok d) = if nat_lt d.relation (length schemes) then Some d.relation else None
 drafted_relation schemes (Err e) = None
 
 -- the event of a verb, if what its parts and its query say has no fault

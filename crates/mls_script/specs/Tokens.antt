@@ -19,7 +19,7 @@ use Rattle.mls_script.specs.Grammar.{part_word, parts_of, verb_word, verb_of, dr
 -- ---- names by number
 
 abbrev pub relation_name : Schemes → ℕ → Name
-relation_name schemes rel = (scheme_of schemes rel).name
+relation_name schemes relation = (scheme_of schemes relation).name
 
 -- ---- values, and new values
 
@@ -33,7 +33,7 @@ list_tokens vs = Sign LeftParen ∷ (separated (λ v. value_token v ∷ []) vs +
 
 -- the name of an attribute outside the key, and its new value
 abbrev pub set_tokens : Scheme → ℕ × Option Value → List Token
-set_tokens scheme s = Word (other_of scheme s.0).name ∷ Sign Equals ∷ value_token s.1 ∷ []
+set_tokens scheme s = Word (other_of scheme s.0).0 ∷ Sign Equals ∷ value_token s.1 ∷ []
 
 -- ---- a line
 
@@ -47,14 +47,14 @@ module _ (policy : Policy) (schemes : Schemes) where
   said d parts.Level = Word (label_name policy.labels d.level) ∷ []
   said d parts.Session = Word d.session ∷ []
   said d parts.Name = Word d.name ∷ []
-  said d parts.Relation = Word (relation_name schemes d.rel) ∷ []
+  said d parts.Relation = Word (relation_name schemes d.relation) ∷ []
   said d parts.Key = list_tokens d.key
   said d parts.Values = list_tokens d.values
   said d parts.Arguments = list_tokens d.values
   said d parts.At = Word (label_name policy.labels d.label) ∷ []
   said d parts.Class = Word (label_name policy.labels d.label) ∷ []
   said d parts.From = Word (label_name policy.labels d.from) ∷ []
-  said d parts.Sets = separated (set_tokens (scheme_of schemes d.rel)) d.sets
+  said d parts.Sets = separated (set_tokens (scheme_of schemes d.relation)) d.sets
 
   abbrev pub part_tokens : Draft → Part → List Token
   part_tokens d p = word_tokens (part_word p) ++ said d p

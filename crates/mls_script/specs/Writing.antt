@@ -6,11 +6,12 @@ use Rattle.mls_lattice.specs.Canon.{label_name}
 use Rattle.mls_lattice.specs.Policy.{Policy, IsPolicy}
 use Rattle.mls_scheme.specs.declared.value.Value.{Value}
 use Rattle.mls_scheme.specs.declared.value.Value.TheVariants as values
+use Rattle.mls_scheme.specs.declared.write.Write.TheVariants.{Insert, Update}
 use Rattle.mls_scheme.specs.Scheme.{Scheme, Schemes, AreSchemes, scheme_of, other_of}
 use Rattle.mls_tokens.specs.Writing.{is_control, quoted}
 use Rattle.mls_script.specs.declared.event.Event.{Event}
 use Rattle.mls_script.specs.declared.event.Command.{Command}
-use Rattle.mls_script.specs.declared.event.Command.TheVariants.{Insert, Update}
+use Rattle.mls_script.specs.declared.event.Command.TheVariants.{Write}
 use Rattle.mls_script.specs.Event.{EventFits}
 use Rattle.mls_script.specs.Tokens.{relation_name}
 use Rattle.mls_script.specs.Script.{ReadsScript}
@@ -39,22 +40,22 @@ list_text vs = codes "(" ++ listed cell_text vs ++ codes ")"
 
 -- an attribute outside the key, and its new value
 abbrev pub set_text : Scheme → ℕ × Option Value → List ℕ
-set_text scheme s = (other_of scheme s.0).name ++ codes " = " ++ cell_text s.1
+set_text scheme s = (other_of scheme s.0).0 ++ codes " = " ++ cell_text s.1
 
 -- ---- lines
 
 -- a verb, a relation and a key of it
 abbrev pub keyed : Schemes → List ℕ → ℕ → List (Option Value) → List ℕ
-keyed schemes verb rel key = verb ++ relation_name schemes rel ++ codes " key " ++ list_text key
+keyed schemes verb relation key = verb ++ relation_name schemes relation ++ codes " key " ++ list_text key
 
 module _ (policy : Policy) (schemes : Schemes) where
   -- inserts and updates are written, and no other command
   abbrev pub command_text : Command → List ℕ
-  command_text (Insert rel key values) = keyed schemes (codes "insert ") rel key ++ codes " values " ++ list_text values
-  command_text (Update rel key key_class from sets) =
-      keyed schemes (codes "update ") rel key
+  command_text (Write relation (Insert key values)) = keyed schemes (codes "insert ") relation key ++ codes " values " ++ list_text values
+  command_text (Write relation (Update key key_class from sets)) =
+      keyed schemes (codes "update ") relation key
       ++ codes " class " ++ label_name policy.labels key_class ++ codes " from " ++ label_name policy.labels from
-      ++ codes " set " ++ listed (set_text (scheme_of schemes rel)) sets
+      ++ codes " set " ++ listed (set_text (scheme_of schemes relation)) sets
   command_text command = []
 
   -- without its line feed
@@ -68,10 +69,10 @@ module _ (policy : Policy) (schemes : Schemes) where
   -- ---- what has a name
 
   abbrev pub HasKnownNumbers : Command → Type 0
-  HasKnownNumbers (Insert rel key values) = rel < length schemes
-  HasKnownNumbers (Update rel key key_class from sets) =
-      (rel < length schemes) × (key_class < length policy.labels) × (from < length policy.labels)
-      × AllByRecursion (λ s. s.0 < length (scheme_of schemes rel).others) sets
+  HasKnownNumbers (Write relation (Insert key values)) = relation < length schemes
+  HasKnownNumbers (Write relation (Update key key_class from sets)) =
+      (relation < length schemes) × (key_class < length policy.labels) × (from < length policy.labels)
+      × AllByRecursion (λ s. s.0 < length (scheme_of schemes relation).others) sets
   HasKnownNumbers command = ⊤
 
   -- the numbers that a line writes are those of labels, relations and attributes
@@ -93,8 +94,8 @@ abbrev pub are_writable : List (Option Value) → Bool
 are_writable = list_all is_writable_value
 
 abbrev pub is_writable_command : Command → Bool
-is_writable_command (Insert rel key values) = are_writable key && are_writable values
-is_writable_command (Update rel key key_class from sets) =
+is_writable_command (Write relation (Insert key values)) = are_writable key && are_writable values
+is_writable_command (Write relation (Update key key_class from sets)) =
     are_writable key && list_all (λ s. is_writable_value s.1) sets
 is_writable_command command = false
 

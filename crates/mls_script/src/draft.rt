@@ -6,7 +6,7 @@ use crate::event::{Command, Event};
 use crate::grammar::Verb;
 use mls_lattice::{Items, LabelNo, Str};
 use mls_queries::Query;
-use mls_scheme::{RelNo, Value};
+use mls_scheme::{RelNo, Value, Write};
 use std::alloc::Global;
 
 /// What the parts of a line say; what no part says is blank. It is set part by part, in its place: one that
@@ -16,7 +16,7 @@ pub(crate) struct Draft {
     pub level: LabelNo,
     pub session: Str,
     pub name: Str,
-    pub rel: RelNo,
+    pub relation: RelNo,
     pub key: Items<Option<Value>>,
     pub values: Items<Option<Value>>,
     pub label: LabelNo,
@@ -33,7 +33,7 @@ impl Draft {
             level: LabelNo::new(0),
             session: Str::from(String::new(alloc)),
             name: Str::from(String::new(alloc)),
-            rel: RelNo::new(0),
+            relation: RelNo::new(0),
             key: Items::from(Vec::new(alloc)),
             values: Items::from(Vec::new(alloc)),
             label: LabelNo::new(0),
@@ -50,7 +50,7 @@ impl Draft {
             level,
             session,
             name,
-            rel,
+            relation,
             key,
             values,
             label,
@@ -62,30 +62,37 @@ impl Draft {
             Verb::Close => Command::Close,
             Verb::Audit => Command::Audit,
             Verb::View => Command::View {
-                rel,
+                relation,
                 label,
                 query,
                 counts: false,
             },
             Verb::Count => Command::View {
-                rel,
+                relation,
                 label,
                 query,
                 counts: true,
             },
-            Verb::Dump => Command::Dump { rel },
-            Verb::Insert => Command::Insert { rel, key, values },
-            Verb::Update => Command::Update {
-                rel,
-                key,
-                key_class: label,
-                from,
-                sets,
+            Verb::Dump => Command::Dump { relation },
+            Verb::Insert => Command::Write {
+                relation,
+                write: Write::Insert { key, values },
             },
-            Verb::Delete => Command::Delete {
-                rel,
-                key,
-                key_class: label,
+            Verb::Update => Command::Write {
+                relation,
+                write: Write::Update {
+                    key,
+                    key_class: label,
+                    from,
+                    sets,
+                },
+            },
+            Verb::Delete => Command::Write {
+                relation,
+                write: Write::Delete {
+                    key,
+                    key_class: label,
+                },
             },
             Verb::Call => Command::Call {
                 tx: name,

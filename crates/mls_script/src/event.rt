@@ -1,7 +1,7 @@
 //! What sessions do.
 use mls_lattice::{Items, LabelNo, Str};
 use mls_queries::Query;
-use mls_scheme::{RelNo, Value};
+use mls_scheme::{RelNo, Value, Write};
 
 /// A command of a session, which is named by its level and its name.
 #[derive(Drop)]
@@ -23,7 +23,7 @@ pub enum Command {
     Audit,
     /// Shows what a query finds of what is seen of a relation at a label.
     View {
-        rel: RelNo,
+        relation: RelNo,
         label: LabelNo,
         query: Query,
         /// Whether only the number of the rows that are found is told.
@@ -31,28 +31,12 @@ pub enum Command {
     },
     /// Shows the lines of a script that make again what the session's level sees of a relation.
     Dump {
-        rel: RelNo,
+        relation: RelNo,
     },
-    /// Adds a tuple at the session's level.
-    Insert {
-        rel: RelNo,
-        key: Items<Option<Value>>,
-        values: Items<Option<Value>>,
-    },
-    /// Gives attributes outside the key, by their numbers, new values at the session's level. The tuple is that of class
-    /// `from`.
-    Update {
-        rel: RelNo,
-        key: Items<Option<Value>>,
-        key_class: LabelNo,
-        from: LabelNo,
-        sets: Items<(usize, Option<Value>)>,
-    },
-    /// Removes the tuple of the session's level, and those whose classes dominate it.
-    Delete {
-        rel: RelNo,
-        key: Items<Option<Value>>,
-        key_class: LabelNo,
+    /// Writes at the session's level.
+    Write {
+        relation: RelNo,
+        write: Write<Option<Value>>,
     },
     /// Runs the transaction of a name on arguments. Whether it is stored, and whether they are its parameters', is left
     /// to the denials.

@@ -33,7 +33,7 @@ pub(crate) fn relation_named(schemes: &Schemes, name: &Str, at: usize) -> Result
     ensures { result ≡ relation_named schemes.now (name.now, at) }
 {
     match schemes.relation(name.as_str()) {
-        Some(rel) => Ok(rel),
+        Some(relation) => Ok(relation),
         None => Err(LineFault {
             at,
             cause: ScriptCause::UnknownName,
@@ -42,11 +42,11 @@ pub(crate) fn relation_named(schemes: &Schemes, name: &Str, at: usize) -> Result
 }
 
 /// The scheme of a relation, if there is one of its number.
-fn scheme_at(schemes: &Schemes, rel: RelNo) -> Option<&Scheme>
-    ensures { option_map (λ s. s.now) result ≡ slice_get schemes.now rel }
+fn scheme_at(schemes: &Schemes, relation: RelNo) -> Option<&Scheme>
+    ensures { option_map (λ s. s.now) result ≡ slice_get schemes.now relation }
 {
-    if rel.index() < schemes.count() {
-        Some(schemes.scheme(rel))
+    if relation.index() < schemes.count() {
+        Some(schemes.scheme(relation))
     } else {
         None
     }
@@ -58,7 +58,7 @@ pub(crate) fn drafted_relation(schemes: &Schemes, looked: &Looked) -> Option<Rel
     ensures within { IfSome result (λ n. n < length schemes.now) }
 {
     match looked {
-        Ok(draft) if draft.rel.index() < schemes.count() => Some(draft.rel),
+        Ok(draft) if draft.relation.index() < schemes.count() => Some(draft.relation),
         _ => None,
     }
 }
@@ -68,7 +68,7 @@ pub(crate) fn drafted_scheme<'a>(schemes: &'a Schemes, looked: &Looked) -> Optio
     ensures { option_map (λ s. s.now) result ≡ drafted_scheme schemes.now looked.now }
 {
     match looked {
-        Ok(draft) => scheme_at(schemes, draft.rel),
+        Ok(draft) => scheme_at(schemes, draft.relation),
         Err(_) => None,
     }
 }
@@ -117,10 +117,10 @@ fn attributes_of(part: Part, scheme: &Scheme) -> &Attributes
 }
 
 /// Where the values of a part do not fit those of a relation.
-fn held(schemes: &Schemes, rel: RelNo, part: Part, listed: &Listed) -> Result<(), LineFault>
-    ensures { Holds result (held (option_map (attributes_of part) (slice_get schemes.now rel)) listed.now) listed.now }
+fn held(schemes: &Schemes, relation: RelNo, part: Part, listed: &Listed) -> Result<(), LineFault>
+    ensures { Holds result (held (option_map (attributes_of part) (slice_get schemes.now relation)) listed.now) listed.now }
 {
-    let place = match scheme_at(schemes, rel) {
+    let place = match scheme_at(schemes, relation) {
         Some(scheme) => misfit(
             attributes_of(part, scheme),
             &listed.values,
@@ -145,7 +145,7 @@ pub(crate) fn put_values(schemes: &Schemes, part: Part, looked: &mut Looked, lis
     let Ok(draft) = looked else {
         return;
     };
-    match held(schemes, draft.rel, part, &listed) {
+    match held(schemes, draft.relation, part, &listed) {
         Ok(()) => match part {
             Part::Key => draft.key = listed.values,
             _ => draft.values = listed.values,
@@ -200,7 +200,7 @@ pub(crate) fn put_relation(looked: &mut Looked, found: Result<RelNo, LineFault>)
         return;
     };
     match found {
-        Ok(rel) => draft.rel = rel,
+        Ok(relation) => draft.relation = relation,
         Err(fault) => *looked = Err(fault),
     }
 }

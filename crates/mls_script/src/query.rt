@@ -118,15 +118,15 @@ fn first(counts: bool, tokens: &mut Tokens) -> Result<Result<Option<usize>, Line
 }
 
 /// The relation, or the first.
-fn known_or_first(schemes: &Schemes, rel: Option<RelNo>) -> RelNo
-    requires { IfSome rel (λ n. n < length schemes.now) }
-    ensures exact { result ≡ unwrap_or rel 0 }
+fn known_or_first(schemes: &Schemes, relation: Option<RelNo>) -> RelNo
+    requires { IfSome relation (λ n. n < length schemes.now) }
+    ensures exact { result ≡ unwrap_or relation 0 }
     ensures within { result < length schemes.now }
 {
     // there is some relation
     let _count = schemes.count();
-    match rel {
-        Some(rel) => rel,
+    match relation {
+        Some(relation) => relation,
         None => RelNo::new(0),
     }
 }
@@ -150,18 +150,18 @@ fn condition(
     alloc: Global,
     policy: &Policy,
     schemes: &Schemes,
-    rel: Option<RelNo>,
+    relation: Option<RelNo>,
     tokens: &mut Tokens,
 ) -> Result<Result<Option<Expr>, LineFault>, LineFault>
-    requires { IfSome rel (λ n. n < length schemes.now) }
-    ensures { Gives (λ t. (t, tokens.new)) result (where_at policy.now schemes.now rel tokens.old) }
+    requires { IfSome relation (λ n. n < length schemes.now) }
+    ensures { Gives (λ t. (t, tokens.new)) result (where_at policy.now schemes.now relation tokens.old) }
 {
     if tokens.takes_word("where").is_none() {
         return Ok(Ok(None));
     }
-    let is_known = rel.is_some();
-    let rel = known_or_first(schemes, rel);
-    let read = mls_parser::condition(alloc, policy, schemes, rel, tokens)?;
+    let is_known = relation.is_some();
+    let relation = known_or_first(schemes, relation);
+    let read = mls_parser::condition(alloc, policy, schemes, relation, tokens)?;
     Ok(test_of(is_known, read))
 }
 
@@ -192,16 +192,16 @@ fn query(
     policy: &Policy,
     schemes: &Schemes,
     counts: bool,
-    rel: Option<RelNo>,
+    relation: Option<RelNo>,
     tokens: &mut Tokens,
 ) -> Result<Result<Query, LineFault>, LineFault>
-    requires { IfSome rel (λ n. n < length schemes.now) }
-    ensures { Gives (λ q. (q, tokens.new)) result (query_at policy.now schemes.now counts rel tokens.old) }
+    requires { IfSome relation (λ n. n < length schemes.now) }
+    ensures { Gives (λ q. (q, tokens.new)) result (query_at policy.now schemes.now counts relation tokens.old) }
 {
     let highest = tokens.takes_word("highest").is_some();
     let class = class(policy, tokens)?;
     let first = first(counts, tokens)?;
-    let test = condition(alloc, policy, schemes, rel, tokens)?;
+    let test = condition(alloc, policy, schemes, relation, tokens)?;
     Ok(query_from(highest, class, first, test))
 }
 
@@ -211,15 +211,15 @@ pub(crate) fn tail(
     policy: &Policy,
     schemes: &Schemes,
     verb: Verb,
-    rel: Option<RelNo>,
+    relation: Option<RelNo>,
     tokens: &mut Tokens,
 ) -> Result<Result<Query, LineFault>, LineFault>
-    requires { IfSome rel (λ n. n < length schemes.now) }
-    ensures { Gives (λ q. (q, tokens.new)) result (tail_at policy.now schemes.now verb rel tokens.old) }
+    requires { IfSome relation (λ n. n < length schemes.now) }
+    ensures { Gives (λ q. (q, tokens.new)) result (tail_at policy.now schemes.now verb relation tokens.old) }
 {
     match verb {
-        Verb::View => query(alloc, policy, schemes, false, rel, tokens),
-        Verb::Count => query(alloc, policy, schemes, true, rel, tokens),
+        Verb::View => query(alloc, policy, schemes, false, relation, tokens),
+        Verb::Count => query(alloc, policy, schemes, true, relation, tokens),
         _ => Ok(Ok(Query {
             highest: false,
             class: None,

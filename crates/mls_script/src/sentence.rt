@@ -190,8 +190,8 @@ fn command(
 {
     let verb = verb_among(&VERBS, tokens)?;
     parts(alloc, policy, schemes, verb.parts(), looked, tokens)?;
-    let rel = drafted_relation(schemes, looked);
-    let asked = tail(alloc, policy, schemes, verb, rel, tokens)?;
+    let relation = drafted_relation(schemes, looked);
+    let asked = tail(alloc, policy, schemes, verb, relation, tokens)?;
     Ok((verb, asked))
 }
 

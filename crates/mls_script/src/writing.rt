@@ -7,7 +7,7 @@ ghost use Rattle.mls_script.specs.Writing.{value_text, cell_text, behind_comma, 
 
 use crate::event::{Command, Event};
 use mls_lattice::{LabelNo, Policy};
-use mls_scheme::{RelNo, Scheme, Schemes, Value};
+use mls_scheme::{RelNo, Scheme, Schemes, Value, Write};
 use mls_tokens::{push_int, push_quoted, push_str};
 use std::alloc::{AllocError, Global};
 
@@ -142,13 +142,13 @@ fn push_keyed(
     text: &mut Vec<u8>,
     schemes: &Schemes,
     verb: &str,
-    rel: RelNo,
+    relation: RelNo,
     key: &[Option<Value>],
 ) -> Result<(), AllocError>
-    requires { rel < length schemes.now }
-    ensures { OnOk result (text.new.items ≡ text.old.items ++ keyed schemes.now verb.now rel key.now) }
+    requires { relation < length schemes.now }
+    ensures { OnOk result (text.new.items ≡ text.old.items ++ keyed schemes.now verb.now relation key.now) }
 {
-    push_named(text, verb, schemes.scheme(rel).name())?;
+    push_named(text, verb, schemes.scheme(relation).name())?;
     push_str(text, " key ")?;
     push_list(alloc, text, key)
 }
@@ -164,23 +164,28 @@ fn push_command(
     ensures { OnOk result (text.new.items ≡ text.old.items ++ command_text policy.now schemes.now command.now) }
 {
     match command {
-        Command::Insert { rel, key, values } => {
-            push_keyed(alloc, text, schemes, "insert ", *rel, key)?;
+        Command::Write {
+            relation,
+            write: Write::Insert { key, values },
+        } => {
+            push_keyed(alloc, text, schemes, "insert ", *relation, key)?;
             push_str(text, " values ")?;
             push_list(alloc, text, values)
         }
-        Command::Update {
-            rel,
-            key,
-            key_class,
-            from,
-            sets,
+        Command::Write {
+            relation,
+            write: Write::Update {
+                key,
+                key_class,
+                from,
+                sets,
+            },
         } => {
-            push_keyed(alloc, text, schemes, "update ", *rel, key)?;
+            push_keyed(alloc, text, schemes, "update ", *relation, key)?;
             push_named(text, " class ", policy.name(*key_class))?;
             push_named(text, " from ", policy.name(*from))?;
             push_str(text, " set ")?;
-            push_sets(alloc, text, schemes.scheme(*rel), sets)
+            push_sets(alloc, text, schemes.scheme(*relation), sets)
         }
         _ => Ok(()),
     }
@@ -250,8 +255,14 @@ pub fn is_writable(event: &Event) -> bool
     ensures { result ≡ is_writable event.now }
 {
     match &event.command {
-        Command::Insert { key, values, .. } => are_writable(key) && are_writable(values),
-        Command::Update { key, sets, .. } => are_writable(key) && are_writable_sets(sets),
+        Command::Write {
+            write: Write::Insert { key, values },
+            ..
+        } => are_writable(key) && are_writable(values),
+        Command::Write {
+            write: Write::Update { key, sets, .. },
+            ..
+        } => are_writable(key) && are_writable_sets(sets),
         _ => false,
     }
 }

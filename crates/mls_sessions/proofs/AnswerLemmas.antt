@@ -1,10 +1,9 @@
 -- One event of a run, and a run up to an event.
-use Rattle.std.proofs.Common.{◌≡◌, ℕ, zero, suc, ◌+◌, ◌-◌, ◌<◌, ◌≤◌, ◌&&◌, ◌||◌, Bool, true, false, not, cond, List, [], ◌∷◌, ◌++◌, Option, None, length, take, get_or, refl, sym, ap, ◌∙◌, subst, append_assoc, arith}
+use Rattle.std.proofs.Common.{◌≡◌, ℕ, ◌+◌, ◌-◌, ◌<◌, ◌≤◌, ◌&&◌, ◌||◌, Bool, true, false, not, cond, List, [], ◌∷◌, ◌++◌, Option, None, length, take, get_or, refl, sym, ap, ◌∙◌, subst, append_assoc, arith}
 use Rattle.std.specs.Io.KnownBytes.{Appends}
 use Rattle.std.proofs.KnownBytes.{Appends-nil, Appends-trans}
-use Rattle.std.proofs.lemmas.List.{take_all, take_more}
+use Rattle.std.proofs.lemmas.List.{take_more}
 use Rattle.std.specs.Prelude.{is_some}
-use Rattle.std.specs.List.{AllByRecursion}
 use Rattle.mls_filterview.specs.declared.base.BaseFault.{BaseFault}
 use Rattle.mls_filterview.specs.declared.base.BaseFault.TheVariants as faults
 use Rattle.mls_filterview.specs.Calls.{IsServed}
@@ -16,7 +15,7 @@ use Rattle.mls_machine.specs.declared.reply.Reply.{Reply}
 use Rattle.mls_machine.specs.Site.{Site, site_labels}
 use Rattle.mls_machine.specs.Machine.{World, step, end_of}
 use Rattle.mls_machine.specs.Output.{run_lines, ReplyIsKnown}
-use Rattle.mls_machine.specs.Observation.{AreStored, EventsFit, reply_shows, run_shows}
+use Rattle.mls_machine.specs.Observation.{AreStored, reply_shows}
 use Rattle.mls_machine.proofs.LineLemmas.{nothing_heard, end_more, printed_more}
 use Rattle.mls_machine.proofs.ReplyLemmas.{step_known}
 use Rattle.mls_sessions.specs.declared.cause.RunCause.{RunCause}
@@ -27,7 +26,7 @@ use Rattle.mls_sessions.specs.declared.notice.Notice.{Notice}
 use Rattle.mls_sessions.specs.Cause.{cause_of}
 use Rattle.mls_sessions.specs.Sessions.{site_of}
 use Rattle.mls_sessions.specs.Engine.{site, world_of, IsEngineReady, IsEngineStep, IsKept}
-use Rattle.mls_sessions.specs.Run.{is_done, are_done, printed_to, world_after, IsWhole, IsStopped, IsPart, answer_text, IsAnswered, IsHalted}
+use Rattle.mls_sessions.specs.Run.{is_done, are_done, printed_to, world_after, IsStopped, IsPart, answer_text, IsAnswered, IsHalted}
 use Rattle.mls_sessions.proofs.StepLemmas.{entries_known}
 
 -- ---- one event
@@ -51,7 +50,7 @@ module _ {B : Type 0} (state : B → State) (old new : Engine B) (audience : Aud
       world = h.world;
     }
 
-    module _ (kept : new.rules ≡ old.rules) (bytes : List ℕ) (is : bytes ≡ reply_shows (site new) audience event r) where
+    module _ (kept : new.site ≡ old.site) (bytes : List ℕ) (is : bytes ≡ reply_shows (site new) audience event r) where
       text_is : bytes ≡ answer_text (site old) audience first event a b first
       text_is = is ∙ (λ i. reply_shows (site_of (kept i)) audience event (h.reply i))
 
@@ -66,7 +65,7 @@ module _ {B : Type 0} (state : B → State) (old new : Engine B) (audience : Aud
       answered p = record { bytes = subst (Appends a b) text_is p; world = h.world }
 
 pub stored_at : {B : Type 0} (state : B → State) (is_clean : B → Type 0) (e : Engine B) → IsEngineReady state is_clean e → is_clean e.base → AreStored (site e) (world_of state e).db
-stored_at state is_clean e ready c rel = ((ready.sound c).content rel).stored
+stored_at state is_clean e ready c relation = ((ready.sound c).content relation).stored
 
 -- a notice is noted
 module _ {B : Type 0} (state : B → State) (is_clean : B → Type 0) where
@@ -83,14 +82,14 @@ module _ {B : Type 0} (state : B → State) (is_clean : B → Type 0) where
   }
 
   pub noted : (old new : Engine B) (notice : Option Notice) → IsKept state is_clean old new → IsKept state is_clean old (record new { notice = notice })
-  noted old new notice kept = record { rules = kept.rules; ready = ready_noted new notice kept.ready }
+  noted old new notice kept = record { site = kept.site; ready = ready_noted new notice kept.ready }
 
 -- over a sound base the reply can be printed
 module _ {B : Type 0} (state : B → State) (is_clean : B → Type 0) (old new : Engine B) (event : Event) (r : Reply) where
-  pub reply_known : IsEngineStep state old (step (site old) (world_of state old) event) new r → new.rules ≡ old.rules → IsEngineReady state is_clean old → is_clean old.base → EventFits (site old).policy (site old).schemes event
+  pub reply_known : IsEngineStep state old (step (site old) (world_of state old) event) new r → new.site ≡ old.site → IsEngineReady state is_clean old → is_clean old.base → EventFits (site old).policy (site old).schemes event
       → ReplyIsKnown (site new).policy r
   reply_known h kept ready c fits =
-      subst (λ rules. ReplyIsKnown (site_of rules).policy r) (sym kept)
+      subst (λ at. ReplyIsKnown (site_of at).policy r) (sym kept)
       (subst (ReplyIsKnown (site old).policy) (sym h.reply)
       (step_known (site old) ready.distinct ready.read (world_of state old) (stored_at state is_clean old ready c)
       (entries_known (length (site old).policy.labels) (state old.base).now.audit) event fits.level).reply)
@@ -152,7 +151,7 @@ module _ {B : Type 0} (state : B → State) (is_clean : B → Type 0) (failures 
   running_start ready = record {
     clean = λ c. c;
     count = omega arith;
-    kept = record { rules = refl; ready = ready_noted state is_clean first None ready };
+    kept = record { site = refl; ready = ready_noted state is_clean first None ready };
     noticed = λ c. refl;
     bytes = λ c. subst (Appends start start) (sym (nothing_heard (site_labels (site first)) audience.reader)) (Appends-nil start);
     world = λ c. refl;
@@ -167,23 +166,10 @@ module _ {B : Type 0} (state : B → State) (is_clean : B → Type 0) (failures 
   abbrev at : ℕ → World
   at = world_after (site first) w es
 
-  pub running_whole : (i : ℕ) (now : Engine B) (held : Option (List ℕ)) → Running state is_clean failures audience es first start i now held → length es ≤ i → is_clean now.base
-      → IsWhole (site first) audience w es start held (world_of state now)
-  running_whole i now held r l c =
-      let all = take_all i es l in
-      record {
-        bytes = subst (λ x. Appends start held (run_shows (site first) audience w x)) all (r.bytes c);
-        world = r.world c ∙ ap (end_of (site first) w) all;
-      }
-
-  pub running_noticed : (i : ℕ) (now : Engine B) (held : Option (List ℕ)) → Running state is_clean failures audience es first start i now held → length es ≤ i → is_clean now.base
-      → is_some now.notice ≡ not (are_done (site first) w es)
-  running_noticed i now held r l c = r.noticed c ∙ ap (λ x. not (are_done (site first) w x)) (take_all i es l)
-
   module _ (i : ℕ) (now : Engine B) (held : Option (List ℕ)) (r : Running state is_clean failures audience es first start i now held)
       (e : Event) (within : i < length es) (is : get_or es i e ≡ e) (new : Engine B) (after : Option (List ℕ)) (clean : is_clean new.base → is_clean now.base) where
     same_site : site now ≡ site first
-    same_site = ap site_of r.kept.rules
+    same_site = ap site_of r.kept.site
 
     pub running_more : failures now.base ≤ failures new.base → IsKept state is_clean now new
         → (is_clean new.base → IsAnswered (site now) audience (world_of state now) e held after (world_of state new))
@@ -195,7 +181,7 @@ module _ {B : Type 0} (state : B → State) (is_clean : B → Type 0) (failures 
         record {
           clean = λ c. r.clean (clean c);
           count = least r.count count;
-          kept = record { rules = kept.rules ∙ r.kept.rules; ready = kept.ready };
+          kept = record { site = kept.site ∙ r.kept.site; ready = kept.ready };
           bytes = λ c. subst (Appends start after) (sym (printed_more (site first) w es i e within is audience)) (Appends-trans start held after (to i) _ (r.bytes (clean c)) (h c).bytes);
           world = λ c. (h c).world ∙ sym (end_more (site first) w es i e within is);
           noticed = λ c.
@@ -238,11 +224,3 @@ module _ {B : Type 0} (state : B → State) (is_clean : B → Type 0) (failures 
     running_stopped f number halt c =
         subst (IsStopped (site first) audience w es start after (world_of state new)) (λ j. record { event = sym number j; cause = f.cause; done = f.done })
         (stopped_at f.cause f.done halt c)
-
-fits_at : {X : Type 0} (P : X → Type 0) (xs : List X) (i : ℕ) (x : X) → AllByRecursion P xs → i < length xs → get_or xs i x ≡ x → P x
-fits_at P [] i x h l e = absurd (omega arith)
-fits_at P (y ∷ xs) zero x h l e = subst P e h.0
-fits_at P (y ∷ xs) (suc i) x h l e = fits_at P xs i x h.1 (omega arith) e
-
-pub event_fits : (p q : Site) (es : List Event) (i : ℕ) (e : Event) → p ≡ q → EventsFit q es → i < length es → get_or es i e ≡ e → EventFits p.policy p.schemes e
-event_fits p q es i e same h l is = subst (λ x. EventFits x.policy x.schemes e) (sym same) (fits_at (EventFits q.policy q.schemes) es i e h l is)

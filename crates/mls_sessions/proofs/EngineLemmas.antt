@@ -6,9 +6,9 @@ use Rattle.mls_filterview.specs.declared.base.BaseFault.TheVariants as faults
 use Rattle.mls_filterview.specs.Calls.{IsServed}
 use Rattle.mls_filterview.specs.Content.{State, Content}
 use Rattle.mls_filterview.specs.Stored.{AreContent}
-use Rattle.mls_updates.specs.Writes.{Insert, Update, Delete}
-use Rattle.mls_lattice.specs.Policy.{Name}
+use Rattle.mls_lattice.specs.Policy.{Name, Policy}
 use Rattle.mls_scheme.specs.declared.value.Value.{Value}
+use Rattle.mls_audit.specs.Sound.{IsSoundContent}
 use Rattle.mls_queries.specs.declared.query.Query.{Query}
 use Rattle.mls_script.specs.declared.event.Event.{Event}
 use Rattle.mls_script.specs.declared.event.Command.{Command}
@@ -20,16 +20,17 @@ use Rattle.mls_machine.specs.declared.stored.Stored.{Stored}
 use Rattle.mls_machine.specs.declared.stored.Stored.TheVariants.{Certified, Plain}
 use Rattle.mls_machine.specs.Denying.{stored_named, call_denial}
 use Rattle.mls_machine.specs.declared.reply.Reply.{Reply}
-use Rattle.mls_machine.specs.declared.reply.Reply.TheVariants.{Closed}
+use Rattle.mls_machine.specs.declared.reply.Reply.TheVariants.{Opened, Closed, Rows, Dumped, Wrote, Ran, Entries, Denied}
+use Rattle.mls_machine.specs.Known.{HasKnownNumbers}
+use Rattle.mls_machine.specs.Output.{ReplyIsKnown}
 use Rattle.mls_machine.specs.Site.{Site, site_labels}
 use Rattle.mls_machine.specs.Machine.{World, Step, with_session, closed, denied, unless, viewed, dumped, wrote, listed, called, call_step, step_inside, step_outside, step_at, step}
 use Rattle.mls_machine.proofs.KeepingLemmas.{step_content}
 use Rattle.mls_sessions.specs.declared.engine.Engine.{Engine}
 use Rattle.mls_sessions.specs.declared.session.Session.{Session}
 use Rattle.mls_sessions.specs.Denying.{denial_in}
-use Rattle.mls_sessions.specs.Sessions.{sessions_of, AreForUsers}
-use Rattle.mls_sessions.specs.World.{world_at, IsSound}
-use Rattle.mls_sessions.specs.Sessions.{IsSessionStep}
+use Rattle.mls_sessions.specs.Sessions.{sessions_of, AreForUsers, IsSessionStep}
+use Rattle.mls_sessions.specs.World.{world_at}
 use Rattle.mls_sessions.specs.Turns.{IsTurn, IsStepOver}
 use Rattle.mls_queries.specs.Views.{Kept, AreViews}
 use Rattle.mls_queries.proofs.WrittenLemmas.{kept_same}
@@ -62,25 +63,23 @@ module _ (at : Site) (w : World) (e : Event) where
     denied_inside (commands.Open name) d h = ap (denied at w e user) (some_is AlreadyOpen d h)
     denied_inside commands.Close d h = none_is d h
     denied_inside commands.Audit d h = none_is d h
-    denied_inside (commands.View rel label query counts) d h = ap (λ o. unless at o w e user (viewed at w rel label query)) h
-    denied_inside (commands.Dump rel) d h = ap (λ o. unless at o w e user (dumped at w rel e.level)) h
-    denied_inside (commands.Insert rel key values) d h = ap (λ o. unless at o w e user (wrote at w e.level rel (Insert key values))) h
-    denied_inside (commands.Update rel key key_class from sets) d h = ap (λ o. unless at o w e user (wrote at w e.level rel (Update key key_class from sets))) h
-    denied_inside (commands.Delete rel key key_class) d h = ap (λ o. unless at o w e user (wrote at w e.level rel (Delete key key_class))) h
+    denied_inside (commands.View relation label query counts) d h = ap (λ o. unless at o w e user (viewed at w relation label query)) h
+    denied_inside (commands.Dump relation) d h = ap (λ o. unless at o w e user (dumped at w relation e.level)) h
+    denied_inside (commands.Write relation wr) d h = ap (λ o. unless at o w e user (wrote at w e.level relation wr)) h
     denied_inside (commands.Call name args) d h = denied_call name args (stored_named at.stored name) d h
 
     pub denied_is : (d : Denial) → denial_in at e.level user e.command ≡ Some d → step at w e ≡ denied at w e user d
     denied_is d h = inside_is ∙ denied_inside e.command d h
 
-    pub viewed_is : (rel label : ℕ) (query : Query) (counts : Bool) → e.command ≡ commands.View rel label query counts → denial_in at e.level user e.command ≡ None → step at w e ≡ viewed at w rel label query
-    viewed_is rel label query counts is h =
+    pub viewed_is : (relation label : ℕ) (query : Query) (counts : Bool) → e.command ≡ commands.View relation label query counts → denial_in at e.level user e.command ≡ None → step at w e ≡ viewed at w relation label query
+    viewed_is relation label query counts is h =
         inside_is ∙ ap (λ x. step_inside at w e x user) is
-        ∙ ap (λ o. unless at o w e user (viewed at w rel label query)) (sym (ap (denial_in at e.level user) is) ∙ h)
+        ∙ ap (λ o. unless at o w e user (viewed at w relation label query)) (sym (ap (denial_in at e.level user) is) ∙ h)
 
-    pub dumped_is : (rel : ℕ) → e.command ≡ commands.Dump rel → denial_in at e.level user e.command ≡ None → step at w e ≡ dumped at w rel e.level
-    dumped_is rel is h =
+    pub dumped_is : (relation : ℕ) → e.command ≡ commands.Dump relation → denial_in at e.level user e.command ≡ None → step at w e ≡ dumped at w relation e.level
+    dumped_is relation is h =
         inside_is ∙ ap (λ x. step_inside at w e x user) is
-        ∙ ap (λ o. unless at o w e user (dumped at w rel e.level)) (sym (ap (denial_in at e.level user) is) ∙ h)
+        ∙ ap (λ o. unless at o w e user (dumped at w relation e.level)) (sym (ap (denial_in at e.level user) is) ∙ h)
 
     pub listed_is : e.command ≡ commands.Audit → step at w e ≡ listed at w e.level
     listed_is is = inside_is ∙ ap (λ x. step_inside at w e x user) is
@@ -94,6 +93,17 @@ module _ (at : Site) (w : World) (e : Event) where
 pub none_from : (o : Option Denial) → ((d : Denial) → o ≡ Some d → ⊥) → o ≡ None
 none_from None h = refl
 none_from (Some d) h = absurd (h d refl)
+
+-- what can be printed has known numbers
+pub numbers_known : (policy : Policy) (r : Reply) → ReplyIsKnown policy r → HasKnownNumbers policy r
+numbers_known policy (Opened user) h = h
+numbers_known policy Closed h = h
+numbers_known policy (Rows tuples) h = tt
+numbers_known policy (Dumped tuples) h = tt
+numbers_known policy (Wrote o) h = h
+numbers_known policy (Ran run) h = h
+numbers_known policy (Entries es) h = h
+numbers_known policy (Denied d) h = h
 
 -- ---- engines
 
@@ -141,13 +151,13 @@ module _ {B : Type 0} (state : B → State) (is_clean : B → Type 0) (failures 
     over_done (Ok r) h = record { reply = h.reply (sessions_of old.sessions.items) ∙ ap (λ (t : Step). t.reply) (sym is); world = over_world r h }
     over_done (Err e) h = tt
 
-    over_sound : (r : Result Reply BaseFault) → IsTurn is_clean failures now old.base b r → is_clean b → Over r → IsSound (site old) (now b)
+    over_sound : (r : Result Reply BaseFault) → IsTurn is_clean failures now old.base b r → is_clean b → Over r → IsSoundContent (site old).policy (site old).schemes (now b)
     over_sound (Ok r) t c h = record {
       content = subst (AreContent (site_labels (site old)) (site old).schemes) (sym (ap (λ (x : World). x.db) (over_world r h)))
           (step_content (site old) ready.distinct ready.read w event (ready.sound (t.clean c)).content fits);
       entries = h.entries (ready.sound (t.clean c)).entries;
     }
-    over_sound (Err e) t c h = subst (IsSound (site old)) (sym (t.fault.same c)) (ready.sound (t.clean c))
+    over_sound (Err e) t c h = subst (IsSoundContent (site old).policy (site old).schemes) (sym (t.fault.same c)) (ready.sound (t.clean c))
 
     -- views of the content that the event leaves
     abbrev Are : Kept → Type 0
@@ -162,7 +172,7 @@ module _ {B : Type 0} (state : B → State) (is_clean : B → Type 0) (failures 
     answers_over r t idle h are = record {
       turn = over_turn r t;
       kept = record {
-        rules = refl;
+        site = refl;
         ready = record {
           under = ready.under;
           distinct = ready.distinct;
@@ -189,7 +199,7 @@ module _ {B : Type 0} (state : B → State) (is_clean : B → Type 0) (failures 
     with_them = record old { sessions = sessions }
 
     them_kept : IsKept state is_clean old with_them
-    them_kept = record { rules = refl; ready = record { under = ready.under; distinct = ready.distinct; read = ready.read; certified = ready.certified; users = users; idle = ready.idle; sound = ready.sound; views = ready.views } }
+    them_kept = record { site = refl; ready = record { under = ready.under; distinct = ready.distinct; read = ready.read; certified = ready.certified; users = users; idle = ready.idle; sound = ready.sound; views = ready.views } }
 
     pub answers_closed : sessions_of sessions.items ≡ with_session (sessions_of old.sessions.items) event.level event.session None → s ≡ closed w event → Answered with_them (Ok Closed)
     answers_closed h is = record {

@@ -28,8 +28,8 @@ module _ {B : Type 0} (state : B → State) (is_clean : B → Type 0) (failures 
 
   -- nothing was done
   pub goes_nowhere : {A : Type 0} (e : Engine B) → IsEngineReady state is_clean e → (r : Result A RunFault) → IfErr r (λ f. f.cause ≡ Store → ⊥) → Goes e e r
-  goes_nowhere e ready (Ok a) h = record { clean = λ c. c; count = omega arith; kept = record { rules = refl; ready = ready }; store = λ c. tt }
-  goes_nowhere e ready (Err f) h = record { clean = λ c. c; count = omega arith; kept = record { rules = refl; ready = ready }; store = λ c is. absurd (h is) }
+  goes_nowhere e ready (Ok a) h = record { clean = λ c. c; count = omega arith; kept = record { site = refl; ready = ready }; store = λ c. tt }
+  goes_nowhere e ready (Err f) h = record { clean = λ c. c; count = omega arith; kept = record { site = refl; ready = ready }; store = λ c is. absurd (h is) }
 
   -- the first of it stopped
   pub goes_first : {A C : Type 0} (a b : Engine B) (f : RunFault) → Goes {A = A} a b (Err f) → Goes {A = C} a b (Err f)
@@ -49,7 +49,7 @@ module _ {B : Type 0} (state : B → State) (is_clean : B → Type 0) (failures 
     goes_on y z k = record {
       clean = λ is. h.clean (k.clean is);
       count = least h.count k.count;
-      kept = record { rules = k.kept.rules ∙ h.kept.rules; ready = k.kept.ready };
+      kept = record { site = k.kept.site ∙ h.kept.site; ready = k.kept.ready };
       store = λ is. tt;
     }
 
@@ -57,7 +57,7 @@ module _ {B : Type 0} (state : B → State) (is_clean : B → Type 0) (failures 
     goes_to f k = record {
       clean = λ is. h.clean (k.clean is);
       count = least h.count k.count;
-      kept = record { rules = k.kept.rules ∙ h.kept.rules; ready = k.kept.ready };
+      kept = record { site = k.kept.site ∙ h.kept.site; ready = k.kept.ready };
       store = λ is s. less h.count (k.store is s);
     }
 

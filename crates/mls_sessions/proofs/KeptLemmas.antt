@@ -1,16 +1,17 @@
 -- What is kept of views after what an event changes.
-use Rattle.std.proofs.Common.{◌≡◌, ℕ, ◌<◌, length, Result, Ok, Err, IfOk, OnOk, sym, ap, ◌∙◌, subst}
+use Rattle.std.proofs.Common.{ℕ, ◌<◌, length, Result, Ok, Err, IfOk, OnOk, ap}
 use Rattle.mls_lattice.specs.Policy.{Policy, labels_of}
-use Rattle.mls_scheme.specs.Scheme.{Scheme}
+use Rattle.mls_scheme.specs.Scheme.{Scheme, Schemes, scheme_of, AreUnder}
+use Rattle.mls_scheme.specs.Writes.{key_class_of}
 use Rattle.mls_filterview.specs.declared.base.BaseFault.{BaseFault}
 use Rattle.mls_filterview.specs.Content.{State}
 use Rattle.mls_filterview.specs.Stored.{IsContent}
-use Rattle.mls_updates.specs.declared.outcome.Outcome.{Outcome}
-use Rattle.mls_updates.specs.Writes.{Write, named}
-use Rattle.mls_updates.specs.Calls.{IsWritten}
-use Rattle.mls_queries.specs.Views.{Kept, AreViews, AreLeftBy}
-use Rattle.mls_queries.proofs.WrittenLemmas.{kept_same, kept_written}
+use Rattle.mls_updates.specs.Writes.{Write, Insert, Update, Delete}
+use Rattle.mls_updates.specs.Calls.{CanWrite}
+use Rattle.mls_queries.specs.Views.{Kept, AreViews}
+use Rattle.mls_queries.proofs.WrittenLemmas.{kept_same}
 use Rattle.mls_script.specs.declared.event.Event.{Event}
+use Rattle.mls_script.specs.Event.{IsWriteOf}
 use Rattle.mls_machine.specs.declared.reply.Denial.{Denial}
 use Rattle.mls_machine.specs.declared.reply.Reply.{Reply}
 use Rattle.mls_machine.specs.Site.{Site}
@@ -25,11 +26,29 @@ module _ {B : Type 0} (is_clean : B → Type 0) (state : B → State) where
   denied_views site event user denial a c es (Ok r) back done views = kept_same site.policy is_clean state a c es back (λ k. ap (λ (w : World). w.db) ((done k).world no_sessions)) views
   denied_views site event user denial a c es (Err e) back done views = tt
 
-  -- a write, and what is given up after it
-  pub written_views : (policy : Policy) (scheme : Scheme) (rel level : ℕ) (wr : Write) (a b c : B) (o : Outcome) (es new left : Kept) → c ≡ b → left ≡ new → AreLeftBy (labels_of policy) rel level (named level wr) o es new → (named level wr).key_class < length policy.labels
-      → (is_clean b → is_clean a) → (is_clean b → IsContent (labels_of policy) scheme ((state a).now.db rel)) → (is_clean b → IsWritten (labels_of policy) scheme rel level wr (state a) (state b) o)
-      → AreViews policy is_clean state a es → AreViews policy is_clean state c left
-  written_views policy scheme rel level wr a b c o es new left base kept is within back content written views =
-      subst (λ x. AreViews policy is_clean state x left) (sym base)
-      (subst (AreViews policy is_clean state b) (sym kept)
-      (kept_written policy is_clean state scheme (length scheme.others) rel level wr a b o es new back (λ k. (content k).stored) written within views is))
+-- ---- a write that fits its scheme
+
+-- the class of its key is declared
+pub key_class_within : (policy : Policy) (scheme : Scheme) (level : ℕ) → level < length policy.labels → (wr : Write) → IsWriteOf policy scheme wr → key_class_of level wr < length policy.labels
+key_class_within policy scheme level within (Insert key values) fits = within
+key_class_within policy scheme level within (Update key key_class from sets) fits = fits.1
+key_class_within policy scheme level within (Delete key key_class) fits = fits.1
+
+-- it may be made, over content of the stored form
+module _ {B : Type 0} (is_clean : B → Type 0) (state : B → State) (base : B) (policy : Policy) (schemes : Schemes) (relation level : ℕ) (within : level < length policy.labels) (declared : relation < length schemes)
+    (under : AreUnder (length policy.labels) schemes) (stored : is_clean base → IsContent (labels_of policy) (scheme_of schemes relation) ((state base).now.db relation)) where
+  pub can_write : (wr : Write) → IsWriteOf policy (scheme_of schemes relation) wr → CanWrite is_clean state base policy schemes relation level wr
+  can_write (Insert key values) fits = record { label = within; declared = declared; under = under; kinds = fits; stored = stored }
+  can_write (Update key key_class from sets) fits = record {
+    label = within;
+    key_class = fits.1;
+    from = fits.2;
+    declared = declared;
+    under = under;
+    named = fits.3.some;
+    fits = fits.3.known;
+    key = fits.0;
+    kinds = fits.3.kinds;
+    stored = stored;
+  }
+  can_write (Delete key key_class) fits = record { label = within; key_class = fits.1; declared = declared; key = fits.0; stored = stored }

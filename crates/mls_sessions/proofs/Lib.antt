@@ -1,5 +1,4 @@
 pub mod WritingSteps
-pub mod TurnLemmas
 pub mod StepLemmas
 pub mod KeptLemmas
 pub mod CallLemmas
@@ -7,7 +6,6 @@ pub mod EnteringLemmas
 pub mod EngineLemmas
 pub mod NamingLemmas
 pub mod AnswerLemmas
-pub mod StartLemmas
 pub mod TurningLemmas
 pub mod FrameLemmas
 pub mod ArgumentLemmas

@@ -123,10 +123,6 @@ user_known count [] level name user all h = absurd cc
 user_known count (s ∷ ss) level name user all h =
     held_below count (is_named level name s) s.user user (sessions_of ss level name) all.0 (user_known count ss level name user all.1) h
 
-pub more_users : (count : ℕ) (ss : List Session) (s : Session) → AreForUsers count ss → s.user < count → AreForUsers count (ss ++ s ∷ [])
-more_users count [] s all one = (one, tt)
-more_users count (r ∷ ss) s all one = (all.0, more_users count ss s all.1 one)
-
 -- ---- what an event of no open session is answered
 
 module _ (site : Site) (event : Event) where
@@ -137,11 +133,9 @@ module _ (site : Site) (event : Event) where
   not_opening w (commands.Open name) other = absurd (other name refl)
   not_opening w commands.Close other = refl
   not_opening w commands.Audit other = refl
-  not_opening w (commands.View rel label query counts) other = refl
-  not_opening w (commands.Dump rel) other = refl
-  not_opening w (commands.Insert rel key values) other = refl
-  not_opening w (commands.Update rel key key_class from sets) other = refl
-  not_opening w (commands.Delete rel key key_class) other = refl
+  not_opening w (commands.View relation label query counts) other = refl
+  not_opening w (commands.Dump relation) other = refl
+  not_opening w (commands.Write relation wr) other = refl
   not_opening w (commands.Call name args) other = refl
 
   module _ (old : List Session) where

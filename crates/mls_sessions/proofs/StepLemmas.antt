@@ -7,9 +7,6 @@ use Rattle.std.proofs.lemmas.List.{take_more}
 use Rattle.std.proofs.lemmas.List.Elements.{filter_map-append}
 use Rattle.mls_lattice.specs.Labels.{Labels, below}
 use Rattle.mls_filterview.specs.Content.{State, with_entry}
-use Rattle.mls_updates.specs.declared.outcome.Outcome.{Outcome}
-use Rattle.mls_updates.specs.Writes.{Write}
-use Rattle.mls_updates.specs.Calls.{IsWritten}
 use Rattle.mls_audit.specs.declared.entry.Entry.{Entry}
 use Rattle.mls_scheme.specs.declared.key_fault.KeyFault.{KeyFault}
 use Rattle.mls_audit.specs.Entry.{label_of, visible}
@@ -18,10 +15,9 @@ use Rattle.mls_audit.specs.Reading.{entry_at}
 use Rattle.mls_audit.proofs.EntryLemmas.{entry_again}
 use Rattle.mls_script.specs.declared.event.Event.{Event}
 use Rattle.mls_machine.specs.declared.reply.Denial.{Denial}
-use Rattle.mls_machine.specs.declared.reply.Reply.TheVariants.{Wrote, Denied}
-use Rattle.mls_machine.specs.Site.{Site, site_labels, site_scheme}
-use Rattle.mls_machine.specs.Denying.{first_denial, write_denials}
-use Rattle.mls_machine.specs.Machine.{denial_entry, denied, unless, wrote, write_step}
+use Rattle.mls_machine.specs.declared.reply.Reply.TheVariants.{Denied}
+use Rattle.mls_machine.specs.Site.{Site}
+use Rattle.mls_machine.specs.Machine.{denial_entry, denied}
 use Rattle.mls_sessions.specs.World.{declared, entries_in, world_at}
 use Rattle.mls_sessions.specs.Turns.{IsStepOver}
 
@@ -84,13 +80,4 @@ module _ (site : Site) (s t : State) where
         ∙ ap (λ es. record { db = s.now.db; sessions = sessions; audit = es }) (entries_more (length site.policy.labels) s.now.audit bytes (denial_entry site event user denial) spelled within is);
     entries = λ all. subst (λ (x : State). AllByRecursion (IsEntryOf (length site.policy.labels)) x.now.audit) (sym h)
         (all_by_recursion_push _ s.now.audit bytes all (record { entry = denial_entry site event user denial; spelled = spelled; declared = within; is = is }));
-  }
-
-  pub wrote_over : (event : Event) (user rel : ℕ) (wr : Write) (o : Outcome) → first_denial (write_denials site event.level user rel wr) ≡ None
-      → IsWritten (site_labels site) (site_scheme site rel) rel event.level wr s t o → IsStepOver site (λ w. write_step site w event user rel wr) s.now t.now (Wrote o)
-  wrote_over event user rel wr o none h = record {
-    reply = λ sessions. ap Wrote h.outcome ∙ sym (ap (λ d. (unless site d (world_at site sessions s.now) event user (wrote site (world_at site sessions s.now) event.level rel wr)).reply) none);
-    world = λ sessions. ap (λ (x : State). world_at site sessions x.now) h.state
-        ∙ sym (ap (λ d. (unless site d (world_at site sessions s.now) event user (wrote site (world_at site sessions s.now) event.level rel wr)).world) none);
-    entries = λ all. subst (λ (x : State). AllByRecursion (IsEntryOf (length site.policy.labels)) x.now.audit) (sym h.state) all;
   }

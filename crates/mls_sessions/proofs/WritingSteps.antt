@@ -1,9 +1,8 @@
 -- What is written, write by write.
-use Rattle.std.proofs.Common.{◌≡◌, ℕ, List, [], ◌++◌, Option, length, take, drop, sym, ap, ◌∙◌, subst, append_assoc, append-nil, take-append-drop, ◌-◌}
+use Rattle.std.proofs.Common.{◌≡◌, ℕ, List, ◌++◌, Option, length, take, drop, sym, ap, ◌∙◌, subst, append_assoc, take-append-drop, ◌-◌}
 use Rattle.std.proofs.lemmas.List.{take_rest}
-use Rattle.std.specs.Io.KnownBytes.{Keeps, Appends}
-use Rattle.std.proofs.KnownBytes.{Appends-trans, Appends-kept}
-use Rattle.mls_sessions.specs.Run.{IsPart}
+use Rattle.std.specs.Io.KnownBytes.{Appends}
+use Rattle.std.proofs.KnownBytes.{Appends-trans}
 
 -- so much of the bytes is written, and this is left
 abbrev pub Written : Option (List ℕ) → Option (List ℕ) → List ℕ → List ℕ → Type 0
@@ -13,17 +12,6 @@ pub written_more : (a b c : Option (List ℕ)) (bytes rest : List ℕ) (n : ℕ)
 written_more a b c bytes rest n h k =
     let (part, split, done) = h in
     (part ++ take n rest, split ∙ ap (λ l. part ++ l) (sym (take-append-drop n rest)) ∙ sym (append_assoc part (take n rest) (drop n rest)), Appends-trans a b c part (take n rest) done k)
-
-pub written_part : (a b c : Option (List ℕ)) (bytes rest : List ℕ) → Written a b bytes rest → Keeps b c → IsPart a c bytes
-written_part a b c bytes rest h k = let (part, split, done) = h in record { part = part; rest = rest; appends = Appends-kept a b c part done k; whole = sym split }
-
-pub written_stop : (a b c : Option (List ℕ)) (bytes rest : List ℕ) → Written a b bytes rest → Appends b c (take 0 rest) → IsPart a c bytes
-written_stop a b c bytes rest h k =
-    let (part, split, done) = written_more a b c bytes rest 0 h k in
-    record { part = part; rest = rest; appends = done; whole = sym split }
-
-pub written_all : (a b : Option (List ℕ)) (bytes rest : List ℕ) → Written a b bytes rest → rest ≡ [] → Appends a b bytes
-written_all a b bytes rest h e = let (part, split, done) = h in subst (Appends a b) (sym (split ∙ ap (λ l. part ++ l) e ∙ append-nil part)) done
 
 pub written_next : (a b c : Option (List ℕ)) (bytes rest : List ℕ) (n : ℕ) → Written a b bytes rest → Appends b c (take n rest) → Written a c bytes (take (length rest - n) (drop n rest))
 written_next a b c bytes rest n h k = subst (Written a c bytes) (sym (take_rest rest n)) (written_more a b c bytes rest n h k)

@@ -4,6 +4,7 @@ use Rattle.mls_lattice.specs.Labels.{AreDistinct}
 use Rattle.mls_scheme.specs.Scheme.{AreUnder}
 use Rattle.mls_filterview.specs.declared.base.BaseFault.{BaseFault}
 use Rattle.mls_filterview.specs.Content.{State}
+use Rattle.mls_audit.specs.Sound.{IsSoundContent}
 use Rattle.mls_machine.specs.declared.reply.Reply.{Reply}
 use Rattle.mls_machine.specs.Site.{Site, site_labels}
 use Rattle.mls_machine.specs.Observation.{AreRead, AreCertified}
@@ -13,12 +14,12 @@ use Rattle.mls_sessions.specs.declared.cause.RunCause.TheVariants.{Store}
 use Rattle.mls_sessions.specs.declared.cause.RunFault.{RunFault}
 use Rattle.mls_sessions.specs.declared.engine.Engine.{Engine}
 use Rattle.mls_sessions.specs.Sessions.{site_of, sessions_of, AreForUsers}
-use Rattle.mls_sessions.specs.World.{world_at, IsSound}
+use Rattle.mls_sessions.specs.World.{world_at}
 use Rattle.mls_sessions.specs.Turns.{IsTurn}
 use Rattle.mls_queries.specs.Views.{AreViews}
 
 abbrev pub site : {B : Type 0} → Engine B → Site
-site e = site_of e.rules
+site e = site_of e.site
 
 module _ {B : Type 0} (state : B → State) where
   abbrev pub world_of : Engine B → World
@@ -34,7 +35,7 @@ module _ {B : Type 0} (state : B → State) where
     pub certified : AreCertified (site e)
     pub users : AreForUsers (length (site e).policy.users) e.sessions.items
     pub idle : (state e.base).begun ≡ false
-    pub sound : is_clean e.base → IsSound (site e) (state e.base).now
+    pub sound : is_clean e.base → IsSoundContent (site e).policy (site e).schemes (state e.base).now
     pub views : AreViews (site e).policy is_clean state e.base e.views
 
   -- an event was answered, and the world left, as by a step of the machine
@@ -42,9 +43,9 @@ module _ {B : Type 0} (state : B → State) where
     pub reply : r ≡ s.reply
     pub world : world_of new ≡ s.world
 
-  -- an event leaves the engine ready, under the same rules
+  -- an event leaves the engine ready, at the same site
   pub record IsKept (is_clean : B → Type 0) (old new : Engine B) : Type 0 where
-    pub rules : new.rules ≡ old.rules
+    pub site : new.site ≡ old.site
     pub ready : IsEngineReady is_clean new
 
   module _ (is_clean : B → Type 0) (failures : B → ℕ) where

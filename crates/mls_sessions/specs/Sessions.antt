@@ -8,12 +8,12 @@ use Rattle.mls_audit.specs.declared.entry.Entry.{Entry}
 use Rattle.mls_machine.specs.declared.reply.Reply.{Reply}
 use Rattle.mls_machine.specs.Site.{Site}
 use Rattle.mls_machine.specs.Machine.{Sessions, World, Step}
-use Rattle.mls_sessions.specs.declared.rules.RunSite.{RunSite}
+use Rattle.mls_sessions.specs.declared.site.RunSite.{RunSite}
 use Rattle.mls_sessions.specs.declared.session.Session.{Session}
 
 -- what a run is under
 abbrev pub site_of : RunSite → Site
-site_of rules = record { policy = rules.policy.now; schemes = rules.schemes.now; stored = rules.stored }
+site_of site = record { policy = site.policy.now; schemes = site.schemes.now; stored = site.stored }
 
 -- ---- sessions
 

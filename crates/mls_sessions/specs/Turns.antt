@@ -16,11 +16,12 @@ use Rattle.mls_machine.specs.Site.{Site}
 use Rattle.mls_machine.specs.Machine.{Sessions, World, Step, denied, step_inside}
 use Rattle.mls_machine.specs.Observation.{AreRead}
 use Rattle.mls_machine.specs.Known.{HasKnownNumbers}
-use Rattle.mls_sessions.specs.declared.change.Deed.{Deed}
-use Rattle.mls_sessions.specs.declared.change.Deed.TheVariants.{Deny, Write, Call}
+use Rattle.mls_sessions.specs.declared.change.Effect.{Effect}
+use Rattle.mls_sessions.specs.declared.change.Effect.TheVariants.{Deny, Write, Call}
 use Rattle.mls_sessions.specs.Denying.{denial_in}
 use Rattle.mls_audit.specs.Spelling.{IsEntryOf}
-use Rattle.mls_sessions.specs.World.{world_at, IsSound}
+use Rattle.mls_audit.specs.Sound.{IsSoundContent}
+use Rattle.mls_sessions.specs.World.{world_at}
 
 -- ---- faults
 
@@ -50,30 +51,23 @@ pub record IsStepOver (site : Site) (step : World → Step) (s t : Content) (r :
 -- ---- deeds
 
 abbrev pub is_write : Command → Bool
-is_write (commands.Open name) = false
-is_write commands.Close = false
-is_write commands.Audit = false
-is_write (commands.View rel label query counts) = false
-is_write (commands.Dump rel) = false
-is_write (commands.Insert rel key values) = true
-is_write (commands.Update rel key key_class from sets) = true
-is_write (commands.Delete rel key key_class) = true
-is_write (commands.Call name args) = false
+is_write (commands.Write relation wr) = true
+is_write command = false
 
 abbrev pub is_call : Command → Bool
 is_call (commands.Call name args) = true
 is_call command = false
 
 -- the user is one of the policy; the event writes; it is a call that is not denied
-abbrev pub IsDeedOf : Site → Event → Deed → Type 0
-IsDeedOf site event (Deny user denial) = user < length site.policy.users
-IsDeedOf site event Write = is_write event.command ≡ true
-IsDeedOf site event (Call user) =
+abbrev pub IsEffectOf : Site → Event → Effect → Type 0
+IsEffectOf site event (Deny user denial) = user < length site.policy.users
+IsEffectOf site event Write = is_write event.command ≡ true
+IsEffectOf site event (Call user) =
     (user < length site.policy.users) × (is_call event.command ≡ true)
     × (denial_in site event.level user event.command ≡ None)
 
 -- the denial is entered; the event of a session in which it is not denied is answered
-abbrev pub IsDoneOf : Site → Event → Deed → Content → Content → Reply → Type 0
+abbrev pub IsDoneOf : Site → Event → Effect → Content → Content → Reply → Type 0
 IsDoneOf site event (Deny user denial) s t r = IsStepOver site (λ w. denied site w event user denial) s t r
 IsDoneOf site event Write s t r =
     (user : ℕ) → denial_in site event.level user event.command ≡ None
@@ -82,11 +76,11 @@ IsDoneOf site event (Call user) s t r = IsStepOver site (λ w. step_inside site 
 
 -- ---- changes
 
--- the event fits, all that is stored was read under the policy and the schemes, and the deed is one of the event
-pub record MayDo (site : Site) (event : Event) (deed : Deed) : Type 0 where
+-- the event fits, all that is stored was read under the policy and the schemes, and the effect is one of the event
+pub record MayDo (site : Site) (event : Event) (effect : Effect) : Type 0 where
   pub fits : EventFits site.policy site.schemes event
   pub read : AreRead site
-  pub asked : IsDeedOf site event deed
+  pub asked : IsEffectOf site event effect
 
 module _ {Self : Type 0} (is_clean : Self → Type 0) (failures : Self → ℕ) (state : Self → State) where
   -- a step inside a change: it goes on, over what was committed before it; or a fault has ended it
@@ -106,7 +100,7 @@ module _ {Self : Type 0} (is_clean : Self → Type 0) (state : Self → State) w
   pub record Finds (site : Site) (begun : Bool) (base : Self) (kept : Kept) : Type 0 where
     pub under : AreUnder (length site.policy.labels) site.schemes
     pub mode : (state base).begun ≡ begun
-    pub sound : is_clean base → IsSound site (state base).now
+    pub sound : is_clean base → IsSoundContent site.policy site.schemes (state base).now
     pub views : AreViews site.policy is_clean state base kept
 
 -- an event that looks: no change is begun, and it is answered as by a step of the machine, by numbers of the policy
@@ -117,9 +111,9 @@ module _ {Self : Type 0} (is_clean : Self → Type 0) (failures : Self → ℕ) 
     pub done : is_clean new → IfOk result (IsStepOver site step (state old).now (state new).now)
     pub known : IfOk result (HasKnownNumbers site.policy)
 
--- a deed is done, and answered by numbers of the policy
+-- a effect is done, and answered by numbers of the policy
 module _ {Self : Type 0} (is_clean : Self → Type 0) (state : Self → State)
-    (site : Site) (event : Event) (deed : Deed) where
+    (site : Site) (event : Event) (effect : Effect) where
   pub record HasDone (old new : Self) (result : Result Reply BaseFault) : Type 0 where
-    pub done : is_clean new → IfOk result (IsDoneOf site event deed (state old).now (state new).now)
+    pub done : is_clean new → IfOk result (IsDoneOf site event effect (state old).now (state new).now)
     pub known : IfOk result (HasKnownNumbers site.policy)

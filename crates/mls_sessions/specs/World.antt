@@ -1,14 +1,12 @@
 -- The world that content and open sessions are.
 use Rattle.std.specs.Prelude.{ℕ, if◌then◌else◌, nat_lt, List, length, Option, Some, None, Result, Ok, Err}
-use Rattle.std.specs.List.{AllByRecursion, filter_map}
+use Rattle.std.specs.List.{filter_map}
 use Rattle.mls_filterview.specs.Content.{Content}
-use Rattle.mls_filterview.specs.Stored.{AreContent}
 use Rattle.mls_audit.specs.declared.entry.Entry.{Entry}
 use Rattle.mls_scheme.specs.declared.key_fault.KeyFault.{KeyFault}
 use Rattle.mls_audit.specs.Entry.{label_of}
 use Rattle.mls_audit.specs.Reading.{entry_at}
-use Rattle.mls_audit.specs.Spelling.{IsEntryOf}
-use Rattle.mls_machine.specs.Site.{Site, site_labels}
+use Rattle.mls_machine.specs.Site.{Site}
 use Rattle.mls_machine.specs.Machine.{Sessions, World}
 
 -- ---- the audit list
@@ -27,8 +25,3 @@ entries_in count = filter_map (λ bytes. declared count (entry_at bytes))
 abbrev pub world_at : Site → Sessions → Content → World
 world_at site sessions c =
     record { db = c.db; sessions = sessions; audit = entries_in (length site.policy.labels) c.audit }
-
--- relations of the stored form, and an audit list of entries of declared labels
-pub record IsSound (site : Site) (c : Content) : Type 0 where
-  pub content : AreContent (site_labels site) site.schemes c.db
-  pub entries : AllByRecursion (IsEntryOf (length site.policy.labels)) c.audit

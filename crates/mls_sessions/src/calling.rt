@@ -12,7 +12,7 @@ ghost use Rattle.mls_queries.specs.Views.{AreViews};
 ghost use Rattle.mls_sessions.specs.Calling.{MayEnter, HasEntered, MayRun, HasRun};
 ghost use Rattle.mls_sessions.specs.Turns.{MayDo, GoesOn, Finds, HasDone};
 
-use crate::change::Deed;
+use crate::change::Effect;
 use crate::{RunSite, certified_named, fitted};
 use mls_audit::{Entry, entry_bytes};
 use mls_certcheck::{Certified, Run};
@@ -28,47 +28,47 @@ use std::alloc::AllocError;
 
 /// The bytes of the entry of a call.
 fn called_bytes(
-    rules: &RunSite,
+    site: &RunSite,
     event: &Event,
     user: UserNo,
     name: &str,
 ) -> Result<Vec<u8>, AllocError>
-    requires user { user < length rules.now.policy.now.users }
+    requires user { user < length site.now.policy.now.users }
     requires session { is_name event.now.session ≡ true }
     requires name { is_name name.now ≡ true }
     ensures bytes { IfOk result (λ v. v.items ≡ entry_spelling
-        (Called event.now.level (user_name rules.now.policy.now.users user) event.now.session name.now)) }
+        (Called event.now.level (user_name site.now.policy.now.users user) event.now.session name.now)) }
     ensures spelled { OnOk result (HasSpelling (Called event.now.level
-        (user_name rules.now.policy.now.users user) event.now.session name.now)) }
+        (user_name site.now.policy.now.users user) event.now.session name.now)) }
 {
-    let user = Str::copy_of(rules.alloc, rules.policy.user_name(user))?;
-    let session = Str::copy_of(rules.alloc, &event.session)?;
-    let transaction = Str::copy_of(rules.alloc, name)?;
+    let user = Str::copy_of(site.alloc, site.policy.user_name(user))?;
+    let session = Str::copy_of(site.alloc, &event.session)?;
+    let transaction = Str::copy_of(site.alloc, name)?;
     let entry = Entry::Called {
         label: event.level,
         user,
         session,
         transaction,
     };
-    entry_bytes(rules.alloc, &entry)
+    entry_bytes(site.alloc, &entry)
 }
 
 /// The bytes of the entry of a release.
 fn released_bytes(
-    rules: &RunSite,
+    site: &RunSite,
     event: &Event,
     user: UserNo,
     item: &(LabelNo, Option<Value>),
 ) -> Result<Vec<u8>, AllocError>
-    requires user { user < length rules.now.policy.now.users }
+    requires user { user < length site.now.policy.now.users }
     requires session { is_name event.now.session ≡ true }
-    requires item { IsItem rules.now.policy.now item.now }
+    requires item { IsItem site.now.policy.now item.now }
     ensures bytes { IfOk result (λ v. v.items ≡ entry_spelling
-        (release_entry (site_of rules.now) event.now user item.now)) }
-    ensures spelled { OnOk result (HasSpelling (release_entry (site_of rules.now) event.now user item.now)) }
+        (release_entry (site_of site.now) event.now user item.now)) }
+    ensures spelled { OnOk result (HasSpelling (release_entry (site_of site.now) event.now user item.now)) }
 {
-    let user = Str::copy_of(rules.alloc, rules.policy.user_name(user))?;
-    let session = Str::copy_of(rules.alloc, &event.session)?;
+    let user = Str::copy_of(site.alloc, site.policy.user_name(user))?;
+    let session = Str::copy_of(site.alloc, &event.session)?;
     let value = copy_value(&item.1)?;
     let entry = Entry::Released {
         label: item.0,
@@ -76,106 +76,106 @@ fn released_bytes(
         session,
         value,
     };
-    entry_bytes(rules.alloc, &entry)
+    entry_bytes(site.alloc, &entry)
 }
 
 /// Enters a call in the audit list, inside a change.
 fn enter_call<B: Base>(
-    rules: &RunSite,
+    site: &RunSite,
     base: &mut B,
     event: &Event,
     user: UserNo,
     name: &str,
 ) -> Result<(), BaseFault>
-    requires may { MayEnter B.state rules.now.policy.now event.now user base.old }
+    requires may { MayEnter B.state site.now.policy.now event.now user base.old }
     requires name { is_name name.now ≡ true }
     ensures step { GoesOn B.is_clean B.failures B.state base.old base.new result }
     ensures entered { HasEntered B.state B.is_clean (Called event.now.level
-        (user_name rules.now.policy.now.users user) event.now.session name.now ∷ []) base.old base.new result }
+        (user_name site.now.policy.now.users user) event.now.session name.now ∷ []) base.old base.new result }
 {
-    let bytes = settle(base, called_bytes(rules, event, user, name))?;
+    let bytes = settle(base, called_bytes(site, event, user, name))?;
     base.audit_add(&bytes)
 }
 
 /// Enters a release in the audit list, inside a change.
 fn enter_release<B: Base>(
-    rules: &RunSite,
+    site: &RunSite,
     base: &mut B,
     event: &Event,
     user: UserNo,
     item: &(LabelNo, Option<Value>),
 ) -> Result<(), BaseFault>
-    requires may { MayEnter B.state rules.now.policy.now event.now user base.old }
-    requires item { IsItem rules.now.policy.now item.now }
+    requires may { MayEnter B.state site.now.policy.now event.now user base.old }
+    requires item { IsItem site.now.policy.now item.now }
     ensures step { GoesOn B.is_clean B.failures B.state base.old base.new result }
     ensures entered { HasEntered B.state B.is_clean
-        (release_entry (site_of rules.now) event.now user item.now ∷ []) base.old base.new result }
+        (release_entry (site_of site.now) event.now user item.now ∷ []) base.old base.new result }
 {
-    let bytes = settle(base, released_bytes(rules, event, user, item))?;
+    let bytes = settle(base, released_bytes(site, event, user, item))?;
     base.audit_add(&bytes)
 }
 
 /// Enters releases in the audit list, inside a change.
 fn enter_releases<B: Base>(
-    rules: &RunSite,
+    site: &RunSite,
     base: &mut B,
     event: &Event,
     user: UserNo,
     released: &[(LabelNo, Option<Value>)],
 ) -> Result<(), BaseFault>
-    requires may { MayEnter B.state rules.now.policy.now event.now user base.old }
-    requires items { AllByRecursion (IsItem rules.now.policy.now) released.now }
+    requires may { MayEnter B.state site.now.policy.now event.now user base.old }
+    requires items { AllByRecursion (IsItem site.now.policy.now) released.now }
     ensures step { GoesOn B.is_clean B.failures B.state base.old base.new result }
     ensures entered { HasEntered B.state B.is_clean
-        (map (release_entry (site_of rules.now) event.now user) released.now) base.old base.new result }
+        (map (release_entry (site_of site.now) event.now user) released.now) base.old base.new result }
 {
     for item in released {
-        enter_release(rules, base, event, user, item)?;
+        enter_release(site, base, event, user, item)?;
     }
     Ok(())
 }
 
 /// Enters a call and its releases in the audit list, inside a change.
 fn enter_run<B: Base>(
-    rules: &RunSite,
+    site: &RunSite,
     base: &mut B,
     event: &Event,
     user: UserNo,
     name: &str,
     released: &[(LabelNo, Option<Value>)],
 ) -> Result<(), BaseFault>
-    requires may { MayEnter B.state rules.now.policy.now event.now user base.old }
+    requires may { MayEnter B.state site.now.policy.now event.now user base.old }
     requires name { is_name name.now ≡ true }
-    requires items { AllByRecursion (IsItem rules.now.policy.now) released.now }
+    requires items { AllByRecursion (IsItem site.now.policy.now) released.now }
     ensures step { GoesOn B.is_clean B.failures B.state base.old base.new result }
     ensures entered { HasEntered B.state B.is_clean
-        (call_entries (site_of rules.now) event.now user name.now released.now) base.old base.new result }
+        (call_entries (site_of site.now) event.now user name.now released.now) base.old base.new result }
 {
-    enter_call(rules, base, event, user, name)?;
-    enter_releases(rules, base, event, user, released)
+    enter_call(site, base, event, user, name)?;
+    enter_releases(site, base, event, user, released)
 }
 
 /// Runs a transaction on arguments, inside a change: those of the wrong kind are taken as null.
 fn run_certified<B: Base>(
-    rules: &RunSite,
+    site: &RunSite,
     base: &mut B,
     views: &mut Views,
     certified: &Certified,
     args: &[Option<Value>],
 ) -> Result<Run, BaseFault>
-    requires found { Finds B.is_clean B.state (site_of rules.now) true base.old views.old }
-    requires may { MayRun rules.now.policy.now rules.now.schemes.now certified.now.tx args.now }
+    requires found { Finds B.is_clean B.state (site_of site.now) true base.old views.old }
+    requires may { MayRun site.now.policy.now site.now.schemes.now certified.now.tx args.now }
     ensures step { GoesOn B.is_clean B.failures B.state base.old base.new result }
-    ensures run { HasRun B.is_clean B.state rules.now.policy.now rules.now.schemes.now certified.now.tx args.now
+    ensures run { HasRun B.is_clean B.state site.now.policy.now site.now.schemes.now certified.now.tx args.now
         base.old base.new result }
-    ensures views { OnOk result (AreViews rules.now.policy.now B.is_clean B.state base.new views.new) }
+    ensures views { OnOk result (AreViews site.now.policy.now B.is_clean B.state base.new views.new) }
 {
-    let args = settle(base, fitted(rules.alloc, certified.tx(), args))?;
+    let args = settle(base, fitted(site.alloc, certified.tx(), args))?;
     evaluate_in(
-        rules.alloc,
+        site.alloc,
         base,
-        rules.policy,
-        rules.schemes,
+        site.policy,
+        site.schemes,
         views,
         certified,
         &args,
@@ -184,24 +184,24 @@ fn run_certified<B: Base>(
 
 /// Runs the transaction that an event calls, and enters the call and what it released, inside a change.
 pub(crate) fn call<B: Base>(
-    rules: &RunSite,
+    site: &RunSite,
     base: &mut B,
     views: &mut Views,
     event: &Event,
     user: UserNo,
 ) -> Result<Reply, BaseFault>
-    requires found { Finds B.is_clean B.state (site_of rules.now) true base.old views.old }
-    requires may { MayDo (site_of rules.now) event.now (Deed.Call user) }
+    requires found { Finds B.is_clean B.state (site_of site.now) true base.old views.old }
+    requires may { MayDo (site_of site.now) event.now (Effect.Call user) }
     ensures step { GoesOn B.is_clean B.failures B.state base.old base.new result }
-    ensures done { HasDone B.is_clean B.state (site_of rules.now) event.now (Deed.Call user) base.old base.new
+    ensures done { HasDone B.is_clean B.state (site_of site.now) event.now (Effect.Call user) base.old base.new
         result }
-    ensures views { OnOk result (AreViews rules.now.policy.now B.is_clean B.state base.new views.new) }
+    ensures views { OnOk result (AreViews site.now.policy.now B.is_clean B.state base.new views.new) }
 {
     let Command::Call { tx, args } = &event.command else {
         unreachable!()
     };
-    let certified = certified_named(&rules.stored, tx);
-    let run = run_certified(rules, base, views, certified, args)?;
-    enter_run(rules, base, event, user, tx, &run.released)?;
+    let certified = certified_named(&site.stored, tx);
+    let run = run_certified(site, base, views, certified, args)?;
+    enter_run(site, base, event, user, tx, &run.released)?;
     Ok(Reply::Ran(run))
 }

@@ -15,12 +15,11 @@ use mls_lattice::{Str, UserNo};
 use mls_machine::{Denial, Reply};
 use mls_queries::Views;
 use mls_script::{Command, Event};
-use mls_updates::{delete, insert, update};
 use std::alloc::AllocError;
 
 /// What an event of an open session changes.
 #[derive(Clone, Copy)]
-pub(crate) enum Deed {
+pub(crate) enum Effect {
     /// It is denied, in the session of this user.
     Deny { user: UserNo, denial: Denial },
     /// It writes.
@@ -31,156 +30,131 @@ pub(crate) enum Deed {
 
 /// The bytes of the entry of a denial.
 fn denial_bytes(
-    rules: &RunSite,
+    site: &RunSite,
     event: &Event,
     user: UserNo,
     denial: Denial,
 ) -> Result<Vec<u8>, AllocError>
-    requires user { user < length rules.now.policy.now.users }
-    requires fits { EventFits rules.now.policy.now rules.now.schemes.now event.now }
+    requires user { user < length site.now.policy.now.users }
+    requires fits { EventFits site.now.policy.now site.now.schemes.now event.now }
     ensures bytes { IfOk result (λ v. v.items ≡ entry_spelling
-        (denial_entry (site_of rules.now) event.now user denial)) }
-    ensures spelled { OnOk result (HasSpelling (denial_entry (site_of rules.now) event.now user denial)) }
+        (denial_entry (site_of site.now) event.now user denial)) }
+    ensures spelled { OnOk result (HasSpelling (denial_entry (site_of site.now) event.now user denial)) }
 {
-    let user = Str::copy_of(rules.alloc, rules.policy.user_name(user))?;
-    let session = Str::copy_of(rules.alloc, &event.session)?;
+    let user = Str::copy_of(site.alloc, site.policy.user_name(user))?;
+    let session = Str::copy_of(site.alloc, &event.session)?;
     let entry = Entry::Denied {
         label: event.level,
         user,
         session,
         code: denial.code(),
     };
-    entry_bytes(rules.alloc, &entry)
+    entry_bytes(site.alloc, &entry)
 }
 
 /// Enters a denial in the audit list, inside a change.
 fn enter<B: Base>(
-    rules: &RunSite,
+    site: &RunSite,
     base: &mut B,
     event: &Event,
     user: UserNo,
     denial: Denial,
 ) -> Result<Reply, BaseFault>
     requires begun { (B.state base.old).begun ≡ true }
-    requires may { MayDo (site_of rules.now) event.now (Deed.Deny user denial) }
+    requires may { MayDo (site_of site.now) event.now (Effect.Deny user denial) }
     ensures step { GoesOn B.is_clean B.failures B.state base.old base.new result }
-    ensures done { HasDone B.is_clean B.state (site_of rules.now) event.now (Deed.Deny user denial) base.old base.new
+    ensures done { HasDone B.is_clean B.state (site_of site.now) event.now (Effect.Deny user denial) base.old base.new
         result }
 {
-    let bytes = settle(base, denial_bytes(rules, event, user, denial))?;
+    let bytes = settle(base, denial_bytes(site, event, user, denial))?;
     base.audit_add(&bytes)?;
     Ok(Reply::Denied(denial))
 }
 
 /// Makes the write of an event at its level, inside a change, and notes it in the views that it may have changed.
 fn write<B: Base>(
-    rules: &RunSite,
+    site: &RunSite,
     base: &mut B,
     views: &mut Views,
     event: &Event,
 ) -> Result<Reply, BaseFault>
-    requires found { Finds B.is_clean B.state (site_of rules.now) true base.old views.old }
-    requires may { MayDo (site_of rules.now) event.now Deed.Write }
+    requires found { Finds B.is_clean B.state (site_of site.now) true base.old views.old }
+    requires may { MayDo (site_of site.now) event.now Effect.Write }
     ensures step { GoesOn B.is_clean B.failures B.state base.old base.new result }
-    ensures done { HasDone B.is_clean B.state (site_of rules.now) event.now Deed.Write base.old base.new result }
-    ensures views { OnOk result (AreViews rules.now.policy.now B.is_clean B.state base.new views.new) }
+    ensures done { HasDone B.is_clean B.state (site_of site.now) event.now Effect.Write base.old base.new result }
+    ensures views { OnOk result (AreViews site.now.policy.now B.is_clean B.state base.new views.new) }
 {
+    let Command::Write { relation, write } = &event.command else {
+        unreachable!()
+    };
     let RunSite {
         alloc,
         policy,
         schemes,
         ..
-    } = *rules;
-    let level = event.level;
-    let outcome = match &event.command {
-        Command::Insert { rel, key, values } => {
-            let outcome = insert(alloc, base, policy, schemes, *rel, level, key, values)?;
-            views.follow(alloc, policy, *rel, level, key, level, outcome);
-            outcome
-        }
-        Command::Update {
-            rel,
-            key,
-            key_class,
-            from,
-            sets,
-        } => {
-            let outcome = update(
-                alloc, base, policy, schemes, *rel, level, key, *key_class, *from, sets,
-            )?;
-            views.follow(alloc, policy, *rel, level, key, *key_class, outcome);
-            outcome
-        }
-        Command::Delete {
-            rel,
-            key,
-            key_class,
-        } => {
-            let outcome = delete(alloc, base, policy, schemes, *rel, level, key, *key_class)?;
-            views.follow(alloc, policy, *rel, level, key, *key_class, outcome);
-            outcome
-        }
-        _ => unreachable!(),
-    };
+    } = *site;
+    let (relation, at) = (*relation, event.level);
+    let outcome = mls_updates::write(alloc, base, policy, schemes, relation, at, write)?;
+    views.follow(alloc, policy, relation, at, write, outcome);
     Ok(Reply::Wrote(outcome))
 }
 
 /// Does what an event changes, inside a change.
 fn act<B: Base>(
-    rules: &RunSite,
+    site: &RunSite,
     base: &mut B,
     views: &mut Views,
     event: &Event,
-    deed: Deed,
+    effect: Effect,
 ) -> Result<Reply, BaseFault>
-    requires found { Finds B.is_clean B.state (site_of rules.now) true base.old views.old }
-    requires may { MayDo (site_of rules.now) event.now deed }
+    requires found { Finds B.is_clean B.state (site_of site.now) true base.old views.old }
+    requires may { MayDo (site_of site.now) event.now effect }
     ensures step { GoesOn B.is_clean B.failures B.state base.old base.new result }
-    ensures done { HasDone B.is_clean B.state (site_of rules.now) event.now deed base.old base.new result }
-    ensures views { OnOk result (AreViews rules.now.policy.now B.is_clean B.state base.new views.new) }
+    ensures done { HasDone B.is_clean B.state (site_of site.now) event.now effect base.old base.new result }
+    ensures views { OnOk result (AreViews site.now.policy.now B.is_clean B.state base.new views.new) }
 {
-    match deed {
-        Deed::Deny { user, denial } => enter(rules, base, event, user, denial),
-        Deed::Write => write(rules, base, views, event),
-        Deed::Call { user } => call(rules, base, views, event, user),
+    match effect {
+        Effect::Deny { user, denial } => enter(site, base, event, user, denial),
+        Effect::Write => write(site, base, views, event),
+        Effect::Call { user } => call(site, base, views, event, user),
     }
 }
 
 /// Does what an event changes, as one change of the base.
 fn carry_out<B: Base>(
-    rules: &RunSite,
+    site: &RunSite,
     base: &mut B,
     views: &mut Views,
     event: &Event,
-    deed: Deed,
+    effect: Effect,
 ) -> Result<Reply, BaseFault>
-    requires found { Finds B.is_clean B.state (site_of rules.now) false base.old views.old }
-    requires may { MayDo (site_of rules.now) event.now deed }
+    requires found { Finds B.is_clean B.state (site_of site.now) false base.old views.old }
+    requires may { MayDo (site_of site.now) event.now effect }
     ensures over { IsOver B.is_clean B.failures B.state base.old base.new result }
-    ensures done { HasDone B.is_clean B.state (site_of rules.now) event.now deed base.old base.new result }
-    ensures views { OnOk result (AreViews rules.now.policy.now B.is_clean B.state base.new views.new) }
+    ensures done { HasDone B.is_clean B.state (site_of site.now) event.now effect base.old base.new result }
+    ensures views { OnOk result (AreViews site.now.policy.now B.is_clean B.state base.new views.new) }
 {
     base.begin()?;
-    let reply = act(rules, base, views, event, deed)?;
+    let reply = act(site, base, views, event, effect)?;
     base.commit()?;
     Ok(reply)
 }
 
 /// Does what an event changes, as one change of the base. After a fault no view is kept.
 pub(crate) fn change<B: Base>(
-    rules: &RunSite,
+    site: &RunSite,
     base: &mut B,
     views: &mut Views,
     event: &Event,
-    deed: Deed,
+    effect: Effect,
 ) -> Result<Reply, BaseFault>
-    requires found { Finds B.is_clean B.state (site_of rules.now) false base.old views.old }
-    requires may { MayDo (site_of rules.now) event.now deed }
+    requires found { Finds B.is_clean B.state (site_of site.now) false base.old views.old }
+    requires may { MayDo (site_of site.now) event.now effect }
     ensures over { IsOver B.is_clean B.failures B.state base.old base.new result }
-    ensures done { HasDone B.is_clean B.state (site_of rules.now) event.now deed base.old base.new result }
-    ensures views { AreViews rules.now.policy.now B.is_clean B.state base.new views.new }
+    ensures done { HasDone B.is_clean B.state (site_of site.now) event.now effect base.old base.new result }
+    ensures views { AreViews site.now.policy.now B.is_clean B.state base.new views.new }
 {
-    let result = carry_out(rules, base, views, event, deed);
+    let result = carry_out(site, base, views, event, effect);
     if result.is_err() {
         views.clear();
     }

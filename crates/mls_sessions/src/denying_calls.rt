@@ -10,7 +10,7 @@ ghost use Rattle.mls_sessions.specs.Sessions.{site_of};
 use crate::arguments::are_wrong;
 use crate::denying::{clearance, exceed, lacks_rights_on};
 use crate::finding::stored_named;
-use crate::rules::RunSite;
+use crate::site::RunSite;
 use mls_lattice::{LabelNo, Modes, Policy, UserNo};
 use mls_machine::{Denial, Stored};
 use mls_scheme::Value;
@@ -26,25 +26,25 @@ fn trusted(policy: &Policy, user: UserNo) -> Option<(LabelNo, LabelNo)>
 }
 
 /// Whether a label lies between two others.
-fn is_between(rules: &RunSite, low: LabelNo, high: LabelNo, label: LabelNo) -> bool
-    requires low { low < length rules.now.policy.now.labels }
-    requires high { high < length rules.now.policy.now.labels }
-    requires label { label < length rules.now.policy.now.labels }
-    ensures { result ≡ (below (site_labels (site_of rules.now)) low label
-        && below (site_labels (site_of rules.now)) label high) }
+fn is_between(site: &RunSite, low: LabelNo, high: LabelNo, label: LabelNo) -> bool
+    requires low { low < length site.now.policy.now.labels }
+    requires high { high < length site.now.policy.now.labels }
+    requires label { label < length site.now.policy.now.labels }
+    ensures { result ≡ (below (site_labels (site_of site.now)) low label
+        && below (site_labels (site_of site.now)) label high) }
 {
-    rules.policy.dominates(label, low) && rules.policy.dominates(high, label)
+    site.policy.dominates(label, low) && site.policy.dominates(high, label)
 }
 
 /// Whether one of the labels does not lie between two others.
-fn leave(rules: &RunSite, low: LabelNo, high: LabelNo, labels: &[LabelNo]) -> bool
-    requires low { low < length rules.now.policy.now.labels }
-    requires high { high < length rules.now.policy.now.labels }
-    requires labels { AllByRecursion (λ l. l < length rules.now.policy.now.labels) labels.now }
-    ensures { result ≡ lie_outside (site_labels (site_of rules.now)) (Some (low, high)) labels.now }
+fn leave(site: &RunSite, low: LabelNo, high: LabelNo, labels: &[LabelNo]) -> bool
+    requires low { low < length site.now.policy.now.labels }
+    requires high { high < length site.now.policy.now.labels }
+    requires labels { AllByRecursion (λ l. l < length site.now.policy.now.labels) labels.now }
+    ensures { result ≡ lie_outside (site_labels (site_of site.now)) (Some (low, high)) labels.now }
 {
     for label in labels {
-        if !is_between(rules, low, high, *label) {
+        if !is_between(site, low, high, *label) {
             return true;
         }
     }
@@ -52,47 +52,47 @@ fn leave(rules: &RunSite, low: LabelNo, high: LabelNo, labels: &[LabelNo]) -> bo
 }
 
 /// Whether a transaction reads above its lowest label and a user is not trusted with that.
-fn is_untrusted(rules: &RunSite, user: UserNo, tx: &Tx) -> bool
-    requires user { user < length rules.now.policy.now.users }
-    requires lo { tx.now.lo < length rules.now.policy.now.labels }
-    requires hi { tx.now.hi < length rules.now.policy.now.labels }
+fn is_untrusted(site: &RunSite, user: UserNo, tx: &Tx) -> bool
+    requires user { user < length site.now.policy.now.users }
+    requires lo { tx.now.lo < length site.now.policy.now.labels }
+    requires hi { tx.now.hi < length site.now.policy.now.labels }
     ensures { result ≡ (not (nat_eq tx.now.hi tx.now.lo)
-        && lie_outside (site_labels (site_of rules.now)) (trusted_of rules.now.policy.now user)
+        && lie_outside (site_labels (site_of site.now)) (trusted_of site.now.policy.now user)
         (tx.now.lo ∷ tx.now.hi ∷ [])) }
 {
     if tx.hi() == tx.lo() {
         return false;
     }
-    match trusted(rules.policy, user) {
+    match trusted(site.policy, user) {
         None => true,
-        Some((low, high)) => leave(rules, low, high, &[tx.lo(), tx.hi()]),
+        Some((low, high)) => leave(site, low, high, &[tx.lo(), tx.hi()]),
     }
 }
 
 /// Why a call of a transaction with a certificate is denied, if it is.
 #[tactic(auto, unfolding(mls_machine::specs::Denying::first_denial))]
 fn certified_denial(
-    rules: &RunSite,
+    site: &RunSite,
     level: LabelNo,
     user: UserNo,
     tx: &Tx,
     args: &[Option<Value>],
 ) -> Option<Denial>
-    requires user { user < length rules.now.policy.now.users }
-    requires lo { tx.now.lo < length rules.now.policy.now.labels }
-    requires hi { tx.now.hi < length rules.now.policy.now.labels }
-    ensures { result ≡ first_denial (call_denials (site_of rules.now) level user tx.now args.now) }
+    requires user { user < length site.now.policy.now.users }
+    requires lo { tx.now.lo < length site.now.policy.now.labels }
+    requires hi { tx.now.hi < length site.now.policy.now.labels }
+    ensures { result ≡ first_denial (call_denials (site_of site.now) level user tx.now args.now) }
 {
-    if lacks_rights_on(rules, user, tx.name(), &[Modes::EXECUTE]) {
+    if lacks_rights_on(site, user, tx.name(), &[Modes::EXECUTE]) {
         return Some(Denial::Ds);
     }
-    if exceed(rules, clearance(rules.policy, user), &[tx.hi()]) {
+    if exceed(site, clearance(site.policy, user), &[tx.hi()]) {
         return Some(Denial::Ss);
     }
     if tx.lo() != level {
         return Some(Denial::Star);
     }
-    if is_untrusted(rules, user, tx) {
+    if is_untrusted(site, user, tx) {
         return Some(Denial::Trust);
     }
     if are_wrong(tx, args) {
@@ -103,21 +103,21 @@ fn certified_denial(
 
 /// Why a call of what is stored by a name is denied, if it is.
 pub(crate) fn call_denial(
-    rules: &RunSite,
+    site: &RunSite,
     level: LabelNo,
     user: UserNo,
     name: &str,
     args: &[Option<Value>],
 ) -> Option<Denial>
-    requires user { user < length rules.now.policy.now.users }
-    requires read { AreRead (site_of rules.now) }
-    ensures { result ≡ call_denial (site_of rules.now) level user args.now (stored_named rules.now.stored name.now) }
+    requires user { user < length site.now.policy.now.users }
+    requires read { AreRead (site_of site.now) }
+    ensures { result ≡ call_denial (site_of site.now) level user args.now (stored_named site.now.stored name.now) }
 {
-    match stored_named(&rules.stored, name) {
+    match stored_named(&site.stored, name) {
         None => Some(Denial::UnknownTransaction),
         Some(Stored::Plain(_)) => Some(Denial::NotCertified),
         Some(Stored::Certified(certified)) => {
-            certified_denial(rules, level, user, certified.tx(), args)
+            certified_denial(site, level, user, certified.tx(), args)
         }
     }
 }

@@ -1,15 +1,16 @@
 //! The machine of sessions over a base.
 ghost use Rattle.std.specs.Prelude.{◌≡◌, false, length, Some, None, is_some, IfOk};
 ghost use Rattle.mls_scheme.specs.Scheme.{AreUnder};
+ghost use Rattle.mls_audit.specs.Sound.{IsSoundContent};
 ghost use Rattle.mls_script.specs.Event.{EventFits};
 ghost use Rattle.mls_machine.specs.Machine.{no_sessions};
 ghost use Rattle.mls_machine.specs.Observation.{AreRead, AreCertified};
 ghost use Rattle.mls_sessions.specs.Sessions.{sessions_of};
-ghost use Rattle.mls_sessions.specs.World.{world_at, IsSound};
+ghost use Rattle.mls_sessions.specs.World.{world_at};
 ghost use Rattle.mls_sessions.specs.Engine.{site, world_of, IsEngineReady, Answers};
 ghost use Rattle.mls_machine.specs.Known.{HasKnownNumbers};
 
-use crate::change::{Deed, change};
+use crate::change::{Effect, change};
 use crate::looking::{audit, dump, look};
 use crate::notice::Notice;
 use crate::{RunSite, Session, close, denial_of, open, user_of};
@@ -23,7 +24,7 @@ use std::alloc::Global;
 
 /// Sessions over a base, under a policy and its schemes. It keeps the views that were asked for last.
 pub struct Engine<'a, B: Base> {
-    pub(crate) rules: RunSite<'a>,
+    pub(crate) site: RunSite<'a>,
     base: B,
     sessions: Vec<Session>,
     views: Views,
@@ -46,7 +47,7 @@ impl<'a, B: Base> Engine<'a, B> {
         requires certified { AreCertified (record { policy = policy.now; schemes = schemes.now; stored = stored }) }
         requires idle { (B.state base).begun ≡ false }
         requires sound { B.is_clean base
-            → IsSound (record { policy = policy.now; schemes = schemes.now; stored = stored }) (B.state base).now }
+            → IsSoundContent policy.now schemes.now (B.state base).now }
         ensures base { result.base ≡ base }
         ensures site { site result ≡ record { policy = policy.now; schemes = schemes.now; stored = stored } }
         ensures world { world_of B.state result
@@ -56,14 +57,14 @@ impl<'a, B: Base> Engine<'a, B> {
     {
         // That the labels of a policy are distinct.
         let _count = policy.label_count();
-        let rules = RunSite {
+        let site = RunSite {
             alloc,
             policy,
             schemes,
             stored,
         };
         Engine {
-            rules,
+            site,
             base,
             sessions: Vec::new(alloc),
             views: Views::new(),
@@ -77,7 +78,7 @@ impl<'a, B: Base> Engine<'a, B> {
     {
         let Engine {
             base,
-            rules: _,
+            site: _,
             sessions: _,
             views: _,
             notice: _,
@@ -107,7 +108,7 @@ impl<'a, B: Base> Engine<'a, B> {
         ensures answers { Answers B.state B.is_clean B.failures self.old event.now self.new result }
         ensures known { IfOk result (HasKnownNumbers (site self.old).policy) }
     {
-        open(&self.rules, &mut self.sessions, event)
+        open(&self.site, &mut self.sessions, event)
     }
 
     /// Answers an event of the open session of a user.
@@ -118,9 +119,9 @@ impl<'a, B: Base> Engine<'a, B> {
         ensures answers { Answers B.state B.is_clean B.failures self.old event.now self.new result }
         ensures known { IfOk result (HasKnownNumbers (site self.old).policy) }
     {
-        if let Some(denial) = denial_of(&self.rules, event.level, user, &event.command) {
-            let deed = Deed::Deny { user, denial };
-            return change(&self.rules, &mut self.base, &mut self.views, event, deed);
+        if let Some(denial) = denial_of(&self.site, event.level, user, &event.command) {
+            let effect = Effect::Deny { user, denial };
+            return change(&self.site, &mut self.base, &mut self.views, event, effect);
         }
         match &event.command {
             Command::Open(_) => unreachable!(),
@@ -129,27 +130,27 @@ impl<'a, B: Base> Engine<'a, B> {
                 Ok(Reply::Closed)
             }
             Command::View {
-                rel,
+                relation,
                 label,
                 query,
                 ..
             } => look(
-                &self.rules,
+                &self.site,
                 &mut self.base,
                 &mut self.views,
-                *rel,
+                *relation,
                 *label,
                 query,
             ),
-            Command::Dump { rel } => dump(&self.rules, &mut self.base, *rel, event.level),
-            Command::Audit => audit(&self.rules, &mut self.base, event.level),
-            Command::Insert { .. } | Command::Update { .. } | Command::Delete { .. } => {
-                let deed = Deed::Write;
-                change(&self.rules, &mut self.base, &mut self.views, event, deed)
+            Command::Dump { relation } => dump(&self.site, &mut self.base, *relation, event.level),
+            Command::Audit => audit(&self.site, &mut self.base, event.level),
+            Command::Write { .. } => {
+                let effect = Effect::Write;
+                change(&self.site, &mut self.base, &mut self.views, event, effect)
             }
             Command::Call { .. } => {
-                let deed = Deed::Call { user };
-                change(&self.rules, &mut self.base, &mut self.views, event, deed)
+                let effect = Effect::Call { user };
+                change(&self.site, &mut self.base, &mut self.views, event, effect)
             }
         }
     }

@@ -3,10 +3,11 @@ ghost use Rattle.std.specs.Prelude.{◌≡◌, ◌<◌, false, length, IfOk};
 ghost use Rattle.mls_lattice.specs.Policy.{labels_of};
 ghost use Rattle.mls_audit.specs.Entry.{visible};
 ghost use Rattle.mls_audit.specs.Reading.{entry_at};
+ghost use Rattle.mls_audit.specs.Sound.{IsSoundContent};
 ghost use Rattle.mls_machine.specs.Machine.{viewed, dumped, listed};
 ghost use Rattle.mls_machine.specs.Output.{EntriesAreKnown};
 ghost use Rattle.mls_sessions.specs.Sessions.{site_of};
-ghost use Rattle.mls_sessions.specs.World.{declared, entries_in, IsSound};
+ghost use Rattle.mls_sessions.specs.World.{declared, entries_in};
 ghost use Rattle.mls_sessions.specs.Turns.{Finds, HasLooked};
 ghost use Rattle.mls_queries.specs.Views.{AreViews};
 
@@ -21,27 +22,27 @@ use std::alloc::{AllocError, Global};
 
 /// Answers a view by what its query finds.
 pub(crate) fn look<B: Base>(
-    rules: &RunSite,
+    site: &RunSite,
     base: &mut B,
     views: &mut Views,
-    rel: RelNo,
+    relation: RelNo,
     label: LabelNo,
     query: &Query,
 ) -> Result<Reply, BaseFault>
-    requires found { Finds B.is_clean B.state (site_of rules.now) false base.old views.old }
-    requires rel { rel < length rules.now.schemes.now }
-    requires label { label < length rules.now.policy.now.labels }
-    ensures looked { HasLooked B.is_clean B.failures B.state (site_of rules.now)
-        (λ w. viewed (site_of rules.now) w rel label query.now) base.old base.new result }
-    ensures views { AreViews rules.now.policy.now B.is_clean B.state base.new views.new }
+    requires found { Finds B.is_clean B.state (site_of site.now) false base.old views.old }
+    requires relation { relation < length site.now.schemes.now }
+    requires label { label < length site.now.policy.now.labels }
+    ensures looked { HasLooked B.is_clean B.failures B.state (site_of site.now)
+        (λ w. viewed (site_of site.now) w relation label query.now) base.old base.new result }
+    ensures views { AreViews site.now.policy.now B.is_clean B.state base.new views.new }
 {
     let found = find(
-        rules.alloc,
+        site.alloc,
         base,
         views,
-        rules.policy,
-        rules.schemes,
-        rel,
+        site.policy,
+        site.schemes,
+        relation,
         label,
         query,
     )?;
@@ -50,18 +51,18 @@ pub(crate) fn look<B: Base>(
 
 /// Answers a dump by the tuples whose classes a session's level dominates.
 pub(crate) fn dump<B: Base>(
-    rules: &RunSite,
+    site: &RunSite,
     base: &mut B,
-    rel: RelNo,
+    relation: RelNo,
     level: LabelNo,
 ) -> Result<Reply, BaseFault>
     requires idle { (B.state base.old).begun ≡ false }
-    requires level { level < length rules.now.policy.now.labels }
-    requires sound { B.is_clean base.old → IsSound (site_of rules.now) (B.state base.old).now }
-    ensures { HasLooked B.is_clean B.failures B.state (site_of rules.now)
-        (λ w. dumped (site_of rules.now) w rel level) base.old base.new result }
+    requires level { level < length site.now.policy.now.labels }
+    requires sound { B.is_clean base.old → IsSoundContent site.now.policy.now site.now.schemes.now (B.state base.old).now }
+    ensures { HasLooked B.is_clean B.failures B.state (site_of site.now)
+        (λ w. dumped (site_of site.now) w relation level) base.old base.new result }
 {
-    let tuples = low_tuples(rules.alloc, base, rules.policy, rel, level)?;
+    let tuples = low_tuples(site.alloc, base, site.policy, relation, level)?;
     Ok(Reply::Dumped(Items::from(tuples)))
 }
 
@@ -120,16 +121,16 @@ pub(crate) fn seen_of(
 
 /// Answers an audit of a session's level.
 pub(crate) fn audit<B: Base>(
-    rules: &RunSite,
+    site: &RunSite,
     base: &mut B,
     level: LabelNo,
 ) -> Result<Reply, BaseFault>
     requires idle { (B.state base.old).begun ≡ false }
-    requires level { level < length rules.now.policy.now.labels }
-    ensures { HasLooked B.is_clean B.failures B.state (site_of rules.now)
-        (λ w. listed (site_of rules.now) w level) base.old base.new result }
+    requires level { level < length site.now.policy.now.labels }
+    ensures { HasLooked B.is_clean B.failures B.state (site_of site.now)
+        (λ w. listed (site_of site.now) w level) base.old base.new result }
 {
     let strings = base.audit_all()?;
-    let entries = settle(base, seen_of(rules.alloc, rules.policy, &strings, level))?;
+    let entries = settle(base, seen_of(site.alloc, site.policy, &strings, level))?;
     Ok(Reply::Entries(Items::from(entries)))
 }

@@ -24,25 +24,25 @@ use std::io::Write;
 /// The lines of the reply to an event that the audience is shown. `Store` is the cause where a class is not declared, as
 /// may be over a store that gives other content than was written.
 fn text_of(
-    rules: &RunSite,
+    site: &RunSite,
     event: &Event,
     reply: &Reply,
     audience: &Audience,
 ) -> Result<Vec<u8>, RunCause>
-    requires fits { EventFits rules.now.policy.now rules.now.schemes.now event.now }
-    requires known { HasKnownNumbers rules.now.policy.now reply.now }
-    requires reader { IfSome audience.now.reader (λ c. c < length rules.now.policy.now.labels) }
-    ensures done { IfOk result (λ v. v.items ≡ reply_shows (site_of rules.now) audience.now event.now reply.now) }
-    ensures failed { ReplyIsKnown rules.now.policy.now reply.now → IfErr result (λ c. c ≡ RunCause.Memory) }
+    requires fits { EventFits site.now.policy.now site.now.schemes.now event.now }
+    requires known { HasKnownNumbers site.now.policy.now reply.now }
+    requires reader { IfSome audience.now.reader (λ c. c < length site.now.policy.now.labels) }
+    ensures done { IfOk result (λ v. v.items ≡ reply_shows (site_of site.now) audience.now event.now reply.now) }
+    ensures failed { ReplyIsKnown site.now.policy.now reply.now → IfErr result (λ c. c ≡ RunCause.Memory) }
     ensures write { IfErr result (λ c. c ≢ RunCause.Write) }
 {
-    if !is_known(rules.policy, reply) {
+    if !is_known(site.policy, reply) {
         return Err(RunCause::Store);
     }
     match shown_to(
-        rules.alloc,
-        rules.policy,
-        rules.schemes,
+        site.alloc,
+        site.policy,
+        site.schemes,
         event,
         reply,
         *audience,
@@ -82,7 +82,7 @@ fn answer<B: Base, W: Write>(
         Err(fault) => return Err(fault_at(number, cause_of(fault), false)),
     };
     engine.notice = next_notice(earlier, &reply);
-    let bytes = match text_of(&engine.rules, event, &reply, audience) {
+    let bytes = match text_of(&engine.site, event, &reply, audience) {
         Ok(bytes) => bytes,
         Err(cause) => return Err(fault_at(number, cause, true)),
     };

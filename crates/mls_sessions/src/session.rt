@@ -6,7 +6,7 @@ ghost use Rattle.mls_machine.specs.Output.{ReplyIsKnown};
 ghost use Rattle.mls_sessions.specs.Sessions.{site_of, sessions_of, AreForUsers, IsSessionStep};
 
 use crate::denying::clearance;
-use crate::rules::RunSite;
+use crate::site::RunSite;
 use mls_filterview::BaseFault;
 use mls_lattice::{LabelNo, Policy, Str, UserNo};
 use mls_machine::{Denial, Reply};
@@ -41,30 +41,30 @@ fn known_user(policy: &Policy, name: &str) -> Option<UserNo>
 }
 
 /// Answers an event whose session is not open: opens it, where the command is to open it and is not denied.
-pub fn open(rules: &RunSite, sessions: &mut Vec<Session>, event: &Event) -> Result<Reply, BaseFault>
-    requires level { event.now.level < length rules.now.policy.now.labels }
+pub fn open(site: &RunSite, sessions: &mut Vec<Session>, event: &Event) -> Result<Reply, BaseFault>
+    requires level { event.now.level < length site.now.policy.now.labels }
     requires closed { sessions_of sessions.old.items event.now.level event.now.session ≡ None }
-    ensures done { IfOk result (IsSessionStep (λ w. step_outside (site_of rules.now) w event.now event.now.command)
+    ensures done { IfOk result (IsSessionStep (λ w. step_outside (site_of site.now) w event.now event.now.command)
         sessions.old.items sessions.new.items) }
-    ensures known { IfOk result (ReplyIsKnown rules.now.policy.now) }
-    ensures users { AreForUsers (length rules.now.policy.now.users) sessions.old.items
-        → AreForUsers (length rules.now.policy.now.users) sessions.new.items }
+    ensures known { IfOk result (ReplyIsKnown site.now.policy.now) }
+    ensures users { AreForUsers (length site.now.policy.now.users) sessions.old.items
+        → AreForUsers (length site.now.policy.now.users) sessions.new.items }
     ensures memory { IfErr result (λ e. e ≡ BaseFault.Memory) }
     ensures failed { OnErr result (sessions.new.items ≡ sessions.old.items) }
 {
     let Command::Open(name) = &event.command else {
         return Ok(Reply::Denied(Denial::NoSession));
     };
-    let Some(user) = known_user(rules.policy, name) else {
+    let Some(user) = known_user(site.policy, name) else {
         return Ok(Reply::Denied(Denial::UnknownUser));
     };
-    if !rules
+    if !site
         .policy
-        .dominates(clearance(rules.policy, user), event.level)
+        .dominates(clearance(site.policy, user), event.level)
     {
         return Ok(Reply::Denied(Denial::Ss));
     }
-    let name = Str::copy_of(rules.alloc, &event.session)?;
+    let name = Str::copy_of(site.alloc, &event.session)?;
     sessions.push(Session {
         level: event.level,
         name,

@@ -109,18 +109,6 @@ token_never bytes =
 
 -- ---- the next token
 
-abbrev good : Placed × List ℕ → Result (Placed × List ℕ) TokenFault
-good x = Ok x
-
-good_is : (x y : Placed × List ℕ) → good x ≡ good y → x ≡ y
-good_is x y e = cc
-
-abbrev bad : TokenFault → Result (Placed × List ℕ) TokenFault
-bad f = Err f
-
-bad_is : (f g : TokenFault) → bad f ≡ bad g → f ≡ g
-bad_is f g e = cc
-
 -- what scanning of the next token tells
 abbrev Tells : List ℕ → Result (Placed × List ℕ) TokenFault → Type 0
 Tells bytes (Ok x) = Begins bytes x.0.token x.1

@@ -1,33 +1,15 @@
 -- Lines of a reader: byte by byte.
-use Rattle.std.proofs.Common.{◌≡◌, ◌≢◌, ℕ, zero, suc, ◌≤◌, ◌<◌, Bool, true, false, List, [], ◌∷◌, ◌++◌, length, take, Option, Some, None, Result, Ok, Err, OnErr, refl, sym, ap, ◌∙◌, subst, inl, inr, append_assoc, append-nil, arith}
+use Rattle.std.proofs.Common.{◌≡◌, ◌≢◌, ℕ, ◌≤◌, Bool, true, false, List, [], ◌∷◌, ◌++◌, length, Option, Some, None, Result, Ok, Err, OnErr, refl, sym, ap, ◌∙◌, subst, inl, inr, append_assoc, arith}
 use Rattle.std.proofs.lemmas.List.{length-append}
 use Rattle.std.specs.Io.KnownBytes.{Appends, Consumes, IsAtEnd, Keeps}
-use Rattle.std.proofs.KnownBytes.{Appends-nil, Consumes-nil, Consumes-trans, Consumes-kept, Appends-kept}
+use Rattle.std.proofs.KnownBytes.{Appends-nil, Consumes-nil, Consumes-trans, Appends-kept}
 use Rattle.mls_tokens.specs.Typing.{HasNoFeed, IsLong, IsTaken, IsSkipped, left_of, IsLost}
-
-pub kept_taken : (a b : Option (List ℕ)) → Keeps a b → Consumes a b []
-kept_taken a b h = Consumes-kept a a b [] (Consumes-nil a) h
 
 pub kept_written : (a b : Option (List ℕ)) → Keeps a b → Appends a b []
 kept_written a b h = Appends-kept a a b [] (Appends-nil a) h
 
--- one byte of a buffer of one
-pub one_byte : (a b : Option (List ℕ)) (n : ℕ) (buf : List ℕ) (byte : ℕ) → Consumes a b (take n buf) → 0 < n → buf ≡ byte ∷ [] → Consumes a b (byte ∷ [])
-one_byte a b zero buf byte h some is = absurd (omega arith)
-one_byte a b (suc n) buf byte h some is = subst (Consumes a b) (ap (take (suc n)) is ∙ rest n) h
-  where
-    rest : (n : ℕ) → take (suc n) (byte ∷ []) ≡ byte ∷ []
-    rest zero = refl
-    rest (suc n) = refl
-
-pub no_byte : (a b : Option (List ℕ)) (buf : List ℕ) → Consumes a b (take 0 buf) → Consumes a b []
-no_byte a b buf h = h
-
 pub one_more : (a b c : Option (List ℕ)) (bytes : List ℕ) (byte : ℕ) → Consumes a b bytes → Consumes b c (byte ∷ []) → Consumes a c (bytes ++ byte ∷ [])
 one_more a b c bytes byte h k = Consumes-trans a b c bytes (byte ∷ []) h k
-
-pub no_more : (a b c : Option (List ℕ)) (bytes : List ℕ) → Consumes a b bytes → Consumes b c [] → Consumes a c bytes
-no_more a b c bytes h k = subst (Consumes a c) (append-nil bytes) (Consumes-trans a b c bytes [] h k)
 
 pub feedless_more : (text : List ℕ) (byte : ℕ) → HasNoFeed text → byte ≢ 10 → HasNoFeed (text ++ byte ∷ [])
 feedless_more [] byte h n = (n, tt)

@@ -36,7 +36,7 @@ pub use escaping::{escape, escaped_texts_are_harmless};
 pub use fault::{TokenCause, TokenFault};
 pub use sign::Sign;
 pub use spots::{Spot, spot_at};
-pub use table::{push_copies, push_row, push_rule, wider};
+pub use table::{push_row, push_rule, wider};
 pub use token::{Placed, Token};
 pub use tokens::Tokens;
 pub use width::columns;

@@ -31,7 +31,7 @@ pub fn wider(alloc: Global, widths: &[usize], cells: &[Items<u8>]) -> Result<Vec
 }
 
 /// Appends a byte so many times.
-pub fn push_copies(text: &mut Vec<u8>, byte: u8, count: usize) -> Result<(), AllocError>
+fn push_copies(text: &mut Vec<u8>, byte: u8, count: usize) -> Result<(), AllocError>
     ensures { OnOk result (text.new.items ≡ text.old.items ++ replicate count byte) }
 {
     for _ in 0..count {

@@ -8,7 +8,7 @@ use Rattle.mls_tokens.specs.declared.token.Token.{Token}
 use Rattle.mls_tokens.specs.declared.token.Token.TheVariants.{Word}
 use Rattle.mls_translang.specs.declared.block.Stmt.{Stmt}
 use Rattle.mls_translang.specs.declared.block.Stmt.TheVariants as stmt
-use Rattle.mls_translang.specs.Tree.{Assign, Inserting, Updating, Deleting, Release, Emit, is_end, Block, statements}
+use Rattle.mls_translang.specs.Tree.{Assign, Release, Emit, is_end, Block, statements}
 use Rattle.mls_translang.specs.Blocks.{block_of}
 use Rattle.mls_translang.specs.Scope.{Scope}
 use Rattle.mls_translang.specs.Tx.{BlockIsOwn}
@@ -21,10 +21,8 @@ use Rattle.mls_translang.proofs.LayoutLemmas.{puts-append}
 pub own_more : (s : Scope) (x : Stmt) (rest : List Stmt) → BlockIsOwn s (block_of (x ∷ rest)) → BlockIsOwn s (block_of (x ∷ [])) × BlockIsOwn s (block_of rest)
 own_more s (stmt.Assign v e) rest h = ((h.0, tt), h.1)
 own_more s (stmt.If guard one other) rest h = ((h.0, h.1, h.2, tt), h.3)
-own_more s (stmt.For row rel label body) rest h = ((h.0, h.1, tt), h.2)
-own_more s (stmt.Insert rel key values w outcome) rest h = ((h.0, tt), h.1)
-own_more s (stmt.Update rel key key_class from w sets outcome) rest h = ((h.0, tt), h.1)
-own_more s (stmt.Delete rel key key_class w outcome) rest h = ((h.0, tt), h.1)
+own_more s (stmt.For row relation label body) rest h = ((h.0, h.1, tt), h.2)
+own_more s (stmt.Write relation w writing outcome) rest h = ((h.0, tt), h.1)
 own_more s (stmt.Release e to into) rest h = ((h.0, tt), h.1)
 own_more s (stmt.Emit e label) rest h = ((h.0, tt), h.1)
 
@@ -32,10 +30,8 @@ module _ (policy : Policy) (schemes : Schemes) (hi : ℕ) (s : Scope) where
   pub fits_more : (x : Stmt) (rest : List Stmt) → BlockFits policy schemes hi s (block_of (x ∷ rest)) → BlockFits policy schemes hi s (block_of (x ∷ [])) × BlockFits policy schemes hi s (block_of rest)
   fits_more (stmt.Assign v e) rest h = ((h.0, tt), h.1)
   fits_more (stmt.If guard one other) rest h = ((h.0, h.1, h.2, tt), h.3)
-  fits_more (stmt.For row rel label body) rest h = ((h.0, h.1, h.2, tt), h.3)
-  fits_more (stmt.Insert rel key values w outcome) rest h = ((h.0, tt), h.1)
-  fits_more (stmt.Update rel key key_class from w sets outcome) rest h = ((h.0, tt), h.1)
-  fits_more (stmt.Delete rel key key_class w outcome) rest h = ((h.0, tt), h.1)
+  fits_more (stmt.For row relation label body) rest h = ((h.0, h.1, h.2, tt), h.3)
+  fits_more (stmt.Write relation w writing outcome) rest h = ((h.0, tt), h.1)
   fits_more (stmt.Release e to into) rest h = ((h.0, tt), h.1)
   fits_more (stmt.Emit e label) rest h = ((h.0, tt), h.1)
 
@@ -55,11 +51,9 @@ module _ (p : Place) where
   tokens_more (stmt.Assign v e) rest = after (stmt_tokens p (Assign v e)) _
   tokens_more (stmt.If guard one other) rest =
       three (Word (codes "if") ∷ expr_tokens p guard) (braced (block_tokens p one)) (else_tokens other (braced (block_tokens p other))) (block_tokens p (block_of rest))
-  tokens_more (stmt.For row rel label body) rest =
-      two (for_tokens p row rel label) (braced (block_tokens (at_row p row rel) body)) (block_tokens p (block_of rest))
-  tokens_more (stmt.Insert rel key values w outcome) rest = after (write_tokens p rel w outcome (Inserting key values)) _
-  tokens_more (stmt.Update rel key key_class from w sets outcome) rest = after (write_tokens p rel w outcome (Updating key key_class from sets)) _
-  tokens_more (stmt.Delete rel key key_class w outcome) rest = after (write_tokens p rel w outcome (Deleting key key_class)) _
+  tokens_more (stmt.For row relation label body) rest =
+      two (for_tokens p row relation label) (braced (block_tokens (at_row p row relation) body)) (block_tokens p (block_of rest))
+  tokens_more (stmt.Write relation w writing outcome) rest = after (write_tokens p relation w outcome writing) _
   tokens_more (stmt.Release e to into) rest = after (stmt_tokens p (Release e to into)) _
   tokens_more (stmt.Emit e label) rest = after (stmt_tokens p (Emit e label)) _
 
@@ -75,10 +69,8 @@ pub record IsLeft (p : Place) (left : List Stmt) (out : Laid) (block : Block) (f
 statements_more : (x : Stmt) (rest : List Stmt) → statements (block_of (x ∷ rest)) ≡ statements (block_of (x ∷ [])) + statements (block_of rest)
 statements_more (stmt.Assign v e) rest = refl
 statements_more (stmt.If guard one other) rest = omega arith
-statements_more (stmt.For row rel label body) rest = omega arith
-statements_more (stmt.Insert rel key values w outcome) rest = refl
-statements_more (stmt.Update rel key key_class from w sets outcome) rest = refl
-statements_more (stmt.Delete rel key key_class w outcome) rest = refl
+statements_more (stmt.For row relation label body) rest = omega arith
+statements_more (stmt.Write relation w writing outcome) rest = refl
 statements_more (stmt.Release e to into) rest = refl
 statements_more (stmt.Emit e label) rest = refl
 
@@ -124,10 +116,8 @@ pub is_end-block_of : (xs : List Stmt) → is_end (block_of xs) ≡ (length xs =
 is_end-block_of [] = refl
 is_end-block_of (stmt.Assign v e ∷ rest) = sym (ne_eqb _ 0 (λ h. omega arith))
 is_end-block_of (stmt.If guard one other ∷ rest) = sym (ne_eqb _ 0 (λ h. omega arith))
-is_end-block_of (stmt.For row rel label body ∷ rest) = sym (ne_eqb _ 0 (λ h. omega arith))
-is_end-block_of (stmt.Insert rel key values w outcome ∷ rest) = sym (ne_eqb _ 0 (λ h. omega arith))
-is_end-block_of (stmt.Update rel key key_class from w sets outcome ∷ rest) = sym (ne_eqb _ 0 (λ h. omega arith))
-is_end-block_of (stmt.Delete rel key key_class w outcome ∷ rest) = sym (ne_eqb _ 0 (λ h. omega arith))
+is_end-block_of (stmt.For row relation label body ∷ rest) = sym (ne_eqb _ 0 (λ h. omega arith))
+is_end-block_of (stmt.Write relation w writing outcome ∷ rest) = sym (ne_eqb _ 0 (λ h. omega arith))
 is_end-block_of (stmt.Release e to into ∷ rest) = sym (ne_eqb _ 0 (λ h. omega arith))
 is_end-block_of (stmt.Emit e label ∷ rest) = sym (ne_eqb _ 0 (λ h. omega arith))
 

@@ -14,11 +14,11 @@ use Rattle.mls_translang.specs.Kinds.{field_of}
 no_width : (n i : ℕ) → n ≡ 0 → i < n → ⊥
 no_width n i e h = omega (arith, e, h)
 
-pub has_attribute : (schemes : Schemes) (rel i : ℕ) → i < width (scheme_of schemes rel) → rel < length schemes
-has_attribute schemes rel i within =
-    elim (cases_lt rel (length schemes)) [
+pub has_attribute : (schemes : Schemes) (relation i : ℕ) → i < width (scheme_of schemes relation) → relation < length schemes
+has_attribute schemes relation i within =
+    elim (cases_lt relation (length schemes)) [
       | inl lt ↦ lt
-      | inr le ↦ absurd (no_width _ i (ap width (get_or_past schemes rel no_scheme le)) within)
+      | inr le ↦ absurd (no_width _ i (ap width (get_or_past schemes relation no_scheme le)) within)
     ]
 
 module _ (scheme : Scheme) where
@@ -28,13 +28,13 @@ module _ (scheme : Scheme) where
   pub as_other : (n : ℕ) → length scheme.keys ≤ n → field_of scheme n ≡ other_of scheme (n - length scheme.keys)
   as_other n le = let there : nat_lt n (length scheme.keys) ≡ false = grind (arith, nat_tests, le) in rw there refl
 
-  pub attribute_is_name : IsScheme scheme → (n : ℕ) → n < width scheme → is_name (field_of scheme n).name ≡ true
+  pub attribute_is_name : IsScheme scheme → (n : ℕ) → n < width scheme → is_name (field_of scheme n).0 ≡ true
   attribute_is_name valid n lt =
       elim (cases_lt n (length scheme.keys)) [
         | inl key ↦
-            let names = every_front (λ x. is_name x ≡ true) _ (map (λ a. a.name) scheme.keys) (map (λ a. a.name) scheme.others) (split_names scheme valid) refl in
-            subst (λ a. is_name a.name ≡ true) (sym (as_key n key)) (is_name_at (λ a. a.name) scheme.keys no_attribute names n key)
+            let names = every_front (λ x. is_name x ≡ true) _ (map (λ a. a.0) scheme.keys) (map (λ a. a.0) scheme.others) (split_names scheme valid) refl in
+            subst (λ a. is_name a.0 ≡ true) (sym (as_key n key)) (is_name_at (λ a. a.0) scheme.keys no_attribute names n key)
         | inr other ↦
             let le : length scheme.keys ≤ n = omega (arith, other) in
-            subst (λ a. is_name a.name ≡ true) (sym (as_other n le)) (other_is_name scheme valid (n - length scheme.keys) (omega (arith, le, lt)))
+            subst (λ a. is_name a.0 ≡ true) (sym (as_other n le)) (other_is_name scheme valid (n - length scheme.keys) (omega (arith, le, lt)))
       ]

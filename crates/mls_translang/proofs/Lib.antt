@@ -1,4 +1,3 @@
-pub mod NamedLemmas
 pub mod LayoutLemmas
 pub mod FieldLemmas
 pub mod ListLemmas

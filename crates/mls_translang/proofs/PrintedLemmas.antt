@@ -36,7 +36,7 @@ module _ (policy : Policy) (schemes : Schemes) (tx : Tx) (of_policy : IsPolicy p
   has_names : HasNames p
   has_names = record {
     label = label_is_name policy of_policy;
-    rel = λ r within. (scheme_is schemes of_schemes r within).named;
+    relation = λ r within. (scheme_is schemes of_schemes r within).named;
     field = λ r i within. attribute_is_name (scheme_of schemes r) (scheme_is schemes of_schemes r (has_attribute schemes r i within)) i within;
     other = λ r i within. other_is_name (scheme_of schemes r) (scheme_is schemes of_schemes r (has_attribute schemes r i (omega arith))) i within;
     var = is_name_there (λ x. x.0) tx.vars own_names.1;

@@ -15,7 +15,7 @@ use Rattle.mls_tokens.specs.declared.token.Token.TheVariants.{Word, Sign}
 use Rattle.mls_tokens.specs.declared.sign.Sign.TheVariants as sign
 use Rattle.mls_translang.specs.declared.operator.Operator.{Operator}
 use Rattle.mls_translang.specs.declared.operator.Operator.TheVariants as operators
-use Rattle.mls_translang.specs.Tree.{Expr, Known, Null, Var, Param, Field, No, Op, Inserting, Updating, Deleting, Stmt, Assign, Write_at, Release, Emit, Block, End, Do, If, For}
+use Rattle.mls_translang.specs.Tree.{Expr, Known, Null, Var, Param, Field, No, Op, Insert, Update, Delete, Stmt, Assign, Write_at, Release, Emit, Block, End, Do, If, For}
 use Rattle.mls_translang.specs.Scope.{row_at}
 use Rattle.mls_translang.specs.Kinds.{field_of}
 use Rattle.mls_translang.specs.Tx.{HasOwn, IsOwn, IsLiteral, StmtIsOwn, BlockIsOwn}
@@ -56,17 +56,17 @@ word_spelled w letter bytes short = (refl, record { letter = letter; bytes = all
 
 pub record HasNames (p : Place) : Type 0 where
   pub label : (n : ℕ) → IsLabel p.policy n → is_name (label_name p.policy.labels n) ≡ true
-  pub rel : (r : ℕ) → r < length p.schemes → is_name (scheme_of p.schemes r).name ≡ true
-  pub field : (r i : ℕ) → i < width (scheme_of p.schemes r) → is_name (field_of (scheme_of p.schemes r) i).name ≡ true
-  pub other : (r i : ℕ) → i < length (scheme_of p.schemes r).others → is_name (other_of (scheme_of p.schemes r) i).name ≡ true
+  pub relation : (r : ℕ) → r < length p.schemes → is_name (scheme_of p.schemes r).name ≡ true
+  pub field : (r i : ℕ) → i < width (scheme_of p.schemes r) → is_name (field_of (scheme_of p.schemes r) i).0 ≡ true
+  pub other : (r i : ℕ) → i < length (scheme_of p.schemes r).others → is_name (other_of (scheme_of p.schemes r) i).0 ≡ true
   pub var : (i : ℕ) → i < length p.scope.vars → is_name (name_at p.scope.vars i) ≡ true
   pub param : (i : ℕ) → i < length p.scope.params → is_name (name_at p.scope.params i) ≡ true
   pub row : (d : ℕ) → d < length p.scope.rows → is_name (row_at p.scope d).name ≡ true
 
-inside : (p : Place) (row : Name) (rel : ℕ) → is_name row ≡ true → HasNames p → HasNames (at_row p row rel)
-inside p row rel named h = record {
+inside : (p : Place) (row : Name) (relation : ℕ) → is_name row ≡ true → HasNames p → HasNames (at_row p row relation)
+inside p row relation named h = record {
   label = h.label;
-  rel = h.rel;
+  relation = h.relation;
   field = h.field;
   other = h.other;
   var = h.var;
@@ -74,7 +74,7 @@ inside p row rel named h = record {
   row = rows;
 }
   where
-    rows : (d : ℕ) → d < length (at_row p row rel).scope.rows → is_name (row_at (at_row p row rel).scope d).name ≡ true
+    rows : (d : ℕ) → d < length (at_row p row relation).scope.rows → is_name (row_at (at_row p row relation).scope d).name ≡ true
     rows zero within = named
     rows (suc d) within = h.row d (omega arith)
 
@@ -126,23 +126,23 @@ module _ (p : Place) (h : HasNames p) where
 
   -- ---- writes
 
-  set_spelled : (rel : ℕ) (x : ℕ × Expr) → IsOwn p.scope x.1 → x.0 < length (scheme_of p.schemes rel).others → ExprFits p.schemes p.scope x.1
-      → AreSpelled (set_tokens p (scheme_of p.schemes rel) x)
-  set_spelled rel x own within fits = (named _ (h.other rel x.0 within), (refl, expr_spelled x.1 own.numbers fits))
+  set_spelled : (relation : ℕ) (x : ℕ × Expr) → IsOwn p.scope x.1 → x.0 < length (scheme_of p.schemes relation).others → ExprFits p.schemes p.scope x.1
+      → AreSpelled (set_tokens p (scheme_of p.schemes relation) x)
+  set_spelled relation x own within fits = (named _ (h.other relation x.0 within), (refl, expr_spelled x.1 own.numbers fits))
 
-  set_items : (rel : ℕ) (xs : List (ℕ × Expr)) → AllByRecursion (λ x. IsOwn p.scope x.1) xs
-      → AllByRecursion (λ x. (x.0 < length (scheme_of p.schemes rel).others) × ExprFits p.schemes p.scope x.1) xs
-      → AreSpelled (flat_map (comma_tokens (set_tokens p (scheme_of p.schemes rel))) xs)
-  set_items rel [] own fits = tt
-  set_items rel (x ∷ xs) own fits =
-      (refl, both (set_tokens p (scheme_of p.schemes rel) x) _ (set_spelled rel x own.0 fits.0.0 fits.0.1) (set_items rel xs own.1 fits.1))
+  set_items : (relation : ℕ) (xs : List (ℕ × Expr)) → AllByRecursion (λ x. IsOwn p.scope x.1) xs
+      → AllByRecursion (λ x. (x.0 < length (scheme_of p.schemes relation).others) × ExprFits p.schemes p.scope x.1) xs
+      → AreSpelled (flat_map (comma_tokens (set_tokens p (scheme_of p.schemes relation))) xs)
+  set_items relation [] own fits = tt
+  set_items relation (x ∷ xs) own fits =
+      (refl, both (set_tokens p (scheme_of p.schemes relation) x) _ (set_spelled relation x own.0 fits.0.0 fits.0.1) (set_items relation xs own.1 fits.1))
 
-  sets_spelled : (rel : ℕ) (xs : List (ℕ × Expr)) → AllByRecursion (λ x. IsOwn p.scope x.1) xs
-      → AllByRecursion (λ x. (x.0 < length (scheme_of p.schemes rel).others) × ExprFits p.schemes p.scope x.1) xs
-      → AreSpelled (separated (set_tokens p (scheme_of p.schemes rel)) xs)
-  sets_spelled rel [] own fits = tt
-  sets_spelled rel (x ∷ xs) own fits =
-      both (set_tokens p (scheme_of p.schemes rel) x) _ (set_spelled rel x own.0 fits.0.0 fits.0.1) (set_items rel xs own.1 fits.1)
+  sets_spelled : (relation : ℕ) (xs : List (ℕ × Expr)) → AllByRecursion (λ x. IsOwn p.scope x.1) xs
+      → AllByRecursion (λ x. (x.0 < length (scheme_of p.schemes relation).others) × ExprFits p.schemes p.scope x.1) xs
+      → AreSpelled (separated (set_tokens p (scheme_of p.schemes relation)) xs)
+  sets_spelled relation [] own fits = tt
+  sets_spelled relation (x ∷ xs) own fits =
+      both (set_tokens p (scheme_of p.schemes relation) x) _ (set_spelled relation x own.0 fits.0.0 fits.0.1) (set_items relation xs own.1 fits.1)
 
   label : (n : ℕ) → IsLabel p.policy n → IsSpelled (Word (label_name p.policy.labels n))
   label n within = named _ (h.label n within)
@@ -154,20 +154,20 @@ module _ (p : Place) (h : HasNames p) where
   at_end : (w : ℕ) (outcome : Option ℕ) → IsLabel p.policy w → IfSome outcome (λ x. x < length p.scope.vars) → AreSpelled (write_end p w (stmt_end p outcome))
   at_end w outcome within own = (word_spelled (codes "at") refl refl refl, (label w within, end_spelled outcome own))
 
-  head_spelled : (word : Name) (rel : ℕ) (key : List Expr) → IsSpelled (Word word) → rel < length p.schemes → AllByRecursion (IsOwn p.scope) key
-      → AllByRecursion (ExprFits p.schemes p.scope) key → AreSpelled (head_tokens p word rel key)
-  head_spelled word rel key w within own fits =
-      (w, (named _ (h.rel rel within), (word_spelled (codes "key") refl refl refl, list_spelled key own fits)))
+  head_spelled : (word : Name) (relation : ℕ) (key : List Expr) → IsSpelled (Word word) → relation < length p.schemes → AllByRecursion (IsOwn p.scope) key
+      → AllByRecursion (ExprFits p.schemes p.scope) key → AreSpelled (head_tokens p word relation key)
+  head_spelled word relation key w within own fits =
+      (w, (named _ (h.relation relation within), (word_spelled (codes "key") refl refl refl, list_spelled key own fits)))
 
   stmt_spelled : (stmt : Stmt) → StmtIsOwn p.scope stmt → StmtFits p.policy p.schemes p.hi p.scope stmt → AreSpelled (stmt_tokens p stmt)
   stmt_spelled (Assign x e) own fits = (named _ (h.var x own.0), (refl, both (expr_tokens p e) _ (expr_spelled e own.1.numbers fits) (refl, tt)))
-  stmt_spelled (Write_at rel w (Inserting key values) outcome) own fits =
-      both (head_tokens p (codes "insert") rel key) _
-      (head_spelled (codes "insert") rel key (word_spelled (codes "insert") refl refl refl) fits.0 own.0.0 fits.2.0.each)
+  stmt_spelled (Write_at relation w (Insert key values) outcome) own fits =
+      both (head_tokens p (codes "insert") relation key) _
+      (head_spelled (codes "insert") relation key (word_spelled (codes "insert") refl refl refl) fits.0 own.0.0 fits.2.0.each)
       (word_spelled (codes "values") refl refl refl, both (list_tokens p values) _ (list_spelled values own.0.1 fits.2.1.each) (at_end w outcome fits.1 own.1))
-  stmt_spelled (Write_at rel w (Updating key key_class from sets) outcome) own fits =
-      both (head_tokens p (codes "update") rel key) _
-      (head_spelled (codes "update") rel key (word_spelled (codes "update") refl refl refl) fits.0 own.0.0 fits.2.0.each) (
+  stmt_spelled (Write_at relation w (Update key key_class from sets) outcome) own fits =
+      both (head_tokens p (codes "update") relation key) _
+      (head_spelled (codes "update") relation key (word_spelled (codes "update") refl refl refl) fits.0 own.0.0 fits.2.0.each) (
         word_spelled (codes "class") refl refl refl,
         (
           label key_class fits.2.1,
@@ -181,7 +181,7 @@ module _ (p : Place) (h : HasNames p) where
                   label w fits.1,
                   (
                     word_spelled (codes "set") refl refl refl,
-                    both (separated (set_tokens p (scheme_of p.schemes rel)) sets) _ (sets_spelled rel sets own.0.1 fits.2.3.each) (end_spelled outcome own.1),
+                    both (separated (set_tokens p (scheme_of p.schemes relation)) sets) _ (sets_spelled relation sets own.0.1 fits.2.3.each) (end_spelled outcome own.1),
                   ),
                 ),
               ),
@@ -189,9 +189,9 @@ module _ (p : Place) (h : HasNames p) where
           ),
         ),
       )
-  stmt_spelled (Write_at rel w (Deleting key key_class) outcome) own fits =
-      both (head_tokens p (codes "delete") rel key) _
-      (head_spelled (codes "delete") rel key (word_spelled (codes "delete") refl refl refl) fits.0 own.0 fits.2.0.each)
+  stmt_spelled (Write_at relation w (Delete key key_class) outcome) own fits =
+      both (head_tokens p (codes "delete") relation key) _
+      (head_spelled (codes "delete") relation key (word_spelled (codes "delete") refl refl refl) fits.0 own.0 fits.2.0.each)
       (word_spelled (codes "class") refl refl refl, (label key_class fits.2.1, at_end w outcome fits.1 own.1))
   stmt_spelled (Release e to into) own fits = (
     word_spelled (codes "release") refl refl refl,
@@ -213,7 +213,7 @@ else_spelled : (other : Block) (ts : List Token) → AreSpelled ts → AreSpelle
 else_spelled End ts h = tt
 else_spelled (Do stmt rest) ts h = (word_spelled (codes "else") refl refl refl, h)
 else_spelled (If guard one other rest) ts h = (word_spelled (codes "else") refl refl refl, h)
-else_spelled (For row rel label body rest) ts h = (word_spelled (codes "else") refl refl refl, h)
+else_spelled (For row relation label body rest) ts h = (word_spelled (codes "else") refl refl refl, h)
 
 pub block_spelled : (b : Block) (p : Place) → HasNames p → BlockIsOwn p.scope b → BlockFits p.policy p.schemes p.hi p.scope b → AreSpelled (block_tokens p b)
 block_spelled End p h own fits = tt
@@ -227,20 +227,20 @@ block_spelled (If guard one other rest) p h own fits = (
       (else_spelled other (braced (block_tokens p other)) (braced_spelled (block_tokens p other) (block_spelled other p h own.2 fits.2)))
       (block_spelled rest p h own.3 fits.3))),
 )
-block_spelled (For row rel label_no body rest) p h own fits = (
+block_spelled (For row relation label_no body rest) p h own fits = (
   word_spelled (codes "for") refl refl refl,
   (
     named row own.0.0,
     (
       word_spelled (codes "in") refl refl refl,
       (
-        named _ (h.rel rel fits.0),
+        named _ (h.relation relation fits.0),
         (
           word_spelled (codes "at") refl refl refl,
           (
             label p h label_no fits.1,
-            both (braced (block_tokens (at_row p row rel) body)) _
-                (braced_spelled (block_tokens (at_row p row rel) body) (block_spelled body (at_row p row rel) (inside p row rel own.0.0 h) own.1 fits.2))
+            both (braced (block_tokens (at_row p row relation) body)) _
+                (braced_spelled (block_tokens (at_row p row relation) body) (block_spelled body (at_row p row relation) (inside p row relation own.0.0 h) own.1 fits.2))
                 (block_spelled rest p h own.2 fits.3),
           ),
         ),

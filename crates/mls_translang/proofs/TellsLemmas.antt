@@ -14,7 +14,7 @@ other_told : (other : Block) (told : List Token → Type 0) (ts : List Token) �
 other_told End told ts h = inl (refl, refl)
 other_told (Do stmt rest) told ts h = inr (ts, refl, h)
 other_told (If guard one other rest) told ts h = inr (ts, refl, h)
-other_told (For row rel label body rest) told ts h = inr (ts, refl, h)
+other_told (For row relation label body rest) told ts h = inr (ts, refl, h)
 
 block_told : (b : Block) (p : Place) → TellsBlock p b (block_tokens p b)
 block_told End p = refl
@@ -28,8 +28,8 @@ block_told (If guard one other rest) p = (
   other_told other (λ inner. TellsBlock p other inner) (block_tokens p other) (block_told other p),
   block_told rest p,
 )
-block_told (For row rel label body rest) p =
-    (block_tokens (at_row p row rel) body, block_tokens p rest, refl, block_told body (at_row p row rel), block_told rest p)
+block_told (For row relation label body rest) p =
+    (block_tokens (at_row p row relation) body, block_tokens p rest, refl, block_told body (at_row p row relation), block_told rest p)
 
 alone : (name : Name) → IsDistinct bytes_eq (name ∷ [])
 unfolding IsDistinct

@@ -10,13 +10,13 @@ pub data Mark : Type 0 where
   An_end : Mark
   A_stmt : (stmt : Stmt) → Mark
   An_if : (guard : Expr) → Mark
-  A_for : (row : Name) (rel label : ℕ) → Mark
+  A_for : (row : Name) (relation label : ℕ) → Mark
 
 abbrev pub marks : Block → List Mark
 marks End = An_end ∷ []
 marks (Do stmt rest) = marks rest ++ A_stmt stmt ∷ []
 marks (If guard one other rest) = marks one ++ (marks other ++ (marks rest ++ An_if guard ∷ []))
-marks (For row rel label body rest) = marks body ++ (marks rest ++ A_for row rel label ∷ [])
+marks (For row relation label body rest) = marks body ++ (marks rest ++ A_for row relation label ∷ [])
 
 abbrev pub do_on : Stmt → List Block → List Block
 do_on stmt [] = []
@@ -27,15 +27,15 @@ if_on guard (rest ∷ other ∷ one ∷ bs) = If guard one other rest ∷ bs
 if_on guard _ = []
 
 abbrev pub for_on : Name → ℕ → ℕ → List Block → List Block
-for_on row rel label (rest ∷ body ∷ bs) = For row rel label body rest ∷ bs
-for_on row rel label _ = []
+for_on row relation label (rest ∷ body ∷ bs) = For row relation label body rest ∷ bs
+for_on row relation label _ = []
 
 abbrev pub built : List Mark → List Block → List Block
 built [] bs = bs
 built (An_end ∷ ms) bs = built ms (End ∷ bs)
 built (A_stmt stmt ∷ ms) bs = built ms (do_on stmt bs)
 built (An_if guard ∷ ms) bs = built ms (if_on guard bs)
-built (A_for row rel label ∷ ms) bs = built ms (for_on row rel label bs)
+built (A_for row relation label ∷ ms) bs = built ms (for_on row relation label bs)
 
 abbrev pub top_of : List Block → Block
 top_of [] = End
@@ -50,10 +50,10 @@ built-marks (If guard one other rest) ms bs =
     ∙ built-marks one (marks other ++ (marks rest ++ An_if guard ∷ ms)) bs
     ∙ built-marks other (marks rest ++ An_if guard ∷ ms) (one ∷ bs)
     ∙ built-marks rest (An_if guard ∷ ms) (other ∷ one ∷ bs)
-built-marks (For row rel label body rest) ms bs =
-    ap (λ l. built l bs) (append_assoc (marks body) _ ms ∙ ap (λ l. marks body ++ l) (append_assoc (marks rest) (A_for row rel label ∷ []) ms))
-    ∙ built-marks body (marks rest ++ A_for row rel label ∷ ms) bs
-    ∙ built-marks rest (A_for row rel label ∷ ms) (body ∷ bs)
+built-marks (For row relation label body rest) ms bs =
+    ap (λ l. built l bs) (append_assoc (marks body) _ ms ∙ ap (λ l. marks body ++ l) (append_assoc (marks rest) (A_for row relation label ∷ []) ms))
+    ∙ built-marks body (marks rest ++ A_for row relation label ∷ ms) bs
+    ∙ built-marks rest (A_for row relation label ∷ ms) (body ∷ bs)
 
 pub read_back : (b : Block) → top_of (built (marks b) []) ≡ b
 read_back b = ap (λ l. top_of (built l [])) (sym (append-nil (marks b))) ∙ ap top_of (built-marks b [] [])

@@ -12,9 +12,7 @@ pub falls : (stmts : List Stmt) → max (most deep-Stmt stmts) 0 ≤ statements 
 falls [] = omega arith
 falls (stmt.Assign x e ∷ rest) = omega (arith, falls rest)
 falls (stmt.If guard one other ∷ rest) = omega (arith, falls rest)
-falls (stmt.For row rel label body ∷ rest) = omega (arith, falls rest)
-falls (stmt.Insert rel key values w outcome ∷ rest) = omega (arith, falls rest)
-falls (stmt.Update rel key key_class from w sets outcome ∷ rest) = omega (arith, falls rest)
-falls (stmt.Delete rel key key_class w outcome ∷ rest) = omega (arith, falls rest)
+falls (stmt.For row relation label body ∷ rest) = omega (arith, falls rest)
+falls (stmt.Write relation w writing outcome ∷ rest) = omega (arith, falls rest)
 falls (stmt.Release e to into ∷ rest) = omega (arith, falls rest)
 falls (stmt.Emit e label ∷ rest) = omega (arith, falls rest)

@@ -5,7 +5,7 @@ use Rattle.std.specs.Str.{bytes_eq}
 use Rattle.mls_lattice.specs.Labels.{below}
 use Rattle.mls_lattice.specs.Policy.{Policy, labels_of}
 use Rattle.mls_scheme.specs.Scheme.{Attribute, Scheme, Schemes, scheme_of}
-use Rattle.mls_translang.specs.Tree.{Expr, Field, No, Op, Writing, Inserting, Updating, Deleting, Stmt, Assign, Write_at, Release, Emit, Block, End, Do, If, For}
+use Rattle.mls_translang.specs.Tree.{Expr, Field, No, Op, Writing, Insert, Update, Delete, Stmt, Assign, Write_at, Release, Emit, Block, End, Do, If, For}
 use Rattle.mls_translang.specs.Scope.{Scope, in_loop, row_at}
 use Rattle.mls_translang.specs.Tx.{Tx, scope_of}
 use Rattle.mls_translang.specs.Kinds.{BlockKinds}
@@ -44,14 +44,14 @@ module _ (schemes : Schemes) where
 
 module _ (policy : Policy) (schemes : Schemes) (hi : ℕ) where
   abbrev pub WritingFits : Scope → Scheme → Writing → Type 0
-  WritingFits s scheme (Inserting key values) = ListFits schemes s scheme.keys key × ListFits schemes s scheme.others values
-  WritingFits s scheme (Updating key key_class from sets) =
+  WritingFits s scheme (Insert key values) = ListFits schemes s scheme.keys key × ListFits schemes s scheme.others values
+  WritingFits s scheme (Update key key_class from sets) =
       ListFits schemes s scheme.keys key × IsLabel policy key_class × IsLabel policy from × SetsFit schemes s scheme sets
-  WritingFits s scheme (Deleting key key_class) = ListFits schemes s scheme.keys key × IsLabel policy key_class
+  WritingFits s scheme (Delete key key_class) = ListFits schemes s scheme.keys key × IsLabel policy key_class
 
   abbrev pub StmtFits : Scope → Stmt → Type 0
   StmtFits s (Assign x e) = ExprFits schemes s e
-  StmtFits s (Write_at rel w writing outcome) = (rel < length schemes) × IsLabel policy w × WritingFits s (scheme_of schemes rel) writing
+  StmtFits s (Write_at relation w writing outcome) = (relation < length schemes) × IsLabel policy w × WritingFits s (scheme_of schemes relation) writing
   StmtFits s (Release e to into) = ExprFits schemes s e × IsLabel policy to × (below (labels_of policy) to hi ≡ true)
   StmtFits s (Emit e label) = ExprFits schemes s e × IsLabel policy label
 
@@ -59,7 +59,7 @@ module _ (policy : Policy) (schemes : Schemes) (hi : ℕ) where
   BlockFits s End = Unit {0}
   BlockFits s (Do stmt rest) = StmtFits s stmt × BlockFits s rest
   BlockFits s (If guard one other rest) = ExprFits schemes s guard × BlockFits s one × BlockFits s other × BlockFits s rest
-  BlockFits s (For row rel label body rest) = (rel < length schemes) × IsLabel policy label × BlockFits (in_loop s row rel) body × BlockFits s rest
+  BlockFits s (For row relation label body rest) = (relation < length schemes) × IsLabel policy label × BlockFits (in_loop s row relation) body × BlockFits s rest
 
 -- ---- transactions
 

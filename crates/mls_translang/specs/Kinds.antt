@@ -8,7 +8,7 @@ use Rattle.mls_scheme.specs.declared.value.Kind.{Kind}
 use Rattle.mls_scheme.specs.declared.value.Kind.TheVariants as kinds
 use Rattle.mls_translang.specs.declared.operator.Operator.{Operator}
 use Rattle.mls_translang.specs.declared.operator.Operator.TheVariants as operators
-use Rattle.mls_translang.specs.Tree.{Expr, Known, Null, Var, Param, Field, No, Op, Writing, Inserting, Updating, Deleting, Stmt, Assign, Write_at, Release, Emit, Block, End, Do, If, For}
+use Rattle.mls_translang.specs.Tree.{Expr, Known, Null, Var, Param, Field, No, Op, Writing, Insert, Update, Delete, Stmt, Assign, Write_at, Release, Emit, Block, End, Do, If, For}
 use Rattle.mls_translang.specs.Scope.{Scope, in_loop, row_at, kind_of_var, kind_of_param}
 
 -- what an expression gives: a value of a kind or null, or a truth value
@@ -38,7 +38,7 @@ module _ (schemes : Schemes) where
   HasSort s Truth Null = ⊥
   HasSort s t (Var i) = (k : Kind) × (t ≡ Of k) × (kind_of_var s i ≡ Some k)
   HasSort s t (Param i) = (k : Kind) × (t ≡ Of k) × (kind_of_param s i ≡ Some k)
-  HasSort s t (Field d i) = t ≡ Of (field_of (scheme_of schemes (row_at s d).relation) i).kind
+  HasSort s t (Field d i) = t ≡ Of (field_of (scheme_of schemes (row_at s d).relation) i).1.kind
   HasSort s t (No e) = (t ≡ Truth) × HasSort s Truth e
   HasSort s t (Op op left right) = OperatorGives op t (λ u. HasSort s u left × HasSort s u right)
 
@@ -47,13 +47,13 @@ module _ (schemes : Schemes) where
   HasKind s k e = HasSort s (Of k) e
 
   abbrev pub HaveKinds : Scope → List Attribute → List Expr → Type 0
-  HaveKinds s = AllZip (λ a e. HasKind s a.kind e)
+  HaveKinds s = AllZip (λ a e. HasKind s a.1.kind e)
 
   abbrev pub WritingKinds : Scope → Scheme → Writing → Type 0
-  WritingKinds s scheme (Inserting key values) = HaveKinds s scheme.keys key × HaveKinds s scheme.others values
-  WritingKinds s scheme (Updating key key_class from sets) =
-      HaveKinds s scheme.keys key × AllByRecursion (λ x. HasKind s (other_of scheme x.0).kind x.1) sets
-  WritingKinds s scheme (Deleting key key_class) = HaveKinds s scheme.keys key
+  WritingKinds s scheme (Insert key values) = HaveKinds s scheme.keys key × HaveKinds s scheme.others values
+  WritingKinds s scheme (Update key key_class from sets) =
+      HaveKinds s scheme.keys key × AllByRecursion (λ x. HasKind s (other_of scheme x.0).1.kind x.1) sets
+  WritingKinds s scheme (Delete key key_class) = HaveKinds s scheme.keys key
 
   -- what is assigned to a variable has its kind
   abbrev pub Assigns : Scope → ℕ → Expr → Type 0
@@ -62,8 +62,8 @@ module _ (schemes : Schemes) where
   -- outcomes are numbers
   abbrev pub StmtKinds : Scope → Stmt → Type 0
   StmtKinds s (Assign x e) = Assigns s x e
-  StmtKinds s (Write_at rel w writing outcome) =
-      WritingKinds s (scheme_of schemes rel) writing × IfSome outcome (λ x. kind_of_var s x ≡ Some kinds.Int)
+  StmtKinds s (Write_at relation w writing outcome) =
+      WritingKinds s (scheme_of schemes relation) writing × IfSome outcome (λ x. kind_of_var s x ≡ Some kinds.Int)
   StmtKinds s (Release e to into) = Assigns s into e
   StmtKinds s (Emit e label) = (k : Kind) × HasKind s k e
 
@@ -71,4 +71,4 @@ module _ (schemes : Schemes) where
   BlockKinds s End = Unit {0}
   BlockKinds s (Do stmt rest) = StmtKinds s stmt × BlockKinds s rest
   BlockKinds s (If guard one other rest) = HasSort s Truth guard × BlockKinds s one × BlockKinds s other × BlockKinds s rest
-  BlockKinds s (For row rel label body rest) = BlockKinds (in_loop s row rel) body × BlockKinds s rest
+  BlockKinds s (For row relation label body rest) = BlockKinds (in_loop s row relation) body × BlockKinds s rest

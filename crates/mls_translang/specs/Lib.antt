@@ -7,7 +7,6 @@ pub mod ExprFalls
 pub mod BlockCode
 pub mod Blocks
 pub mod BlockFalls
-pub mod Named
 pub mod Scope
 pub mod Tx
 pub mod Kinds

@@ -16,7 +16,7 @@ pub record Scope : Type 0 where
 
 -- inside a loop
 abbrev pub in_loop : Scope → Name → ℕ → Scope
-in_loop s row rel = record s { rows = record { name = row; relation = rel } ∷ s.rows }
+in_loop s row relation = record s { rows = record { name = row; relation = relation } ∷ s.rows }
 
 -- all names that are taken
 abbrev pub names_in : Scope → List Name

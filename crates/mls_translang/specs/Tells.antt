@@ -21,8 +21,8 @@ TellsBlock p (Do stmt rest) ts = (r : List Token) × (ts ≡ stmt_tokens p stmt 
 TellsBlock p (If guard one other rest) ts =
     (a b r : List Token) × (ts ≡ Word (codes "if") ∷ (expr_tokens p guard ++ (braced a ++ (b ++ r))))
     × TellsBlock p one a × TellsOther (is_end other) (λ inner. TellsBlock p other inner) b × TellsBlock p rest r
-TellsBlock p (For row rel label body rest) ts =
-    (a r : List Token) × (ts ≡ for_tokens p row rel label ++ (braced a ++ r)) × TellsBlock (at_row p row rel) body a × TellsBlock p rest r
+TellsBlock p (For row relation label body rest) ts =
+    (a r : List Token) × (ts ≡ for_tokens p row relation label ++ (braced a ++ r)) × TellsBlock (at_row p row relation) body a × TellsBlock p rest r
 
 abbrev pub TellsTx : Place → Tx → List Token → Type 0
 TellsTx p tx ts =

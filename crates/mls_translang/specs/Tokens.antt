@@ -17,7 +17,7 @@ use Rattle.mls_translang.specs.declared.operator.Operator.{Operator}
 use Rattle.mls_translang.specs.declared.operator.Operator.TheVariants as operators
 use Rattle.mls_translang.specs.declared.row.LoopRow.{LoopRow}
 use Rattle.mls_translang.specs.declared.tx.Parameter.{Parameter}
-use Rattle.mls_translang.specs.Tree.{Expr, Known, Null, Var, Param, Field, No, Op, Writing, Inserting, Updating, Deleting, Stmt, Assign, Write_at, Release, Emit, Block, End, Do, If, For, is_end}
+use Rattle.mls_translang.specs.Tree.{Expr, Known, Null, Var, Param, Field, No, Op, Writing, Insert, Update, Delete, Stmt, Assign, Write_at, Release, Emit, Block, End, Do, If, For, is_end}
 use Rattle.mls_translang.specs.Scope.{Scope, in_loop, row_at}
 use Rattle.mls_translang.specs.Kinds.{field_of}
 use Rattle.mls_translang.specs.Tx.{Tx, scope_of}
@@ -37,7 +37,7 @@ pub record Place : Type 0 where
   pub scope : Scope
 
 abbrev pub at_row : Place → Name → ℕ → Place
-at_row p row rel = record p { scope = in_loop p.scope row rel }
+at_row p row relation = record p { scope = in_loop p.scope row relation }
 
 abbrev pub with_rows : Place → List LoopRow → Place
 with_rows p rows = record p { scope = record { params = p.scope.params; vars = p.scope.vars; rows = rows } }
@@ -49,7 +49,7 @@ abbrev pub label_token : Place → ℕ → Token
 label_token p label = Word (label_name p.policy.labels label)
 
 abbrev pub rel_token : Place → ℕ → Token
-rel_token p rel = Word (scheme_of p.schemes rel).name
+rel_token p relation = Word (scheme_of p.schemes relation).name
 
 -- ---- expressions
 
@@ -72,7 +72,7 @@ operator_token operators.Or = Word (codes "or")
 
 -- ROW.ATTRIBUTE
 abbrev pub field_tokens : Place → ℕ → ℕ → List Token
-field_tokens p d i = Word (row_at p.scope d).name ∷ Sign sign.Dot ∷ Word (field_of (scheme_of p.schemes (row_at p.scope d).relation) i).name ∷ []
+field_tokens p d i = Word (row_at p.scope d).name ∷ Sign sign.Dot ∷ Word (field_of (scheme_of p.schemes (row_at p.scope d).relation) i).0 ∷ []
 
 -- each operation in its own parentheses
 abbrev pub expr_tokens : Place → Expr → List Token
@@ -92,7 +92,7 @@ list_tokens p es = Sign sign.LeftParen ∷ (separated (expr_tokens p) es ++ Sign
 
 -- ATTRIBUTE = EXPR, of an attribute outside the key
 abbrev pub set_tokens : Place → Scheme → ℕ × Expr → List Token
-set_tokens p scheme s = Word (other_of scheme s.0).name ∷ Sign sign.Equals ∷ expr_tokens p s.1
+set_tokens p scheme s = Word (other_of scheme s.0).0 ∷ Sign sign.Equals ∷ expr_tokens p s.1
 
 -- the variable of an outcome, if there is one
 abbrev pub outcome_tokens : Place → Option ℕ → List Token
@@ -108,7 +108,7 @@ stmt_end p outcome = outcome_tokens p outcome ++ Sign sign.Semicolon ∷ []
 
 -- what each write begins with
 abbrev pub head_tokens : Place → Name → ℕ → List Expr → List Token
-head_tokens p word rel key = Word word ∷ rel_token p rel ∷ Word (codes "key") ∷ list_tokens p key
+head_tokens p word relation key = Word word ∷ rel_token p relation ∷ Word (codes "key") ∷ list_tokens p key
 
 -- class KEY_CLASS from FROM at W
 abbrev pub class_tokens : Place → ℕ → ℕ → ℕ → List Token
@@ -117,20 +117,20 @@ class_tokens p key_class from w =
 
 -- set SETS, the outcome, and the end
 abbrev pub update_end : Place → ℕ → List (ℕ × Expr) → Option ℕ → List Token
-update_end p rel sets outcome = Word (codes "set") ∷ (separated (set_tokens p (scheme_of p.schemes rel)) sets ++ stmt_end p outcome)
+update_end p relation sets outcome = Word (codes "set") ∷ (separated (set_tokens p (scheme_of p.schemes relation)) sets ++ stmt_end p outcome)
 
 abbrev pub write_tokens : Place → ℕ → ℕ → Option ℕ → Writing → List Token
-write_tokens p rel w outcome (Inserting key values) =
-    head_tokens p (codes "insert") rel key ++ (Word (codes "values") ∷ (list_tokens p values ++ write_end p w (stmt_end p outcome)))
-write_tokens p rel w outcome (Updating key key_class from sets) =
-    head_tokens p (codes "update") rel key
-    ++ (class_tokens p key_class from w ++ update_end p rel sets outcome)
-write_tokens p rel w outcome (Deleting key key_class) =
-    head_tokens p (codes "delete") rel key ++ (Word (codes "class") ∷ label_token p key_class ∷ write_end p w (stmt_end p outcome))
+write_tokens p relation w outcome (Insert key values) =
+    head_tokens p (codes "insert") relation key ++ (Word (codes "values") ∷ (list_tokens p values ++ write_end p w (stmt_end p outcome)))
+write_tokens p relation w outcome (Update key key_class from sets) =
+    head_tokens p (codes "update") relation key
+    ++ (class_tokens p key_class from w ++ update_end p relation sets outcome)
+write_tokens p relation w outcome (Delete key key_class) =
+    head_tokens p (codes "delete") relation key ++ (Word (codes "class") ∷ label_token p key_class ∷ write_end p w (stmt_end p outcome))
 
 abbrev pub stmt_tokens : Place → Stmt → List Token
 stmt_tokens p (Assign x e) = var_token p x ∷ Sign sign.Becomes ∷ (expr_tokens p e ++ Sign sign.Semicolon ∷ [])
-stmt_tokens p (Write_at rel w writing outcome) = write_tokens p rel w outcome writing
+stmt_tokens p (Write_at relation w writing outcome) = write_tokens p relation w outcome writing
 stmt_tokens p (Release e to into) =
     Word (codes "release") ∷ (expr_tokens p e ++ (Word (codes "to") ∷ label_token p to ∷ Word (codes "into") ∷ var_token p into ∷ Sign sign.Semicolon ∷ []))
 stmt_tokens p (Emit e label) =
@@ -142,7 +142,7 @@ else_tokens other tokens = if is_end other then [] else Word (codes "else") ∷ 
 
 -- for ROW in RELATION at LABEL
 abbrev pub for_tokens : Place → Name → ℕ → ℕ → List Token
-for_tokens p row rel label = Word (codes "for") ∷ Word row ∷ Word (codes "in") ∷ rel_token p rel ∷ Word (codes "at") ∷ label_token p label ∷ []
+for_tokens p row relation label = Word (codes "for") ∷ Word row ∷ Word (codes "in") ∷ rel_token p relation ∷ Word (codes "at") ∷ label_token p label ∷ []
 
 abbrev pub braced : List Token → List Token
 braced tokens = Sign sign.LeftBrace ∷ (tokens ++ Sign sign.RightBrace ∷ [])
@@ -152,8 +152,8 @@ block_tokens p End = []
 block_tokens p (Do stmt rest) = stmt_tokens p stmt ++ block_tokens p rest
 block_tokens p (If guard one other rest) =
     Word (codes "if") ∷ (expr_tokens p guard ++ (braced (block_tokens p one) ++ (else_tokens other (braced (block_tokens p other)) ++ block_tokens p rest)))
-block_tokens p (For row rel label body rest) =
-    for_tokens p row rel label ++ (braced (block_tokens (at_row p row rel) body) ++ block_tokens p rest)
+block_tokens p (For row relation label body rest) =
+    for_tokens p row relation label ++ (braced (block_tokens (at_row p row relation) body) ++ block_tokens p rest)
 
 -- ---- transactions
 

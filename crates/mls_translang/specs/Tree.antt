@@ -1,7 +1,9 @@
 -- Transactions as plain data.
-use Rattle.std.specs.Prelude.{ℕ, ◌+◌, Bool, true, false, List, Option}
+use Rattle.std.specs.Prelude.{ℕ, ◌+◌, Bool, true, false, Option}
 use Rattle.mls_lattice.specs.Policy.{Name}
 use Rattle.mls_scheme.specs.declared.value.Value.{Value}
+use Rattle.mls_scheme.specs.declared.write.Write.{Write}
+pub use Rattle.mls_scheme.specs.declared.write.Write.TheVariants.{Insert, Update, Delete}
 use Rattle.mls_translang.specs.declared.operator.Operator.{Operator}
 
 -- a loop's row is named by how many loops stand between, the innermost 0; its attributes by number, the key first
@@ -14,16 +16,14 @@ pub data Expr : Type 0 where
   No : (e : Expr) → Expr
   Op : (op : Operator) (left right : Expr) → Expr
 
--- a write, with its operands: one statement for all three, so that inductions are short
-pub data Writing : Type 0 where
-  Inserting : (key values : List Expr) → Writing
-  Updating : (key : List Expr) (key_class from : ℕ) (sets : List (ℕ × Expr)) → Writing
-  Deleting : (key : List Expr) (key_class : ℕ) → Writing
+-- a write whose operands are expressions: one statement for all three, so that inductions are short
+abbrev pub Writing : Type 0
+Writing = Write Expr
 
 -- a statement with no statement inside
 pub data Stmt : Type 0 where
   Assign : (var : ℕ) (value : Expr) → Stmt
-  Write_at : (rel w : ℕ) (writing : Writing) (outcome : Option ℕ) → Stmt
+  Write_at : (relation w : ℕ) (writing : Writing) (outcome : Option ℕ) → Stmt
   Release : (value : Expr) (to into : ℕ) → Stmt
   Emit : (value : Expr) (label : ℕ) → Stmt
 
@@ -32,14 +32,14 @@ pub data Block : Type 0 where
   End : Block
   Do : (stmt : Stmt) (rest : Block) → Block
   If : (guard : Expr) (one other rest : Block) → Block
-  For : (row : Name) (rel label : ℕ) (body rest : Block) → Block
+  For : (row : Name) (relation label : ℕ) (body rest : Block) → Block
 
 -- how many statements there are, in the order of the text: a statement before those inside
 abbrev pub statements : Block → ℕ
 statements End = 0
 statements (Do stmt rest) = 1 + statements rest
 statements (If guard one other rest) = 1 + statements one + statements other + statements rest
-statements (For row rel label body rest) = 1 + statements body + statements rest
+statements (For row relation label body rest) = 1 + statements body + statements rest
 
 -- no statement
 abbrev pub is_end : Block → Bool

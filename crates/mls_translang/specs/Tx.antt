@@ -12,7 +12,7 @@ use Rattle.mls_scheme.specs.declared.value.Value.TheVariants.{Int, Text}
 use Rattle.mls_tokens.specs.Text.{IsText}
 use Rattle.mls_translang.specs.declared.tx.Parameter.{Parameter}
 use Rattle.mls_translang.specs.Scope.{Scope, in_loop, names_in, IsFresh}
-use Rattle.mls_translang.specs.Tree.{Expr, Known, Null, Var, Param, Field, No, Op, Writing, Inserting, Updating, Deleting, Stmt, Assign, Write_at, Release, Emit, Block, End, Do, If, For, statements}
+use Rattle.mls_translang.specs.Tree.{Expr, Known, Null, Var, Param, Field, No, Op, Writing, Insert, Update, Delete, Stmt, Assign, Write_at, Release, Emit, Block, End, Do, If, For, statements}
 
 -- lo and hi are numbers of labels
 pub record Tx : Type 0 where
@@ -36,7 +36,7 @@ abbrev pub depth : Block → ℕ
 depth End = 0
 depth (Do stmt rest) = max 1 (depth rest)
 depth (If guard one other rest) = max (1 + max (depth one) (depth other)) (depth rest)
-depth (For row rel label body rest) = max (1 + depth body) (depth rest)
+depth (For row relation label body rest) = max (1 + depth body) (depth rest)
 
 -- ---- numbers and names
 
@@ -61,13 +61,13 @@ pub record IsOwn (s : Scope) (e : Expr) : Type 0 where
   pub numbers : HasOwn s e
 
 abbrev pub WritingIsOwn : Scope → Writing → Type 0
-WritingIsOwn s (Inserting key values) = AllByRecursion (IsOwn s) key × AllByRecursion (IsOwn s) values
-WritingIsOwn s (Updating key key_class from sets) = AllByRecursion (IsOwn s) key × AllByRecursion (λ x. IsOwn s x.1) sets
-WritingIsOwn s (Deleting key key_class) = AllByRecursion (IsOwn s) key
+WritingIsOwn s (Insert key values) = AllByRecursion (IsOwn s) key × AllByRecursion (IsOwn s) values
+WritingIsOwn s (Update key key_class from sets) = AllByRecursion (IsOwn s) key × AllByRecursion (λ x. IsOwn s x.1) sets
+WritingIsOwn s (Delete key key_class) = AllByRecursion (IsOwn s) key
 
 abbrev pub StmtIsOwn : Scope → Stmt → Type 0
 StmtIsOwn s (Assign x e) = (x < length s.vars) × IsOwn s e
-StmtIsOwn s (Write_at rel w writing outcome) = WritingIsOwn s writing × IfSome outcome (λ x. x < length s.vars)
+StmtIsOwn s (Write_at relation w writing outcome) = WritingIsOwn s writing × IfSome outcome (λ x. x < length s.vars)
 StmtIsOwn s (Release e to into) = IsOwn s e × (into < length s.vars)
 StmtIsOwn s (Emit e label) = IsOwn s e
 
@@ -75,7 +75,7 @@ abbrev pub BlockIsOwn : Scope → Block → Type 0
 BlockIsOwn s End = Unit {0}
 BlockIsOwn s (Do stmt rest) = StmtIsOwn s stmt × BlockIsOwn s rest
 BlockIsOwn s (If guard one other rest) = IsOwn s guard × BlockIsOwn s one × BlockIsOwn s other × BlockIsOwn s rest
-BlockIsOwn s (For row rel label body rest) = IsFresh s row × BlockIsOwn (in_loop s row rel) body × BlockIsOwn s rest
+BlockIsOwn s (For row relation label body rest) = IsFresh s row × BlockIsOwn (in_loop s row relation) body × BlockIsOwn s rest
 
 -- outside loops
 abbrev pub scope_of : Tx → Scope

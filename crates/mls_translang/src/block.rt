@@ -4,8 +4,8 @@ ghost use Rattle.mls_translang.specs.Tree.{statements, is_end};
 ghost use Rattle.mls_translang.specs.Blocks.{block_of};
 
 use crate::expr::Expr;
-use mls_lattice::{Items, LabelNo, Str};
-use mls_scheme::RelNo;
+use mls_lattice::{LabelNo, Str};
+use mls_scheme::{RelNo, Write};
 use std::marker::Model;
 
 /// Statements in order, which contracts see as a tree of plain data.
@@ -38,30 +38,11 @@ pub enum Stmt {
         label: LabelNo,
         body: Block,
     },
-    /// A new tuple at a label: its key and its other values. The outcome's number goes into a variable.
-    Insert {
+    /// A write at a label. The outcome's number goes into a variable.
+    Write {
         relation: RelNo,
-        key: Items<Expr>,
-        values: Items<Expr>,
         at: LabelNo,
-        outcome: Option<u8>,
-    },
-    /// New values, at a label, for the tuple of a key, a key class and the label `from`: attributes outside the key by number.
-    Update {
-        relation: RelNo,
-        key: Items<Expr>,
-        key_class: LabelNo,
-        from: LabelNo,
-        at: LabelNo,
-        sets: Items<(u8, Expr)>,
-        outcome: Option<u8>,
-    },
-    /// The tuples of a key and a key class go, at a label.
-    Delete {
-        relation: RelNo,
-        key: Items<Expr>,
-        key_class: LabelNo,
-        at: LabelNo,
+        write: Write<Expr>,
         outcome: Option<u8>,
     },
     /// A value is released to a label, and goes into a variable.

@@ -7,7 +7,6 @@ ghost use Rattle.mls_translang.specs.Tells.{PrintsAreTold};
 mod block;
 mod expr;
 mod layout;
-mod named;
 mod names;
 mod operator;
 mod print_block;
@@ -20,7 +19,6 @@ mod tx;
 
 pub use block::{Block, Stmt};
 pub use expr::{Expr, Term};
-pub use named::Named;
 pub use operator::Operator;
 pub use print_tx::print;
 pub use row::LoopRow;

@@ -94,7 +94,7 @@ impl Names<'_> {
 /// The name of an attribute of a row, the key first.
 pub(crate) fn field_name(scheme: &Scheme, attribute: usize) -> &str
     requires { attribute < width scheme.now }
-    ensures { result.now ≡ (field_of scheme.now attribute).name }
+    ensures { result.now ≡ (field_of scheme.now attribute).0 }
 {
     let keys = scheme.keys();
     if attribute < keys.len() {

@@ -14,7 +14,7 @@ use crate::layout::Printer;
 use crate::names::Names;
 use crate::print_expr::expr_to;
 use crate::print_parts::{assign_to, emit_to, label_to, release_to};
-use crate::print_write::{delete_to, insert_to, update_to};
+use crate::print_write::write_to;
 use crate::row::{LoopRow, rows_inside};
 use mls_lattice::{LabelNo, Str};
 use mls_scheme::RelNo;
@@ -178,37 +178,12 @@ fn stmt_to(
             loop_head_to(names, out, row.as_str(), *relation, *label)?;
             body_to(alloc, names, out, row.as_str(), *relation, body)
         }
-        Stmt::Insert {
+        Stmt::Write {
             relation,
-            key,
-            values,
             at,
+            write,
             outcome,
-        } => insert_to(names, out, *relation, key, values, *at, *outcome),
-        Stmt::Update {
-            relation,
-            key,
-            key_class,
-            from,
-            at,
-            sets,
-            outcome,
-        } => update_to(
-            names,
-            out,
-            *relation,
-            key,
-            (*key_class, *from, *at),
-            sets,
-            *outcome,
-        ),
-        Stmt::Delete {
-            relation,
-            key,
-            key_class,
-            at,
-            outcome,
-        } => delete_to(names, out, *relation, key, *key_class, *at, *outcome),
+        } => write_to(names, out, *relation, *at, write, *outcome),
         Stmt::Release { value, to, into } => release_to(names, out, value, *to, *into),
         Stmt::Emit { value, label } => emit_to(names, out, value, *label),
     }

@@ -51,7 +51,7 @@ fn attribute_of<'a>(names: &'a Names<'_>, depth: u8, attribute: u8) -> &'a str
     requires row { depth < length names.now.scope.rows }
     requires attribute { attribute < width (scheme_of names.now.schemes (row_at names.now.scope depth).relation) }
     ensures { result.now ≡ (field_of (scheme_of names.now.schemes (row_at names.now.scope depth).relation)
-        attribute).name }
+        attribute).0 }
 {
     field_name(names.scheme(names.row(depth).relation), attribute as usize)
 }

@@ -7,13 +7,12 @@ ghost use Rattle.mls_tokens.specs.Text.{comma_tokens, separated};
 ghost use Rattle.mls_translang.specs.Tokens.{param_tokens, params_tokens, var_tokens, heading_tokens, braced, block_tokens, outermost, tx_tokens, printed};
 
 use crate::layout::Printer;
-use crate::named::Named;
 use crate::names::Names;
 use crate::print_block::block_to;
 use crate::print_parts::label_to;
 use crate::tx::{Parameter, Tx};
 use mls_lattice::{LabelNo, Policy};
-use mls_scheme::{Kind, Schemes};
+use mls_scheme::{Kind, Named, Schemes};
 use mls_tokens::Sign;
 use std::alloc::{AllocError, Global};
 

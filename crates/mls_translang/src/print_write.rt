@@ -1,13 +1,12 @@
 //! The text of writes.
-ghost use Rattle.std.specs.Prelude.{◌≡◌, ◌<◌, length, OnOk, [], ◌∷◌};
+ghost use Rattle.std.specs.Prelude.{◌≡◌, ◌<◌, length, OnOk, []};
 ghost use Rattle.std.specs.Option.{IfSome};
 ghost use Rattle.std.specs.List.{AllByRecursion, flat_map};
-ghost use Rattle.mls_tokens.specs.declared.token.Token.TheVariants as token;
 ghost use Rattle.mls_scheme.specs.Scheme.{scheme_of};
 ghost use Rattle.mls_translang.specs.Layout.{puts};
 ghost use Rattle.mls_translang.specs.Tx.{IsOwn, StmtIsOwn};
 ghost use Rattle.mls_translang.specs.Fits.{IsLabel, ExprFits, StmtFits};
-ghost use Rattle.mls_translang.specs.Tree.{Write_at, Inserting, Updating, Deleting};
+ghost use Rattle.mls_translang.specs.Tree.{Write_at};
 ghost use Rattle.mls_tokens.specs.Text.{comma_tokens, separated};
 ghost use Rattle.mls_translang.specs.Tokens.{head_tokens, class_tokens, set_tokens, stmt_end, write_end, update_end, write_tokens};
 
@@ -17,7 +16,7 @@ use crate::names::Names;
 use crate::print_expr::{expr_to, list_to};
 use crate::print_parts::{end_to, label_to};
 use mls_lattice::LabelNo;
-use mls_scheme::{RelNo, Scheme};
+use mls_scheme::{RelNo, Scheme, Write};
 use mls_tokens::Sign;
 use std::alloc::AllocError;
 
@@ -57,65 +56,20 @@ fn write_end_to(
     end_to(names, out, outcome)
 }
 
-/// Writes an insert.
-#[tactic(auto, using(crate::proofs::LayoutLemmas::lists))]
-pub(crate) fn insert_to(
-    names: &Names<'_>,
-    out: &mut Printer,
-    relation: RelNo,
-    key: &[Expr],
-    values: &[Expr],
-    at: LabelNo,
-    outcome: Option<u8>,
-) -> Result<(), AllocError>
-    requires own { StmtIsOwn names.now.scope (Write_at relation at (Inserting key.now values.now) outcome) }
-    requires fits { StmtFits names.now.policy names.now.schemes names.now.hi names.now.scope
-        (Write_at relation at (Inserting key.now values.now) outcome) }
-    ensures { OnOk result (out.new ≡ puts out.old
-        (write_tokens names.now relation at outcome (Inserting key.now values.now))) }
-{
-    head_to(names, out, "insert", relation, key)?;
-    out.word("values")?;
-    list_to(names, out, values)?;
-    write_end_to(names, out, at, outcome)
-}
-
-/// Writes a delete.
-#[tactic(auto, using(crate::proofs::LayoutLemmas::lists))]
-pub(crate) fn delete_to(
-    names: &Names<'_>,
-    out: &mut Printer,
-    relation: RelNo,
-    key: &[Expr],
-    key_class: LabelNo,
-    at: LabelNo,
-    outcome: Option<u8>,
-) -> Result<(), AllocError>
-    requires own { StmtIsOwn names.now.scope (Write_at relation at (Deleting key.now key_class) outcome) }
-    requires fits { StmtFits names.now.policy names.now.schemes names.now.hi names.now.scope
-        (Write_at relation at (Deleting key.now key_class) outcome) }
-    ensures { OnOk result (out.new ≡ puts out.old
-        (write_tokens names.now relation at outcome (Deleting key.now key_class))) }
-{
-    head_to(names, out, "delete", relation, key)?;
-    label_to(names, out, "class", key_class)?;
-    write_end_to(names, out, at, outcome)
-}
-
 /// Writes `ATTRIBUTE = e`.
 #[tactic(auto, using(crate::proofs::LayoutLemmas::lists))]
 fn set_to(
     names: &Names<'_>,
     out: &mut Printer,
     scheme: &Scheme,
-    set: &(u8, Expr),
+    set: &(usize, Expr),
 ) -> Result<(), AllocError>
     requires attribute { set.now.0 < length scheme.now.others }
     requires own { IsOwn names.now.scope set.now.1 }
     requires fits { ExprFits names.now.schemes names.now.scope set.now.1 }
     ensures { OnOk result (out.new ≡ puts out.old (set_tokens names.now scheme.now set.now)) }
 {
-    out.word(scheme.others().name(set.0 as usize))?;
+    out.word(scheme.others().name(set.0))?;
     out.sign(Sign::Equals)?;
     expr_to(names, out, &set.1)
 }
@@ -126,7 +80,7 @@ fn set_rest_to(
     names: &Names<'_>,
     out: &mut Printer,
     scheme: &Scheme,
-    sets: &[(u8, Expr)],
+    sets: &[(usize, Expr)],
 ) -> Result<(), AllocError>
     requires own { AllByRecursion (λ x. IsOwn names.now.scope x.1) sets.now }
     requires fits { AllByRecursion (λ x. (x.0 < length scheme.now.others)
@@ -147,7 +101,7 @@ fn sets_to(
     names: &Names<'_>,
     out: &mut Printer,
     scheme: &Scheme,
-    sets: &[(u8, Expr)],
+    sets: &[(usize, Expr)],
 ) -> Result<(), AllocError>
     requires own { AllByRecursion (λ x. IsOwn names.now.scope x.1) sets.now }
     requires fits { AllByRecursion (λ x. (x.0 < length scheme.now.others)
@@ -189,7 +143,7 @@ fn update_end_to(
     names: &Names<'_>,
     out: &mut Printer,
     relation: RelNo,
-    sets: &[(u8, Expr)],
+    sets: &[(usize, Expr)],
     outcome: Option<u8>,
 ) -> Result<(), AllocError>
     requires relation { relation < length names.now.schemes }
@@ -205,24 +159,42 @@ fn update_end_to(
     end_to(names, out, outcome)
 }
 
-/// Writes an update.
+/// Writes a write.
 #[tactic(auto, using(crate::proofs::LayoutLemmas::lists))]
-pub(crate) fn update_to(
+pub(crate) fn write_to(
     names: &Names<'_>,
     out: &mut Printer,
     relation: RelNo,
-    key: &[Expr],
-    classes: (LabelNo, LabelNo, LabelNo),
-    sets: &[(u8, Expr)],
+    at: LabelNo,
+    write: &Write<Expr>,
     outcome: Option<u8>,
 ) -> Result<(), AllocError>
-    requires own { StmtIsOwn names.now.scope (Write_at relation classes.2 (Updating key.now classes.0 classes.1 sets.now) outcome) }
+    requires own { StmtIsOwn names.now.scope (Write_at relation at write.now outcome) }
     requires fits { StmtFits names.now.policy names.now.schemes names.now.hi names.now.scope
-        (Write_at relation classes.2 (Updating key.now classes.0 classes.1 sets.now) outcome) }
-    ensures { OnOk result (out.new ≡ puts out.old
-        (write_tokens names.now relation classes.2 outcome (Updating key.now classes.0 classes.1 sets.now))) }
+        (Write_at relation at write.now outcome) }
+    ensures { OnOk result (out.new ≡ puts out.old (write_tokens names.now relation at outcome write.now)) }
 {
-    head_to(names, out, "update", relation, key)?;
-    classes_to(names, out, classes.0, classes.1, classes.2)?;
-    update_end_to(names, out, relation, sets, outcome)
+    match write {
+        Write::Insert { key, values } => {
+            head_to(names, out, "insert", relation, key)?;
+            out.word("values")?;
+            list_to(names, out, values)?;
+            write_end_to(names, out, at, outcome)
+        }
+        Write::Update {
+            key,
+            key_class,
+            from,
+            sets,
+        } => {
+            head_to(names, out, "update", relation, key)?;
+            classes_to(names, out, *key_class, *from, at)?;
+            update_end_to(names, out, relation, sets, outcome)
+        }
+        Write::Delete { key, key_class } => {
+            head_to(names, out, "delete", relation, key)?;
+            label_to(names, out, "class", *key_class)?;
+            write_end_to(names, out, at, outcome)
+        }
+    }
 }

@@ -4,9 +4,8 @@ ghost use Rattle.mls_translang.specs.Tree.{statements};
 ghost use Rattle.mls_translang.specs.Tx.{IsTx};
 
 use crate::block::Block;
-use crate::named::Named;
 use mls_lattice::{LabelNo, Str};
-use mls_scheme::Kind;
+use mls_scheme::{Kind, Named};
 use std::marker::Model;
 
 /// A parameter: the kind of its values, and their label.

@@ -34,10 +34,8 @@ use Rattle.mls_trusted.specs.Frames.{around_of, progress_of, env_in, inside, May
 kinds_more : (schemes : Schemes) (s : Scope) (x : Stmt) (rest : List Stmt) → BlockKinds schemes s (block_of (x ∷ rest)) → BlockKinds schemes s (block_of (x ∷ [])) × BlockKinds schemes s (block_of rest)
 kinds_more schemes s (stmt.Assign v e) rest h = ((h.0, tt), h.1)
 kinds_more schemes s (stmt.If guard one other) rest h = ((h.0, h.1, h.2, tt), h.3)
-kinds_more schemes s (stmt.For row rel label body) rest h = ((h.0, tt), h.1)
-kinds_more schemes s (stmt.Insert rel key values w outcome) rest h = ((h.0, tt), h.1)
-kinds_more schemes s (stmt.Update rel key key_class from w sets outcome) rest h = ((h.0, tt), h.1)
-kinds_more schemes s (stmt.Delete rel key key_class w outcome) rest h = ((h.0, tt), h.1)
+kinds_more schemes s (stmt.For row relation label body) rest h = ((h.0, tt), h.1)
+kinds_more schemes s (stmt.Write relation w writing outcome) rest h = ((h.0, tt), h.1)
 kinds_more schemes s (stmt.Release e to into) rest h = ((h.0, tt), h.1)
 kinds_more schemes s (stmt.Emit e label) rest h = ((h.0, tt), h.1)
 
@@ -46,10 +44,8 @@ module _ (ls : Labels) (schemes : Schemes) (args : List (Option Value)) (around 
   unfolding run_block
   run_more (stmt.Assign v e) rest s = refl
   run_more (stmt.If guard one other) rest s = refl
-  run_more (stmt.For row rel label body) rest s = refl
-  run_more (stmt.Insert rel key values w outcome) rest s = refl
-  run_more (stmt.Update rel key key_class from w sets outcome) rest s = refl
-  run_more (stmt.Delete rel key key_class w outcome) rest s = refl
+  run_more (stmt.For row relation label body) rest s = refl
+  run_more (stmt.Write relation w writing outcome) rest s = refl
   run_more (stmt.Release e to into) rest s = refl
   run_more (stmt.Emit e label) rest s = refl
 
@@ -87,9 +83,9 @@ module _ (call : Call) (around : List Tuple) where
       may_more x (drop (i + 1) xs) (subst (λ l. MayRun call around (block_of l)) here m)
 
   -- a body at each of some rows
-  pub may_each : (rel label : ℕ) (body : Block) → MayLoop call rel label around body → (rs : List Tuple) → AllByRecursion (RowKinds (scheme_of call.schemes.now rel)) rs → AllByRecursion (λ row. MayRun call (row ∷ around) body) rs
-  may_each rel label body m [] k = tt
-  may_each rel label body m (row ∷ rest) k = (m.each row k.0, may_each rel label body m rest k.1)
+  pub may_each : (relation label : ℕ) (body : Block) → MayLoop call relation label around body → (rs : List Tuple) → AllByRecursion (RowKinds (scheme_of call.schemes.now relation)) rs → AllByRecursion (λ row. MayRun call (row ∷ around) body) rs
+  may_each relation label body m [] k = tt
+  may_each relation label body m (row ∷ rest) k = (m.each row k.0, may_each relation label body m rest k.1)
 
 -- ---- branches and loops
 
@@ -102,9 +98,9 @@ module _ (call : Call) (f : Frame) (guard : Expr) (one other : Block) (db : Data
   unfolding run_block
   branch_other h = sym (ap (λ b. cond b (run_of call one (around_of f) (progress_of db f)) (run_of call other (around_of f) (progress_of db f))) h)
 
-pub loop_same : (call : Call) (name : Name) (rel label : ℕ) (body : Block) (around : List Tuple) (s : Progress) → loop_of call rel label body around s ≡ run_of call (For name rel label body End) around s
+pub loop_same : (call : Call) (name : Name) (relation label : ℕ) (body : Block) (around : List Tuple) (s : Progress) → loop_of call relation label body around s ≡ run_of call (For name relation label body End) around s
 unfolding run_block
-loop_same call name rel label body around s = refl
+loop_same call name relation label body around s = refl
 
 -- ---- what is run
 

@@ -77,10 +77,10 @@ module _ (call : Call) where
     pub read : AroundFits call.schemes.now (inside rows) call.args.now around
 
   -- the body of a loop at any row of its relation
-  pub record MayLoop (rel level : ℕ) (around : List Tuple) (body : Block) : Type 0 where
-    pub relation : rel < length call.schemes.now
+  pub record MayLoop (relation level : ℕ) (around : List Tuple) (body : Block) : Type 0 where
+    pub declared : relation < length call.schemes.now
     pub label : IsLabel call.policy.now level
-    pub each : (row : Tuple) → RowKinds (scheme_of call.schemes.now rel) row → MayRun (row ∷ around) body
+    pub each : (row : Tuple) → RowKinds (scheme_of call.schemes.now relation) row → MayRun (row ∷ around) body
 
   abbrev pub run_of : Block → List Tuple → Progress → Progress
   run_of = run_block labels call.schemes.now call.args.now
@@ -90,7 +90,7 @@ module _ (call : Call) where
   rows_of body around = for_each (λ row s. run_of body (row ∷ around) s)
 
   abbrev pub loop_of : ℕ → ℕ → Block → List Tuple → Progress → Progress
-  loop_of rel label body around s = rows_of body around (rows labels label (s.db rel)) s
+  loop_of relation label body around s = rows_of body around (rows labels label (s.db relation)) s
 
   -- ---- what it does
 
@@ -111,9 +111,9 @@ module _ (call : Call) where
       pub views : AreViews call.policy.now is_clean state base f.views
 
     -- a declared label looks at a relation, with views that are kept
-    pub record MayLook (rel c : ℕ) (kept : Kept) (base : B) : Type 0 where
+    pub record MayLook (relation c : ℕ) (kept : Kept) (base : B) : Type 0 where
       pub label : c < length call.policy.now.labels
-      pub relation : rel < length call.schemes.now
+      pub declared : relation < length call.schemes.now
       pub content : is_clean base → AreContent labels call.schemes.now (state base).now.db
       pub views : AreViews call.policy.now is_clean state base kept
 

@@ -10,7 +10,7 @@ use crate::call::Call;
 use crate::fitting::rows_at;
 use crate::frame::Frame;
 use crate::plain::{assign, emit, release};
-use crate::write::{delete_at, insert_at, update_at};
+use crate::write::write_at;
 use mls_filterview::{Base, BaseFault, SharedTuple, SharedView, settle};
 use mls_lattice::LabelNo;
 use mls_scheme::RelNo;
@@ -151,31 +151,12 @@ fn run_stmt<B: Base>(
             body,
             ..
         } => run_loop(call, base, frame, *relation, *label, body),
-        Stmt::Insert {
+        Stmt::Write {
             relation,
-            key,
-            values,
             at,
+            write,
             outcome,
-        } => insert_at(call, base, frame, *relation, key, values, *at, *outcome),
-        Stmt::Update {
-            relation,
-            key,
-            key_class,
-            from,
-            at,
-            sets,
-            outcome,
-        } => update_at(
-            call, base, frame, *relation, key, *key_class, *from, sets, *at, *outcome,
-        ),
-        Stmt::Delete {
-            relation,
-            key,
-            key_class,
-            at,
-            outcome,
-        } => delete_at(call, base, frame, *relation, key, *key_class, *at, *outcome),
+        } => write_at(call, base, frame, *relation, *at, write, *outcome),
         Stmt::Assign { variable, value } => settle(base, assign(call, frame, *variable, value)),
         Stmt::Release { value, to, into } => settle(base, release(call, frame, value, *to, *into)),
         Stmt::Emit { value, label } => settle(base, emit(call, frame, value, *label)),

@@ -21,7 +21,7 @@ use mls_scheme::{Kind, RelNo, Scheme, Tuple};
 
 /// The kind of an attribute by number, the key first; past the last one it is that of numbers.
 fn kind_of(scheme: &Scheme, attribute: usize) -> Kind
-    ensures { result ≡ (field_of scheme.now attribute).kind }
+    ensures { result ≡ (field_of scheme.now attribute).1.kind }
 {
     let keys = scheme.keys();
     if attribute < keys.len() {

@@ -3,8 +3,9 @@ ghost use Rattle.std.specs.Prelude.{◌≡◌, ◌<◌, ◌++◌, ◌∷◌, [],
 ghost use Rattle.mls_lattice.specs.Policy.{labels_of};
 ghost use Rattle.mls_scheme.specs.Table.{Database};
 ghost use Rattle.mls_scheme.specs.declared.tuple.Tuple.{Tuple as Row};
+ghost use Rattle.mls_scheme.specs.Writes.{key_class_of};
 ghost use Rattle.mls_certcheck.specs.Meaning.{set_outcome, set_var, start};
-ghost use Rattle.mls_updates.specs.Writes.{place};
+ghost use Rattle.mls_updates.specs.Writes.{named};
 ghost use Rattle.mls_queries.specs.Views.{AreDeclared, AreLeftBy};
 ghost use Rattle.mls_trusted.specs.Data.{env_of};
 ghost use Rattle.mls_trusted.specs.Frames.{vars_of, progress_of, env_in, IsFrame, HasVars};
@@ -15,7 +16,7 @@ use mls_certcheck::Run;
 use mls_filterview::SharedTuple;
 use mls_lattice::{Items, LabelNo};
 use mls_queries::Views;
-use mls_scheme::{RelNo, Value};
+use mls_scheme::{RelNo, Value, Write};
 use mls_updates::Outcome;
 use std::alloc::{AllocError, Global};
 
@@ -92,34 +93,26 @@ impl Frame {
         }
     }
 
-    /// Keeps what a write of an entity of a relation at a label came to: its outcome, and what it leaves of the views.
+    /// Keeps what a write of a relation at a label came to: its outcome, and what it leaves of the views.
     pub fn wrote(
         &mut self,
         call: &Call<'_>,
         relation: RelNo,
         at: LabelNo,
-        key: &[Option<Value>],
-        key_class: LabelNo,
+        write: &Write<Option<Value>>,
         variable: Option<u8>,
         outcome: Outcome,
     )
         requires at { at < length call.now.policy.now.labels }
-        requires key_class { key_class < length call.now.policy.now.labels }
+        requires key_class { key_class_of at write.now < length call.now.policy.now.labels }
         requires variable { IfSome variable (λ x. x < length self.old.vars.items) }
         requires declared { AreDeclared (length call.now.policy.now.labels) self.old.views }
         ensures vars { HasVars (set_outcome variable outcome (vars_of self.old)) self.new.views self.old self.new }
-        ensures views { AreLeftBy (labels_of call.now.policy.now) relation at (place key.now key_class at) outcome
+        ensures views { AreLeftBy (labels_of call.now.policy.now) relation at (named at write.now) outcome
             self.old.views self.new.views }
     {
-        self.views.follow(
-            call.alloc,
-            call.policy,
-            relation,
-            at,
-            key,
-            key_class,
-            outcome,
-        );
+        self.views
+            .follow(call.alloc, call.policy, relation, at, write, outcome);
         self.set_outcome(variable, outcome);
     }
 

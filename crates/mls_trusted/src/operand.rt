@@ -1,11 +1,12 @@
 //! Values of expressions, copied.
 ghost use Rattle.std.specs.Prelude.{◌≡◌, map, IfOk};
 ghost use Rattle.mls_certcheck.specs.Expressions.{value_in};
-ghost use Rattle.mls_certcheck.specs.Meaning.{values_set};
+ghost use Rattle.mls_certcheck.specs.Meaning.{values_set, write_in};
 ghost use Rattle.mls_trusted.specs.Data.{env_of};
 
 use crate::environment::Environment;
-use mls_scheme::Value;
+use mls_lattice::Items;
+use mls_scheme::{Value, Write};
 use mls_translang::Expr;
 use std::alloc::{AllocError, Global};
 
@@ -17,31 +18,63 @@ pub(crate) fn value_of(env: &Environment<'_>, expr: &Expr) -> Result<Option<Valu
 }
 
 /// The values of expressions.
-pub(crate) fn values_of(
+fn values_of(
     alloc: Global,
     env: &Environment<'_>,
     exprs: &[Expr],
-) -> Result<Vec<Option<Value>>, AllocError>
-    ensures { IfOk result (λ v. v.items ≡ map (value_in (env_of env.now)) exprs.now) }
+) -> Result<Items<Option<Value>>, AllocError>
+    ensures { IfOk result (λ v. v ≡ map (value_in (env_of env.now)) exprs.now) }
 {
     let mut values = Vec::new(alloc);
     for expr in exprs {
         values.push(value_of(env, expr)?)?;
     }
-    Ok(values)
+    Ok(Items::from(values))
 }
 
 /// The values that attributes are to get.
-pub(crate) fn sets_of(
+fn sets_of(
     alloc: Global,
     env: &Environment<'_>,
-    sets: &[(u8, Expr)],
-) -> Result<Vec<(usize, Option<Value>)>, AllocError>
-    ensures { IfOk result (λ v. v.items ≡ values_set (env_of env.now) sets.now) }
+    sets: &[(usize, Expr)],
+) -> Result<Items<(usize, Option<Value>)>, AllocError>
+    ensures { IfOk result (λ v. v ≡ values_set (env_of env.now) sets.now) }
 {
     let mut values = Vec::new(alloc);
     for (attribute, expr) in sets {
-        values.push((usize::from(*attribute), value_of(env, expr)?))?;
+        values.push((*attribute, value_of(env, expr)?))?;
     }
-    Ok(values)
+    Ok(Items::from(values))
+}
+
+/// The write whose operands have these values.
+pub(crate) fn write_of(
+    alloc: Global,
+    env: &Environment<'_>,
+    write: &Write<Expr>,
+) -> Result<Write<Option<Value>>, AllocError>
+    ensures { IfOk result (λ w. w ≡ write_in (env_of env.now) write.now) }
+{
+    let key = values_of(alloc, env, write.key())?;
+    match write {
+        Write::Insert { values, .. } => {
+            let values = values_of(alloc, env, values)?;
+            Ok(Write::Insert { key, values })
+        }
+        Write::Update {
+            key_class,
+            from,
+            sets,
+            ..
+        } => Ok(Write::Update {
+            key,
+            key_class: *key_class,
+            from: *from,
+            sets: sets_of(alloc, env, sets)?,
+        }),
+        Write::Delete { key_class, .. } => Ok(Write::Delete {
+            key,
+            key_class: *key_class,
+        }),
+    }
 }

@@ -2,14 +2,16 @@
 use Rattle.std.proofs.Common.{◌≡◌, ℕ, true, zero, suc, ◌<◌, arith, List, [], ◌∷◌, length, Option, None, refl, sym, ap, ◌∙◌, subst}
 use Rattle.std.proofs.lemmas.Bool.{true≢false}
 use Rattle.std.proofs.lemmas.List.{length-map, get_or-map}
-use Rattle.std.proofs.lemmas.Result.{on_ok_weaker}
+use Rattle.std.proofs.lemmas.Result.{on_ok_weaker, IfOk-weaker}
 use Rattle.mls_lattice.specs.Labels.{Labels, AreDistinct}
+use Rattle.mls_lattice.specs.Policy.{Policy, labels_of}
 use Rattle.mls_scheme.specs.declared.value.Value.{Value}
 use Rattle.mls_scheme.specs.declared.tuple.Element.{Element}
 use Rattle.mls_scheme.specs.Table.{Table}
 use Rattle.mls_scheme.specs.declared.place.Place.{Place}
 use Rattle.mls_scheme.specs.Scheme.{Scheme, Schemes, scheme_of, IsUnder, AreUnder}
-use Rattle.std.specs.Prelude.{◌≤◌, Result, Ok, Err, IfErr}
+use Rattle.mls_scheme.specs.Writes.{key_of}
+use Rattle.std.specs.Prelude.{◌≤◌, Result, Ok, Err, IfOk, IfErr}
 use Rattle.std.specs.Result.{IsErrOf}
 use Rattle.mls_filterview.specs.declared.base.BaseFault.{BaseFault}
 use Rattle.mls_filterview.specs.declared.base.BaseFault.TheVariants.{NotBegun, Begun}
@@ -21,9 +23,11 @@ use Rattle.mls_filterview.specs.declared.fragment.Cell.{Cell}
 use Rattle.mls_filterview.specs.Fragment.{node_of, cells_of, IsMadeOf}
 use Rattle.mls_scheme.specs.Tuple.{at, null_element}
 use Rattle.mls_updates.specs.declared.outcome.Outcome.{Outcome}
-use Rattle.mls_updates.specs.Writes.{Write, WriteFits, WriteKinds, root, write}
-use Rattle.mls_updates.specs.Calls.{IsWritten}
+use Rattle.mls_updates.specs.declared.outcome.Outcome.TheVariants.{KeyNull}
+use Rattle.mls_updates.specs.Writes.{Write, WriteFits, WriteKinds, has_null, root, write}
+use Rattle.mls_updates.specs.Calls.{IsWritten, HasWritten}
 use Rattle.mls_updates.proofs.FittingLemmas.{write-content}
+use Rattle.mls_updates.proofs.LeftLemmas.{write_null}
 use Rattle.mls_updates.proofs.StateLemmas.{table_of}
 
 -- ---- a tuple that is added
@@ -49,18 +53,18 @@ root_made T q values = record {
 -- ---- schemes
 
 -- a relation of schemes that speak of declared labels does so
-pub under_scheme : (count : ℕ) (schemes : Schemes) (rel : ℕ) → AreUnder count schemes → rel < length schemes → IsUnder count (scheme_of schemes rel)
-under_scheme count [] rel h l = absurd (omega arith)
+pub under_scheme : (count : ℕ) (schemes : Schemes) (relation : ℕ) → AreUnder count schemes → relation < length schemes → IsUnder count (scheme_of schemes relation)
+under_scheme count [] relation h l = absurd (omega arith)
 under_scheme count (scheme ∷ schemes) zero h l = h.0
-under_scheme count (scheme ∷ schemes) (suc rel) h l = under_scheme count schemes rel h.1 (omega arith)
+under_scheme count (scheme ∷ schemes) (suc relation) h l = under_scheme count schemes relation h.1 (omega arith)
 
 -- ---- what each write leaves is of the stored form
 
-pub written_content : (ls : Labels) (distinct : AreDistinct ls) (scheme : Scheme) (rel w : ℕ) (wr : Write) (s t : State) (o : Outcome) → WriteFits ls (length scheme.others) w wr → WriteKinds scheme wr
-    → IsContent ls scheme (s.now.db rel) → IsWritten ls scheme rel w wr s t o → IsContent ls scheme (t.now.db rel)
-written_content ls distinct scheme rel w wr s t o fits kinds content h =
-    let S = (write ls scheme w wr (s.now.db rel)).table in
-    subst (IsContent ls scheme) (sym (ap (λ x. x.now.db rel) h.state ∙ table_of s rel S)) (write-content ls distinct scheme w (s.now.db rel) content wr fits kinds)
+written_content : (ls : Labels) (distinct : AreDistinct ls) (scheme : Scheme) (relation w : ℕ) (wr : Write) (s t : State) (o : Outcome) → WriteFits ls (length scheme.others) w wr → WriteKinds scheme wr
+    → IsContent ls scheme (s.now.db relation) → IsWritten ls scheme relation w wr s t o → IsContent ls scheme (t.now.db relation)
+written_content ls distinct scheme relation w wr s t o fits kinds content h =
+    let S = (write ls scheme w wr (s.now.db relation)).table in
+    subst (IsContent ls scheme) (sym (ap (λ x. x.now.db relation) h.state ∙ table_of s relation S)) (write-content ls distinct scheme w (s.now.db relation) content wr fits kinds)
 
 -- ---- faults of the store or of memory
 
@@ -85,13 +89,43 @@ module _ {Self : Type 0} (is_clean : Self → Type 0) (failures : Self → ℕ) 
   }
 
   -- and a step is such a call
-  pub step_change : IsStep is_clean failures state old new r → IsChange is_clean failures state true old new r
+  step_change : IsStep is_clean failures state old new r → IsChange is_clean failures state true old new r
   step_change c = record {
     call = c.call;
     not_begun = (λ e. absurd (served_not_begun r c.served e), λ b. absurd (true≢false (sym begun ∙ b)));
     no_other = served_no_other r c.served;
     mode = c.mode;
   }
+
+-- ---- a whole write, inside a change
+
+module _ {B : Type 0} (is_clean : B → Type 0) (failures : B → ℕ) (state : B → State) (policy : Policy) (schemes : Schemes) (relation w : ℕ) (wr : Write) (a : B) (begun : (state a).begun ≡ true)
+    (stored : is_clean a → IsContent (labels_of policy) (scheme_of schemes relation) ((state a).now.db relation)) where
+  abbrev ls : Labels
+  ls = labels_of policy
+
+  abbrev scheme : Scheme
+  scheme = scheme_of schemes relation
+
+  -- of a key with a null
+  pub null_written : has_null (key_of wr) ≡ true → HasWritten is_clean failures state policy schemes relation w wr a a (Ok KeyNull)
+  null_written h = record {
+    change = step_change is_clean failures state a a (Ok KeyNull) begun (record { call = record { clean = λ k. k; count = omega arith; fault = tt }; served = tt; mode = begun });
+    done = λ k. write_null ls scheme relation w (state a) wr h;
+    kept = stored;
+  }
+
+  -- by a step over a base that was lent before
+  pub step_written : AreDistinct ls → WriteFits ls (length scheme.others) w wr → WriteKinds scheme wr → (b c : B) (r : Result Outcome BaseFault) → b ≡ a → IsStep is_clean failures state b c r
+      → (is_clean c → IfOk r (IsWritten ls scheme relation w wr (state a) (state c))) → HasWritten is_clean failures state policy schemes relation w wr a c r
+  step_written distinct fits kinds b c r same step done =
+      let over = subst (λ x. IsStep is_clean failures state x c r) same step in
+      record {
+        change = step_change is_clean failures state a c r begun over;
+        done = done;
+        kept = λ k. IfOk-weaker r (IsWritten ls scheme relation w wr (state a) (state c)) _
+            (λ o. written_content ls distinct scheme relation w wr (state a) (state c) o fits kinds (stored (over.call.clean k))) (done k);
+      }
 
 -- a call after one that left the state as it was
 module _ {Self : Type 0} (is_clean : Self → Type 0) (failures : Self → ℕ) (state : Self → State) {A : Type 0} (old mid new : Self) (mode : (state mid).begun ≡ (state old).begun) (same : is_clean mid → state mid ≡ state old) where

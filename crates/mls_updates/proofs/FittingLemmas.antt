@@ -15,13 +15,15 @@ use Rattle.mls_scheme.specs.Table.{Table, change}
 use Rattle.mls_scheme.specs.declared.place.Place.{Place}
 use Rattle.mls_scheme.specs.Scheme.{Attribute, no_attribute, Scheme, other_of}
 use Rattle.mls_scheme.specs.Fits.{in_interval, HaveKinds, Fits}
+use Rattle.mls_scheme.specs.Writes.{key_of}
 use Rattle.mls_filterview.specs.Stored.{IsContent, is_entity}
 use Rattle.mls_filterview.proofs.AmongLemmas.{all_at, none_of}
+use Rattle.mls_updates.specs.declared.outcome.Outcome.TheVariants.{KeyNull}
 use Rattle.mls_updates.specs.Outcome.{is_done}
-use Rattle.mls_updates.specs.Writes.{Key, Sets, Write, Insert, Update, Delete, WriteFits, WriteKinds, first_refusal, has_null, place, is_above, root, derived, updated, update_in, insert_refusals, update_own_refusals, update_own, update_below_refusals, update_below, delete_refusals, write}
+use Rattle.mls_updates.specs.Writes.{Key, Sets, Write, Insert, Update, Delete, WriteFits, WriteKinds, has_null, place, is_above, root, derived, updated, update_in, root_refusals, own_refusals, below_refusals, refusals, changed, outcome_of, write}
 use Rattle.mls_updates.proofs.SetLemmas.{length-derived, length-updated, derived_cases, updated_cases}
 use Rattle.mls_updates.proofs.ChangeLemmas.{inserted_cases, kept_cases, changed_cases}
-use Rattle.mls_updates.proofs.KeptLemmas.{all_passed, found_if, insert-stored, write-stored}
+use Rattle.mls_updates.proofs.KeptLemmas.{all_passed, found_if, write-stored}
 
 -- ---- two lists, place by place
 
@@ -41,10 +43,10 @@ zip_at R d e (x ∷ xs) (y ∷ ys) h (suc i) l = zip_at R d e xs ys h.1 i (omega
 module _ (ls : Labels) (scheme : Scheme) where
   -- what `Fits` asks of each element
   abbrev FitsAt : Attribute → Element → Type 0
-  FitsAt a e = (fits_kind e.value a.kind ≡ true) × (in_interval ls e.class a ≡ true)
+  FitsAt a e = (fits_kind e.value a.1.kind ≡ true) × (in_interval ls e.class a ≡ true)
 
   key_fits : (w : ℕ) (keys : List Attribute) (key : Key) → has_null key ≡ false → list_all (in_interval ls w) keys ≡ true → HaveKinds keys key
-      → AllZip (λ a v. (is_kind v a.kind ≡ true) × (in_interval ls w a ≡ true)) keys (place key w w).key
+      → AllZip (λ a v. (is_kind v a.1.kind ≡ true) × (in_interval ls w a ≡ true)) keys (place key w w).key
   key_fits w [] [] n i h = tt
   key_fits w [] (v ∷ vs) n i h = absurd h
   key_fits w (a ∷ keys) [] n i h = absurd h
@@ -64,12 +66,12 @@ module _ (ls : Labels) (scheme : Scheme) where
       let m : length scheme.others ≡ length es = sym (AllZip-long FitsAt scheme.others es h) in
       zip_from FitsAt no_attribute null_element scheme.others us (m ∙ sym n) (λ i l. f i (subst (λ k. i < k) m l) (zip_at FitsAt no_attribute null_element scheme.others es h i l))
 
-  module _ (w : ℕ) (sets : Sets) (kinds : AllByRecursion (λ s. fits_kind s.1 (other_of scheme s.0).kind ≡ true) sets) where
+  module _ (w : ℕ) (sets : Sets) (kinds : AllByRecursion (λ s. fits_kind s.1 (other_of scheme s.0).1.kind ≡ true) sets) where
     derived_fits : (es : List Element) → list_any (λ s. not (in_interval ls w (other_of scheme s.0))) sets ≡ false → AllZip FitsAt scheme.others es → AllZip FitsAt scheme.others (derived w sets es)
     derived_fits es within h = each_fits es (derived w sets es) (length-derived w sets es) h (λ i l f. elim (derived_cases w sets es i l) [
       | inl e ↦ subst (FitsAt (other_of scheme i)) (sym e) f
       | inr s ↦ subst (FitsAt (other_of scheme i)) (sym s.2) (
-        all_at (λ r. fits_kind r.1 (other_of scheme r.0).kind ≡ true) sets kinds (i, s.0) s.1,
+        all_at (λ r. fits_kind r.1 (other_of scheme r.0).1.kind ≡ true) sets kinds (i, s.0) s.1,
         not-false _ (none_of (λ r. not (in_interval ls w (other_of scheme r.0))) sets within (i, s.0) s.1),
       )
     ])
@@ -78,7 +80,7 @@ module _ (ls : Labels) (scheme : Scheme) where
     updated_fits es h = each_fits es (updated w sets es) (length-updated w sets es) h (λ i l f. elim (updated_cases w sets es i l) [
       | inl e ↦ subst (FitsAt (other_of scheme i)) (sym e) f
       | inr s ↦ subst (FitsAt (other_of scheme i)) (sym s.1.2) (
-        all_at (λ r. fits_kind r.1 (other_of scheme r.0).kind ≡ true) sets kinds (i, s.1.0) s.1.1,
+        all_at (λ r. fits_kind r.1 (other_of scheme r.0).1.kind ≡ true) sets kinds (i, s.1.0) s.1.1,
         subst (λ k. in_interval ls k (other_of scheme i) ≡ true) s.0 f.1,
       )
     ])
@@ -103,40 +105,32 @@ module _ (ls : Labels) (scheme : Scheme) where
   unfolding AllFit
   fit_change T f h k q fs g = let old = changed_cases f T q fs g in subst (Fits ls scheme q) (sym old.2) (k q old.0 (h q old.0 old.1))
 
-  write-fits : (w : ℕ) (T : Table) → AllFit T → (wr : Write) → WriteKinds scheme wr → AllFit (write ls scheme w wr T).table
+  changed-fits : (w : ℕ) (T : Table) → AllFit T → (wr : Write) → WriteKinds scheme wr → is_done (outcome_of (key_of wr) (refusals ls scheme w wr T)) ≡ true → AllFit (changed ls scheme w wr T)
   unfolding AllFit
-  write-fits w T h (Insert key values) kinds =
+  changed-fits w T h (Insert key values) kinds =
       let p = place key w w in
-      let refusals = insert_refusals ls scheme w key (get T p) in
-      cond_both (is_done (first_refusal refusals)) (insert T p (root w values)) T AllFit
-      (λ done.
-      let a = all_passed refusals refl done in
+      λ done.
+      let a = all_passed ((has_null key, KeyNull) ∷ root_refusals ls scheme w (get T p)) refl done in
       let i = and_parts _ _ (not-false _ a.1.1.0) in
-      fit_insert T p (root w values) h (record { key = key_fits w scheme.keys key a.0 i.0 kinds.0; others = root_fits w scheme.others values i.1 kinds.1 }))
-      (λ _. h)
-  write-fits w T h (Update key kc from sets) kinds =
+      fit_insert T p (root w values) h (record { key = key_fits w scheme.keys key a.0 i.0 kinds.0; others = root_fits w scheme.others values i.1 kinds.1 })
+  changed-fits w T h (Update key kc from sets) kinds =
       let p = place key kc w in
       let q = place key kc from in
       let es = unwrap_or (get T q) [] in
-      let own_refusals = update_own_refusals ls scheme w key kc sets (get T p) in
-      let below_refusals = update_below_refusals ls scheme w key kc from sets (get T q) (get T p) in
-      elim (nat_eq from w) as (λ b. AllFit (cond b (update_own ls scheme w key kc sets T) (update_below ls scheme w key kc from sets T)).table) [
-        | true ↦ cond_both (is_done (first_refusal own_refusals)) (change (update_in p sets) T) T AllFit
-            (λ _. fit_change T (update_in p sets) h (λ r fs f.
-            elim (is_entity p r) as (λ b. Fits ls scheme r (cond b (updated w sets fs) fs)) [ true ↦ record { key = f.key; others = updated_fits w sets kinds fs f.others } | false ↦ f ]))
-            (λ _. h)
-        | false ↦ cond_both (is_done (first_refusal below_refusals)) (insert T p (derived w sets es)) T AllFit
-            (λ done.
-            let a = all_passed below_refusals refl done in
+      let own = own_refusals ls scheme w kc sets (get T p) in
+      let lower = below_refusals ls scheme w kc from sets (get T q) (get T p) in
+      elim (nat_eq from w) as (λ b. is_done (outcome_of key (cond b own lower)) ≡ true → AllFit (cond b (change (update_in p sets) T) (insert T p (derived w sets es)))) [
+        | true ↦ λ _. fit_change T (update_in p sets) h (λ r fs f.
+            elim (is_entity p r) as (λ b. Fits ls scheme r (cond b (updated w sets fs) fs)) [ true ↦ record { key = f.key; others = updated_fits w sets kinds fs f.others } | false ↦ f ])
+        | false ↦ λ done.
+            let a = all_passed ((has_null key, KeyNull) ∷ lower) refl done in
             let f = h q es (found_if ls w kc from (get T q) a.1.0).0 in
-            fit_insert T p (derived w sets es) h (record { key = f.key; others = derived_fits w sets kinds es a.1.1.1.1.0 f.others }))
-            (λ _. h)
+            fit_insert T p (derived w sets es) h (record { key = f.key; others = derived_fits w sets kinds es a.1.1.1.1.0 f.others })
       ]
-  write-fits w T h (Delete key kc) kinds =
-      let p = place key kc w in
-      cond_both (is_done (first_refusal (delete_refusals ls scheme w key kc (get T p)))) (retain_keys T (λ q. not (is_above ls p q))) T AllFit
-      (λ _. fit_kept T (λ q. not (is_above ls p q)) h)
-      (λ _. h)
+  changed-fits w T h (Delete key kc) kinds = λ _. fit_kept T (λ q. not (is_above ls (place key kc w) q)) h
+
+  write-fits : (w : ℕ) (T : Table) → AllFit T → (wr : Write) → WriteKinds scheme wr → AllFit (write ls scheme w wr T).table
+  write-fits w T h wr kinds = cond_both (is_done (outcome_of (key_of wr) (refusals ls scheme w wr T))) (changed ls scheme w wr T) T AllFit (changed-fits w T h wr kinds) (λ _. h)
 
 -- each write keeps the stored form with its kinds and intervals
 pub write-content : (ls : Labels) → AreDistinct ls → (scheme : Scheme) (w : ℕ) (T : Table) → IsContent ls scheme T → (wr : Write) → WriteFits ls (length scheme.others) w wr → WriteKinds scheme wr → IsContent ls scheme (write ls scheme w wr T).table
@@ -144,12 +138,4 @@ unfolding AllFit
 write-content ls distinct scheme w T h wr fits kinds = record {
   stored = write-stored ls distinct scheme (length scheme.others) w T h.stored wr fits;
   fits = write-fits ls scheme w T h.fits wr kinds;
-}
-
-pub insert-content : (ls : Labels) (scheme : Scheme) (w : ℕ) (T : Table) → IsContent ls scheme T → (key : Key) (values : List (Option Value)) → WriteFits ls (length scheme.others) w (Insert key values) → WriteKinds scheme (Insert key values)
-    → IsContent ls scheme (write ls scheme w (Insert key values) T).table
-unfolding AllFit
-insert-content ls scheme w T h key values fits kinds = record {
-  stored = insert-stored ls scheme (length scheme.others) w T h.stored key values fits;
-  fits = write-fits ls scheme w T h.fits (Insert key values) kinds;
 }

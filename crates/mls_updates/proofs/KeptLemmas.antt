@@ -19,8 +19,9 @@ use Rattle.mls_filterview.specs.Stored.{IsStored, IsStoredTuple, Occurs, AgreesB
 use Rattle.mls_filterview.proofs.EntityTests.{entity_decides}
 use Rattle.mls_filterview.proofs.AmongLemmas.{none_of}
 use Rattle.mls_updates.specs.declared.outcome.Outcome.{Outcome}
+use Rattle.mls_updates.specs.declared.outcome.Outcome.TheVariants.{KeyNull}
 use Rattle.mls_updates.specs.Outcome.{is_done}
-use Rattle.mls_updates.specs.Writes.{Key, Sets, Write, Insert, Update, Delete, WriteFits, first_refusal, place, is_above, root, set_element, derived, updated, update_in, insert_refusals, update_own_refusals, update_own, update_below_refusals, update_below, delete_refusals, write}
+use Rattle.mls_updates.specs.Writes.{Key, Sets, Write, Insert, Update, Delete, WriteFits, first_refusal, has_null, place, is_above, root, set_element, derived, updated, update_in, root_refusals, own_refusals, below_refusals, drop_refusals, refusals, changed, outcome_of, write}
 use Rattle.mls_updates.proofs.SetLemmas.{IsSet, some_set, length-derived, length-updated, at-derived, at-updated, derived_cases, updated_cases, updated_class}
 use Rattle.mls_updates.proofs.ChangeLemmas.{get_new, get_again, inserted_cases, kept_cases, changed_cases}
 
@@ -274,36 +275,40 @@ module _ (ls : Labels) (n : ℕ) where
 pub insert-stored : (ls : Labels) (scheme : Scheme) (n w : ℕ) (T : Table) → IsStored ls n T → (key : Key) (values : List (Option Value)) → WriteFits ls n w (Insert key values) → IsStored ls n (write ls scheme w (Insert key values) T).table
 insert-stored ls scheme n w T stored key values fits =
     let p = place key w w in
-    let refusals = insert_refusals ls scheme w key (get T p) in
-    cond_both (is_done (first_refusal refusals)) (insert T p (root w values)) T (IsStored ls n)
-    (λ done. let a = all_passed refusals refl done in kept_insert ls n T p (root w values) stored (none_if _ a.1.0) (root_stored ls n T p.key w values fits.0 fits.1))
+    let rs = (has_null key, KeyNull) ∷ root_refusals ls scheme w (get T p) in
+    cond_both (is_done (first_refusal rs)) (insert T p (root w values)) T (IsStored ls n)
+    (λ done. let a = all_passed rs refl done in kept_insert ls n T p (root w values) stored (none_if _ a.1.0) (root_stored ls n T p.key w values fits.0 fits.1))
     (λ _. stored)
+
+module _ (ls : Labels) (distinct : AreDistinct ls) (scheme : Scheme) (n w : ℕ) (T : Table) (stored : IsStored ls n T) where
+  update_stored : (key : Key) (kc from : ℕ) (sets : Sets) → WriteFits ls n w (Update key kc from sets) → is_done (outcome_of key (refusals ls scheme w (Update key kc from sets) T)) ≡ true
+      → IsStored ls n (changed ls scheme w (Update key kc from sets) T)
+  update_stored key kc from sets fits =
+      let p = place key kc w in
+      let q = place key kc from in
+      let es = unwrap_or (get T q) [] in
+      let own = own_refusals ls scheme w kc sets (get T p) in
+      let lower = below_refusals ls scheme w kc from sets (get T q) (get T p) in
+      elim (nat_eq from w) as (λ b. nat_eq from w ≡ b → is_done (outcome_of key (cond b own lower)) ≡ true → IsStored ls n (cond b (change (update_in p sets) T) (insert T p (derived w sets es)))) [
+        | true ↦ λ e done.
+            let a = all_passed ((has_null key, KeyNull) ∷ own) refl done in
+            updated_stored ls n T stored p sets (elim (and_cases _ _ a.1.1.1.0) [ inl x ↦ inl (eqb-true w kc (not-false _ x)) | inr x ↦ inr x ])
+        | false ↦ λ e done.
+            let a = all_passed ((has_null key, KeyNull) ∷ lower) refl done in
+            let f = found_if ls w kc from (get T q) a.1.0 in
+            let free = none_if (get T p) a.1.1.0 in
+            kept_insert ls n T p (derived w sets es) stored free
+            (derived_stored ls n distinct T stored q es f.0 w fits.0 free f.2 (λ x. true≢false (sym (eq-eqb from w x) ∙ e)) sets fits.1 fits.2 a.1.1.1.0)
+      ] refl
 
 -- each write keeps the stored form
 pub write-stored : (ls : Labels) → AreDistinct ls → (scheme : Scheme) (n w : ℕ) (T : Table) → IsStored ls n T → (wr : Write) → WriteFits ls n w wr → IsStored ls n (write ls scheme w wr T).table
 write-stored ls distinct scheme n w T stored (Insert key values) fits = insert-stored ls scheme n w T stored key values fits
 write-stored ls distinct scheme n w T stored (Update key kc from sets) fits =
-    let p = place key kc w in
-    let q = place key kc from in
-    let own_refusals = update_own_refusals ls scheme w key kc sets (get T p) in
-    let below_refusals = update_below_refusals ls scheme w key kc from sets (get T q) (get T p) in
-    elim (nat_eq from w) as (λ b. nat_eq from w ≡ b → IsStored ls n (cond b (update_own ls scheme w key kc sets T) (update_below ls scheme w key kc from sets T)).table) [
-      | true ↦ λ e. cond_both (is_done (first_refusal own_refusals)) (change (update_in p sets) T) T (IsStored ls n)
-          (λ done.
-          let a = all_passed own_refusals refl done in
-          updated_stored ls n T stored p sets (elim (and_cases _ _ a.1.1.1.0) [ inl x ↦ inl (eqb-true w kc (not-false _ x)) | inr x ↦ inr x ]))
-          (λ _. stored)
-      | false ↦ λ e. cond_both (is_done (first_refusal below_refusals)) (insert T p (derived w sets (unwrap_or (get T q) []))) T (IsStored ls n)
-          (λ done.
-          let a = all_passed below_refusals refl done in
-          let f = found_if ls w kc from (get T q) a.1.0 in
-          let free = none_if (get T p) a.1.1.0 in
-          kept_insert ls n T p (derived w sets (unwrap_or (get T q) [])) stored free
-          (derived_stored ls n distinct T stored q (unwrap_or (get T q) []) f.0 w fits.0 free f.2 (λ x. true≢false (sym (eq-eqb from w x) ∙ e)) sets fits.1 fits.2 a.1.1.1.0))
-          (λ _. stored)
-    ] refl
+    let wr = Update key kc from sets in
+    cond_both (is_done (outcome_of key (refusals ls scheme w wr T))) (changed ls scheme w wr T) T (IsStored ls n) (update_stored ls distinct scheme n w T stored key kc from sets fits) (λ _. stored)
 write-stored ls distinct scheme n w T stored (Delete key kc) fits =
     let p = place key kc w in
-    cond_both (is_done (first_refusal (delete_refusals ls scheme w key kc (get T p)))) (retain_keys T (λ q. not (is_above ls p q))) T (IsStored ls n)
+    cond_both (is_done (outcome_of key (drop_refusals ls scheme w kc (get T p)))) (retain_keys T (λ q. not (is_above ls p q))) T (IsStored ls n)
     (λ _. kept_delete ls n T p stored)
     (λ _. stored)

@@ -5,8 +5,7 @@ pub mod KeptLemmas
 pub mod FittingLemmas
 pub mod LawLemmas
 pub mod SampleLemmas
-pub mod RowsLemmas
-pub mod FragmentLemmas
+pub mod TablesLemmas
 pub mod IntervalLemmas
 pub mod KeyLemmas
 pub mod CallLemmas

@@ -7,7 +7,6 @@ use Rattle.std.proofs.lemmas.Bool.{true≢false, cases_Bool, false_from_ne_true,
 use Rattle.std.proofs.lemmas.List.{ext_get_or}
 use Rattle.mls_lattice.specs.Labels.{Labels, below}
 use Rattle.mls_lattice.proofs.LatticeLemmas.{below-trans}
-use Rattle.mls_scheme.specs.declared.value.Value.{Value}
 use Rattle.mls_scheme.specs.declared.tuple.Element.{Element}
 use Rattle.mls_scheme.specs.Tuple.{at, null_element}
 use Rattle.mls_scheme.specs.Table.{Table, change}
@@ -21,7 +20,7 @@ use Rattle.mls_filterview.proofs.LowLemmas.{get_low, get_low_in, same_low}
 use Rattle.mls_updates.specs.declared.outcome.Outcome.{Outcome}
 use Rattle.mls_updates.specs.declared.outcome.Outcome.TheVariants.{KeyNull, NoTuple}
 use Rattle.mls_updates.specs.Outcome.{is_done}
-use Rattle.mls_updates.specs.Writes.{Key, Sets, Write, Insert, Update, Delete, Written, first_refusal, written, has_null, is_missing, place, is_above, root, derived, updated, update_in, insert_refusals, insert_row, update_own_refusals, update_own, update_below_refusals, update_below, update_row, delete_refusals, delete_row, write}
+use Rattle.mls_updates.specs.Writes.{Key, Sets, Write, Insert, Update, Delete, Written, first_refusal, written, has_null, is_missing, place, is_above, root, derived, updated, update_in, root_refusals, own_refusals, below_refusals, drop_refusals, changed, outcome_of, write}
 use Rattle.mls_updates.proofs.SetLemmas.{length-updated, updated_other}
 use Rattle.mls_updates.proofs.ChangeLemmas.{get_old}
 
@@ -83,66 +82,56 @@ undone true S R = refl
 undone false S R = refl
 
 module _ (ls : Labels) (scheme : Scheme) (c w : ℕ) (h : below ls w c ≡ true) (T : Table) where
-  insert_low : (key : Key) (values : List (Option Value)) → insert_row ls scheme w key values (low ls c T) ≡ low_written ls c (insert_row ls scheme w key values T)
-  insert_low key values =
-      let p = place key w w in
-      low_done ls c _ _ _ (insert T p (root w values)) T
-      (ap (λ o. first_refusal (insert_refusals ls scheme w key o)) (get_low_in ls c T p h))
-      (sym (low_insert ls c T p (root w values) h))
+  module _ (key : Key) (key_class from : ℕ) (sets : Sets) where
+    abbrev p : Place
+    p = place key key_class w
 
-  update_own_low : (key : Key) (key_class : ℕ) (sets : Sets) → update_own ls scheme w key key_class sets (low ls c T) ≡ low_written ls c (update_own ls scheme w key key_class sets T)
-  update_own_low key key_class sets =
-      let p = place key key_class w in
-      low_done ls c _ _ _ (change (update_in p sets) T) T
-      (ap (λ o. first_refusal (update_own_refusals ls scheme w key key_class sets o)) (get_low_in ls c T p h))
-      (sym (low_change ls c T (update_in p sets)))
+    abbrev q : Place
+    q = place key key_class from
 
-  delete_low : (key : Key) (key_class : ℕ) → delete_row ls scheme w key key_class (low ls c T) ≡ low_written ls c (delete_row ls scheme w key key_class T)
-  delete_low key key_class =
-      let p = place key key_class w in
-      low_done ls c _ _ _ (retain_keys T (λ q. not (is_above ls p q))) T
-      (ap (λ o. first_refusal (delete_refusals ls scheme w key key_class o)) (get_low_in ls c T p h))
-      (sym (low_kept ls c T (λ q. not (is_above ls p q))))
+    abbrev outcome : Option (List Element) → Option (List Element) → Outcome
+    outcome found own = outcome_of key (below_refusals ls scheme w key_class from sets found own)
 
-  update_below_low : (key : Key) (key_class from : ℕ) (sets : Sets) → update_below ls scheme w key key_class from sets (low ls c T) ≡ low_written ls c (update_below ls scheme w key key_class from sets T)
-  update_below_low key key_class from sets = by_from (cases_Bool (below ls from w))
-    where
-      p : Place
-      p = place key key_class w
+    -- an update, of the tuple of class w or of a lower one
+    abbrev update_by : Bool → Table → Written
+    update_by b U =
+        written (outcome_of key (cond b (own_refusals ls scheme w key_class sets (get U p)) (below_refusals ls scheme w key_class from sets (get U q) (get U p))))
+        (cond b (change (update_in p sets) U) (insert U p (derived w sets (unwrap_or (get U q) [])))) U
 
-      q : Place
-      q = place key key_class from
+    -- a tuple of a class that w does not dominate is not found
+    refused : below ls from w ≡ false → (S R : Table) (found own : Option (List Element)) → written (outcome found own) S R ≡ record { table = R; outcome = cond (has_null key) KeyNull NoTuple }
+    refused out S R found own =
+        let missing : is_missing ls scheme w key_class from found ≡ true = not_from_false _ (and_right (is_some found) _ (and_right (below ls key_class from) _ out)) in
+        ap (λ o. written o S R) (second_refusal (has_null key) _ KeyNull NoTuple _ missing) ∙ undone (has_null key) S R
 
-      outcome : Option (List Element) → Option (List Element) → Outcome
-      outcome found own = first_refusal (update_below_refusals ls scheme w key key_class from sets found own)
+    by_from : (below ls from w ≡ true) ⊎ (below ls from w ≡ false) → update_by false (low ls c T) ≡ low_written ls c (update_by false T)
+    by_from (inl b) =
+        let found : get (low ls c T) q ≡ get T q = get_low_in ls c T q (below-trans ls from w c b h) in
+        low_done ls c _ _ _ (insert T p (derived w sets (unwrap_or (get T q) []))) T
+        (λ i. outcome (found i) (get_low_in ls c T p h i))
+        (ap (λ o. insert (low ls c T) p (derived w sets (unwrap_or o []))) found ∙ sym (low_insert ls c T p (derived w sets (unwrap_or (get T q) [])) h))
+    by_from (inr b) = refused b _ _ _ _ ∙ sym (ap (low_written ls c) (refused b _ _ _ _))
 
-      -- a tuple of a class that w does not dominate is not found
-      refused : below ls from w ≡ false → (S R : Table) (found own : Option (List Element)) → written (outcome found own) S R ≡ record { table = R; outcome = cond (has_null key) KeyNull NoTuple }
-      refused out S R found own =
-          let missing : is_missing ls scheme w key_class from found ≡ true = not_from_false _ (and_right (is_some found) _ (and_right (below ls key_class from) _ out)) in
-          ap (λ o. written o S R) (second_refusal (has_null key) _ KeyNull NoTuple _ missing) ∙ undone (has_null key) S R
-
-      by_from : (below ls from w ≡ true) ⊎ (below ls from w ≡ false) → update_below ls scheme w key key_class from sets (low ls c T) ≡ low_written ls c (update_below ls scheme w key key_class from sets T)
-      by_from (inl b) =
-          let found : get (low ls c T) q ≡ get T q = get_low_in ls c T q (below-trans ls from w c b h) in
-          low_done ls c _ _ _ (insert T p (derived w sets (unwrap_or (get T q) []))) T
-          (λ i. outcome (found i) (get_low_in ls c T p h i))
-          (ap (λ o. insert (low ls c T) p (derived w sets (unwrap_or o []))) found ∙ sym (low_insert ls c T p (derived w sets (unwrap_or (get T q) [])) h))
-      by_from (inr b) = refused b _ _ _ _ ∙ sym (ap (low_written ls c) (refused b _ _ _ _))
-
-  update_low : (key : Key) (key_class from : ℕ) (sets : Sets) → update_row ls scheme w key key_class from sets (low ls c T) ≡ low_written ls c (update_row ls scheme w key key_class from sets T)
-  update_low key key_class from sets =
-      elim (nat_eq from w) as (λ b. cond b (update_own ls scheme w key key_class sets (low ls c T)) (update_below ls scheme w key key_class from sets (low ls c T))
-      ≡ low_written ls c (cond b (update_own ls scheme w key key_class sets T) (update_below ls scheme w key key_class from sets T))) [
-        | true ↦ update_own_low key key_class sets
-        | false ↦ update_below_low key key_class from sets
-      ]
+    update_low : (b : Bool) → update_by b (low ls c T) ≡ low_written ls c (update_by b T)
+    update_low true =
+        low_done ls c _ _ _ (change (update_in p sets) T) T
+        (ap (λ o. outcome_of key (own_refusals ls scheme w key_class sets o)) (get_low_in ls c T p h))
+        (sym (low_change ls c T (update_in p sets)))
+    update_low false = by_from (cases_Bool (below ls from w))
 
 -- its outcome, and what c then may see, are those of the same write on what c may see
 pub write-low : (ls : Labels) (scheme : Scheme) (c w : ℕ) → below ls w c ≡ true → (T : Table) (wr : Write) → write ls scheme w wr (low ls c T) ≡ low_written ls c (write ls scheme w wr T)
-write-low ls scheme c w h T (Insert key values) = insert_low ls scheme c w h T key values
-write-low ls scheme c w h T (Update key key_class from sets) = update_low ls scheme c w h T key key_class from sets
-write-low ls scheme c w h T (Delete key key_class) = delete_low ls scheme c w h T key key_class
+write-low ls scheme c w h T (Insert key values) =
+    let p = place key w w in
+    low_done ls c _ _ _ (insert T p (root w values)) T
+    (ap (λ o. outcome_of key (root_refusals ls scheme w o)) (get_low_in ls c T p h))
+    (sym (low_insert ls c T p (root w values) h))
+write-low ls scheme c w h T (Update key key_class from sets) = update_low ls scheme c w h T key key_class from sets (nat_eq from w)
+write-low ls scheme c w h T (Delete key key_class) =
+    let p = place key key_class w in
+    low_done ls c _ _ _ (retain_keys T (λ q. not (is_above ls p q))) T
+    (ap (λ o. outcome_of key (drop_refusals ls scheme w key_class o)) (get_low_in ls c T p h))
+    (sym (low_kept ls c T (λ q. not (is_above ls p q))))
 
 -- ---- a write at a label that c does not dominate
 
@@ -179,12 +168,16 @@ module _ (ls : Labels) (c w : ℕ) (out : below ls w c ≡ false) where
   high_if true S T e = e
   high_if false S T e = refl
 
+  changed-high : (scheme : Scheme) (n : ℕ) (T : Table) → IsStored ls n T → (wr : Write) → low ls c (changed ls scheme w wr T) ≡ low ls c T
+  changed-high scheme n T stored (Insert key values) = high_insert T (place key w w) (root w values) refl
+  changed-high scheme n T stored (Update key key_class from sets) =
+      let p = place key key_class w in
+      elim (nat_eq from w) as (λ b. low ls c (cond b (change (update_in p sets) T) (insert T p (derived w sets (unwrap_or (get T (place key key_class from)) [])))) ≡ low ls c T) [
+        | true ↦ high_change n T stored p refl sets
+        | false ↦ high_insert T p _ refl
+      ]
+  changed-high scheme n T stored (Delete key key_class) = high_kept T (place key key_class w) refl
+
   -- it leaves what c may see
   pub write-high : (scheme : Scheme) (n : ℕ) (T : Table) → IsStored ls n T → (wr : Write) → low ls c (write ls scheme w wr T).table ≡ low ls c T
-  write-high scheme n T stored (Insert key values) = high_if _ _ T (high_insert T (place key w w) (root w values) refl)
-  write-high scheme n T stored (Update key key_class from sets) =
-      elim (nat_eq from w) as (λ b. low ls c (cond b (update_own ls scheme w key key_class sets T) (update_below ls scheme w key key_class from sets T)).table ≡ low ls c T) [
-        | true ↦ high_if _ _ T (high_change n T stored (place key key_class w) refl sets)
-        | false ↦ high_if _ _ T (high_insert T (place key key_class w) _ refl)
-      ]
-  write-high scheme n T stored (Delete key key_class) = high_if _ _ T (high_kept T (place key key_class w) refl)
+  write-high scheme n T stored wr = high_if _ _ T (changed-high scheme n T stored wr)

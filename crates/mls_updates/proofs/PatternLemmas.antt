@@ -21,10 +21,6 @@ pub found_pattern : (o : Option (List Element)) (xs : List ℕ) → Some xs ≡ 
 found_pattern None xs h = absurd (none-some xs (sym h))
 found_pattern (Some es) xs h = (es, refl, same_Some xs (classes es) h)
 
-pub none_found : (o : Option (List Element)) → None ≡ option_map classes o → o ≡ None
-none_found None h = refl
-none_found (Some es) h = absurd (none-some (classes es) h)
-
 pub some_found : (o : Option (List Element)) → is_some (option_map classes o) ≡ is_some o
 some_found None = refl
 some_found (Some es) = refl

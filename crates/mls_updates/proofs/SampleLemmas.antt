@@ -10,7 +10,7 @@ use Rattle.mls_scheme.specs.declared.tuple.Element.{Element}
 use Rattle.mls_scheme.specs.Scheme.{Scheme, other_of}
 use Rattle.mls_scheme.specs.Fits.{in_interval}
 use Rattle.mls_updates.specs.declared.outcome.Outcome.TheVariants.{Done, KeyNull, Duplicate, NoTuple, NullAboveKey, Inherited, OutOfInterval, AlreadyDerived}
-use Rattle.mls_updates.specs.Writes.{Key, Sets, first_refusal, root, derived, updated, insert_refusals, update_own_refusals, update_below_refusals, delete_refusals}
+use Rattle.mls_updates.specs.Writes.{Key, Sets, first_refusal, outcome_of, root, derived, updated, root_refusals, own_refusals, below_refusals, drop_refusals}
 
 abbrev word : List ℕ → Option Value
 word text = Some (Text text)
@@ -53,34 +53,34 @@ module _ (ls : Labels) (scheme : Scheme) (up : below ls 0 2 ≡ true) where
   abbrev nulled : Sets
   nulled = (1, None) ∷ []
 
-  a_null_key_comes_first : first_refusal (insert_refusals ls scheme 0 (None ∷ []) (Some exploration)) ≡ KeyNull
+  a_null_key_comes_first : outcome_of (None ∷ []) (root_refusals ls scheme 0 (Some exploration)) ≡ KeyNull
   unfolding first_refusal
   a_null_key_comes_first = refl
 
-  a_root_is_inserted_once : first_refusal (insert_refusals ls scheme 2 known (Some exploration)) ≡ Duplicate
+  a_root_is_inserted_once : outcome_of known (root_refusals ls scheme 2 (Some exploration)) ≡ Duplicate
   unfolding first_refusal
   a_root_is_inserted_once = refl
 
-  an_element_of_a_lower_class_is_inherited : first_refusal (update_own_refusals ls scheme 2 known 0 trade (Some rigel)) ≡ Inherited
+  an_element_of_a_lower_class_is_inherited : outcome_of known (own_refusals ls scheme 2 0 trade (Some rigel)) ≡ Inherited
   unfolding first_refusal
   an_element_of_a_lower_class_is_inherited = ap (λ b. cond (not b) NoTuple Inherited) (and_from _ _ up (below-refl ls 2))
 
-  no_null_stands_above_the_key : first_refusal (update_own_refusals ls scheme 2 known 0 nulled (Some rigel)) ≡ NullAboveKey
+  no_null_stands_above_the_key : outcome_of known (own_refusals ls scheme 2 0 nulled (Some rigel)) ≡ NullAboveKey
   unfolding first_refusal
   no_null_stands_above_the_key = ap (λ b. cond (not b) NoTuple NullAboveKey) (and_from _ _ up (below-refl ls 2))
 
-  a_null_stands_at_the_key_class : first_refusal (update_own_refusals ls scheme 0 known 0 nulled (Some exploration)) ≡ Done
+  a_null_stands_at_the_key_class : outcome_of known (own_refusals ls scheme 0 0 nulled (Some exploration)) ≡ Done
   unfolding first_refusal
   a_null_stands_at_the_key_class = ap (λ b. cond (not b) NoTuple Done) (and_from _ _ (below-refl ls 0) (below-refl ls 0))
 
-  an_entity_has_one_tuple_of_a_class : first_refusal (update_below_refusals ls scheme 2 known 0 0 nulled (Some exploration) (Some rigel)) ≡ AlreadyDerived
+  an_entity_has_one_tuple_of_a_class : outcome_of known (below_refusals ls scheme 2 0 0 nulled (Some exploration) (Some rigel)) ≡ AlreadyDerived
   unfolding first_refusal
   an_entity_has_one_tuple_of_a_class = ap (λ b. cond (not b) NoTuple AlreadyDerived) (and_from _ _ (below-refl ls 0) up)
 
-  a_class_outside_the_interval_is_refused : in_interval ls 2 (other_of scheme 0) ≡ false → first_refusal (update_below_refusals ls scheme 2 known 0 0 trade (Some exploration) None) ≡ OutOfInterval
+  a_class_outside_the_interval_is_refused : in_interval ls 2 (other_of scheme 0) ≡ false → outcome_of known (below_refusals ls scheme 2 0 0 trade (Some exploration) None) ≡ OutOfInterval
   unfolding first_refusal
   a_class_outside_the_interval_is_refused out = λ i. cond (not (and_from _ _ (below-refl ls 0) up i)) NoTuple (cond (not (out i) || false) OutOfInterval Done)
 
-  what_is_not_there_is_not_deleted : first_refusal (delete_refusals ls scheme 0 known 0 None) ≡ NoTuple
+  what_is_not_there_is_not_deleted : outcome_of known (drop_refusals ls scheme 0 0 None) ≡ NoTuple
   unfolding first_refusal
   what_is_not_there_is_not_deleted = refl

@@ -57,20 +57,20 @@ pub values_spelled : (ats : List Attribute) (vs : List (Option Value)) → HaveK
 values_spelled [] [] h = tt
 values_spelled [] (v ∷ vs) h = absurd h
 values_spelled (a ∷ as') [] h = absurd h
-values_spelled (a ∷ as') (v ∷ vs) h = (fits-spelled v a.kind h.0, values_spelled as' vs h.1)
+values_spelled (a ∷ as') (v ∷ vs) h = (fits-spelled v a.1.kind h.0, values_spelled as' vs h.1)
 
 -- named attributes of a scheme
-pub sets_spelled : (scheme : Scheme) → IsScheme scheme → (sets : Sets) → AllByRecursion (λ s. s.0 < length scheme.others) sets → AllByRecursion (λ s. fits_kind s.1 (other_of scheme s.0).kind ≡ true) sets
+pub sets_spelled : (scheme : Scheme) → IsScheme scheme → (sets : Sets) → AllByRecursion (λ s. s.0 < length scheme.others) sets → AllByRecursion (λ s. fits_kind s.1 (other_of scheme s.0).1.kind ≡ true) sets
     → AllByRecursion (λ s. (s.0 < 15) × IfSome s.1 HasSpelling) sets
 sets_spelled scheme is [] l h = tt
-sets_spelled scheme is (s ∷ ss) l h = ((let few = is.few_others in let a = l.0 in omega (arith, few, a), fits-spelled s.1 (other_of scheme s.0).kind h.0), sets_spelled scheme is ss l.1 h.1)
+sets_spelled scheme is (s ∷ ss) l h = ((let few = is.few_others in let a = l.0 in omega (arith, few, a), fits-spelled s.1 (other_of scheme s.0).1.kind h.0), sets_spelled scheme is ss l.1 h.1)
 
 pub sets_values : (sets : Sets) → AllByRecursion (λ s. (s.0 < 15) × IfSome s.1 HasSpelling) sets → AllByRecursion (λ s. IfSome s.1 HasSpelling) sets
 sets_values [] h = tt
 sets_values (s ∷ ss) h = (h.0.1, sets_values ss h.1)
 
 -- a key of a scheme with no null
-kinds_known : (ats : List Attribute) (key : Key) → has_null key ≡ false → HaveKinds ats key → AllZip (λ a v. is_kind v a.kind ≡ true) ats (filter_map (λ v. v) key)
+kinds_known : (ats : List Attribute) (key : Key) → has_null key ≡ false → HaveKinds ats key → AllZip (λ a v. is_kind v a.1.kind ≡ true) ats (filter_map (λ v. v) key)
 kinds_known [] [] e h = tt
 kinds_known [] (v ∷ vs) e h = absurd h
 kinds_known (a ∷ as') [] e h = absurd h

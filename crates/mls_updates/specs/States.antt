@@ -1,13 +1,22 @@
--- The content that plain lists are.
+-- The content that a base over maps holds.
 use Rattle.std.proofs.Common.{true≢false}
-use Rattle.std.specs.Prelude.{◌≡◌, false, is_some, Option, Some, None, refl}
-use Rattle.std.specs.Option.{unwrap_or}
+use Rattle.std.specs.Prelude.{◌≡◌, ℕ, false, is_some, List, [], Option, Some, None, refl}
+use Rattle.std.specs.Ordering.{nat_cmp}
+use Rattle.std.specs.Option.{unwrap_or, option_map_or}
+use Rattle.std.specs.BTreeMap.{BTreeMap, get}
+use Rattle.mls_scheme.specs.declared.tuple.Element.{Element}
+use Rattle.mls_scheme.specs.declared.place.Place.{Place}
+use Rattle.mls_scheme.specs.Table.{Database}
+use Rattle.mls_filterview.specs.Assembly.{table_of}
 use Rattle.mls_filterview.specs.Content.{Content, State}
 use Rattle.mls_updates.specs.declared.held.Held.{Held}
-use Rattle.mls_updates.specs.Rows.{table_of}
+
+-- the table of each relation: that of its map, where it has one
+abbrev pub tables_of : BTreeMap ℕ (BTreeMap Place (List Element)) → Database
+tables_of maps relation = table_of (option_map_or (λ m. m.entries) (get nat_cmp maps relation) [])
 
 abbrev pub content_of : Held → Content
-content_of h = record { db = table_of h.rows; audit = h.audit.items }
+content_of h = record { db = tables_of h.tables; audit = h.audit.items }
 
 -- what is held now, and in a change what was held at the last commit
 abbrev pub state_of : Held → Option Held → State

@@ -63,16 +63,16 @@ module _ {Self : Type 0} (is_clean : Self → Type 0) (state : Self → State) (
     pub begun : (state base).begun ≡ true
     pub key : IsSpelledKey r.place.key
     pub values : AllByRecursion (λ e. IfSome e.value HasSpelling) r.elements
-    pub absent : is_clean base → get ((state base).now.db r.rel) r.place ≡ None
-    pub made : is_clean base → (es : List Element) × IsMadeOf ((state base).now.db r.rel) (node_of (entry_of r)) (cells_of (entry_of r)) es
+    pub absent : is_clean base → get ((state base).now.db r.relation) r.place ≡ None
+    pub made : is_clean base → (es : List Element) × IsMadeOf ((state base).now.db r.relation) (node_of (entry_of r)) (cells_of (entry_of r)) es
 
-  module _ (rel : ℕ) (p : Place) where
+  module _ (relation : ℕ) (p : Place) where
     -- cells are set that a tuple has
     pub record CanSetEach (ss : Sets) : Type 0 where
       pub begun : (state base).begun ≡ true
       pub key : IsSpelledKey p.key
       pub sets : AllByRecursion (λ s. (s.0 < 15) × IfSome s.1 HasSpelling) ss
-      pub there : is_clean base → AllByRecursion (λ s. HasCell ((state base).now.db rel) p s.0) ss
+      pub there : is_clean base → AllByRecursion (λ s. HasCell ((state base).now.db relation) p s.0) ss
 
     -- a tuple is made from that of class m, in a relation of the stored form
     pub record CanDerive (policy : Policy) (scheme : Scheme) (m : ℕ) (sets : Sets) : Type 0 where
@@ -82,4 +82,4 @@ module _ {Self : Type 0} (is_clean : Self → Type 0) (state : Self → State) (
       pub under : IsUnder (length policy.labels) scheme
       pub fits : AllByRecursion (λ s. s.0 < length scheme.others) sets
       pub values : AllByRecursion (λ s. IfSome s.1 HasSpelling) sets
-      pub stored : is_clean base → IsStored (labels_of policy) (length scheme.others) ((state base).now.db rel)
+      pub stored : is_clean base → IsStored (labels_of policy) (length scheme.others) ((state base).now.db relation)

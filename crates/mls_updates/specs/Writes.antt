@@ -10,6 +10,9 @@ use Rattle.mls_scheme.specs.Value.{fits_kind}
 use Rattle.mls_scheme.specs.Tuple.{at}
 use Rattle.mls_scheme.specs.Table.{Table, change}
 use Rattle.mls_scheme.specs.declared.place.Place.{Place}
+use Rattle.mls_scheme.specs.declared.write.Write.{Write as WriteOf}
+pub use Rattle.mls_scheme.specs.declared.write.Write.TheVariants.{Insert, Update, Delete}
+use Rattle.mls_scheme.specs.Writes.{key_of, key_class_of}
 use Rattle.mls_scheme.specs.Scheme.{Scheme, other_of}
 use Rattle.mls_scheme.specs.Fits.{in_interval, HaveKinds}
 use Rattle.mls_filterview.specs.Stored.{is_entity}
@@ -27,11 +30,9 @@ Key = List (Option Value)
 abbrev pub Sets : Type 0
 Sets = List (ℕ × Option Value)
 
--- a write, at one label
-pub data Write : Type 0 where
-  Insert : (key : Key) (values : List (Option Value)) → Write
-  Update : (key : Key) (key_class from : ℕ) (sets : Sets) → Write
-  Delete : (key : Key) (key_class : ℕ) → Write
+-- a write of values and nulls, at one label
+abbrev pub Write : Type 0
+Write = WriteOf (Option Value)
 
 -- ---- what it answers
 
@@ -92,36 +93,20 @@ module _ (ls : Labels) (scheme : Scheme) (w : ℕ) where
   abbrev pub is_missing : ℕ → ℕ → Option (List Element) → Bool
   is_missing key_class from found = not (is_some found && (below ls key_class from && below ls from w))
 
-  -- the refusals of a key without nulls, and of any key
+  -- of an insert
   abbrev pub root_refusals : Option (List Element) → List (Bool × Outcome)
   root_refusals found =
       (is_some found, Duplicate)
       ∷ (not (list_all (in_interval ls w) scheme.keys && list_all (in_interval ls w) scheme.others), OutOfInterval) ∷ []
 
-  abbrev pub insert_refusals : Key → Option (List Element) → List (Bool × Outcome)
-  insert_refusals key found = (has_null key, KeyNull) ∷ root_refusals found
-
-  -- a tuple of one class, w
-  abbrev pub insert_row : Key → List (Option Value) → Table → Written
-  insert_row key values T =
-      let p = place key w w in
-      written (first_refusal (insert_refusals key (get T p))) (insert T p (root w values)) T
-
+  -- of an update of the tuple of class w
   abbrev pub own_refusals : ℕ → Sets → Option (List Element) → List (Bool × Outcome)
   own_refusals key_class sets found =
       (is_missing key_class w found, NoTuple)
       ∷ (list_any (λ s. not (nat_eq (at (unwrap_or found []) s.0).class w)) sets, Inherited)
       ∷ (not (nat_eq w key_class) && list_any (λ s. is_none s.1) sets, NullAboveKey) ∷ []
 
-  abbrev pub update_own_refusals : Key → ℕ → Sets → Option (List Element) → List (Bool × Outcome)
-  update_own_refusals key key_class sets found = (has_null key, KeyNull) ∷ own_refusals key_class sets found
-
-  -- the entity has a tuple of class w: in each of its tuples the named attributes of class w get the new values
-  abbrev pub update_own : Key → ℕ → Sets → Table → Written
-  update_own key key_class sets T =
-      let p = place key key_class w in
-      written (first_refusal (update_own_refusals key key_class sets (get T p))) (change (update_in p sets) T) T
-
+  -- of an update of a lower one
   abbrev pub below_refusals : ℕ → ℕ → Sets → Option (List Element) → Option (List Element) → List (Bool × Outcome)
   below_refusals key_class from sets found own =
       (is_missing key_class from found, NoTuple)
@@ -129,42 +114,40 @@ module _ (ls : Labels) (scheme : Scheme) (w : ℕ) where
       ∷ (list_any (λ s. is_none s.1) sets, NullAboveKey)
       ∷ (list_any (λ s. not (in_interval ls w (other_of scheme s.0))) sets, OutOfInterval) ∷ []
 
-  abbrev pub update_below_refusals : Key → ℕ → ℕ → Sets → Option (List Element) → Option (List Element) → List (Bool × Outcome)
-  update_below_refusals key key_class from sets found own = (has_null key, KeyNull) ∷ below_refusals key_class from sets found own
-
-  -- a new tuple of class w: the one of class from, with the named attributes new
-  abbrev pub update_below : Key → ℕ → ℕ → Sets → Table → Written
-  update_below key key_class from sets T =
-      let p = place key key_class w in
-      let found = get T (place key key_class from) in
-      written (first_refusal (update_below_refusals key key_class from sets found (get T p))) (insert T p (derived w sets (unwrap_or found []))) T
-
-  abbrev pub update_row : Key → ℕ → ℕ → Sets → Table → Written
-  update_row key key_class from sets T =
-      if nat_eq from w then update_own key key_class sets T else update_below key key_class from sets T
-
+  -- of a delete
   abbrev pub drop_refusals : ℕ → Option (List Element) → List (Bool × Outcome)
   drop_refusals key_class found = (is_missing key_class w found, NoTuple) ∷ []
 
-  abbrev pub delete_refusals : Key → ℕ → Option (List Element) → List (Bool × Outcome)
-  delete_refusals key key_class found = (has_null key, KeyNull) ∷ drop_refusals key_class found
+  -- of a write whose key has no null
+  abbrev pub refusals : Write → Table → List (Bool × Outcome)
+  refusals (Insert key values) T = root_refusals (get T (place key w w))
+  refusals (Update key key_class from sets) T =
+      let own = get T (place key key_class w) in
+      if nat_eq from w then own_refusals key_class sets own
+      else below_refusals key_class from sets (get T (place key key_class from)) own
+  refusals (Delete key key_class) T = drop_refusals key_class (get T (place key key_class w))
 
-  -- without the entity's tuples whose class dominates w
-  abbrev pub delete_row : Key → ℕ → Table → Written
-  delete_row key key_class T =
+  -- what a write that is done makes of a table. An insert adds a tuple of one class, w. An update gives the named
+  -- attributes of class w new values, in each of the entity's tuples; from a lower class it adds a tuple of class w:
+  -- the lower one, with the named attributes new. A delete leaves out the entity's tuples whose class dominates w
+  abbrev pub changed : Write → Table → Table
+  changed (Insert key values) T = insert T (place key w w) (root w values)
+  changed (Update key key_class from sets) T =
       let p = place key key_class w in
-      written (first_refusal (delete_refusals key key_class (get T p))) (retain_keys T (λ q. not (is_above ls p q))) T
+      if nat_eq from w then change (update_in p sets) T
+      else insert T p (derived w sets (unwrap_or (get T (place key key_class from)) []))
+  changed (Delete key key_class) T = retain_keys T (λ q. not (is_above ls (place key key_class w) q))
+
+-- of any key
+abbrev pub outcome_of : Key → List (Bool × Outcome) → Outcome
+outcome_of key rs = first_refusal ((has_null key, KeyNull) ∷ rs)
 
 abbrev pub write : Labels → Scheme → ℕ → Write → Table → Written
-write ls scheme w (Insert key values) T = insert_row ls scheme w key values T
-write ls scheme w (Update key key_class from sets) T = update_row ls scheme w key key_class from sets T
-write ls scheme w (Delete key key_class) T = delete_row ls scheme w key key_class T
+write ls scheme w wr T = written (outcome_of (key_of wr) (refusals ls scheme w wr T)) (changed ls scheme w wr T) T
 
 -- the place of class w of the entity that a write names
 abbrev pub named : ℕ → Write → Place
-named w (Insert key values) = place key w w
-named w (Update key key_class from sets) = place key key_class w
-named w (Delete key key_class) = place key key_class w
+named w wr = place (key_of wr) (key_class_of w wr) w
 
 -- ---- what a write must fit
 
@@ -177,5 +160,5 @@ WriteFits ls n w (Delete key key_class) = ⊤
 -- the numbers and kinds of attributes
 abbrev pub WriteKinds : Scheme → Write → Type 0
 WriteKinds scheme (Insert key values) = HaveKinds scheme.keys key × HaveKinds scheme.others values
-WriteKinds scheme (Update key key_class from sets) = AllByRecursion (λ s. fits_kind s.1 (other_of scheme s.0).kind ≡ true) sets
+WriteKinds scheme (Update key key_class from sets) = AllByRecursion (λ s. fits_kind s.1 (other_of scheme s.0).1.kind ≡ true) sets
 WriteKinds scheme (Delete key key_class) = ⊤

@@ -35,12 +35,12 @@ pub(crate) fn add_row<B: Base>(alloc: Global, base: &mut B, row: &Row) -> Result
     requires { CanAddRow B.is_clean B.state base.old row.now }
     ensures step { IsStep B.is_clean B.failures B.state base.old base.new result }
     ensures done { B.is_clean base.new → (es : List SpecElement)
-        → IsMadeOf ((B.state base.old).now.db row.now.rel) (node_of (entry_of row.now))
+        → IsMadeOf ((B.state base.old).now.db row.now.relation) (node_of (entry_of row.now))
         (cells_of (entry_of row.now)) es
         → OnOk result (B.state base.new
-        ≡ with_relation (B.state base.old) row.now.rel
-        (insert ((B.state base.old).now.db row.now.rel) row.now.place es)) }
+        ≡ with_relation (B.state base.old) row.now.relation
+        (insert ((B.state base.old).now.db row.now.relation) row.now.place es)) }
 {
     let parts = settle(base, parts_of(alloc, row))?;
-    base.add(row.rel, parts.node, &parts.cells)
+    base.add(row.relation, parts.node, &parts.cells)
 }

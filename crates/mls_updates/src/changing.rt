@@ -21,23 +21,23 @@ use mls_scheme::{Place, RelNo, Value};
 pub(crate) fn update_own<B: Base>(
     base: &mut B,
     policy: &Policy,
-    rel: RelNo,
+    relation: RelNo,
     place: &Place,
     sets: &[(usize, Option<Value>)],
 ) -> Result<Outcome, BaseFault>
     requires at { IsBegunAt B.state base.old (length policy.now.labels) place.now }
     requires sets { AllByRecursion (λ s. (s.0 < 15) × IfSome s.1 HasSpelling) sets.now }
     requires fits { B.is_clean base.old → (es : List SpecElement)
-        → get ((B.state base.old).now.db rel) place.now ≡ Some es → AllByRecursion (λ s. s.0 < length es) sets.now }
+        → get ((B.state base.old).now.db relation) place.now ≡ Some es → AllByRecursion (λ s. s.0 < length es) sets.now }
     ensures step { IsStep B.is_clean B.failures B.state base.old base.new result }
     ensures done { B.is_clean base.new → IfOk result (λ o. (scheme : Scheme)
-        → IsChanged (labels_of policy.now) scheme rel place.now sets.now (B.state base.old) (B.state base.new) o) }
+        → IsChanged (labels_of policy.now) scheme relation place.now sets.now (B.state base.old) (B.state base.new) o) }
 {
-    let found = base.pattern(rel, place)?;
+    let found = base.pattern(relation, place)?;
     let outcome = own_outcome(policy, place, sets, &found);
     if !outcome.is_done() {
         return Ok(outcome);
     }
-    set_each(base, rel, place, sets)?;
+    set_each(base, relation, place, sets)?;
     Ok(outcome)
 }

@@ -1,14 +1,14 @@
 //! Tuples of an entity removed.
-ghost use Rattle.std.specs.Prelude.{◌≡◌, ℕ, true, not, length, IfOk, OnOk};
+ghost use Rattle.std.specs.Prelude.{◌≡◌, ℕ, not, length, IfOk, OnOk};
 ghost use Rattle.std.specs.FinMap.{retain_keys};
 ghost use Rattle.mls_lattice.specs.Policy.{labels_of};
-ghost use Rattle.mls_scheme.specs.Scheme.{Scheme as SpecScheme, scheme_of};
-ghost use Rattle.mls_filterview.specs.Calls.{IsStep, IsChange};
+ghost use Rattle.mls_scheme.specs.Scheme.{Scheme as SpecScheme};
+ghost use Rattle.mls_filterview.specs.Calls.{IsStep};
 ghost use Rattle.mls_filterview.specs.Content.{with_relation};
-ghost use Rattle.mls_filterview.specs.Stored.{IsStored, IsContent};
+ghost use Rattle.mls_filterview.specs.Stored.{IsStored};
 ghost use Rattle.mls_updates.specs.Writes.{Delete, is_above};
 ghost use Rattle.mls_updates.specs.Steps.{IsBegunAt};
-ghost use Rattle.mls_updates.specs.Calls.{CanDelete, IsDeleted, IsWritten};
+ghost use Rattle.mls_updates.specs.Calls.{CanDelete, IsDeleted, HasWritten};
 
 use crate::deciding::drop_outcome;
 use crate::dropping::drop_each;
@@ -26,19 +26,19 @@ fn drop_above<B: Base>(
     alloc: Global,
     base: &mut B,
     policy: &Policy,
-    rel: RelNo,
+    relation: RelNo,
     place: Place,
 ) -> Result<(), BaseFault>
     requires at { IsBegunAt B.state base.old (length policy.now.labels) place }
     requires stored { B.is_clean base.old → (n : ℕ)
-        × IsStored (labels_of policy.now) n ((B.state base.old).now.db rel) }
+        × IsStored (labels_of policy.now) n ((B.state base.old).now.db relation) }
     ensures step { IsStep B.is_clean B.failures B.state base.old base.new result }
     ensures done { B.is_clean base.new → OnOk result (B.state base.new
-        ≡ with_relation (B.state base.old) rel
-        (retain_keys ((B.state base.old).now.db rel) (λ q. not (is_above (labels_of policy.now) place q)))) }
+        ≡ with_relation (B.state base.old) relation
+        (retain_keys ((B.state base.old).now.db relation) (λ q. not (is_above (labels_of policy.now) place q)))) }
 {
     let order = settle(base, downwards(alloc, policy, place.class))?;
-    drop_each(base, rel, place, &order)
+    drop_each(base, relation, place, &order)
 }
 
 /// Removes the tuple at a place and the entity's tuples above it.
@@ -46,22 +46,22 @@ fn delete_at<B: Base>(
     alloc: Global,
     base: &mut B,
     policy: &Policy,
-    rel: RelNo,
+    relation: RelNo,
     place: Place,
 ) -> Result<Outcome, BaseFault>
     requires at { IsBegunAt B.state base.old (length policy.now.labels) place }
     requires stored { B.is_clean base.old → (n : ℕ)
-        × IsStored (labels_of policy.now) n ((B.state base.old).now.db rel) }
+        × IsStored (labels_of policy.now) n ((B.state base.old).now.db relation) }
     ensures step { IsStep B.is_clean B.failures B.state base.old base.new result }
     ensures done { B.is_clean base.new → IfOk result (λ o. (scheme : SpecScheme)
-        → IsDeleted (labels_of policy.now) scheme rel place (B.state base.old) (B.state base.new) o) }
+        → IsDeleted (labels_of policy.now) scheme relation place (B.state base.old) (B.state base.new) o) }
 {
-    let found = has_tuple(base, rel, &place)?;
+    let found = has_tuple(base, relation, &place)?;
     let outcome = drop_outcome(policy, &place, found);
     if !outcome.is_done() {
         return Ok(outcome);
     }
-    drop_above(alloc, base, policy, rel, place)?;
+    drop_above(alloc, base, policy, relation, place)?;
     Ok(outcome)
 }
 
@@ -74,28 +74,24 @@ pub fn delete<B: Base>(
     base: &mut B,
     policy: &Policy,
     schemes: &Schemes,
-    rel: RelNo,
+    relation: RelNo,
     w: LabelNo,
     key: &[Option<Value>],
     key_class: LabelNo,
 ) -> Result<Outcome, BaseFault>
-    requires { CanDelete B.is_clean B.state base.old policy.now schemes.now rel w key.now key_class }
-    ensures change { IsChange B.is_clean B.failures B.state true base.old base.new result }
-    ensures done { B.is_clean base.new → IfOk result
-        (IsWritten (labels_of policy.now) (scheme_of schemes.now rel) rel w (Delete key.now key_class)
-        (B.state base.old) (B.state base.new)) }
-    ensures kept { B.is_clean base.new → OnOk result
-        (IsContent (labels_of policy.now) (scheme_of schemes.now rel) ((B.state base.new).now.db rel)) }
+    requires { CanDelete B.is_clean B.state base.old policy.now schemes.now relation w key.now key_class }
+    ensures { HasWritten B.is_clean B.failures B.state policy.now schemes.now relation w (Delete key.now key_class)
+        base.old base.new result }
 {
     if !base.is_begun() {
         return Err(BaseFault::NotBegun);
     }
     // That the labels of a policy are distinct, and that a scheme has one to four key attributes.
     let _count = policy.label_count();
-    let _scheme = schemes.scheme(rel);
+    let _scheme = schemes.scheme(relation);
     if has_null(key) {
         return Ok(Outcome::KeyNull);
     }
     let place = settle(base, place_of(alloc, key, key_class, w))?;
-    delete_at(alloc, base, policy, rel, place)
+    delete_at(alloc, base, policy, relation, place)
 }

@@ -13,16 +13,16 @@ use mls_lattice::LabelNo;
 use mls_scheme::{Place, RelNo};
 
 /// Removes the tuple at a place, if there is one.
-fn drop_one<B: Base>(base: &mut B, rel: RelNo, place: &Place) -> Result<(), BaseFault>
+fn drop_one<B: Base>(base: &mut B, relation: RelNo, place: &Place) -> Result<(), BaseFault>
     requires begun { (B.state base.old).begun ≡ true }
     requires key { IsSpelledKey place.now.key }
-    requires alone { B.is_clean base.old → IsAlone ((B.state base.old).now.db rel) place.now }
+    requires alone { B.is_clean base.old → IsAlone ((B.state base.old).now.db relation) place.now }
     ensures step { IsStep B.is_clean B.failures B.state base.old base.new result }
     ensures done { B.is_clean base.new → OnOk result (B.state base.new
-        ≡ with_relation (B.state base.old) rel (remove ((B.state base.old).now.db rel) place.now)) }
+        ≡ with_relation (B.state base.old) relation (remove ((B.state base.old).now.db relation) place.now)) }
 {
-    if has_tuple(base, rel, place)? {
-        base.drop_at(rel, place)?;
+    if has_tuple(base, relation, place)? {
+        base.drop_at(relation, place)?;
     }
     Ok(())
 }
@@ -30,21 +30,21 @@ fn drop_one<B: Base>(base: &mut B, rel: RelNo, place: &Place) -> Result<(), Base
 /// Removes the tuples of these classes, where there are such, of the entity of a place.
 pub(crate) fn drop_each<B: Base>(
     base: &mut B,
-    rel: RelNo,
+    relation: RelNo,
     place: Place,
     classes: &[LabelNo],
 ) -> Result<(), BaseFault>
     requires begun { (B.state base.old).begun ≡ true }
     requires key { IsSpelledKey place.key }
-    requires alone { B.is_clean base.old → AreAlone place classes.now ((B.state base.old).now.db rel) }
+    requires alone { B.is_clean base.old → AreAlone place classes.now ((B.state base.old).now.db relation) }
     ensures step { IsStep B.is_clean B.failures B.state base.old base.new result }
     ensures done { B.is_clean base.new → OnOk result (B.state base.new
-        ≡ with_relation (B.state base.old) rel (drop_each place classes.now ((B.state base.old).now.db rel))) }
+        ≡ with_relation (B.state base.old) relation (drop_each place classes.now ((B.state base.old).now.db relation))) }
 {
     let mut place = place;
     for class in classes {
         place.class = *class;
-        drop_one(base, rel, &place)?;
+        drop_one(base, relation, &place)?;
     }
     Ok(())
 }

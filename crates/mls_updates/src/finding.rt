@@ -10,12 +10,16 @@ use mls_scheme::{Place, RelNo};
 
 /// Whether there is a tuple at a place.
 #[tactic(auto, using(crate::proofs::PatternLemmas::some_found))]
-pub(crate) fn has_tuple<B: Base>(base: &mut B, rel: RelNo, place: &Place) -> Result<bool, BaseFault>
+pub(crate) fn has_tuple<B: Base>(
+    base: &mut B,
+    relation: RelNo,
+    place: &Place,
+) -> Result<bool, BaseFault>
     requires key { IsSpelledKey place.now.key }
     ensures read { IsRead B.is_clean B.failures B.state base.old base.new result }
     ensures found { B.is_clean base.new → IfOk result (λ has. has
-        ≡ is_some (get ((B.state base.old).now.db rel) place.now)) }
+        ≡ is_some (get ((B.state base.old).now.db relation) place.now)) }
 {
-    let pattern = base.pattern(rel, place)?;
+    let pattern = base.pattern(relation, place)?;
     Ok(pattern.is_some())
 }

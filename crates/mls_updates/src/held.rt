@@ -1,55 +1,60 @@
-//! What a base over lists holds.
-ghost use Rattle.std.specs.Prelude.{◌≡◌, ◌++◌, ◌∷◌, [], IfOk, OnOk, None};
-ghost use Rattle.mls_filterview.specs.Fragment.{place_of_node};
+//! What a base over maps holds.
+ghost use Rattle.std.specs.Prelude.{◌≡◌, ◌++◌, ◌∷◌, [], IfOk, OnOk};
+ghost use Rattle.std.specs.BTreeMap.{IsEmpty};
+ghost use Rattle.std.specs.FinMap.{get, insert};
 ghost use Rattle.mls_filterview.specs.Assembly.{made_of};
-ghost use Rattle.mls_updates.specs.Rows.{found_at};
+ghost use Rattle.mls_filterview.specs.Content.{with_table};
+ghost use Rattle.mls_filterview.specs.Fragment.{place_of_node};
+ghost use Rattle.mls_updates.specs.States.{tables_of};
 
-use crate::row::Row;
-use crate::rows::Rows;
+use crate::making::elements_of;
+use crate::tables::{Tables, add, copy_tables};
 use mls_filterview::{Cell, Node};
 use mls_lattice::Items;
 use mls_scheme::{Place, RelNo};
 use std::alloc::{AllocError, Global};
+use std::collections::BTreeMap;
 
 /// The tuples of all relations, and the audit list.
 #[derive(Drop)]
 pub(crate) struct Held {
-    pub(crate) rows: Rows,
+    pub(crate) tables: Tables,
     pub(crate) audit: Vec<Items<u8>>,
 }
 
 impl Held {
     /// Nothing.
     pub(crate) fn new(alloc: Global) -> Held
-        ensures rows { result.rows ≡ [] }
+        ensures tables { IsEmpty result.tables }
         ensures audit { result.audit.items ≡ [] }
     {
         Held {
-            rows: Rows::new(alloc),
+            tables: BTreeMap::new(alloc),
             audit: Vec::new(alloc),
         }
     }
 
     /// The same tuples and entries.
     pub(crate) fn copy(&self) -> Result<Held, AllocError>
-        ensures rows { IfOk result (λ h. h.rows ≡ self.now.rows) }
+        ensures tables { IfOk result (λ h. tables_of h.tables ≡ tables_of self.now.tables) }
         ensures audit { IfOk result (λ h. h.audit.items ≡ self.now.audit.items) }
     {
-        let rows = self.rows.copy()?;
+        let tables = copy_tables(&self.tables)?;
         let audit = copy_entries(&self.audit)?;
-        Ok(Held { rows, audit })
+        Ok(Held { tables, audit })
     }
 
     /// Adds a tuple, its elements put together.
     pub(crate) fn add(
         &mut self,
         alloc: Global,
-        rel: RelNo,
+        relation: RelNo,
         node: Node,
         cells: &[Cell],
     ) -> Result<(), AllocError>
-        requires { found_at rel (place_of_node node) self.old.rows ≡ None }
-        ensures rows { OnOk result (self.new.rows ≡ self.old.rows ++ record { rel = rel; place = place_of_node node; elements = made_of (λ q. found_at rel q self.old.rows) node cells.now } ∷ []) }
+        ensures tables { OnOk result (tables_of self.new.tables ≡ with_table (tables_of self.old.tables) relation
+            (insert (tables_of self.old.tables relation) (place_of_node node)
+            (made_of (get (tables_of self.old.tables relation)) node cells.now))) }
         ensures audit { OnOk result (self.new.audit ≡ self.old.audit) }
     {
         let Node {
@@ -63,17 +68,19 @@ impl Held {
             key_class,
             class: label,
         };
-        let elements = self.rows.elements_of(alloc, rel, &place, cells, &pattern)?;
-        self.rows.push(Row {
-            rel,
+        let elements = elements_of(alloc, &self.tables, relation, &place, cells, &pattern)?;
+        add(
+            alloc,
+            &mut self.tables,
+            relation,
             place,
-            elements,
-        })
+            Items::from(elements),
+        )
     }
 
     /// Adds an entry at the end of the audit list.
     pub(crate) fn add_entry(&mut self, alloc: Global, bytes: &[u8]) -> Result<(), AllocError>
-        ensures rows { OnOk result (self.new.rows ≡ self.old.rows) }
+        ensures tables { OnOk result (self.new.tables ≡ self.old.tables) }
         ensures audit { OnOk result (self.new.audit.items ≡ self.old.audit.items ++ bytes.now ∷ []) }
     {
         let entry = entry_of(alloc, bytes)?;
@@ -83,7 +90,7 @@ impl Held {
 
     /// Removes all entries of the audit list.
     pub(crate) fn clear_entries(&mut self)
-        ensures rows { self.new.rows ≡ self.old.rows }
+        ensures tables { self.new.tables ≡ self.old.tables }
         ensures audit { self.new.audit.items ≡ [] }
     {
         self.audit.clear();

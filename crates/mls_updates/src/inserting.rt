@@ -1,14 +1,13 @@
 //! The first tuple of an entity.
-ghost use Rattle.std.specs.Prelude.{true, length, IfOk, IfSome, OnOk};
+ghost use Rattle.std.specs.Prelude.{length, IfOk, IfSome};
 ghost use Rattle.std.specs.List.{AllByRecursion};
 ghost use Rattle.mls_lattice.specs.Policy.{labels_of};
-ghost use Rattle.mls_scheme.specs.Scheme.{scheme_of, IsUnder};
+ghost use Rattle.mls_scheme.specs.Scheme.{IsUnder};
 ghost use Rattle.mls_scheme.specs.Spelling.{HasSpelling};
-ghost use Rattle.mls_filterview.specs.Calls.{IsStep, IsChange};
-ghost use Rattle.mls_filterview.specs.Stored.{IsContent};
+ghost use Rattle.mls_filterview.specs.Calls.{IsStep};
 ghost use Rattle.mls_updates.specs.Writes.{Insert};
 ghost use Rattle.mls_updates.specs.Steps.{IsBegunAt};
-ghost use Rattle.mls_updates.specs.Calls.{CanInsert, IsInserted, IsWritten};
+ghost use Rattle.mls_updates.specs.Calls.{CanInsert, IsInserted, HasWritten};
 
 use crate::deciding::root_outcome;
 use crate::finding::has_tuple;
@@ -26,7 +25,7 @@ fn insert_at<B: Base>(
     base: &mut B,
     policy: &Policy,
     scheme: &Scheme,
-    rel: RelNo,
+    relation: RelNo,
     place: Place,
     values: &[Option<Value>],
 ) -> Result<Outcome, BaseFault>
@@ -35,14 +34,14 @@ fn insert_at<B: Base>(
     requires values { AllByRecursion (λ v. IfSome v HasSpelling) values.now }
     ensures step { IsStep B.is_clean B.failures B.state base.old base.new result }
     ensures done { B.is_clean base.new → IfOk result
-        (IsInserted (labels_of policy.now) scheme.now rel place values.now (B.state base.old) (B.state base.new)) }
+        (IsInserted (labels_of policy.now) scheme.now relation place values.now (B.state base.old) (B.state base.new)) }
 {
-    let found = has_tuple(base, rel, &place)?;
+    let found = has_tuple(base, relation, &place)?;
     let outcome = root_outcome(policy, scheme, place.class, found);
     if !outcome.is_done() {
         return Ok(outcome);
     }
-    add_root(alloc, base, rel, place, values)?;
+    add_root(alloc, base, relation, place, values)?;
     Ok(outcome)
 }
 
@@ -54,28 +53,24 @@ pub fn insert<B: Base>(
     base: &mut B,
     policy: &Policy,
     schemes: &Schemes,
-    rel: RelNo,
+    relation: RelNo,
     w: LabelNo,
     key: &[Option<Value>],
     values: &[Option<Value>],
 ) -> Result<Outcome, BaseFault>
-    requires { CanInsert B.is_clean B.state base.old policy.now schemes.now rel w key.now values.now }
-    ensures change { IsChange B.is_clean B.failures B.state true base.old base.new result }
-    ensures done { B.is_clean base.new → IfOk result
-        (IsWritten (labels_of policy.now) (scheme_of schemes.now rel) rel w (Insert key.now values.now)
-        (B.state base.old) (B.state base.new)) }
-    ensures kept { B.is_clean base.new → OnOk result
-        (IsContent (labels_of policy.now) (scheme_of schemes.now rel) ((B.state base.new).now.db rel)) }
+    requires { CanInsert B.is_clean B.state base.old policy.now schemes.now relation w key.now values.now }
+    ensures { HasWritten B.is_clean B.failures B.state policy.now schemes.now relation w (Insert key.now values.now)
+        base.old base.new result }
 {
     if !base.is_begun() {
         return Err(BaseFault::NotBegun);
     }
     // That the labels of a policy are distinct.
     let _count = policy.label_count();
-    let scheme = schemes.scheme(rel);
+    let scheme = schemes.scheme(relation);
     if has_null(key) {
         return Ok(Outcome::KeyNull);
     }
     let place = settle(base, place_of(alloc, key, w, w))?;
-    insert_at(alloc, base, policy, scheme, rel, place, values)
+    insert_at(alloc, base, policy, scheme, relation, place, values)
 }

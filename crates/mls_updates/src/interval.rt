@@ -15,7 +15,7 @@ pub(crate) fn in_intervals(policy: &Policy, class: LabelNo, attributes: &Attribu
     ensures { result ≡ list_all (in_interval (labels_of policy.now) class) attributes.now }
 {
     for place in 0..attributes.len() {
-        if !in_interval(policy, class, attributes.get(place)) {
+        if !in_interval(policy, class, *attributes.get(place)) {
             return false;
         }
     }

@@ -20,10 +20,11 @@ mod outline;
 mod raising;
 mod root;
 mod row;
-mod rows;
 mod sets;
 mod setting;
+mod tables;
 mod updating;
+mod writing;
 
 pub use deleting::delete;
 pub use inserting::insert;
@@ -36,3 +37,4 @@ pub use list_base::ListBase;
 pub use outcome::Outcome;
 pub use sets::copy_value;
 pub use updating::update;
+pub use writing::write;

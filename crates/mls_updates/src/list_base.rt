@@ -1,15 +1,16 @@
-//! A base over plain lists.
+//! A base in memory.
 ghost use Rattle.std.specs.Prelude.{◌≡◌, false, is_some, None};
 ghost use Rattle.mls_filterview.specs.Content.{no_content, failed};
 ghost use Rattle.mls_updates.specs.States.{state_of, state-settled};
 
 use crate::held::{Held, copy_entries};
+use crate::tables::{drop_at, entity, fragments, pattern, set};
 use mls_filterview::{Base, BaseFault, Cell, Fragment, Node};
 use mls_lattice::{Items, LabelNo};
 use mls_scheme::{Place, RelNo, Value};
 use std::alloc::Global;
 
-/// A base that keeps whole tuples and entries in lists, and at a change those of the last commit beside them.
+/// A base that keeps whole tuples by their places, and entries in a list; at a change those of the last commit beside them.
 /// They are copied when the change begins, so commit and rollback take no memory.
 ///
 /// Its calls answer no `Store`.
@@ -85,39 +86,43 @@ impl Base for ListBase {
         }
     }
 
-    fn fragment(&mut self, rel: RelNo, label: LabelNo) -> Result<Fragment, BaseFault> {
-        match self.held.rows.fragments(self.alloc, rel, &[label]) {
+    fn fragment(&mut self, relation: RelNo, label: LabelNo) -> Result<Fragment, BaseFault> {
+        match fragments(self.alloc, &self.held.tables, relation, &[label]) {
             Ok(fragment) => Ok(fragment),
             Err(_) => Err(self.fail()),
         }
     }
 
-    fn fragments(&mut self, rel: RelNo, labels: &[LabelNo]) -> Result<Fragment, BaseFault> {
-        match self.held.rows.fragments(self.alloc, rel, labels) {
+    fn fragments(&mut self, relation: RelNo, labels: &[LabelNo]) -> Result<Fragment, BaseFault> {
+        match fragments(self.alloc, &self.held.tables, relation, labels) {
             Ok(fragment) => Ok(fragment),
             Err(_) => Err(self.fail()),
         }
     }
 
-    fn entity(&mut self, rel: RelNo, place: &Place) -> Result<Fragment, BaseFault> {
-        match self.held.rows.entity(self.alloc, rel, place) {
+    fn entity(&mut self, relation: RelNo, place: &Place) -> Result<Fragment, BaseFault> {
+        match entity(self.alloc, &self.held.tables, relation, place) {
             Ok(fragment) => Ok(fragment),
             Err(_) => Err(self.fail()),
         }
     }
 
-    fn pattern(&mut self, rel: RelNo, place: &Place) -> Result<Option<Items<LabelNo>>, BaseFault> {
-        match self.held.rows.pattern(self.alloc, rel, place) {
+    fn pattern(
+        &mut self,
+        relation: RelNo,
+        place: &Place,
+    ) -> Result<Option<Items<LabelNo>>, BaseFault> {
+        match pattern(self.alloc, &self.held.tables, relation, place) {
             Ok(pattern) => Ok(pattern),
             Err(_) => Err(self.fail()),
         }
     }
 
-    fn add(&mut self, rel: RelNo, node: Node, cells: &[Cell]) -> Result<(), BaseFault> {
+    fn add(&mut self, relation: RelNo, node: Node, cells: &[Cell]) -> Result<(), BaseFault> {
         if !self.is_begun() {
             return Err(BaseFault::NotBegun);
         }
-        match self.held.add(self.alloc, rel, node, cells) {
+        match self.held.add(self.alloc, relation, node, cells) {
             Ok(_) => Ok(()),
             Err(_) => Err(self.fail()),
         }
@@ -125,7 +130,7 @@ impl Base for ListBase {
 
     fn set(
         &mut self,
-        rel: RelNo,
+        relation: RelNo,
         place: &Place,
         attr: usize,
         value: Option<Value>,
@@ -133,18 +138,27 @@ impl Base for ListBase {
         if !self.is_begun() {
             return Err(BaseFault::NotBegun);
         }
-        match self.held.rows.set(self.alloc, rel, place, attr, &value) {
+        match set(
+            self.alloc,
+            &mut self.held.tables,
+            relation,
+            place,
+            attr,
+            &value,
+        ) {
             Ok(_) => Ok(()),
             Err(_) => Err(self.fail()),
         }
     }
 
-    fn drop_at(&mut self, rel: RelNo, place: &Place) -> Result<(), BaseFault> {
+    fn drop_at(&mut self, relation: RelNo, place: &Place) -> Result<(), BaseFault> {
         if !self.is_begun() {
             return Err(BaseFault::NotBegun);
         }
-        self.held.rows.remove(rel, place);
-        Ok(())
+        match drop_at(self.alloc, &mut self.held.tables, relation, place) {
+            Ok(_) => Ok(()),
+            Err(_) => Err(self.fail()),
+        }
     }
 
     fn audit_add(&mut self, bytes: &[u8]) -> Result<(), BaseFault> {

@@ -1,12 +1,13 @@
 //! A tuple put together from its node, the cells of its class, and the tuples that there are.
 ghost use Rattle.std.specs.Prelude.{◌≡◌, IfOk, None};
 ghost use Rattle.std.specs.Option.{unwrap_or};
+ghost use Rattle.std.specs.FinMap.{get};
 ghost use Rattle.mls_scheme.specs.Tuple.{at};
 ghost use Rattle.mls_filterview.specs.Stored.{with_class};
-ghost use Rattle.mls_filterview.specs.Assembly.{elements_from, value_in};
-ghost use Rattle.mls_updates.specs.Rows.{value_at, held_in};
+ghost use Rattle.mls_filterview.specs.Assembly.{elements_from, value_held, value_in};
+ghost use Rattle.mls_updates.specs.States.{tables_of};
 
-use crate::row::Row;
+use crate::tables::{Tables, found_at};
 use mls_filterview::Cell;
 use mls_lattice::LabelNo;
 use mls_scheme::{Element, Place, RelNo, Value, copy_key};
@@ -15,18 +16,18 @@ use std::alloc::{AllocError, Global};
 /// The elements of a pattern: of the place's own class from the cells, of other classes from the entity's tuples.
 pub(crate) fn elements_of(
     alloc: Global,
-    rows: &[Row],
-    rel: RelNo,
+    tables: &Tables,
+    relation: RelNo,
     place: &Place,
     cells: &[Cell],
     pattern: &[LabelNo],
 ) -> Result<Vec<Element>, AllocError>
     ensures { IfOk result (λ v. v.items ≡ elements_from
-        (held_in rel place.now.class cells.now rows.now) place.now 0 pattern.now) }
+        (value_held (get (tables_of tables.now relation)) place.now.class cells.now) place.now 0 pattern.now) }
 {
     let mut elements = Vec::new(alloc);
     for (attr, class) in pattern.iter().enumerate() {
-        let value = value_by_class(rows, rel, place, cells, attr, *class)?;
+        let value = value_by_class(tables, relation, place, cells, attr, *class)?;
         elements.push(Element {
             value,
             class: *class,
@@ -37,15 +38,15 @@ pub(crate) fn elements_of(
 
 /// The value at an attribute of a class.
 fn value_by_class(
-    rows: &[Row],
-    rel: RelNo,
+    tables: &Tables,
+    relation: RelNo,
     place: &Place,
     cells: &[Cell],
     attr: usize,
     class: LabelNo,
 ) -> Result<Option<Value>, AllocError>
     ensures { IfOk result (λ v. v ≡ unwrap_or
-        (held_in rel place.now.class cells.now rows.now (with_class place.now class, attr)) None) }
+        (value_held (get (tables_of tables.now relation)) place.now.class cells.now (with_class place.now class, attr)) None) }
 {
     if class == place.class {
         return value_among_cells(cells, attr);
@@ -55,7 +56,10 @@ fn value_by_class(
         key_class: place.key_class,
         class,
     };
-    value_in_base(rows, rel, &other, attr)
+    match found_at(tables, relation, &other) {
+        Some(elements) => value_among(elements, attr),
+        None => Ok(None),
+    }
 }
 
 /// The value at an attribute among cells, null where there is none.
@@ -65,23 +69,6 @@ fn value_among_cells(cells: &[Cell], attr: usize) -> Result<Option<Value>, Alloc
     for cell in cells {
         if cell.attr == attr {
             return cell.value.clone();
-        }
-    }
-    Ok(None)
-}
-
-/// The value at an attribute of the tuple at a place, null where there is none.
-fn value_in_base(
-    rows: &[Row],
-    rel: RelNo,
-    place: &Place,
-    attr: usize,
-) -> Result<Option<Value>, AllocError>
-    ensures { IfOk result (λ v. v ≡ value_at rel place.now attr rows.now) }
-{
-    for row in rows {
-        if row.is_at(rel, place) {
-            return value_among(&row.elements, attr);
         }
     }
     Ok(None)

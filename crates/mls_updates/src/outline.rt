@@ -56,16 +56,16 @@ fn outline_elements(
 /// The outline at its place in its relation. The class of the place is the class that the update is made at.
 fn outline_tuple(
     alloc: Global,
-    rel: RelNo,
+    relation: RelNo,
     place: Place,
     sets: &[(usize, Option<Value>)],
     pattern: &[LabelNo],
 ) -> Result<Row, AllocError>
-    ensures { IfOk result (λ r. r ≡ record { rel = rel; place = place; elements = outline place.class sets.now 0 pattern.now }) }
+    ensures { IfOk result (λ r. r ≡ record { relation = relation; place = place; elements = outline place.class sets.now 0 pattern.now }) }
 {
     let elements = outline_elements(alloc, place.class, sets, pattern)?;
     Ok(Row {
-        rel,
+        relation,
         place,
         elements: Items::from(elements),
     })
@@ -76,19 +76,19 @@ fn outline_tuple(
 pub(crate) fn add_outline<B: Base>(
     alloc: Global,
     base: &mut B,
-    rel: RelNo,
+    relation: RelNo,
     place: Place,
     sets: &[(usize, Option<Value>)],
     pattern: &[LabelNo],
 ) -> Result<(), BaseFault>
-    requires { CanAddRow B.is_clean B.state base.old (record { rel = rel; place = place; elements = outline place.class sets.now 0 pattern.now }) }
+    requires { CanAddRow B.is_clean B.state base.old (record { relation = relation; place = place; elements = outline place.class sets.now 0 pattern.now }) }
     ensures step { IsStep B.is_clean B.failures B.state base.old base.new result }
     ensures done { B.is_clean base.new → (es : List SpecElement)
-        → IsMadeOf ((B.state base.old).now.db rel) (node_of (place, outline place.class sets.now 0 pattern.now))
+        → IsMadeOf ((B.state base.old).now.db relation) (node_of (place, outline place.class sets.now 0 pattern.now))
         (cells_of (place, outline place.class sets.now 0 pattern.now)) es
         → OnOk result (B.state base.new
-        ≡ with_relation (B.state base.old) rel (insert ((B.state base.old).now.db rel) place es)) }
+        ≡ with_relation (B.state base.old) relation (insert ((B.state base.old).now.db relation) place es)) }
 {
-    let row = settle(base, outline_tuple(alloc, rel, place, sets, pattern))?;
+    let row = settle(base, outline_tuple(alloc, relation, place, sets, pattern))?;
     add_row(alloc, base, &row)
 }

@@ -20,7 +20,7 @@ use std::alloc::Global;
 fn pattern_below<B: Base>(
     base: &mut B,
     policy: &Policy,
-    rel: RelNo,
+    relation: RelNo,
     place: &Place,
     w: LabelNo,
 ) -> Result<Option<Items<LabelNo>>, BaseFault>
@@ -28,7 +28,7 @@ fn pattern_below<B: Base>(
     requires at { IsBegunAt B.state base.old (length policy.now.labels) place.now }
     ensures read { IsRead B.is_clean B.failures B.state base.old base.new result }
     ensures found { B.is_clean base.new → IfOk result (λ pattern. pattern
-        ≡ classes_below (labels_of policy.now) rel (with_class place.now w) place.now.class (B.state base.old)) }
+        ≡ classes_below (labels_of policy.now) relation (with_class place.now w) place.now.class (B.state base.old)) }
 {
     if !policy.dominates(place.class, place.key_class) {
         return Ok(None);
@@ -36,7 +36,7 @@ fn pattern_below<B: Base>(
     if !policy.dominates(w, place.class) {
         return Ok(None);
     }
-    base.pattern(rel, place)
+    base.pattern(relation, place)
 }
 
 /// Adds a tuple at a place: that of class `from`, of which the classes were found, with the named attributes new.
@@ -45,22 +45,22 @@ fn derive<B: Base>(
     base: &mut B,
     policy: &Policy,
     scheme: &Scheme,
-    rel: RelNo,
+    relation: RelNo,
     place: Place,
     from: LabelNo,
     sets: &[(usize, Option<Value>)],
     pattern: Option<Items<LabelNo>>,
 ) -> Result<Outcome, BaseFault>
-    requires can { CanDerive B.is_clean B.state base.old rel place policy.now scheme.now from sets.now }
+    requires can { CanDerive B.is_clean B.state base.old relation place policy.now scheme.now from sets.now }
     requires found { B.is_clean base.old → pattern
-        ≡ classes_below (labels_of policy.now) rel place from (B.state base.old) }
+        ≡ classes_below (labels_of policy.now) relation place from (B.state base.old) }
     ensures step { IsStep B.is_clean B.failures B.state base.old base.new result }
     ensures done { B.is_clean base.new → IfOk result
-        (IsDerived (labels_of policy.now) scheme.now rel place from sets.now (B.state base.old) (B.state base.new)) }
+        (IsDerived (labels_of policy.now) scheme.now relation place from sets.now (B.state base.old) (B.state base.new)) }
 {
     // That the labels of a policy are distinct.
     let _count = policy.label_count();
-    let is_there = has_tuple(base, rel, &place)?;
+    let is_there = has_tuple(base, relation, &place)?;
     let outcome = below_outcome(
         policy,
         scheme,
@@ -75,7 +75,7 @@ fn derive<B: Base>(
     if !outcome.is_done() {
         return Ok(outcome);
     }
-    add_outline(alloc, base, rel, place, sets, &pattern)?;
+    add_outline(alloc, base, relation, place, sets, &pattern)?;
     Ok(outcome)
 }
 
@@ -85,20 +85,22 @@ pub(crate) fn update_below<B: Base>(
     base: &mut B,
     policy: &Policy,
     scheme: &Scheme,
-    rel: RelNo,
+    relation: RelNo,
     w: LabelNo,
     place: Place,
     sets: &[(usize, Option<Value>)],
 ) -> Result<Outcome, BaseFault>
-    requires { CanDerive B.is_clean B.state base.old rel (with_class place w) policy.now scheme.now place.class sets.now }
+    requires { CanDerive B.is_clean B.state base.old relation (with_class place w) policy.now scheme.now place.class sets.now }
     ensures step { IsStep B.is_clean B.failures B.state base.old base.new result }
     ensures done { B.is_clean base.new → IfOk result
-        (IsDerived (labels_of policy.now) scheme.now rel (with_class place w) place.class sets.now (B.state base.old)
+        (IsDerived (labels_of policy.now) scheme.now relation (with_class place w) place.class sets.now (B.state base.old)
         (B.state base.new)) }
 {
-    let pattern = pattern_below(base, policy, rel, &place, w)?;
+    let pattern = pattern_below(base, policy, relation, &place, w)?;
     let from = place.class;
     let mut place = place;
     place.class = w;
-    derive(alloc, base, policy, scheme, rel, place, from, sets, pattern)
+    derive(
+        alloc, base, policy, scheme, relation, place, from, sets, pattern,
+    )
 }

@@ -35,15 +35,15 @@ fn root_elements(
 /// The root at a place.
 fn root_at(
     alloc: Global,
-    rel: RelNo,
+    relation: RelNo,
     place: Place,
     values: &[Option<Value>],
 ) -> Result<Row, AllocError>
-    ensures { IfOk result (λ r. r ≡ record { rel = rel; place = place; elements = root place.class values.now }) }
+    ensures { IfOk result (λ r. r ≡ record { relation = relation; place = place; elements = root place.class values.now }) }
 {
     let elements = root_elements(alloc, place.class, values)?;
     Ok(Row {
-        rel,
+        relation,
         place,
         elements: Items::from(elements),
     })
@@ -53,16 +53,16 @@ fn root_at(
 pub(crate) fn add_root<B: Base>(
     alloc: Global,
     base: &mut B,
-    rel: RelNo,
+    relation: RelNo,
     place: Place,
     values: &[Option<Value>],
 ) -> Result<(), BaseFault>
-    requires { CanAddRow B.is_clean B.state base.old (record { rel = rel; place = place; elements = root place.class values.now }) }
+    requires { CanAddRow B.is_clean B.state base.old (record { relation = relation; place = place; elements = root place.class values.now }) }
     ensures step { IsStep B.is_clean B.failures B.state base.old base.new result }
     ensures done { B.is_clean base.new → OnOk result (B.state base.new
-        ≡ with_relation (B.state base.old) rel
-        (insert ((B.state base.old).now.db rel) place (root place.class values.now))) }
+        ≡ with_relation (B.state base.old) relation
+        (insert ((B.state base.old).now.db relation) place (root place.class values.now))) }
 {
-    let row = settle(base, root_at(alloc, rel, place, values))?;
+    let row = settle(base, root_at(alloc, relation, place, values))?;
     add_row(alloc, base, &row)
 }

@@ -62,7 +62,7 @@ fn is_outside(policy: &Policy, scheme: &Scheme, class: LabelNo, attr: usize) -> 
     requires attr { attr < length scheme.now.others }
     ensures { result ≡ not (in_interval (labels_of policy.now) class (other_of scheme.now attr)) }
 {
-    !in_interval(policy, class, scheme.others().get(attr))
+    !in_interval(policy, class, *scheme.others().get(attr))
 }
 
 /// Whether a class lies outside the interval of a named attribute.

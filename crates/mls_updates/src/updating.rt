@@ -1,11 +1,6 @@
 //! Elements of an entity changed at their class, or a tuple made from a lower one.
-ghost use Rattle.std.specs.Prelude.{true, IfOk, OnOk};
-ghost use Rattle.mls_lattice.specs.Policy.{labels_of};
-ghost use Rattle.mls_scheme.specs.Scheme.{scheme_of};
-ghost use Rattle.mls_filterview.specs.Calls.{IsChange};
-ghost use Rattle.mls_filterview.specs.Stored.{IsContent};
 ghost use Rattle.mls_updates.specs.Writes.{Update};
-ghost use Rattle.mls_updates.specs.Calls.{CanUpdate, IsWritten};
+ghost use Rattle.mls_updates.specs.Calls.{CanUpdate, HasWritten};
 
 use crate::changing::update_own;
 use crate::key::{has_null, place_of};
@@ -26,20 +21,16 @@ pub fn update<B: Base>(
     base: &mut B,
     policy: &Policy,
     schemes: &Schemes,
-    rel: RelNo,
+    relation: RelNo,
     w: LabelNo,
     key: &[Option<Value>],
     key_class: LabelNo,
     from: LabelNo,
     sets: &[(usize, Option<Value>)],
 ) -> Result<Outcome, BaseFault>
-    requires { CanUpdate B.is_clean B.state base.old policy.now schemes.now rel w key.now key_class from sets.now }
-    ensures change { IsChange B.is_clean B.failures B.state true base.old base.new result }
-    ensures done { B.is_clean base.new → IfOk result
-        (IsWritten (labels_of policy.now) (scheme_of schemes.now rel) rel w (Update key.now key_class from sets.now)
-        (B.state base.old) (B.state base.new)) }
-    ensures kept { B.is_clean base.new → OnOk result
-        (IsContent (labels_of policy.now) (scheme_of schemes.now rel) ((B.state base.new).now.db rel)) }
+    requires { CanUpdate B.is_clean B.state base.old policy.now schemes.now relation w key.now key_class from sets.now }
+    ensures { HasWritten B.is_clean B.failures B.state policy.now schemes.now relation w (Update key.now key_class from sets.now)
+        base.old base.new result }
 {
     if !base.is_begun() {
         return Err(BaseFault::NotBegun);
@@ -49,10 +40,10 @@ pub fn update<B: Base>(
     }
     // That the labels of a policy are distinct.
     let _count = policy.label_count();
-    let scheme = schemes.scheme(rel);
+    let scheme = schemes.scheme(relation);
     let place = settle(base, place_of(alloc, key, key_class, from))?;
     if from == w {
-        return update_own(base, policy, rel, &place, sets);
+        return update_own(base, policy, relation, &place, sets);
     }
-    update_below(alloc, base, policy, scheme, rel, w, place, sets)
+    update_below(alloc, base, policy, scheme, relation, w, place, sets)
 }

@@ -1,8 +1,8 @@
 //! Work over stores, from the bytes of their files to the bytes of their files.
 ghost use Rattle.std.specs.Prelude.{◌≡◌, ◌<◌, false, length, IfOk};
 ghost use Rattle.std.specs.List.{AllByRecursion};
+ghost use Rattle.mls_audit.specs.Sound.{IsSoundContent};
 ghost use Rattle.mls_fragments.specs.Based.{state_of};
-ghost use Rattle.mls_fragments.specs.Finding.{IsSoundContent};
 ghost use Rattle.mls_runs.specs.History.{IsPrepared};
 
 use crate::disks::{Calls, Copies, Medium};

@@ -152,47 +152,51 @@ impl<B: Base> Base for Faulty<B> {
         self.base.rollback()
     }
 
-    fn fragment(&mut self, rel: RelNo, label: LabelNo) -> Result<Fragment, BaseFault> {
+    fn fragment(&mut self, relation: RelNo, label: LabelNo) -> Result<Fragment, BaseFault> {
         if self.fuse.is_due() {
             return Err(self.fail());
         }
-        self.base.fragment(rel, label)
+        self.base.fragment(relation, label)
     }
 
-    fn fragments(&mut self, rel: RelNo, labels: &[LabelNo]) -> Result<Fragment, BaseFault> {
+    fn fragments(&mut self, relation: RelNo, labels: &[LabelNo]) -> Result<Fragment, BaseFault> {
         if self.fuse.is_due() {
             return Err(self.fail());
         }
-        self.base.fragments(rel, labels)
+        self.base.fragments(relation, labels)
     }
 
-    fn entity(&mut self, rel: RelNo, place: &Place) -> Result<Fragment, BaseFault> {
+    fn entity(&mut self, relation: RelNo, place: &Place) -> Result<Fragment, BaseFault> {
         if self.is_due() {
             return Err(self.fail());
         }
-        self.base.entity(rel, place)
+        self.base.entity(relation, place)
     }
 
-    fn pattern(&mut self, rel: RelNo, place: &Place) -> Result<Option<Items<LabelNo>>, BaseFault> {
+    fn pattern(
+        &mut self,
+        relation: RelNo,
+        place: &Place,
+    ) -> Result<Option<Items<LabelNo>>, BaseFault> {
         if self.is_due() {
             return Err(self.fail());
         }
-        self.base.pattern(rel, place)
+        self.base.pattern(relation, place)
     }
 
-    fn add(&mut self, rel: RelNo, node: Node, cells: &[Cell]) -> Result<(), BaseFault> {
+    fn add(&mut self, relation: RelNo, node: Node, cells: &[Cell]) -> Result<(), BaseFault> {
         if !self.is_begun() {
             return Err(BaseFault::NotBegun);
         }
         if self.is_due() {
             return Err(self.fail());
         }
-        self.base.add(rel, node, cells)
+        self.base.add(relation, node, cells)
     }
 
     fn set(
         &mut self,
-        rel: RelNo,
+        relation: RelNo,
         place: &Place,
         attr: usize,
         value: Option<Value>,
@@ -203,17 +207,17 @@ impl<B: Base> Base for Faulty<B> {
         if self.is_due() {
             return Err(self.fail());
         }
-        self.base.set(rel, place, attr, value)
+        self.base.set(relation, place, attr, value)
     }
 
-    fn drop_at(&mut self, rel: RelNo, place: &Place) -> Result<(), BaseFault> {
+    fn drop_at(&mut self, relation: RelNo, place: &Place) -> Result<(), BaseFault> {
         if !self.is_begun() {
             return Err(BaseFault::NotBegun);
         }
         if self.is_due() {
             return Err(self.fail());
         }
-        self.base.drop_at(rel, place)
+        self.base.drop_at(relation, place)
     }
 
     fn audit_add(&mut self, bytes: &[u8]) -> Result<(), BaseFault> {

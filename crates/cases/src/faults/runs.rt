@@ -4,9 +4,8 @@ ghost use Rattle.std.specs.List.{AllByRecursion};
 ghost use Rattle.mls_scheme.specs.Scheme.{AreUnder};
 ghost use Rattle.mls_script.specs.Event.{EventFits};
 ghost use Rattle.mls_filterview.specs.Content.{no_content};
+ghost use Rattle.mls_audit.specs.Sound.{IsSoundContent};
 ghost use Rattle.mls_machine.specs.Observation.{AreRead, AreCertified};
-ghost use Rattle.mls_machine.specs.Under.{site_under};
-ghost use Rattle.mls_sessions.specs.World.{IsSound};
 
 use super::faulty::{Fault, Faulty};
 use super::narrow::Narrow;
@@ -103,9 +102,9 @@ fn run_over<B: Base>(
     requires certified { AreCertified (record { policy = policy.now; schemes = schemes.now; stored = stored }) }
     requires fits { AllByRecursion (EventFits policy.now schemes.now) events.now }
     requires idle { (B.state base).begun ≡ false }
-    requires sound { B.is_clean base → IsSound (site_under policy.now schemes.now) (B.state base).now }
+    requires sound { B.is_clean base → IsSoundContent policy.now schemes.now (B.state base).now }
     ensures idle { (B.state result.1).begun ≡ false }
-    ensures sound { B.is_clean result.1 → IsSound (site_under policy.now schemes.now) (B.state result.1).now }
+    ensures sound { B.is_clean result.1 → IsSoundContent policy.now schemes.now (B.state result.1).now }
 {
     let mut engine = Engine::new(alloc, base, policy, schemes, stored);
     let end = run(&mut engine, events, out);
@@ -136,7 +135,7 @@ fn push_answers(
     requires under { AreUnder (length policy.now.labels) schemes.now }
     requires fits { AllByRecursion (EventFits policy.now schemes.now) questions.now }
     requires idle { (⟦<ListBase as Base>⟧.state base).begun ≡ false }
-    requires sound { IsSound (site_under policy.now schemes.now) (⟦<ListBase as Base>⟧.state base).now }
+    requires sound { IsSoundContent policy.now schemes.now (⟦<ListBase as Base>⟧.state base).now }
 {
     let none = none_stored(alloc);
     let mut answers = Narrow::new(alloc, u64::MAX, usize::MAX);

@@ -2,10 +2,9 @@
 ghost use Rattle.std.specs.Prelude.{◌≡◌, ◌<◌, ◌≤◌, false, length, IfSome};
 ghost use Rattle.std.specs.List.{AllByRecursion};
 ghost use Rattle.mls_scheme.specs.Scheme.{AreUnder};
+ghost use Rattle.mls_audit.specs.Sound.{IsSoundContent};
 ghost use Rattle.mls_script.specs.Event.{EventFits};
 ghost use Rattle.mls_machine.specs.Observation.{EventsFit, AreRead, AreCertified};
-ghost use Rattle.mls_machine.specs.Under.{site_under};
-ghost use Rattle.mls_sessions.specs.World.{IsSound};
 ghost use Rattle.mls_sessions.specs.Engine.{site, IsEngineReady, IsKept};
 
 use super::narrow::Narrow;
@@ -51,7 +50,7 @@ fn step_over<B: Base>(
     requires events { AllByRecursion (EventFits policy.now schemes.now) scripts.events.now }
     requires questions { AllByRecursion (EventFits policy.now schemes.now) scripts.questions.now }
     requires idle { (B.state base).begun ≡ false }
-    requires sound { B.is_clean base → IsSound (site_under policy.now schemes.now) (B.state base).now }
+    requires sound { B.is_clean base → IsSoundContent policy.now schemes.now (B.state base).now }
 {
     let mut engine = Engine::new(alloc, base, policy, schemes, stored);
     let stop = step_to_fault(&mut engine, scripts.events);

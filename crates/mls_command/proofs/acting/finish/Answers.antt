@@ -1,7 +1,7 @@
 -- finish
 use Rattle.std.proofs.Common.{◌++◌, [], Result, Ok, Err, refl, subst, ◌∙◌}
 use Rattle.mls_host.specs.declared.ending.Ending.{Ending}
-use Rattle.mls_host.specs.declared.refusal.Refusal.{Refusal}
+use Rattle.mls_host.specs.declared.stop.Stop.{Stop}
 use Rattle.mls_host.specs.Deed.{deed, end_text}
 use Rattle.mls_host.specs.Hosting.{hosted, IsAppended, IsTold}
 use Rattle.mls_host.proofs.HostingLemmas.{told_more}
@@ -15,7 +15,7 @@ returns-in-Ok g c = record {
   more = [];
   does = deed_told (hosted g.H.Host.hosting g.H.Lines.TypedLines.echo c.args.host.now c.perform.new.host) (IsAppended g.W.Write.contents c.args.out.now c.perform.new.out) (IsTold g.E.Write.contents c.args.err.now c.perform.new.err) (λ text. IsTold g.E.Write.contents c.args.err.now c.perform.new.err ((text ++ end_text (Ok c.in-Ok.ending)) ++ []))
       (told_all (IsTold g.E.Write.contents c.args.err.now c.perform.new.err) c.in-Ok.ending) c.args.job (Ok c.in-Ok.ending)
-      (subst (λ (r : Result Ending Refusal). IsDeedOf (hosted g.H.Host.hosting g.H.Lines.TypedLines.echo c.args.host.now c.perform.new.host) c.args.job (deed g.W.Write.contents c.args.out.now c.perform.new.out g.E.Write.contents c.args.err.now c.perform.new.err r)) c.in-Ok.is c.perform.ensures);
+      (subst (λ (r : Result Ending Stop). IsDeedOf (hosted g.H.Host.hosting g.H.Lines.TypedLines.echo c.args.host.now c.perform.new.host) c.args.job (deed g.W.Write.contents c.args.out.now c.perform.new.out g.E.Write.contents c.args.err.now c.perform.new.err r)) c.in-Ok.is c.perform.ensures);
   plain = λ no. refl;
   of_refusals = refl;
   status_is = c.status.ensures;
@@ -23,13 +23,13 @@ returns-in-Ok g c = record {
 
 pub returns-in-Err : goal.returns-in-Err
 returns-in-Err g c =
-    let e = c.explain_refusal.ensures in record {
-      end = (Err c.in-Err.refusal);
+    let e = c.explain_stop.ensures in record {
+      end = (Err c.in-Err.stop);
       more = e.more;
-      does = deed_told (hosted g.H.Host.hosting g.H.Lines.TypedLines.echo c.args.host.now c.perform.new.host) (IsAppended g.W.Write.contents c.args.out.now c.perform.new.out) (IsTold g.E.Write.contents c.args.err.now c.perform.new.err) (λ text. IsTold g.E.Write.contents c.args.err.now c.explain_refusal.new.err ((text ++ end_text (Err c.in-Err.refusal)) ++ e.more))
-          (λ text t. told_more g.E.Write.contents c.args.err.now c.tell_refusal.new.self c.explain_refusal.new.err (text ++ end_text (Err c.in-Err.refusal)) e.more
-          (told_more g.E.Write.contents c.args.err.now c.perform.new.err c.tell_refusal.new.self text (end_text (Err c.in-Err.refusal)) t c.tell_refusal.ensures) e.leads) c.args.job (Err c.in-Err.refusal)
-          (subst (λ (r : Result Ending Refusal). IsDeedOf (hosted g.H.Host.hosting g.H.Lines.TypedLines.echo c.args.host.now c.perform.new.host) c.args.job (deed g.W.Write.contents c.args.out.now c.perform.new.out g.E.Write.contents c.args.err.now c.perform.new.err r)) c.in-Err.is c.perform.ensures);
+      does = deed_told (hosted g.H.Host.hosting g.H.Lines.TypedLines.echo c.args.host.now c.perform.new.host) (IsAppended g.W.Write.contents c.args.out.now c.perform.new.out) (IsTold g.E.Write.contents c.args.err.now c.perform.new.err) (λ text. IsTold g.E.Write.contents c.args.err.now c.explain_stop.new.err ((text ++ end_text (Err c.in-Err.stop)) ++ e.more))
+          (λ text t. told_more g.E.Write.contents c.args.err.now c.tell_stop.new.self c.explain_stop.new.err (text ++ end_text (Err c.in-Err.stop)) e.more
+          (told_more g.E.Write.contents c.args.err.now c.perform.new.err c.tell_stop.new.self text (end_text (Err c.in-Err.stop)) t c.tell_stop.ensures) e.leads) c.args.job (Err c.in-Err.stop)
+          (subst (λ (r : Result Ending Stop). IsDeedOf (hosted g.H.Host.hosting g.H.Lines.TypedLines.echo c.args.host.now c.perform.new.host) c.args.job (deed g.W.Write.contents c.args.out.now c.perform.new.out g.E.Write.contents c.args.err.now c.perform.new.err r)) c.in-Err.is c.perform.ensures);
       plain = λ no. e.none (c.is_watched-is_watched.ensures ∙ no);
       of_refusals = tt;
       status_is = c.status-in-Err.ensures;

@@ -26,7 +26,7 @@ loop-number-preserved-then-not-is_between g c =
       key_class = inv.key_class;
       parts = λ clean.
           let stored = c.requires.see.stored (inv.clean clean) in
-          entity_same ls ((g.B.Base.state c.args.base.now).now.db c.args.rel) label c.args.place.now.key stored.0 stored.1 c.args.key_class c.loop-number.number c.loop-number.nodes.items c.loop-number.cells.items
+          entity_same ls ((g.B.Base.state c.args.base.now).now.db c.args.relation) label c.args.place.now.key stored.0 stored.1 c.args.key_class c.loop-number.number c.loop-number.nodes.items c.loop-number.cells.items
           ((λ i. below ls c.args.key_class (sym c.new-class.ensures i) && below ls (sym c.new-class.ensures i) label) ∙ sym c.if-not-is_between.ensures) (inv.parts clean);
     }
 
@@ -53,15 +53,15 @@ loop-number-preserved g c =
           let low : below ls c.loop-number.number label ≡ true =
           subst (λ m. below ls m label ≡ true) c.new-class.ensures (and_parts (below ls c.args.key_class c.new-class.result) (below ls c.new-class.result label) (sym c.if-not-is_between.ensures)).1 in
           rw (subst (λ r. OnOk r (c.gather.new.nodes.items ≡ c.loop-number.nodes.items ++ f.part.nodes)) put c.gather.ensures.nodes, subst (λ r. OnOk r (c.gather.new.cells.items ≡ c.loop-number.cells.items ++ f.part.cells)) put c.gather.ensures.cells)
-          (entity_more ls ((B.state c.args.base.now).now.db c.args.rel) label c.args.place.now.key c.args.key_class c.loop-number.number c.loop-number.nodes.items c.loop-number.cells.items p f.part
+          (entity_more ls ((B.state c.args.base.now).now.db c.args.relation) label c.args.place.now.key c.args.key_class c.loop-number.number c.loop-number.nodes.items c.loop-number.cells.items p f.part
           inv.key inv.key_class c.new-class.ensures low
-          (subst (λ (s : State). IsEntityPart (s.now.db c.args.rel) p f.part) (inv.same start) (f.ensures.found before)) (inv.parts start));
+          (subst (λ (s : State). IsEntityPart (s.now.db c.args.relation) p f.part) (inv.same start) (f.ensures.found before)) (inv.parts start));
     }
 
 pub returns-clause-parts : goal.returns-clause-parts
 returns-clause-parts g c = λ clean.
     rw (c.from.ensures, c.from-2.ensures)
-    (subst (λ k. AreOf (IsOfEntity (labels_of c.args.policy.now) ((g.B.Base.state c.args.base.now).now.db c.args.rel) c.args.label c.args.place.now.key c.args.key_class k) c.loop-number.nodes.items c.loop-number.cells.items)
+    (subst (λ k. AreOf (IsOfEntity (labels_of c.args.policy.now) ((g.B.Base.state c.args.base.now).now.db c.args.relation) c.args.label c.args.place.now.key c.args.key_class k) c.loop-number.nodes.items c.loop-number.cells.items)
     (omega (arith, length-map c.args.policy.now.labels (λ l. l.value))) (c.loop-number.invariant.parts clean))
 
 pub returns-in_err-part-clause-read : goal.returns-in_err-part-clause-read

@@ -14,5 +14,5 @@ invariant-loop-number g l =
       same : B.is_clean l.base → B.state l.base ≡ B.state l.fn.base;
       key : l.place.key ≡ l.fn.place.key;
       key_class : l.place.key_class ≡ l.key_class;
-      parts : B.is_clean l.base → AreOf (IsOfEntity (labels_of l.policy) ((B.state l.fn.base).now.db l.rel) l.label l.fn.place.key l.key_class l.number) l.nodes.items l.cells.items;
+      parts : B.is_clean l.base → AreOf (IsOfEntity (labels_of l.policy) ((B.state l.fn.base).now.db l.relation) l.label l.fn.place.key l.key_class l.number) l.nodes.items l.cells.items;
     }

@@ -1,7 +1,7 @@
 use Rattle.std.proofs.Common.{rules, ◌≡◌}
 use Rattle.std.specs.Bool.{Decides}
 use Rattle.std.proofs.lemmas.Slice.Eq.{slice_eq-Decides}
-use Rattle.mls_statements.specs.declared.rows.NodeRow.{NodeRow}
+use Rattle.mls_tables.specs.declared.rows.NodeRow.{NodeRow}
 use Rattle.mls_fragments.proofs.RowOrderLemmas.{node_cmp, node_total, node_exact}
 use Rattle.mls_fragments.proofs.SortedLemmas.{same_sorted_rows, alike_sorted_rows}
 use Rattle.mls_fragments.proofs.comparing.have_same_nodes.Goals as goal

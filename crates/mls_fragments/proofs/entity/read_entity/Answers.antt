@@ -1,12 +1,11 @@
-use Rattle.std.proofs.Common.{◌≡◌, ◌∙◌, [], sym, map, filter, subst, ap, IsPermutation, rules}
+use Rattle.std.proofs.Common.{◌≡◌, ◌∙◌, [], sym, map, filter, subst, ap, IsPermutation}
 use Rattle.std.specs.Prelude.{nat_eq}
 use Rattle.std.specs.List.{AllByRecursion}
 use Rattle.std.proofs.lemmas.Bool.Decides.{Decides-eqb}
 use Rattle.std.proofs.lemmas.List.{nil_from_length}
-use Rattle.mls_scheme.specs.Spelling.{key_spelling}
-use Rattle.mls_statements.specs.Rows.{is_node, is_cell_in}
+use Rattle.mls_tables.specs.Rows.{is_node, is_cell_in}
 use Rattle.mls_fragments.specs.Finding.{IsNodeRow, IsCellRow}
-use Rattle.mls_fragments.specs.Holding.{node_row, cell_row}
+use Rattle.mls_fragments.specs.Holding.{node_row, cell_row, tuple_key}
 use Rattle.mls_fragments.proofs.ByteLemmas.{read_nodes, read_cells}
 use Rattle.mls_fragments.proofs.ReadingLemmas.{found_entity}
 use Rattle.mls_fragments.proofs.ShownLemmas.{shows_nothing}
@@ -20,25 +19,24 @@ returns-in-Ok-fragment_of_relation-clause-found g c clean content holds =
     let f = c.in-Ok-fragment_of_relation.fragment in
     let nodes = c.in_ok-nodes.nodes.items in
     let cells = c.in_ok-cells.cells.items in
-    let before = c.in_ok-cells.ensures.read.call.clean clean in
-    let key : c.deref-2.result.now ≡ key_spelling p.key = search rules in
-    let key_again : c.deref-3.result.now ≡ key_spelling p.key = search rules in
-    let some_nodes = subst (λ e. IsPermutation (filter (is_node rel e p.key_class p.class) t.nodes) nodes) key (c.in_ok-nodes.ensures.found before) in
-    let same_cells = ap (λ u. u.cells) (c.in_ok-nodes.ensures.read.same before).0 in
-    let read_cells = subst (λ e. IsPermutation (filter (is_cell_in rel e p.key_class p.class) c.nodes_at.new.store.now.cells) cells) key_again (c.in_ok-cells.ensures.found clean) in
-    let some_cells = subst (λ xs. IsPermutation (filter (is_cell_in rel (key_spelling p.key) p.key_class p.class) xs) cells) same_cells read_cells in
+    let before = c.in_ok-cells.ensures.call.clean clean in
+    let key : c.in-Ok.key ≡ tuple_key c.args.rel p = c.in-Ok.ensures.made in
+    let some_nodes = subst (λ k. IsPermutation (filter (is_node k) t.nodes) nodes) key (c.in_ok-nodes.ensures.found before) in
+    let same_cells = ap (λ u. u.cells) (c.in_ok-nodes.ensures.same before).0 in
+    let read_cells = subst (λ k. IsPermutation (filter (is_cell_in k) c.nodes_of_key.new.self.now.cells) cells) key (c.in_ok-cells.ensures.found clean) in
+    let some_cells = subst (λ xs. IsPermutation (filter (is_cell_in (tuple_key rel p)) xs) cells) same_cells read_cells in
     found_entity t content rel p f nodes cells holds c.requires.key some_nodes some_cells
-    (subst (λ xs. map (node_row rel) f.nodes ≡ filter (λ r. nat_eq r.rel rel) xs) c.deref-4.ensures.value c.in-Ok-fragment_of_relation.ensures.nodes)
-    (subst (λ xs. map (cell_row rel) f.cells ≡ filter (λ r. nat_eq r.rel rel) xs) c.deref-5.ensures.value c.in-Ok-fragment_of_relation.ensures.cells)
+    (subst (λ xs. map (node_row rel) f.nodes ≡ filter (λ r. nat_eq r.rel rel) xs) c.deref.ensures.value c.in-Ok-fragment_of_relation.ensures.nodes)
+    (subst (λ xs. map (cell_row rel) f.cells ≡ filter (λ r. nat_eq r.rel rel) xs) c.deref-2.ensures.value c.in-Ok-fragment_of_relation.ensures.cells)
     c.in-Ok-fragment_of_relation.ensures.spelled.0 c.in-Ok-fragment_of_relation.ensures.spelled.1
 
 pub returns-then-is_empty-clause-found : goal.returns-then-is_empty-clause-found
 returns-then-is_empty-clause-found g c clean content holds =
     let p = c.args.place.now in
-    let key : c.deref-2.result.now ≡ key_spelling p.key = search rules in
+    let key : c.in-Ok.key ≡ tuple_key c.args.rel p = c.in-Ok.ensures.made in
     let none : c.in_ok-nodes.nodes.items ≡ [] = nil_from_length c.in_ok-nodes.nodes.items (sym c.in_ok-nodes.nodes.ok.0 ∙ (Decides-eqb c.in_ok-nodes.nodes.len 0).0 (sym c.is_empty.ensures ∙ c.if-is_empty.true)) in
-    let some = subst (λ e. IsPermutation (filter (is_node c.args.rel e p.key_class p.class) c.args.store.now.now.nodes) c.in_ok-nodes.nodes.items) key (c.in_ok-nodes.ensures.found clean) in
-    shows_nothing c.args.store.now.now content c.args.rel p c.nothing.result holds c.requires.key (subst (IsPermutation (filter (is_node c.args.rel (key_spelling p.key) p.key_class p.class) c.args.store.now.now.nodes)) none some) c.nothing.ensures.0 c.nothing.ensures.1
+    let some = subst (λ k. IsPermutation (filter (is_node k) c.args.store.now.now.nodes) c.in_ok-nodes.nodes.items) key (c.in_ok-nodes.ensures.found clean) in
+    shows_nothing c.args.store.now.now content c.args.rel p c.nothing.result holds c.requires.key (subst (IsPermutation (filter (is_node (tuple_key c.args.rel p)) c.args.store.now.now.nodes)) none some) c.nothing.ensures.0 c.nothing.ensures.1
 
 pub abandon_at_row-requires-in-Err-fragment_of_relation : goal.abandon_at_row-requires-in-Err-fragment_of_relation
 abandon_at_row-requires-in-Err-fragment_of_relation g c bad clean =
@@ -46,12 +44,12 @@ abandon_at_row-requires-in-Err-fragment_of_relation g c bad clean =
     let t = c.args.store.now.now in
     let nodes = c.in_ok-nodes.nodes.items in
     let cells = c.in_ok-cells.cells.items in
-    let before = c.in_ok-cells.ensures.read.call.clean clean in
-    let held = c.requires.readable (c.in_ok-nodes.ensures.read.call.clean before) in
-    let same_cells = ap (λ u. u.cells) (c.in_ok-nodes.ensures.read.same before).0 in
+    let before = c.in_ok-cells.ensures.call.clean clean in
+    let held = c.requires.readable (c.in_ok-nodes.ensures.call.clean before) in
+    let same_cells = ap (λ u. u.cells) (c.in_ok-nodes.ensures.same before).0 in
     let some_nodes = c.in_ok-nodes.ensures.found before in
-    let some_cells = subst (λ xs. IsPermutation (filter (is_cell_in c.args.rel c.deref-3.result.now p.key_class p.class) xs) cells) same_cells (c.in_ok-cells.ensures.found clean) in
+    let some_cells = subst (λ xs. IsPermutation (filter (is_cell_in c.in-Ok.key) xs) cells) same_cells (c.in_ok-cells.ensures.found clean) in
     let memory = c.in-Err-fragment_of_relation.ensures.only
-    (subst (AllByRecursion IsNodeRow) (sym c.deref-4.ensures.value) (read_nodes t held.0 held.1 held.2 _ nodes some_nodes))
-    (subst (AllByRecursion IsCellRow) (sym c.deref-5.ensures.value) (read_cells t held.0 held.1 held.2 _ cells some_cells)) in
+    (subst (AllByRecursion IsNodeRow) (sym c.deref.ensures.value) (read_nodes t held.0 held.1 held.2 _ nodes some_nodes))
+    (subst (AllByRecursion IsCellRow) (sym c.deref-2.ensures.value) (read_cells t held.0 held.1 held.2 _ cells some_cells)) in
     (let e = sym bad ∙ memory in cc)

@@ -2,8 +2,8 @@ use Rattle.std.proofs.Common.{◌≡◌, true, true≢false, sym, ap, subst, ◌
 use Rattle.std.specs.List.{AllByRecursion}
 use Rattle.std.proofs.lemmas.Result.{IfOk-weaker}
 use Rattle.mls_audit.specs.Spelling.{IsEntryOf}
-use Rattle.mls_statements.specs.Rows.{numbered, are_numbered}
-use Rattle.mls_statements.proofs.NumberedLemmas.{rising}
+use Rattle.mls_tables.specs.Rows.{numbered, are_numbered}
+use Rattle.mls_tables.proofs.NumberedLemmas.{rising}
 use Rattle.mls_fragments.proofs.RowOrderLemmas.{sorted_entries, numbered_texts, each_text, each_row}
 use Rattle.mls_fragments.proofs.finding.entries_of.Goals as goal
 

@@ -9,8 +9,8 @@ use Rattle.mls_fragments.specs.Finding.{is_within, IsNodeRow, IsCellRow, AreAlik
 use Rattle.mls_fragments.proofs.ByteLemmas.{content_bytes, few_labels}
 use Rattle.mls_fragments.proofs.FindingLemmas.{are_content, finds, tables_each, tables_spelled}
 use Rattle.mls_scheme.specs.Table.{place_cmp}
-use Rattle.mls_statements.specs.Adopting.{AreAll}
-use Rattle.mls_statements.specs.Rows.{Tables}
+use Rattle.mls_tables.specs.Adopting.{AreAll}
+use Rattle.mls_tables.specs.Rows.{Tables}
 use Rattle.mls_fragments.specs.Changes.{found}
 use Rattle.mls_fragments.specs.Holding.{Holds}
 use Rattle.mls_fragments.proofs.WithinLemmas.{classes_within, rows_within}

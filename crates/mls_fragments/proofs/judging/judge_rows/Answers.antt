@@ -1,5 +1,5 @@
 use Rattle.std.proofs.Common.{◌≡◌, ◌∷◌, map, sym, subst, rules}
-use Rattle.mls_statements.specs.declared.adopting.AllRows.{AllRows}
+use Rattle.mls_tables.specs.declared.adopting.AllRows.{AllRows}
 use Rattle.mls_fragments.specs.Changes.{content_of}
 use Rattle.mls_fragments.specs.Changes.Change.{Joins}
 use Rattle.mls_fragments.specs.Parts.{IsJudged, rows_in}

@@ -1,6 +1,6 @@
 use Rattle.std.proofs.Common.{false, subst}
-use Rattle.mls_statements.specs.declared.rows.NodeRow.{NodeRow}
-use Rattle.mls_statements.specs.declared.rows.CellRow.{CellRow}
+use Rattle.mls_tables.specs.declared.rows.NodeRow.{NodeRow}
+use Rattle.mls_tables.specs.declared.rows.CellRow.{CellRow}
 use Rattle.mls_fragments.specs.Parts.{before, IsCut}
 use Rattle.mls_fragments.proofs.CutLemmas.{cut_first}
 use Rattle.mls_fragments.proofs.judging.last_part.Goals as goal

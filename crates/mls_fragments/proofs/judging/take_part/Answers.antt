@@ -1,6 +1,6 @@
 use Rattle.std.proofs.Common.{sym, subst, ◌∙◌}
-use Rattle.mls_statements.specs.declared.rows.NodeRow.{NodeRow}
-use Rattle.mls_statements.specs.declared.rows.CellRow.{CellRow}
+use Rattle.mls_tables.specs.declared.rows.NodeRow.{NodeRow}
+use Rattle.mls_tables.specs.declared.rows.CellRow.{CellRow}
 use Rattle.mls_fragments.specs.Parts.{before, IsCut, AreNodesInOrder, AreCellsInOrder}
 use Rattle.mls_fragments.proofs.CutLemmas.{still_parted}
 use Rattle.mls_fragments.proofs.judging.take_part.Goals as goal

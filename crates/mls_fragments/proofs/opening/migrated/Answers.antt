@@ -1,17 +1,17 @@
-use Rattle.std.proofs.Common.{inr, false, map, refl, sym, ap, subst, subst₂, ◌∙◌, IsPermutation}
+use Rattle.std.proofs.Common.{inr, false, map, refl, sym, ap, subst, ◌∙◌, IsPermutation}
 use Rattle.sqlite.specs.Held.{state}
 use Rattle.sqlite.specs.State.{HasCleanDisk}
 use Rattle.mls_filterview.specs.Content.{State}
-use Rattle.mls_statements.specs.Rows.{Tables, numbered, tables_of}
-use Rattle.mls_statements.specs.Store.{TableState, IsClean}
+use Rattle.mls_tables.specs.Rows.{Tables, numbered, tables_of}
+use Rattle.mls_tables.specs.Store.{TableState, IsClean}
 use Rattle.mls_fragments.specs.Based.{state_with}
 use Rattle.mls_fragments.specs.Changes.{content_of}
-use Rattle.mls_fragments.specs.Finding.{IsSoundContent, content_found}
+use Rattle.mls_fragments.specs.Finding.{content_found}
 use Rattle.mls_fragments.specs.Holding.{Holds}
 use Rattle.mls_fragments.specs.Holdings.{HaveOneMeta}
 use Rattle.mls_fragments.specs.Migrating.{IsSoundBefore, IsWidenedContent}
 use Rattle.mls_fragments.proofs.NotedLemmas.{noted_found}
-use Rattle.mls_fragments.proofs.OpeningLemmas.{unread, unfound, read_refused, not_other, not_bad}
+use Rattle.mls_fragments.proofs.OpeningLemmas.{unread, unfound}
 use Rattle.mls_fragments.proofs.opening.migrated.Goals as goal
 
 pub returns-in-Err-clause-untaken : goal.returns-in-Err-clause-untaken

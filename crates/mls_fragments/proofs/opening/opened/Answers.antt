@@ -1,12 +1,13 @@
-use Rattle.std.proofs.Common.{◌≡◌, sym, ap, subst, subst₂, ◌∙◌, [], ◌∷◌, Result, Ok, Err, IfOk, IfErr, IfSome, string_bytes}
+use Rattle.std.proofs.Common.{◌≡◌, sym, ap, subst, subst₂, ◌∙◌, [], ◌∷◌, Result, Ok, Err, IfOk, IfSome, string_bytes}
+use Rattle.std.proofs.lemmas.Result.{IfErr-weaker}
+use Rattle.mls_audit.specs.Sound.{IsSoundContent}
 use Rattle.sqlite.specs.Effect.{Database}
 use Rattle.sqlite.specs.Held.{state}
-use Rattle.mls_statements.specs.Rows.{first_meta, is_meta_row, tables_of}
-use Rattle.mls_statements.specs.Statements.{AreRows}
-use Rattle.mls_fragments.specs.Finding.{IsSoundContent}
+use Rattle.mls_tables.specs.Rows.{first_meta, is_meta_row, tables_of}
+use Rattle.mls_tables.specs.Statements.{AreRows}
 use Rattle.mls_fragments.specs.Holding.{Holds}
 use Rattle.mls_fragments.specs.Holdings.{HaveOneMeta}
-use Rattle.mls_fragments.specs.Migrating.{IsStanding, IsSoundBefore}
+use Rattle.mls_fragments.specs.Migrating.{IsLineage, IsSoundBefore}
 use Rattle.mls_fragments.specs.Opening.{HoldsContent, HoldsSound, IsMigrated, IsUntaken, not_sound, not_sound_before}
 use Rattle.mls_fragments.specs.Based.{BaseState}
 use Rattle.mls_fragments.proofs.HoldingsLemmas.{meta_of_described, base_as_it_was, base_widened}
@@ -16,10 +17,6 @@ use Rattle.mls_fragments.proofs.opening.opened.Goals as goal
 ok_both : {A E : Type 0} (r : Result A E) (P Q R : A → Type 0) → ((a : A) → P a → Q a → R a) → IfOk r P → IfOk r Q → IfOk r R
 ok_both (Ok a) P Q R f p q = f a p q
 ok_both (Err e) P Q R f p q = tt
-
-err_is : {A E : Type 0} (r : Result A E) (P Q : E → Type 0) → ((e : E) → P e → Q e) → IfErr r P → IfErr r Q
-err_is (Ok a) P Q f p = tt
-err_is (Err e) P Q f p = f e p
 
 pub returns-in-Err-clause-unopened : goal.returns-in-Err-clause-unopened
 returns-in-Err-clause-unopened g c =
@@ -34,8 +31,8 @@ taken-requires-clause-described g c disk =
 
 pub returns-in-Ok-Some-Same-clause-over : goal.returns-in-Ok-Some-Same-clause-over
 returns-in-Ok-Some-Same-clause-over g c =
-    let standing = IsStanding c.args.policy.now c.args.file.now c.in-Ok.described in
-    let texts = subst standing c.in-Ok-Some-Same.field-0-0-is (subst (λ o. IfSome o standing) c.in-Ok-Some-Same.field-0-is c.in-Ok-Some-Same.ensures.found) in
+    let lineage = IsLineage c.args.policy.now c.args.file.now c.in-Ok.described in
+    let texts = subst lineage c.in-Ok-Some-Same.field-0-0-is (subst (λ o. IfSome o lineage) c.in-Ok-Some-Same.field-0-is c.in-Ok-Some-Same.ensures.found) in
     ok_both c.taken.result _ _ _ (λ (b : BaseState) rows (content : HoldsContent c.args.policy.now c.args.file.now.schemes b) clean.
     let is = rows clean in (
       c.in-Ok.ensures.reading.clean is.0,
@@ -45,13 +42,13 @@ returns-in-Ok-Some-Same-clause-over g c =
 
 pub returns-in-Ok-Some-Same-clause-unopened : goal.returns-in-Ok-Some-Same-clause-unopened
 returns-in-Ok-Some-Same-clause-unopened g c =
-    let standing = IsStanding c.args.policy.now c.args.file.now c.in-Ok.described in
-    let texts = subst standing c.in-Ok-Some-Same.field-0-0-is (subst (λ o. IfSome o standing) c.in-Ok-Some-Same.field-0-is c.in-Ok-Some-Same.ensures.found) in
+    let lineage = IsLineage c.args.policy.now c.args.file.now c.in-Ok.described in
+    let texts = subst lineage c.in-Ok-Some-Same.field-0-0-is (subst (λ o. IfSome o lineage) c.in-Ok-Some-Same.field-0-is c.in-Ok-Some-Same.ensures.found) in
     let old = state g.S.Store c.args.conn in
     let mid = state g.S.Store c.read_description.new.conn in
     let read = c.in-Ok.ensures.read in
     let Sound = IsSoundContent c.args.policy.now c.args.file.now.schemes in
-    err_is c.taken.result _ _ (λ e (untaken : IsUntaken Sound mid (state g.S.Store e.1) e.0). record {
+    IfErr-weaker c.taken.result _ _ (λ e (untaken : IsUntaken Sound mid (state g.S.Store e.1) e.0). record {
       refused = read_refused old (state g.S.Store e.1) mid c.in-Ok.ensures.reading.clean c.in-Ok.ensures.reading.was_open (λ disk. (read disk).same) (λ disk. (read disk).committed) untaken.refused;
       texts = λ clean is. absurd (untaken.texts is);
       bad = λ clean is.
@@ -61,8 +58,8 @@ returns-in-Ok-Some-Same-clause-unopened g c =
 
 pub returns-in-Ok-Some-Older-clause-over : goal.returns-in-Ok-Some-Older-clause-over
 returns-in-Ok-Some-Older-clause-over g c =
-    let standing = IsStanding c.args.policy.now c.args.file.now c.in-Ok.described in
-    let extended = subst standing c.in-Ok-Some-Older.field-0-0-is (subst (λ o. IfSome o standing) c.in-Ok-Some-Older.field-0-is c.in-Ok-Some-Older.ensures.found) in
+    let lineage = IsLineage c.args.policy.now c.args.file.now c.in-Ok.described in
+    let extended = subst lineage c.in-Ok-Some-Older.field-0-0-is (subst (λ o. IfSome o lineage) c.in-Ok-Some-Older.field-0-is c.in-Ok-Some-Older.ensures.found) in
     let older = c.in-Ok-Some-Older.older in
     ok_both c.migrated.result _ _ _ (λ (b : BaseState) (migrated : IsMigrated c.args.policy.now c.args.file.now.schemes older.labels older.counts.items (first_meta 2 (string_bytes c.args.texts.now.0) (string_bytes c.args.texts.now.1)) (state g.S.Store c.read_description.new.conn) b) (content : HoldsContent c.args.policy.now c.args.file.now.schemes b) clean.
     let disk = migrated.clean clean in
@@ -75,14 +72,14 @@ returns-in-Ok-Some-Older-clause-over g c =
 
 pub returns-in-Ok-Some-Older-clause-unopened : goal.returns-in-Ok-Some-Older-clause-unopened
 returns-in-Ok-Some-Older-clause-unopened g c =
-    let standing = IsStanding c.args.policy.now c.args.file.now c.in-Ok.described in
-    let extended = subst standing c.in-Ok-Some-Older.field-0-0-is (subst (λ o. IfSome o standing) c.in-Ok-Some-Older.field-0-is c.in-Ok-Some-Older.ensures.found) in
+    let lineage = IsLineage c.args.policy.now c.args.file.now c.in-Ok.described in
+    let extended = subst lineage c.in-Ok-Some-Older.field-0-0-is (subst (λ o. IfSome o lineage) c.in-Ok-Some-Older.field-0-is c.in-Ok-Some-Older.ensures.found) in
     let older = c.in-Ok-Some-Older.older in
     let old = state g.S.Store c.args.conn in
     let mid = state g.S.Store c.read_description.new.conn in
     let read = c.in-Ok.ensures.read in
     let Sound = IsSoundBefore c.args.policy.now c.args.file.now.schemes older.labels older.counts.items in
-    err_is c.migrated.result _ _ (λ e (untaken : IsUntaken Sound mid (state g.S.Store e.1) e.0). record {
+    IfErr-weaker c.migrated.result _ _ (λ e (untaken : IsUntaken Sound mid (state g.S.Store e.1) e.0). record {
       refused = read_refused old (state g.S.Store e.1) mid c.in-Ok.ensures.reading.clean c.in-Ok.ensures.reading.was_open (λ disk. (read disk).same) (λ disk. (read disk).committed) untaken.refused;
       texts = λ clean is. absurd (untaken.texts is);
       bad = λ clean is.

@@ -2,10 +2,11 @@ use Rattle.std.proofs.Common.{sym, ap, subst, subst₂, ◌∙◌}
 use Rattle.sqlite.specs.Effect.{Database}
 use Rattle.sqlite.specs.Held.{state}
 use Rattle.mls_filterview.specs.Content.{State}
-use Rattle.mls_statements.specs.Rows.{tables_of}
-use Rattle.mls_statements.specs.Store.{TableState, IsClean}
+use Rattle.mls_audit.specs.Sound.{IsSoundContent}
+use Rattle.mls_tables.specs.Rows.{tables_of}
+use Rattle.mls_tables.specs.Store.{TableState, IsClean}
 use Rattle.mls_fragments.specs.Changes.{content_of}
-use Rattle.mls_fragments.specs.Finding.{IsSoundContent, IsSoundWithin}
+use Rattle.mls_fragments.specs.Finding.{IsSoundWithin}
 use Rattle.mls_fragments.specs.Holding.{Holds}
 use Rattle.mls_fragments.specs.Holdings.{HaveOneMeta}
 use Rattle.mls_fragments.proofs.OpeningLemmas.{unread, unfound}

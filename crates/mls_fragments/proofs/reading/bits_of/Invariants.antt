@@ -1,7 +1,7 @@
 use Rattle.std.proofs.Common.{◌≡◌, ◌<◌, ℕ, take}
 use Rattle.std.specs.Prelude.{nat_eq}
 use Rattle.std.specs.List.{list_any}
-use Rattle.mls_statements.specs.Rows.{has_bit}
+use Rattle.mls_tables.specs.Rows.{has_bit}
 use Rattle.mls_fragments.proofs.reading.bits_of.Given as goal
 
 abbrev pub invariant-loop-label : goal.invariant-loop-label

@@ -1,7 +1,7 @@
 use Rattle.std.proofs.Common.{true≢false, sym, ap, ◌∙◌, pos, map}
 use Rattle.std.proofs.lemmas.Result.{IfOk-weaker}
-use Rattle.mls_statements.specs.Rows.{are_numbered}
-use Rattle.mls_statements.proofs.NumberedLemmas.{rising}
+use Rattle.mls_tables.specs.Rows.{are_numbered}
+use Rattle.mls_tables.proofs.NumberedLemmas.{rising}
 use Rattle.mls_fragments.proofs.RowLemmas.{texts_of}
 use Rattle.mls_fragments.proofs.RowOrderLemmas.{sorted_entries}
 use Rattle.mls_fragments.proofs.reading.entries_in_order.Goals as goal

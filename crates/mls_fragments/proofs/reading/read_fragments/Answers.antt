@@ -1,7 +1,7 @@
 use Rattle.std.proofs.Common.{◌≡◌, ◌∙◌, sym, map, filter, subst, ap, IsPermutation}
 use Rattle.std.specs.Prelude.{nat_eq}
 use Rattle.std.specs.List.{AllByRecursion}
-use Rattle.mls_statements.specs.Rows.{is_node_among, is_cell_among}
+use Rattle.mls_tables.specs.Rows.{is_node_among, is_cell_among}
 use Rattle.mls_fragments.specs.Finding.{IsNodeRow, IsCellRow}
 use Rattle.mls_fragments.specs.Holding.{node_row, cell_row}
 use Rattle.mls_fragments.proofs.ByteLemmas.{read_nodes, read_cells}

@@ -1,5 +1,5 @@
 use Rattle.std.proofs.Common.{◌≡◌, map, sym, subst}
-use Rattle.mls_statements.specs.Rows.{cell_beside}
+use Rattle.mls_tables.specs.Rows.{cell_beside}
 use Rattle.mls_fragments.specs.Holding.{cell_row}
 use Rattle.mls_fragments.proofs.CallLemmas.{adds_both}
 use Rattle.mls_fragments.proofs.writing.add_tuple.Goals as goal

@@ -1,13 +1,12 @@
-use Rattle.std.proofs.Common.{◌∙◌, rules, arith}
+use Rattle.std.proofs.Common.{rules, arith}
 use Rattle.std.proofs.lemmas.Grind.{common_steps}
 use Rattle.mls_fragments.proofs.CallLemmas.{drops_both}
 use Rattle.mls_fragments.proofs.writing.drop_tuple.Goals as goal
 
 pub returns-clause-done : goal.returns-clause-done
 returns-clause-done g c clean =
-    drops_both c.args.rel c.args.place.now c.from-rel.result c.from-kclass.result c.from-label.result c.deref-2.result.now c.deref-3.result.now c.args.store.now c.drop_node.new.self c.drop_cells.new.self c.drop_cells.result
-    (c.from-rel.ensures ∙ c.byte.ensures) (c.from-kclass.ensures ∙ c.byte-2.ensures) (c.from-label.ensures ∙ c.byte-3.ensures)
-    (search rules) (search rules) (c.in_ok-drop_node.ensures.done (c.drop_cells.ensures.call.clean clean)) (c.drop_cells.ensures.done clean)
+    drops_both c.args.rel c.args.place.now c.in-Ok.key c.args.store.now c.drop_node.new.self c.drop_cells.new.self c.drop_cells.result c.in-Ok.ensures.made
+    (c.in_ok-drop_node.ensures.done (c.drop_cells.ensures.call.clean clean)) (c.drop_cells.ensures.done clean)
 
 pub returns-in-Err-clause-step : goal.returns-in-Err-clause-step
 returns-in-Err-clause-step g c = record { call = grind (arith, common_steps); mode = search rules }

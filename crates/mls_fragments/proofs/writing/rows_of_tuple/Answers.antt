@@ -1,5 +1,5 @@
 use Rattle.std.proofs.Common.{◌≡◌, map, subst₂, sym}
-use Rattle.mls_statements.specs.Rows.{cell_beside}
+use Rattle.mls_tables.specs.Rows.{cell_beside}
 use Rattle.mls_fragments.specs.Holding.{cell_row}
 use Rattle.mls_fragments.proofs.CallLemmas.{beside_node, own_spelled}
 use Rattle.mls_fragments.proofs.writing.rows_of_tuple.Goals as goal

@@ -9,7 +9,7 @@ use Rattle.mls_machine.proofs.dumping.push_tuple_lines.Goals as goal
 pub loop-tuple-preserved : goal.loop-tuple-preserved
 loop-tuple-preserved c =
     let site = site_under c.args.policy.now c.args.schemes.now in
-    let made : List ℕ → Tuple → List ℕ = λ session t. script_text site (dump_event site session c.args.rel t) in
+    let made : List ℕ → Tuple → List ℕ = λ session t. script_text site (dump_event site session c.args.relation t) in
     let first = front c.args.policy.now c.args.event.now c.args.event.now.level in
     let text = made c.args.event.now.session c.tuple-item.result in
     one_more (λ x. first ++ made c.args.event.now.session x ++ codes "\n") c.args.tuples.now c.loop-tuple.tuple-index c.tuple-item.result c.tuple-item.result

@@ -16,7 +16,7 @@ loop-place-preserved c =
     let key = c.loop-place.key.items in
     let value = c.in_ok-copy.field-0 in
     let pushed : c.push.new.self.items ≡ key ++ value ∷ [] = c.in_ok-push.ensures.items in
-    let spelled = subst HasSpelling (sym c.in_ok-copy.ensures) (kind-spelled c.in-Some.value.now c.get.result.kind (sym c.if-not-is_kind.ensures)) in
+    let spelled = subst HasSpelling (sym c.in_ok-copy.ensures) (kind-spelled c.in-Some.value.now c.get.result.now.kind (sym c.if-not-is_kind.ensures)) in
     let said : Some value ≡ demanded place test = ap Some c.in_ok-copy.ensures ∙ c.in-Some.ensures in
     let lt : place < count = (let a = c.loop-place-test.true in let b = c.len-place-end.ensures in let d = ap length c.keys-attributes.ensures.keys in omega (arith, a, b, d)) in
     record {

@@ -17,7 +17,7 @@ entity_parts-requires-clause-see g c = record {
   stored = λ clean.
       let inv = c.loop-number.invariant in
       let stored = c.requires.see.stored (inv.clean clean) in
-      (stored.0, subst (λ (s : State). IsStored (labels_of c.args.policy.now) stored.0 (s.now.db c.args.rel)) (sym (inv.same clean)) stored.1);
+      (stored.0, subst (λ (s : State). IsStored (labels_of c.args.policy.now) stored.0 (s.now.db c.args.relation)) (sym (inv.same clean)) stored.1);
 }
 
 pub loop-number-preserved-then-not-dominates : goal.loop-number-preserved-then-not-dominates
@@ -32,7 +32,7 @@ loop-number-preserved-then-not-dominates g c =
       key = inv.key;
       parts = λ clean.
           let stored = c.requires.see.stored (inv.clean clean) in
-          key_skipped ls ((g.B.Base.state c.args.base.now).now.db c.args.rel) c.args.label c.args.key stored.0 stored.1 c.loop-number.number c.loop-number.nodes.items c.loop-number.cells.items
+          key_skipped ls ((g.B.Base.state c.args.base.now).now.db c.args.relation) c.args.label c.args.key stored.0 stored.1 c.loop-number.number c.loop-number.nodes.items c.loop-number.cells.items
           (ap (λ m. below ls m c.args.label) (sym c.new-key_class.ensures) ∙ sym c.if-not-dominates.ensures.order) (inv.parts clean);
     }
 
@@ -54,19 +54,19 @@ loop-number-preserved g c =
           let before = c.in_ok-settle.ensures.call.clean clean in
           let start = f.ensures.read.call.clean before in
           let stored = c.requires.see.stored (inv.clean start) in
-          let T = (B.state c.args.base.now).now.db c.args.rel in
+          let T = (B.state c.args.base.now).now.db c.args.relation in
           rw (subst (λ r. OnOk r (c.gather.new.nodes.items ≡ c.loop-number.nodes.items ++ f.parts.nodes)) put c.gather.ensures.nodes, subst (λ r. OnOk r (c.gather.new.cells.items ≡ c.loop-number.cells.items ++ f.parts.cells)) put c.gather.ensures.cells)
           (key_more ls T c.args.label c.args.key stored.0 stored.1 c.loop-number.number c.loop-number.nodes.items f.parts.nodes c.loop-number.cells.items f.parts.cells
-          (subst (λ (s : State). AreOf (IsOfEntity ls (s.now.db c.args.rel) c.args.label c.args.key c.loop-number.number (length ls)) f.parts.nodes f.parts.cells) (inv.same start)
-          (subst (λ k. AreOf (IsOfEntity ls ((B.state c.loop-number.base).now.db c.args.rel) c.args.label k c.loop-number.number (length ls)) f.parts.nodes f.parts.cells) inv.key
-          (subst (λ m. AreOf (IsOfEntity ls ((B.state c.loop-number.base).now.db c.args.rel) c.args.label c.loop-number.place.key m (length ls)) f.parts.nodes f.parts.cells) c.new-key_class.ensures
+          (subst (λ (s : State). AreOf (IsOfEntity ls (s.now.db c.args.relation) c.args.label c.args.key c.loop-number.number (length ls)) f.parts.nodes f.parts.cells) (inv.same start)
+          (subst (λ k. AreOf (IsOfEntity ls ((B.state c.loop-number.base).now.db c.args.relation) c.args.label k c.loop-number.number (length ls)) f.parts.nodes f.parts.cells) inv.key
+          (subst (λ m. AreOf (IsOfEntity ls ((B.state c.loop-number.base).now.db c.args.relation) c.args.label c.loop-number.place.key m (length ls)) f.parts.nodes f.parts.cells) c.new-key_class.ensures
           (f.ensures.parts before)))) (inv.parts start));
     }
 
 pub returns-clause-parts : goal.returns-clause-parts
 returns-clause-parts g c = λ clean.
     let ls = labels_of c.args.policy.now in
-    let T = (g.B.Base.state c.args.base.now).now.db c.args.rel in
+    let T = (g.B.Base.state c.args.base.now).now.db c.args.relation in
     let stored = c.requires.see.stored (c.loop-number.invariant.clean clean) in
     rw (c.from.ensures, c.from-2.ensures)
     (key_parts_low ls T c.args.label c.args.key stored.0 stored.1 c.loop-number.nodes.items c.loop-number.cells.items

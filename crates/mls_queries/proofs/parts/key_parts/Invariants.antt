@@ -13,5 +13,5 @@ invariant-loop-number g l =
       mode : (B.state l.base).begun ≡ (B.state l.fn.base).begun;
       same : B.is_clean l.base → B.state l.base ≡ B.state l.fn.base;
       key : l.place.key ≡ l.fn.key;
-      parts : B.is_clean l.base → AreOf (IsOfKey (labels_of l.policy) ((B.state l.fn.base).now.db l.rel) l.label l.fn.key l.number) l.nodes.items l.cells.items;
+      parts : B.is_clean l.base → AreOf (IsOfKey (labels_of l.policy) ((B.state l.fn.base).now.db l.relation) l.label l.fn.key l.number) l.nodes.items l.cells.items;
     }

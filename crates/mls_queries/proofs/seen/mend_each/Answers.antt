@@ -16,7 +16,7 @@ mend-requires-clause-see g c = record {
   stored = λ clean.
       let inv = c.loop-place.invariant in
       let stored = c.requires.see.stored (inv.clean clean) in
-      (stored.0, subst (λ (s : State). IsStored (labels_of c.args.policy.now) stored.0 (s.now.db c.args.rel)) (sym (inv.same clean)) stored.1);
+      (stored.0, subst (λ (s : State). IsStored (labels_of c.args.policy.now) stored.0 (s.now.db c.args.relation)) (sym (inv.same clean)) stored.1);
 }
 
 pub loop-place-preserved : goal.loop-place-preserved
@@ -26,7 +26,7 @@ loop-place-preserved g c =
     let m = c.in_ok-tuples.ensures in
     let ls = labels_of c.args.policy.now in
     let label = c.args.label in
-    let T = (B.state c.args.base.now).now.db c.args.rel in
+    let T = (B.state c.args.base.now).now.db c.args.relation in
     let ts = c.loop-place.tuples.items in
     let p = c.in-Some.place in
     let rest = c.next.new.self.rest.items in
@@ -39,14 +39,14 @@ loop-place-preserved g c =
       named = (subst (AllByRecursion (IsNamed (length c.args.policy.now.labels))) here inv.named).1;
       agrees = λ clean.
           let before = m.read.call.clean clean in
-          let is = m.rows clean ∙ ap (λ (s : State). mended p (rows ls label (of_entity p (s.now.db c.args.rel))) ts) (inv.same before) in
+          let is = m.rows clean ∙ ap (λ (s : State). mended p (rows ls label (of_entity p (s.now.db c.args.relation))) ts) (inv.same before) in
           subst (λ xs. AgreesWith (rows ls label T) (record { tuples = xs; written = rest })) (sym is)
           (mended_agrees ls label T p rest ts (subst (λ ws. AgreesWith (rows ls label T) (record { tuples = ts; written = ws })) here (inv.agrees before)));
     }
 
 pub returns-clause-rows : goal.returns-clause-rows
 returns-clause-rows g c = λ clean.
-    let now = rows (labels_of c.args.policy.now) c.args.label ((g.B.Base.state c.args.base.now).now.db c.args.rel) in
+    let now = rows (labels_of c.args.policy.now) c.args.label ((g.B.Base.state c.args.base.now).now.db c.args.relation) in
     let ts = c.loop-place.tuples.items in
     let none : length c.loop-place.place-iterator.rest.items ≡ 0 = search rules in
     let nil : c.loop-place.place-iterator.rest.items ≡ [] = nil_from_length c.loop-place.place-iterator.rest.items none in

@@ -14,5 +14,5 @@ invariant-loop-place g l =
       mode : (B.state l.base).begun ≡ (B.state l.fn.base).begun;
       same : B.is_clean l.base → B.state l.base ≡ B.state l.fn.base;
       named : AllByRecursion (IsNamed (length l.policy.labels)) l.place-iterator.rest.items;
-      agrees : B.is_clean l.base → AgreesWith (rows (labels_of l.policy) l.label ((B.state l.fn.base).now.db l.rel)) (record { tuples = l.tuples.items; written = l.place-iterator.rest.items });
+      agrees : B.is_clean l.base → AgreesWith (rows (labels_of l.policy) l.label ((B.state l.fn.base).now.db l.relation)) (record { tuples = l.tuples.items; written = l.place-iterator.rest.items });
     }

@@ -1,7 +1,8 @@
 use Rattle.std.proofs.Common.{◌≡◌, sym, ap, subst, ◌∙◌}
 use Rattle.mls_lattice.specs.Labels.{AreDistinct}
+use Rattle.mls_audit.specs.Sound.{IsSoundContent}
 use Rattle.mls_machine.specs.Site.{Site, site_labels}
-use Rattle.mls_sessions.specs.World.{world_at, IsSound}
+use Rattle.mls_sessions.specs.World.{world_at}
 use Rattle.mls_sessions.specs.Sessions.{site_of, sessions_of}
 use Rattle.mls_host.specs.Hosting.{IsAppended}
 use Rattle.mls_host.specs.Running.{first_world, site_of as site_for}
@@ -29,10 +30,10 @@ returns-clause-desk g c = λ clean.
     let first = (g.B.Base.state c.args.base).now in
     let left = (g.B.Base.state c.finish.result).now in
     let sessions = sessions_of new.sessions.items in
-    let same : site_of new.rules ≡ at = ap site_of c.serve-outcome.ensures.continues.kept.rules ∙ c.new-engine.ensures.site in
+    let same : site_of new.site ≡ at = ap site_of c.serve-outcome.ensures.continues.kept.site ∙ c.new-engine.ensures.site in
     let held : (g.B.Base.state new.base).now ≡ left = ap (λ b. (g.B.Base.state b).now) (sym c.finish.ensures) in
-    let sound : IsSound at left = subst (λ x. IsSound at x) held (subst (λ x. IsSound x (g.B.Base.state new.base).now) same (c.serve-outcome.ensures.continues.kept.ready.sound was)) in
-    let last : world_at (site_of new.rules) sessions (g.B.Base.state new.base).now ≡ world_at at sessions left = λ i. world_at (same i) sessions (held i) in
+    let sound : IsSoundContent at.policy at.schemes left = subst (IsSoundContent at.policy at.schemes) held (subst (λ (x : Site). IsSoundContent x.policy x.schemes (g.B.Base.state new.base).now) same (c.serve-outcome.ensures.continues.kept.ready.sound was)) in
+    let last : world_at (site_of new.site) sessions (g.B.Base.state new.base).now ≡ world_at at sessions left = λ i. world_at (same i) sessions (held i) in
     let distinct : AreDistinct (site_labels at) = subst (λ (s : Site). AreDistinct (site_labels s)) c.new-engine.ensures.site c.new-engine.ensures.ready.distinct in
     let start = c.requires.sound (subst g.B.Base.is_clean c.new-engine.ensures.base (c.serve-outcome.ensures.continues.clean was)) in
     let before = g.L.TypedLines.remaining c.args.lines.now in

@@ -7,18 +7,19 @@ use Rattle.mls_host.specs.declared.ending.Ending.{Ending}
 use Rattle.mls_fragments.specs.declared.open_fault.OpenFault.TheVariants as stores
 use Rattle.mls_host.specs.declared.reason.Reason.{Reason}
 use Rattle.mls_host.specs.declared.reason.Reason.TheVariants.{Store}
-use Rattle.mls_host.specs.declared.refusal.Refusal.{Refusal}
+use Rattle.mls_host.specs.declared.stop.Stop.{Stop}
 use Rattle.mls_host.specs.Hosting.{IsAppended}
 use Rattle.mls_host.specs.Running.{site_of}
-use Rattle.mls_host.specs.Refusal.{IsEnd}
+use Rattle.mls_host.specs.Stop.{IsEnd}
 use Rattle.mls_host.specs.Stopping.{IsCausedInMemory}
-use Rattle.mls_host.proofs.RunningLemmas.{none_sound, ended_so}
+use Rattle.mls_audit.proofs.SoundLemmas.{none_sound}
+use Rattle.mls_host.proofs.RunningLemmas.{ended_so}
 use Rattle.mls_host.proofs.StoppingLemmas.{ended_in_memory}
 use Rattle.mls_runs.specs.Desk.{IsDesk}
 use Rattle.mls_runs.proofs.desks.desk_in_memory.Goals as goal
 
 pub desk_over_base-outcome-requires-clause-sound : goal.desk_over_base-outcome-requires-clause-sound
-desk_over_base-outcome-requires-clause-sound g c = λ _. none_sound (site_of c.args.policy.now c.args.file.now.schemes c.args.stored) _ c.in-Ok.ensures.content
+desk_over_base-outcome-requires-clause-sound g c = λ _. none_sound c.args.policy.now c.args.file.now.schemes _ c.in-Ok.ensures.content
 
 pub returns-in-Err-clause-ends : goal.returns-in-Err-clause-ends
 returns-in-Err-clause-ends g c = (ap Store c.in-Err.ensures.fault, Appends-nil _)
@@ -36,9 +37,9 @@ returns-clause-ends g c =
     let ran : Runs c.desk_over_base-outcome.result.0 =
     (left, subst (λ (x : State). IsDesk g.L.TypedLines.echo at before after Broken Wrote c.desk_over_base-outcome.result.0 x.now left) c.in-Ok.ensures.content desk) in
     let Nothing : Reason → Type 0 = λ reason. (reason ≡ Store stores.Memory) × Wrote [] in
-    subst (λ (r : Result Ending Refusal). IsEnd Runs Nothing r) (sym c.ended.ensures) (ended_so Runs Nothing c.desk_over_base-outcome.result.0 (Ok tt) ran)
+    subst (λ (r : Result Ending Stop). IsEnd Runs Nothing r) (sym c.ended.ensures) (ended_so Runs Nothing c.desk_over_base-outcome.result.0 (Ok tt) ran)
 
 pub returns-clause-caused : goal.returns-clause-caused
 returns-clause-caused g c =
-    subst (λ (r : Result Ending Refusal). IsCausedInMemory r) (sym c.ended.ensures)
+    subst (λ (r : Result Ending Stop). IsCausedInMemory r) (sym c.ended.ensures)
     (ended_in_memory c.desk_over_base-outcome.result.0 (c.desk_over_base-outcome.ensures.leaves.store c.close.ensures.clean))

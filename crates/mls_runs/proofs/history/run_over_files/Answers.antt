@@ -1,7 +1,7 @@
 use Rattle.std.proofs.Common.{refl, subst}
 use Rattle.std.proofs.KnownBytes.{Appends-nil}
 use Rattle.sqlite.specs.Files.{image_of}
-use Rattle.mls_statements.specs.Store.{IsClean}
+use Rattle.mls_tables.specs.Store.{IsClean}
 use Rattle.mls_fragments.specs.Again.{FindsHoldings}
 use Rattle.mls_fragments.specs.Based.{state_of}
 use Rattle.mls_fragments.proofs.HoldingsLemmas.{base_is_taken}

@@ -1,6 +1,6 @@
 use Rattle.std.proofs.Common.{subst}
 use Rattle.mls_sessions.specs.declared.cause.RunCause.TheVariants.{Memory, Write}
-use Rattle.mls_runs.specs.declared.seat.Fate.TheVariants.{Unreadable, Lost}
+use Rattle.mls_runs.specs.declared.shell_session.Fate.TheVariants.{Unreadable, Lost}
 use Rattle.mls_runs.specs.Typed.{Becomes}
 use Rattle.mls_runs.proofs.TypedLemmas.{read_long, read_lost, lost_read}
 use Rattle.mls_runs.specs.Desk.{IsFate}

@@ -5,7 +5,7 @@ use Rattle.mls_host.specs.Hosting.{hosted, IsAppended}
 use Rattle.mls_host.specs.Words.{named}
 use Rattle.mls_host.specs.Causes.{IsBarred}
 use Rattle.mls_host.specs.Storing.{AreStoredWith}
-use Rattle.mls_host.specs.Refusal.{IsEnd}
+use Rattle.mls_host.specs.Stop.{IsEnd}
 use Rattle.mls_host.specs.declared.reason.Reason.TheVariants.{Memory}
 use Rattle.mls_runs.specs.ScriptRun.{site_under, IsRunFrom}
 use Rattle.mls_host.proofs.StoringLemmas.{stored_read, stored_certified}

@@ -10,7 +10,7 @@ use Rattle.mls_runs.proofs.shell.follow.Goals as goal
 
 pub returns-in-Lost-clause-followed : goal.returns-in-Lost-clause-followed
 returns-in-Lost-clause-followed g c = λ clean.
-    followed_lost (site c.args.engine.now) (audience_at c.args.seat.now) (world_of g.B.Base.state c.args.engine.now) c.args.fate.now (g.W.Write.contents c.args.out.now) c.args.line c.in-Lost.cause c.in-Lost.is
+    followed_lost (site c.args.engine.now) (audience_at c.args.session.now) (world_of g.B.Base.state c.args.engine.now) c.args.fate.now (g.W.Write.contents c.args.out.now) c.args.line c.in-Lost.cause c.in-Lost.is
 
 pub returns-in-Lost-clause-continues : goal.returns-in-Lost-clause-continues
 returns-in-Lost-clause-continues g c =
@@ -19,7 +19,7 @@ returns-in-Lost-clause-continues g c =
 
 pub returns-in_default-clause-followed : goal.returns-in_default-clause-followed
 returns-in_default-clause-followed g c = λ clean.
-    followed_none (site c.args.engine.now) (audience_at c.args.seat.now) (world_of g.B.Base.state c.args.engine.now) c.args.fate.now (g.W.Write.contents c.args.out.now) c.args.line c.in_default.not-Said
+    followed_none (site c.args.engine.now) (audience_at c.args.session.now) (world_of g.B.Base.state c.args.engine.now) c.args.fate.now (g.W.Write.contents c.args.out.now) c.args.line c.in_default.not-Said
 
 pub returns-in_default-clause-found : goal.returns-in_default-clause-found
 returns-in_default-clause-found g c = none_is_lost c.args.fate.now c.in_default.not-Lost

@@ -1,8 +1,9 @@
 use Rattle.std.proofs.Common.{◌≡◌, ◌∷◌, [], sym, ap, subst, ◌∙◌}
 use Rattle.mls_lattice.specs.Labels.{AreDistinct}
+use Rattle.mls_audit.specs.Sound.{IsSoundContent}
 use Rattle.mls_machine.specs.Site.{Site, site_labels}
 use Rattle.mls_machine.specs.Observation.{EventsFit}
-use Rattle.mls_sessions.specs.World.{world_at, IsSound}
+use Rattle.mls_sessions.specs.World.{world_at}
 use Rattle.mls_sessions.specs.Sessions.{site_of, sessions_of}
 use Rattle.mls_host.specs.Hosting.{IsTold}
 use Rattle.mls_host.specs.Running.{first_world, site_of as site_for}
@@ -18,8 +19,8 @@ pub converse-outcome-requires-clause-schemes : goal.converse-outcome-requires-cl
 converse-outcome-requires-clause-schemes g c = ap (λ (s : Site). s.schemes) c.new-engine.ensures.site
 
 pub converse-outcome-requires-clause-fits : goal.converse-outcome-requires-clause-fits
-converse-outcome-requires-clause-fits g c = subst (λ (at : Site). EventsFit at (opening c.args.seat.now ∷ [])) (sym c.new-engine.ensures.site)
-    (opening_fits (site_for c.args.policy.now c.args.schemes.now c.args.stored) c.args.seat.now c.requires.may.level c.requires.may.user)
+converse-outcome-requires-clause-fits g c = subst (λ (at : Site). EventsFit at (opening c.args.session.now ∷ [])) (sym c.new-engine.ensures.site)
+    (opening_fits (site_for c.args.policy.now c.args.schemes.now c.args.stored) c.args.session.now c.requires.may.level c.requires.may.user)
 
 pub returns-clause-leaves : goal.returns-clause-leaves
 returns-clause-leaves g c =
@@ -34,13 +35,13 @@ returns-clause-shell g c = λ clean.
     let first = (g.B.Base.state c.args.base).now in
     let left = (g.B.Base.state c.finish.result).now in
     let sessions = sessions_of new.sessions.items in
-    let same : site_of new.rules ≡ at = ap site_of c.converse-outcome.ensures.continues.kept.rules ∙ c.new-engine.ensures.site in
+    let same : site_of new.site ≡ at = ap site_of c.converse-outcome.ensures.continues.kept.site ∙ c.new-engine.ensures.site in
     let held : (g.B.Base.state new.base).now ≡ left = ap (λ b. (g.B.Base.state b).now) (sym c.finish.ensures) in
-    let sound : IsSound at left = subst (λ x. IsSound at x) held (subst (λ x. IsSound x (g.B.Base.state new.base).now) same (c.converse-outcome.ensures.continues.kept.ready.sound was)) in
-    let last : world_at (site_of new.rules) sessions (g.B.Base.state new.base).now ≡ world_at at sessions left = λ i. world_at (same i) sessions (held i) in
+    let sound : IsSoundContent at.policy at.schemes left = subst (IsSoundContent at.policy at.schemes) held (subst (λ (x : Site). IsSoundContent x.policy x.schemes (g.B.Base.state new.base).now) same (c.converse-outcome.ensures.continues.kept.ready.sound was)) in
+    let last : world_at (site_of new.site) sessions (g.B.Base.state new.base).now ≡ world_at at sessions left = λ i. world_at (same i) sessions (held i) in
     let distinct : AreDistinct (site_labels at) = subst (λ (s : Site). AreDistinct (site_labels s)) c.new-engine.ensures.site c.new-engine.ensures.ready.distinct in
     let start = c.requires.sound (subst g.B.Base.is_clean c.new-engine.ensures.base (c.converse-outcome.ensures.continues.clean was)) in
-    shell_at g.L.TypedLines.echo at c.args.seat.now sessions first left (g.L.TypedLines.remaining c.args.lines.now) (g.L.TypedLines.remaining c.converse-outcome.new.lines) (g.W.Write.contents c.args.out.now) (g.W.Write.contents c.converse-outcome.new.out) (g.L.TypedLines.breaks c.converse-outcome.new.lines)
+    shell_at g.L.TypedLines.echo at c.args.session.now sessions first left (g.L.TypedLines.remaining c.args.lines.now) (g.L.TypedLines.remaining c.converse-outcome.new.lines) (g.W.Write.contents c.args.out.now) (g.W.Write.contents c.converse-outcome.new.out) (g.L.TypedLines.breaks c.converse-outcome.new.lines)
     (IsTold g.E.Write.contents c.args.err.now c.converse-outcome.new.err) c.converse-outcome.result distinct c.requires.may.read c.requires.may.certified start sound
-    (conversation_at g.L.TypedLines.echo c.args.seat.now (g.L.TypedLines.remaining c.args.lines.now) (g.L.TypedLines.remaining c.converse-outcome.new.lines) (g.W.Write.contents c.args.out.now) (g.W.Write.contents c.converse-outcome.new.out) (g.L.TypedLines.breaks c.converse-outcome.new.lines)
+    (conversation_at g.L.TypedLines.echo c.args.session.now (g.L.TypedLines.remaining c.args.lines.now) (g.L.TypedLines.remaining c.converse-outcome.new.lines) (g.W.Write.contents c.args.out.now) (g.W.Write.contents c.converse-outcome.new.out) (g.L.TypedLines.breaks c.converse-outcome.new.lines)
     (IsTold g.E.Write.contents c.args.err.now c.converse-outcome.new.err) c.converse-outcome.result _ at _ (first_world at first) _ (world_at at sessions left) c.new-engine.ensures.site c.new-engine.ensures.world last (c.converse-outcome.ensures.conversation was))

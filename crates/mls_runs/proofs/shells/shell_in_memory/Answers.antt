@@ -7,19 +7,20 @@ use Rattle.mls_host.specs.declared.ending.Ending.{Ending}
 use Rattle.mls_fragments.specs.declared.open_fault.OpenFault.TheVariants as stores
 use Rattle.mls_host.specs.declared.reason.Reason.{Reason}
 use Rattle.mls_host.specs.declared.reason.Reason.TheVariants.{Store}
-use Rattle.mls_host.specs.declared.refusal.Refusal.{Refusal}
+use Rattle.mls_host.specs.declared.stop.Stop.{Stop}
 use Rattle.mls_host.specs.Hosting.{IsAppended, IsTold}
 use Rattle.mls_host.specs.Running.{site_of}
 use Rattle.mls_runs.specs.Shell.{IsShell}
-use Rattle.mls_host.specs.Refusal.{IsEnd}
-use Rattle.mls_host.proofs.RunningLemmas.{none_sound, ended_so}
+use Rattle.mls_host.specs.Stop.{IsEnd}
+use Rattle.mls_audit.proofs.SoundLemmas.{none_sound}
+use Rattle.mls_host.proofs.RunningLemmas.{ended_so}
 use Rattle.mls_host.proofs.HostingLemmas.{told_nothing}
 use Rattle.mls_host.specs.Stopping.{IsCausedInMemory}
 use Rattle.mls_host.proofs.StoppingLemmas.{ended_in_memory}
 use Rattle.mls_runs.proofs.shells.shell_in_memory.Goals as goal
 
 pub shell_over_base-outcome-requires-clause-sound : goal.shell_over_base-outcome-requires-clause-sound
-shell_over_base-outcome-requires-clause-sound g c = λ _. none_sound (site_of c.args.policy.now c.args.file.now.schemes c.args.stored) _ c.in-Ok.ensures.content
+shell_over_base-outcome-requires-clause-sound g c = λ _. none_sound c.args.policy.now c.args.file.now.schemes _ c.in-Ok.ensures.content
 
 pub returns-in-Err-clause-ends : goal.returns-in-Err-clause-ends
 returns-in-Err-clause-ends g c = (ap Store c.in-Err.ensures.fault, Appends-nil _, told_nothing g.E.Write.contents c.args.err.now)
@@ -31,13 +32,13 @@ returns-clause-ends g c =
     let Wrote = IsAppended g.W.Write.contents c.args.out.now c.shell_over_base-outcome.new.out in
     let Told = IsTold g.E.Write.contents c.args.err.now c.shell_over_base-outcome.new.err in
     let shell = c.shell_over_base-outcome.ensures.shell c.close.ensures.clean in
-    let Runs : Result Ending RunFault → Type 0 = λ end. (last : Content) × IsShell g.L.TypedLines.echo at c.args.seat.now (g.L.TypedLines.remaining c.args.lines.now) (g.L.TypedLines.remaining c.shell_over_base-outcome.new.lines) (g.L.TypedLines.breaks c.shell_over_base-outcome.new.lines) Wrote Told end no_content last in
+    let Runs : Result Ending RunFault → Type 0 = λ end. (last : Content) × IsShell g.L.TypedLines.echo at c.args.session.now (g.L.TypedLines.remaining c.args.lines.now) (g.L.TypedLines.remaining c.shell_over_base-outcome.new.lines) (g.L.TypedLines.breaks c.shell_over_base-outcome.new.lines) Wrote Told end no_content last in
     let ran : Runs c.shell_over_base-outcome.result.0 =
-    (left, subst (λ (x : State). IsShell g.L.TypedLines.echo at c.args.seat.now (g.L.TypedLines.remaining c.args.lines.now) (g.L.TypedLines.remaining c.shell_over_base-outcome.new.lines) (g.L.TypedLines.breaks c.shell_over_base-outcome.new.lines) Wrote Told c.shell_over_base-outcome.result.0 x.now left) c.in-Ok.ensures.content shell) in
+    (left, subst (λ (x : State). IsShell g.L.TypedLines.echo at c.args.session.now (g.L.TypedLines.remaining c.args.lines.now) (g.L.TypedLines.remaining c.shell_over_base-outcome.new.lines) (g.L.TypedLines.breaks c.shell_over_base-outcome.new.lines) Wrote Told c.shell_over_base-outcome.result.0 x.now left) c.in-Ok.ensures.content shell) in
     let Nothing : Reason → Type 0 = λ reason. (reason ≡ Store stores.Memory) × Wrote [] × Told [] in
-    subst (λ (r : Result Ending Refusal). IsEnd Runs Nothing r) (sym c.ended.ensures) (ended_so Runs Nothing c.shell_over_base-outcome.result.0 (Ok tt) ran)
+    subst (λ (r : Result Ending Stop). IsEnd Runs Nothing r) (sym c.ended.ensures) (ended_so Runs Nothing c.shell_over_base-outcome.result.0 (Ok tt) ran)
 
 pub returns-clause-caused : goal.returns-clause-caused
 returns-clause-caused g c =
-    subst (λ (r : Result Ending Refusal). IsCausedInMemory r) (sym c.ended.ensures)
+    subst (λ (r : Result Ending Stop). IsCausedInMemory r) (sym c.ended.ensures)
     (ended_in_memory c.shell_over_base-outcome.result.0 (c.shell_over_base-outcome.ensures.leaves.store c.close.ensures.clean))

@@ -1,10 +1,10 @@
 use Rattle.std.proofs.Common.{[], Result, Some, refl, sym, subst}
 use Rattle.std.proofs.KnownBytes.{Appends-nil}
 use Rattle.mls_sessions.specs.declared.cause.RunFault.{RunFault}
-use Rattle.mls_host.specs.declared.refusal.Refusal.{Refusal}
+use Rattle.mls_host.specs.declared.stop.Stop.{Stop}
 use Rattle.mls_host.specs.Hosting.{hosted, IsAppended}
 use Rattle.mls_host.specs.Causes.{IsBarred}
-use Rattle.mls_host.specs.Refusal.{IsEnd}
+use Rattle.mls_host.specs.Stop.{IsEnd}
 use Rattle.mls_host.specs.Stopping.{IsCaused}
 use Rattle.mls_host.proofs.RunningLemmas.{ended_so}
 use Rattle.mls_host.proofs.StoppingLemmas.{caused_in_store}
@@ -25,7 +25,7 @@ returns-clause-ends g c =
     let ran : Turns c.turn-outcome.result = λ honest.
     let clean = c.keep-closed.ensures.honest.0 honest in
     record { first = _; left = _; begins = c.in-Ok.ensures.kept (c.turn-outcome.ensures.clean clean); kept = c.keep-closed.ensures.kept honest; leads = turning setting Wrote _ _ c.turn-outcome.result (c.turn-outcome.ensures.turned clean) c.in-Ok.ensures.sound } in
-    subst (λ (r : Result (Unit {0}) Refusal). IsEnd Turns (λ reason. IsBarred (g.H.Host.hosting c.args.host.now) setting.policy setting.file (Some c.args.path.now) reason × Wrote []) r) (sym c.ended.ensures)
+    subst (λ (r : Result (Unit {0}) Stop). IsEnd Turns (λ reason. IsBarred (g.H.Host.hosting c.args.host.now) setting.policy setting.file (Some c.args.path.now) reason × Wrote []) r) (sym c.ended.ensures)
     (ended_so Turns (λ reason. IsBarred (g.H.Host.hosting c.args.host.now) setting.policy setting.file (Some c.args.path.now) reason × Wrote []) c.turn-outcome.result c.keep-closed.result ran)
 
 pub returns-in-Err-clause-caused : goal.returns-in-Err-clause-caused
@@ -34,6 +34,6 @@ returns-in-Err-clause-caused g c = c.in-Err.ensures.same
 pub returns-clause-caused : goal.returns-clause-caused
 returns-clause-caused g c =
     let h = hosted g.H.Host.hosting g.H.Lines.TypedLines.echo c.args.host.now c.keep-closed.new.self in
-    subst (λ (r : Result (Unit {0}) Refusal). IsCaused h (Some c.args.path.now) r) (sym c.ended.ensures)
+    subst (λ (r : Result (Unit {0}) Stop). IsCaused h (Some c.args.path.now) r) (sym c.ended.ensures)
     (caused_in_store h c.args.path.now c.turn-outcome.result c.keep-closed.result (g.H.Store.Base.failures c.in-Ok.base) (g.H.Store.Base.failures c.turn-outcome.new.base)
     c.keep-closed.ensures.closed.1 c.keep-closed.ensures.failed.1 (λ honest. c.turn-outcome.ensures.store))

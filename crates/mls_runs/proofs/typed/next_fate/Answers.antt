@@ -1,6 +1,6 @@
 use Rattle.std.proofs.Common.{subst}
 use Rattle.mls_sessions.specs.declared.cause.RunCause.TheVariants.{Memory, Write}
-use Rattle.mls_runs.specs.declared.seat.Fate.TheVariants.{Unreadable, Lost}
+use Rattle.mls_runs.specs.declared.shell_session.Fate.TheVariants.{Unreadable, Lost}
 use Rattle.mls_runs.specs.Typed.{fate_of, Becomes}
 use Rattle.mls_runs.specs.Shell.{IsFate}
 use Rattle.mls_runs.proofs.TypedLemmas.{read_whole, read_long, read_lost, lost_read}
@@ -9,19 +9,19 @@ use Rattle.mls_runs.proofs.typed.next_fate.Goals as goal
 pub returns-in-Ok-Line-clause-read : goal.returns-in-Ok-Line-clause-read
 returns-in-Ok-Line-clause-read g c =
     let (next, shown, short) = rw c.in-Ok-Line.field-0-is at c.in-Ok-Line.ensures.typed in
-    read_whole c.args.policy.now c.args.schemes.now c.args.seat.now g.L.TypedLines.echo _ _ _ _ _ c.label_count.ensures.valid c.count.ensures.valid c.in-Ok-Line.line.items next short shown c.fate_of-fate.result
-    (subst (λ line. Becomes (fate_of c.args.policy.now c.args.schemes.now c.args.seat.now line) c.fate_of-fate.result) c.deref.ensures.value c.fate_of-fate.ensures.is)
+    read_whole c.args.policy.now c.args.schemes.now c.args.session.now g.L.TypedLines.echo _ _ _ _ _ c.label_count.ensures.valid c.count.ensures.valid c.in-Ok-Line.line.items next short shown c.fate_of-fate.result
+    (subst (λ line. Becomes (fate_of c.args.policy.now c.args.schemes.now c.args.session.now line) c.fate_of-fate.result) c.deref.ensures.value c.fate_of-fate.ensures.is)
 
 pub returns-in-Ok-TooLong-clause-read : goal.returns-in-Ok-TooLong-clause-read
 returns-in-Ok-TooLong-clause-read g c =
     let (line, long, quiet) = rw c.in-Ok-TooLong.field-0-is at c.in-Ok-TooLong.ensures.typed in
-    read_long g.L.TypedLines.echo (IsFate c.args.policy.now c.args.schemes.now c.args.seat.now) _ _ _ _ _ line long quiet
+    read_long g.L.TypedLines.echo (IsFate c.args.policy.now c.args.schemes.now c.args.session.now) _ _ _ _ _ line long quiet
 
 pub returns-in-Err-Unreadable-clause-read : goal.returns-in-Err-Unreadable-clause-read
-returns-in-Err-Unreadable-clause-read g c = read_lost g.L.TypedLines.echo (IsFate c.args.policy.now c.args.schemes.now c.args.seat.now) _ _ _ _ _ Unreadable tt (λ u. rw c.in-Err-Unreadable.field-0-is at c.in-Err-Unreadable.ensures.cause) c.in-Err-Unreadable.ensures.lost
+returns-in-Err-Unreadable-clause-read g c = read_lost g.L.TypedLines.echo (IsFate c.args.policy.now c.args.schemes.now c.args.session.now) _ _ _ _ _ Unreadable tt (λ u. rw c.in-Err-Unreadable.field-0-is at c.in-Err-Unreadable.ensures.cause) c.in-Err-Unreadable.ensures.lost
 
 pub returns-in-Err-Memory-clause-read : goal.returns-in-Err-Memory-clause-read
-returns-in-Err-Memory-clause-read g c = read_lost g.L.TypedLines.echo (IsFate c.args.policy.now c.args.schemes.now c.args.seat.now) _ _ _ _ _ (Lost Memory) (λ is. cc) (λ u. absurd (lost_read Memory u)) c.in-Err-Memory.ensures.lost
+returns-in-Err-Memory-clause-read g c = read_lost g.L.TypedLines.echo (IsFate c.args.policy.now c.args.schemes.now c.args.session.now) _ _ _ _ _ (Lost Memory) (λ is. cc) (λ u. absurd (lost_read Memory u)) c.in-Err-Memory.ensures.lost
 
 pub returns-in-Err-Output-clause-read : goal.returns-in-Err-Output-clause-read
-returns-in-Err-Output-clause-read g c = read_lost g.L.TypedLines.echo (IsFate c.args.policy.now c.args.schemes.now c.args.seat.now) _ _ _ _ _ (Lost Write) (λ is. cc) (λ u. absurd (lost_read Write u)) c.in-Err-Output.ensures.lost
+returns-in-Err-Output-clause-read g c = read_lost g.L.TypedLines.echo (IsFate c.args.policy.now c.args.schemes.now c.args.session.now) _ _ _ _ _ (Lost Write) (λ is. cc) (λ u. absurd (lost_read Write u)) c.in-Err-Output.ensures.lost

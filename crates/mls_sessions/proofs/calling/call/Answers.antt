@@ -16,17 +16,17 @@ use Rattle.mls_sessions.proofs.calling.call.Goals as goal
 
 pub certified_named-certified-requires : goal.certified_named-certified-requires
 certified_named-certified-requires g c =
-    let site = site_of c.args.rules.now in
+    let site = site_of c.args.site.now in
     let e = c.args.event.now in
     let found = certified_found site e.level c.args.user c.in-Call.tx c.in-Call.args (call_allowed site e c.args.user c.in-Call.tx c.in-Call.args c.in-Call.is c.requires.may.asked.2) in
-    (found.0, ap (λ xs. stored_named xs c.deref-2.result.now) c.deref.ensures ∙ ap (stored_named c.args.rules.now.stored) c.deref-2.ensures ∙ found.1)
+    (found.0, ap (λ xs. stored_named xs c.deref-2.result.now) c.deref.ensures ∙ ap (stored_named c.args.site.now.stored) c.deref-2.ensures ∙ found.1)
 
 pub run_certified-requires-clause-may : goal.run_certified-requires-clause-may
 run_certified-requires-clause-may g c =
-    let site = site_of c.args.rules.now in
+    let site = site_of c.args.site.now in
     let e = c.args.event.now in
     let k = c.certified_named-certified.result.now in
-    let stored = sym (ap (λ xs. stored_named xs c.deref-2.result.now) c.deref.ensures ∙ ap (stored_named c.args.rules.now.stored) c.deref-2.ensures) ∙ c.certified_named-certified.ensures in
+    let stored = sym (ap (λ xs. stored_named xs c.deref-2.result.now) c.deref.ensures ∙ ap (stored_named c.args.site.now.stored) c.deref-2.ensures) ∙ c.certified_named-certified.ensures in
     record {
       read = found_read site c.in-Call.tx (Certified k) c.requires.may.read stored;
       count = ap (λ (xs : List (Option Value)). length xs) c.deref-3.ensures
@@ -36,7 +36,7 @@ run_certified-requires-clause-may g c =
 pub returns-clause-done : goal.returns-clause-done
 returns-clause-done g c = record {
   done = λ clean.
-      let site = site_of c.args.rules.now in
+      let site = site_of c.args.site.now in
       let e = c.args.event.now in
       let k = c.certified_named-certified.result.now in
       let s = g.B.Base.state c.args.base.now in
@@ -45,14 +45,14 @@ returns-clause-done g c = record {
       let run = c.in_ok-run.run' in
       let ran : (args : List (Option Value)) → _ = λ args. run_tx (site_labels site) site.schemes k.tx (fitted k.tx.params args) s.now.db in
       call_over site e c.args.user c.in-Call.tx c.in-Call.args c.in-Call.is c.requires.may.asked.2 k
-      (sym (ap (λ xs. stored_named xs c.deref-2.result.now) c.deref.ensures ∙ ap (stored_named c.args.rules.now.stored) c.deref-2.ensures) ∙ c.certified_named-certified.ensures)
+      (sym (ap (λ xs. stored_named xs c.deref-2.result.now) c.deref.ensures ∙ ap (stored_named c.args.site.now.stored) c.deref-2.ensures) ∙ c.certified_named-certified.ensures)
       s m t run
       (subst (λ (args : List (Option Value)). IsEvaluated (ran args) (with_database s (ran args).db) m run) c.deref-3.ensures (c.in_ok-run.ensures.run.done (c.in_ok-enter_run.ensures.step.call.clean clean)))
       (c.in_ok-enter_run.ensures.entered.done clean ∙ (λ i. with_entries m (call_entries site e c.args.user (c.deref-4.ensures i) (c.deref-5.ensures i))))
       (subst (AllByRecursion HasSpelling) (λ i. call_entries site e c.args.user (c.deref-4.ensures i) (c.deref-5.ensures i)) c.in_ok-enter_run.ensures.entered.spelled)
       c.requires.may.fits.level c.in_ok-run.ensures.run.items.released;
   known = (
-    items_known c.args.rules.now.policy.now c.in_ok-run.run'.emitted c.in_ok-run.ensures.run.items.emitted,
-    items_known c.args.rules.now.policy.now c.in_ok-run.run'.released c.in_ok-run.ensures.run.items.released,
+    items_known c.args.site.now.policy.now c.in_ok-run.run'.emitted c.in_ok-run.ensures.run.items.emitted,
+    items_known c.args.site.now.policy.now c.in_ok-run.run'.released c.in_ok-run.ensures.run.items.released,
   );
 }

@@ -10,7 +10,7 @@ abbrev pub invariant-loop-item : goal.invariant-loop-item
 invariant-loop-item g l =
     let s = g.B.Base.state l.fn.base in
     let t = g.B.Base.state l.base in
-    let es = map (release_entry (site_of l.rules) l.event l.user) (take l.item-index l.released) in
+    let es = map (release_entry (site_of l.site) l.event l.user) (take l.item-index l.released) in
     record {
       clean : g.B.Base.is_clean l.base → g.B.Base.is_clean l.fn.base;
       count : g.B.Base.failures l.fn.base ≤ g.B.Base.failures l.base;

@@ -9,7 +9,7 @@ use Rattle.mls_sessions.proofs.change.enter.Goals as goal
 pub returns-clause-done : goal.returns-clause-done
 returns-clause-done g c = record {
   done = λ clean.
-      let site = site_of c.args.rules.now in
+      let site = site_of c.args.site.now in
       let entry = denial_entry site c.args.event.now c.args.user c.args.denial in
       denied_over site (g.B.Base.state c.args.base.now) (g.B.Base.state c.audit_add.new.self) c.args.event.now c.args.user c.args.denial c.in_ok-bytes.bytes.items c.requires.may.fits.level
       (subst (λ r. OnOk r (HasSpelling entry)) c.in_ok-bytes.ensures.value c.denial_bytes.ensures.spelled)

@@ -31,7 +31,7 @@ returns-in-Err-text_of-clause-continues g c =
       kept = noted g.B.Base.state g.B.Base.is_clean c.args.engine.now c.step.new.self c.next_notice-engine.result step.kept;
       store = λ h k.
           absurd (not_store c.in-Err-text_of.cause (c.in-Err-text_of.ensures.failed
-          (reply_known g.B.Base.state g.B.Base.is_clean c.args.engine.now c.step.new.self c.args.event.now c.in-Ok.reply (c.in-Ok.ensures.answers.done h) step.kept.rules
+          (reply_known g.B.Base.state g.B.Base.is_clean c.args.engine.now c.step.new.self c.args.event.now c.in-Ok.reply (c.in-Ok.ensures.answers.done h) step.kept.site
           c.requires.ready (step.turn.clean h) c.requires.fits)) (ap (λ (f : RunFault). f.cause) (sym c.fault_at-in-Err-text_of.ensures) ∙ k));
     }
 

@@ -5,4 +5,4 @@ use Rattle.mls_certcheck.specs.Expressions.{cell_of}
 use Rattle.mls_trusted.proofs.fitting.is_of_kinds.Given as goal
 
 abbrev pub invariant-loop-attribute : goal.invariant-loop-attribute
-invariant-loop-attribute l = (i : ℕ) → i < l.attribute → fits_kind (cell_of l.row i) (field_of l.scheme i).kind ≡ true
+invariant-loop-attribute l = (i : ℕ) → i < l.attribute → fits_kind (cell_of l.row i) (field_of l.scheme i).1.kind ≡ true

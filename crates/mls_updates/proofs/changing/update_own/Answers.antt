@@ -17,8 +17,8 @@ use Rattle.mls_updates.proofs.changing.update_own.Goals as goal
 pub returns-then-not-is_done-clause-done : goal.returns-then-not-is_done-clause-done
 returns-then-not-is_done-clause-done g c = λ clean scheme.
     let s = g.B.Base.state c.args.base.now in
-    left_same c.args.rel s (g.B.Base.state c.pattern.new.self) c.own_outcome-outcome.result _ _
-    (c.own_outcome-outcome.ensures scheme (get (s.now.db c.args.rel) c.args.place.now) (c.in_ok-found.ensures.found clean)) (sym c.if-not-is_done.ensures) (c.in_ok-found.ensures.read.same clean)
+    left_same c.args.relation s (g.B.Base.state c.pattern.new.self) c.own_outcome-outcome.result _ _
+    (c.own_outcome-outcome.ensures scheme (get (s.now.db c.args.relation) c.args.place.now) (c.in_ok-found.ensures.found clean)) (sym c.if-not-is_done.ensures) (c.in_ok-found.ensures.read.same clean)
 
 pub set_each-requires : goal.set_each-requires
 set_each-requires g c =
@@ -26,7 +26,7 @@ set_each-requires g c =
     let p = c.args.place.now in
     let sets = c.args.sets.now in
     let s = g.B.Base.state c.args.base.now in
-    let T = s.now.db c.args.rel in
+    let T = s.now.db c.args.relation in
     record {
       begun = c.in_ok-found.ensures.read.mode ∙ c.requires.at.begun;
       key = c.requires.at.key;
@@ -36,7 +36,7 @@ set_each-requires g c =
           let passed = all_passed (own_refusals ls no_scheme p.class p.key_class sets (get T p)) refl (ap is_done (sym first) ∙ sym c.if-not-is_done.ensures) in
           let found = (found_if ls p.class p.key_class p.class (get T p) passed.0).0 in
           let start = c.in_ok-found.ensures.read.call.clean clean in
-          subst (λ x. AllByRecursion (λ r. HasCell (x.now.db c.args.rel) p r.0) sets) (sym (c.in_ok-found.ensures.read.same clean))
+          subst (λ x. AllByRecursion (λ r. HasCell (x.now.db c.args.relation) p r.0) sets) (sym (c.in_ok-found.ensures.read.same clean))
           (cells_there p T (unwrap_or (get T p) []) found sets (c.requires.fits start (unwrap_or (get T p) []) found) passed.1.0);
     }
 
@@ -47,6 +47,6 @@ returns-clause-done g c = λ clean scheme.
     let sets = c.args.sets.now in
     let before = c.in_ok-set_each.ensures.step.call.clean clean in
     let same = c.in_ok-found.ensures.read.same before in
-    left_done c.args.rel s (g.B.Base.state c.set_each.new.base) c.own_outcome-outcome.result _ _
-    (c.own_outcome-outcome.ensures scheme (get (s.now.db c.args.rel) p) (c.in_ok-found.ensures.found before)) (sym c.if-not-is_done.ensures)
-    (c.in_ok-set_each.ensures.done clean ∙ (λ i. with_relation (same i) c.args.rel (set_each p sets ((same i).now.db c.args.rel))) ∙ ap (with_relation s c.args.rel) (all_set p sets (s.now.db c.args.rel)))
+    left_done c.args.relation s (g.B.Base.state c.set_each.new.base) c.own_outcome-outcome.result _ _
+    (c.own_outcome-outcome.ensures scheme (get (s.now.db c.args.relation) p) (c.in_ok-found.ensures.found before)) (sym c.if-not-is_done.ensures)
+    (c.in_ok-set_each.ensures.done clean ∙ (λ i. with_relation (same i) c.args.relation (set_each p sets ((same i).now.db c.args.relation))) ∙ ap (with_relation s c.args.relation) (all_set p sets (s.now.db c.args.relation)))

@@ -10,19 +10,19 @@ use Rattle.mls_updates.proofs.deleting.delete_at.Goals as goal
 pub returns-then-not-is_done-clause-done : goal.returns-then-not-is_done-clause-done
 returns-then-not-is_done-clause-done g c = λ clean scheme.
     let s = g.B.Base.state c.args.base.now in
-    left_same c.args.rel s (g.B.Base.state c.has_tuple.new.base) c.drop_outcome-outcome.result _ _
-    (c.drop_outcome-outcome.ensures scheme (get (s.now.db c.args.rel) c.args.place) (sym (c.in_ok-found.ensures.found clean))) (sym c.if-not-is_done.ensures) (c.in_ok-found.ensures.read.same clean)
+    left_same c.args.relation s (g.B.Base.state c.has_tuple.new.base) c.drop_outcome-outcome.result _ _
+    (c.drop_outcome-outcome.ensures scheme (get (s.now.db c.args.relation) c.args.place) (sym (c.in_ok-found.ensures.found clean))) (sym c.if-not-is_done.ensures) (c.in_ok-found.ensures.read.same clean)
 
 pub drop_above-requires-clause-stored : goal.drop_above-requires-clause-stored
 drop_above-requires-clause-stored g c = λ clean.
     let stored = c.requires.stored (c.in_ok-found.ensures.read.call.clean clean) in
-    (stored.0, subst (λ x. IsStored (labels_of c.args.policy.now) stored.0 (x.now.db c.args.rel)) (sym (c.in_ok-found.ensures.read.same clean)) stored.1)
+    (stored.0, subst (λ x. IsStored (labels_of c.args.policy.now) stored.0 (x.now.db c.args.relation)) (sym (c.in_ok-found.ensures.read.same clean)) stored.1)
 
 pub returns-clause-done : goal.returns-clause-done
 returns-clause-done g c = λ clean scheme.
     let s = g.B.Base.state c.args.base.now in
     let before = c.in_ok-drop_above.ensures.step.call.clean clean in
     let same = c.in_ok-found.ensures.read.same before in
-    left_done c.args.rel s (g.B.Base.state c.drop_above.new.base) c.drop_outcome-outcome.result _ _
-    (c.drop_outcome-outcome.ensures scheme (get (s.now.db c.args.rel) c.args.place) (sym (c.in_ok-found.ensures.found before))) (sym c.if-not-is_done.ensures)
-    (c.in_ok-drop_above.ensures.done clean ∙ (λ i. with_relation (same i) c.args.rel (retain_keys ((same i).now.db c.args.rel) (λ q. not (is_above (labels_of c.args.policy.now) c.args.place q)))))
+    left_done c.args.relation s (g.B.Base.state c.drop_above.new.base) c.drop_outcome-outcome.result _ _
+    (c.drop_outcome-outcome.ensures scheme (get (s.now.db c.args.relation) c.args.place) (sym (c.in_ok-found.ensures.found before))) (sym c.if-not-is_done.ensures)
+    (c.in_ok-drop_above.ensures.done clean ∙ (λ i. with_relation (same i) c.args.relation (retain_keys ((same i).now.db c.args.relation) (λ q. not (is_above (labels_of c.args.policy.now) c.args.place q)))))

@@ -16,7 +16,7 @@ drop_each-requires-clause-alone g c = λ clean.
     let same : t ≡ g.B.Base.state c.args.base.now = ap g.B.Base.state c.in_ok-order.ensures.same in
     let above : AreAbove ls c.args.place.class c.in_ok-order.order.items = subst (λ r. IfOk r (λ o. AreAbove ls c.args.place.class o.items)) c.in_ok-order.ensures.value c.downwards.ensures in
     let stored = c.requires.stored (c.in_ok-order.ensures.call.clean clean) in
-    dropped_alone ls stored.0 (t.now.db c.args.rel) (subst (λ x. IsStored ls stored.0 (x.now.db c.args.rel)) (sym same) stored.1) c.args.place c.deref.result.now
+    dropped_alone ls stored.0 (t.now.db c.args.relation) (subst (λ x. IsStored ls stored.0 (x.now.db c.args.relation)) (sym same) stored.1) c.args.place c.deref.result.now
     (subst (AreAbove ls c.args.place.class) (sym c.deref.ensures.value) above)
 
 pub returns-clause-done : goal.returns-clause-done
@@ -27,7 +27,7 @@ returns-clause-done g c = λ clean.
     let above : AreAbove ls c.args.place.class c.in_ok-order.order.items = subst (λ r. IfOk r (λ o. AreAbove ls c.args.place.class o.items)) c.in_ok-order.ensures.value c.downwards.ensures in
     let stored = c.requires.stored (c.in_ok-order.ensures.call.clean (c.drop_each.ensures.step.call.clean clean)) in
     on_ok_weaker c.drop_each.result (λ e. e
-    ∙ ap (with_relation t c.args.rel)
-    (dropped_all ls stored.0 (t.now.db c.args.rel) (subst (λ x. IsStored ls stored.0 (x.now.db c.args.rel)) (sym same) stored.1) c.args.place c.deref.result.now (subst (AreAbove ls c.args.place.class) (sym c.deref.ensures.value) above))
-    ∙ (λ i. with_relation (same i) c.args.rel (retain_keys ((same i).now.db c.args.rel) (λ q. not (is_above ls c.args.place q)))))
+    ∙ ap (with_relation t c.args.relation)
+    (dropped_all ls stored.0 (t.now.db c.args.relation) (subst (λ x. IsStored ls stored.0 (x.now.db c.args.relation)) (sym same) stored.1) c.args.place c.deref.result.now (subst (AreAbove ls c.args.place.class) (sym c.deref.ensures.value) above))
+    ∙ (λ i. with_relation (same i) c.args.relation (retain_keys ((same i).now.db c.args.relation) (λ q. not (is_above ls c.args.place q)))))
     (c.drop_each.ensures.done clean)

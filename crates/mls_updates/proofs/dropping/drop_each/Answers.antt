@@ -15,7 +15,7 @@ pub loop-class-preserved : goal.loop-class-preserved
 loop-class-preserved g c =
     let t = g.B.Base.state c.loop-class.base in
     let u = g.B.Base.state c.drop_one.new.base in
-    let T = t.now.db c.args.rel in
+    let T = t.now.db c.args.relation in
     let inv = c.loop-class.invariant in
     let q : Place = record { key = c.loop-class.place.key; key_class = c.loop-class.place.key_class; class = c.class-item.result } in
     let rest : List ℕ → Table → Table = λ ks S. drop_each c.args.place ks S in
@@ -26,10 +26,10 @@ loop-class-preserved g c =
       key = inv.key;
       key_class = inv.key_class;
       alone = λ h. (let e = c.in_ok-drop_one.ensures.done h in
-          alone_next c.args.place q c.args.classes.now c.loop-class.class-index _ c.loop-class-test.true inv.key inv.key_class c.class-item.is T (u.now.db c.args.rel)
-          (ap (λ s. s.now.db c.args.rel) e ∙ table_of t c.args.rel (remove T q)) (inv.alone (c.in_ok-drop_one.ensures.step.call.clean h)));
+          alone_next c.args.place q c.args.classes.now c.loop-class.class-index _ c.loop-class-test.true inv.key inv.key_class c.class-item.is T (u.now.db c.args.relation)
+          (ap (λ s. s.now.db c.args.relation) e ∙ table_of t c.args.relation (remove T q)) (inv.alone (c.in_ok-drop_one.ensures.step.call.clean h)));
       way = λ h. (let e = c.in_ok-drop_one.ensures.done h in
-          next_step c.args.rel t u _ (rest (drop c.loop-class.class-index c.args.classes.now)) (rest (drop (c.loop-class.class-index + 1) c.args.classes.now)) (remove T q)
+          next_step c.args.relation t u _ (rest (drop c.loop-class.class-index c.args.classes.now)) (rest (drop (c.loop-class.class-index + 1) c.args.classes.now)) (remove T q)
           (inv.way (c.in_ok-drop_one.ensures.step.call.clean h))
           (drop_next c.args.place q c.args.classes.now c.loop-class.class-index _ c.loop-class-test.true inv.key inv.key_class c.class-item.is T) e);
     }
@@ -37,5 +37,5 @@ loop-class-preserved g c =
 pub returns-clause-done : goal.returns-clause-done
 returns-clause-done g c = λ clean.
     let t = g.B.Base.state c.loop-class.base in
-    last_step c.args.rel t _ (drop_each c.args.place (drop c.loop-class.class-index c.args.classes.now)) (c.loop-class.invariant.way clean)
-    (ap (λ ks. drop_each c.args.place ks (t.now.db c.args.rel)) (drop_end c.args.classes.now c.loop-class.class-index c.loop-class-test.false))
+    last_step c.args.relation t _ (drop_each c.args.place (drop c.loop-class.class-index c.args.classes.now)) (c.loop-class.invariant.way clean)
+    (ap (λ ks. drop_each c.args.place ks (t.now.db c.args.relation)) (drop_end c.args.classes.now c.loop-class.class-index c.loop-class-test.false))

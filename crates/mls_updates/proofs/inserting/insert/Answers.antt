@@ -5,56 +5,49 @@ use Rattle.std.proofs.lemmas.Result.{IfOk-weaker}
 use Rattle.mls_lattice.specs.Policy.{labels_of}
 use Rattle.mls_scheme.specs.Scheme.{Scheme, IsScheme, IsUnder, scheme_of}
 use Rattle.mls_updates.specs.Writes.{Insert, place}
-use Rattle.mls_updates.specs.Calls.{IsInserted, IsWritten}
-use Rattle.mls_updates.proofs.CallLemmas.{under_scheme, written_content, step_change}
-use Rattle.mls_updates.proofs.LeftLemmas.{insert_null, insert_left}
+use Rattle.mls_updates.specs.Calls.{IsInserted}
+use Rattle.mls_updates.proofs.CallLemmas.{under_scheme, null_written, step_written}
+use Rattle.mls_updates.proofs.LeftLemmas.{write_left}
 use Rattle.mls_updates.proofs.SpellingLemmas.{values_spelled, key_spelled}
-use Rattle.mls_filterview.specs.Calls.{IsStep}
 use Rattle.mls_updates.specs.Steps.{IsBegunAt}
 use Rattle.mls_updates.proofs.inserting.insert.Goals as goal
 
-pub returns-then-has_null-clause-done : goal.returns-then-has_null-clause-done
-returns-then-has_null-clause-done g c = λ clean.
-    insert_null (labels_of c.args.policy.now) (scheme_of c.args.schemes.now c.args.rel) c.args.rel c.args.w c.args.key.now (g.B.Base.state c.args.base.now) c.args.values.now
-    (sym c.if-has_null.ensures)
+pub returns-then-has_null : goal.returns-then-has_null
+returns-then-has_null g c =
+    null_written g.B.Base.is_clean g.B.Base.failures g.B.Base.state c.args.policy.now c.args.schemes.now c.args.relation c.args.w (Insert c.args.key.now c.args.values.now) c.args.base.now
+    (sym c.if-not-is_begun.ensures) c.requires.stored (sym c.if-has_null.ensures)
 
 pub insert_at-requires-clause-values : goal.insert_at-requires-clause-values
-insert_at-requires-clause-values g c = values_spelled (scheme_of c.args.schemes.now c.args.rel).others c.args.values.now c.requires.kinds.1
+insert_at-requires-clause-values g c = values_spelled (scheme_of c.args.schemes.now c.args.relation).others c.args.values.now c.requires.kinds.1
 
-pub returns-clause-done : goal.returns-clause-done
-returns-clause-done g c = λ clean.
-    let ls = labels_of c.args.policy.now in
+pub returns : goal.returns
+returns g c =
+    let policy = c.args.policy.now in
+    let ls = labels_of policy in
+    let scheme = scheme_of c.args.schemes.now c.args.relation in
     let w = c.args.w in
     let values = c.args.values.now in
+    let wr = Insert c.args.key.now values in
     let s = g.B.Base.state c.args.base.now in
     let u = g.B.Base.state c.insert_at.new.base in
     let p = place c.args.key.now w w in
     let here : c.in_ok-place.place ≡ p = subst (λ r. IfOk r (λ q. q ≡ p)) c.in_ok-place.ensures.value c.place_of.ensures in
     let same : g.B.Base.state c.settle.new.base ≡ s = ap g.B.Base.state c.in_ok-place.ensures.same in
-    IfOk-weaker c.insert_at.result (IsInserted ls c.scheme-scheme.result.now c.args.rel c.in_ok-place.place values (g.B.Base.state c.settle.new.base) u) _
-    (λ o done. insert_left ls (scheme_of c.args.schemes.now c.args.rel) c.args.rel w c.args.key.now s values u o (sym c.if-has_null.ensures)
-    (subst (λ (x : Scheme). IsInserted ls x c.args.rel p values s u o) c.scheme-scheme.ensures.row
-    (subst (λ x. IsInserted ls c.scheme-scheme.result.now c.args.rel p values x u o) same
-    (subst (λ x. IsInserted ls c.scheme-scheme.result.now c.args.rel x values (g.B.Base.state c.settle.new.base) u o) here done))))
-    (c.insert_at.ensures.done clean)
-
-pub returns-clause-kept : goal.returns-clause-kept
-returns-clause-kept g c = λ clean.
-    let scheme = scheme_of c.args.schemes.now c.args.rel in
-    let declared = subst (λ n. c.args.w < n) (sym (length-map c.args.policy.now.labels (λ l. l.value))) c.requires.label in
-    let ls = labels_of c.args.policy.now in
-    let wr = Insert c.args.key.now c.args.values.now in
-    let s = g.B.Base.state c.args.base.now in
-    let u = g.B.Base.state c.insert_at.new.base in
-    IfOk-weaker c.insert_at.result (IsWritten ls scheme c.args.rel c.args.w wr s u) _
-    (λ o. written_content ls c.label_count-count.ensures.distinct scheme c.args.rel c.args.w wr s u o
-    (declared, AllZip-long _ scheme.others c.args.values.now c.requires.kinds.1) c.requires.kinds (c.requires.stored (c.in_ok-place.ensures.call.clean (c.insert_at.ensures.step.call.clean clean))))
-    (returns-clause-done g c clean)
+    let declared = subst (λ n. w < n) (sym (length-map policy.labels (λ l. l.value))) c.requires.label in
+    step_written g.B.Base.is_clean g.B.Base.failures g.B.Base.state policy c.args.schemes.now c.args.relation w wr c.args.base.now (sym c.if-not-is_begun.ensures) c.requires.stored
+    c.label_count-count.ensures.distinct (declared, AllZip-long _ scheme.others values c.requires.kinds.1) c.requires.kinds c.settle.new.base c.insert_at.new.base c.insert_at.result
+    c.in_ok-place.ensures.same c.insert_at.ensures.step
+    (λ clean. IfOk-weaker c.insert_at.result (IsInserted ls c.scheme-scheme.result.now c.args.relation c.in_ok-place.place values (g.B.Base.state c.settle.new.base) u) _
+    (λ o done. write_left ls scheme c.args.relation w s wr u o (sym c.if-has_null.ensures)
+    (subst (λ (x : Scheme). IsInserted ls x c.args.relation p values s u o) c.scheme-scheme.ensures.row
+    (subst (λ x. IsInserted ls c.scheme-scheme.result.now c.args.relation p values x u o) same
+    (subst (λ x. IsInserted ls c.scheme-scheme.result.now c.args.relation x values (g.B.Base.state c.settle.new.base) u o) here done))))
+    (c.insert_at.ensures.done clean))
 
 pub insert_at-requires-clause-under : goal.insert_at-requires-clause-under
 insert_at-requires-clause-under g c =
     let count = length c.args.policy.now.labels in
-    subst (IsUnder count) (sym c.scheme-scheme.ensures.row) (under_scheme count c.args.schemes.now c.args.rel c.requires.under c.requires.relation)
+    subst (IsUnder count) (sym c.scheme-scheme.ensures.row) (under_scheme count c.args.schemes.now c.args.relation c.requires.under c.requires.declared)
 
 pub insert_at-requires-clause-at : goal.insert_at-requires-clause-at
 insert_at-requires-clause-at g c =
@@ -66,10 +59,5 @@ insert_at-requires-clause-at g c =
       begun = sym c.if-not-is_begun.ensures;
       class = c.requires.label;
       key_class = c.requires.label;
-      key = key_spelled (scheme_of c.args.schemes.now c.args.rel) (subst IsScheme c.scheme-scheme.ensures.row c.scheme-scheme.ensures.valid) c.args.key.now (sym c.if-has_null.ensures) c.requires.kinds.0;
+      key = key_spelled (scheme_of c.args.schemes.now c.args.relation) (subst IsScheme c.scheme-scheme.ensures.row c.scheme-scheme.ensures.valid) c.args.key.now (sym c.if-has_null.ensures) c.requires.kinds.0;
     }))
-
-pub returns-clause-change : goal.returns-clause-change
-returns-clause-change g c =
-    step_change g.B.Base.is_clean g.B.Base.failures g.B.Base.state c.args.base.now c.insert_at.new.base c.insert_at.result (sym c.if-not-is_begun.ensures)
-    (subst (λ b. IsStep g.B.Base.is_clean g.B.Base.failures g.B.Base.state b c.insert_at.new.base c.insert_at.result) c.in_ok-place.ensures.same c.insert_at.ensures.step)

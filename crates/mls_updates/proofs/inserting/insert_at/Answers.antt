@@ -13,8 +13,8 @@ use Rattle.mls_updates.proofs.inserting.insert_at.Goals as goal
 pub returns-then-not-is_done-clause-done : goal.returns-then-not-is_done-clause-done
 returns-then-not-is_done-clause-done g c = λ clean.
     let s = g.B.Base.state c.args.base.now in
-    left_same c.args.rel s (g.B.Base.state c.has_tuple.new.base) c.root_outcome-outcome.result _ _
-    (c.root_outcome-outcome.ensures (get (s.now.db c.args.rel) c.args.place) (sym (c.in_ok-found.ensures.found clean))) (sym c.if-not-is_done.ensures) (c.in_ok-found.ensures.read.same clean)
+    left_same c.args.relation s (g.B.Base.state c.has_tuple.new.base) c.root_outcome-outcome.result _ _
+    (c.root_outcome-outcome.ensures (get (s.now.db c.args.relation) c.args.place) (sym (c.in_ok-found.ensures.found clean))) (sym c.if-not-is_done.ensures) (c.in_ok-found.ensures.read.same clean)
 
 pub add_root-requires : goal.add_root-requires
 add_root-requires g c =
@@ -25,11 +25,11 @@ add_root-requires g c =
       key = c.requires.at.key;
       values = root_spelled p.class c.args.values.now c.requires.values;
       absent = λ clean.
-          let o = get (s.now.db c.args.rel) p in
+          let o = get (s.now.db c.args.relation) p in
           let first = c.root_outcome-outcome.ensures o (sym (c.in_ok-found.ensures.found clean)) in
-          ap (λ x. get (x.now.db c.args.rel) p) (c.in_ok-found.ensures.read.same clean)
+          ap (λ x. get (x.now.db c.args.relation) p) (c.in_ok-found.ensures.read.same clean)
           ∙ none_if o (all_passed (root_refusals (labels_of c.args.policy.now) c.args.scheme.now p.class o) refl (ap is_done (sym first) ∙ sym c.if-not-is_done.ensures)).0;
-      made = λ clean. (root p.class c.args.values.now, root_made ((g.B.Base.state c.has_tuple.new.base).now.db c.args.rel) p c.args.values.now);
+      made = λ clean. (root p.class c.args.values.now, root_made ((g.B.Base.state c.has_tuple.new.base).now.db c.args.relation) p c.args.values.now);
     }
 
 pub returns-clause-done : goal.returns-clause-done
@@ -37,6 +37,6 @@ returns-clause-done g c = λ clean.
     let s = g.B.Base.state c.args.base.now in
     let before = c.in_ok-add_root.ensures.step.call.clean clean in
     let same = c.in_ok-found.ensures.read.same before in
-    left_done c.args.rel s (g.B.Base.state c.add_root.new.base) c.root_outcome-outcome.result _ _
-    (c.root_outcome-outcome.ensures (get (s.now.db c.args.rel) c.args.place) (sym (c.in_ok-found.ensures.found before))) (sym c.if-not-is_done.ensures)
-    (c.in_ok-add_root.ensures.done clean ∙ (λ i. with_relation (same i) c.args.rel (insert ((same i).now.db c.args.rel) c.args.place (root c.args.place.class c.args.values.now))))
+    left_done c.args.relation s (g.B.Base.state c.add_root.new.base) c.root_outcome-outcome.result _ _
+    (c.root_outcome-outcome.ensures (get (s.now.db c.args.relation) c.args.place) (sym (c.in_ok-found.ensures.found before))) (sym c.if-not-is_done.ensures)
+    (c.in_ok-add_root.ensures.done clean ∙ (λ i. with_relation (same i) c.args.relation (insert ((same i).now.db c.args.relation) c.args.place (root c.args.place.class c.args.values.now))))

@@ -1,10 +1,11 @@
 use Rattle.std.proofs.Common.{ℕ, ◌+◌, [], ◌∷◌, ◌++◌, None, drop, refl, sym, ap, ◌∙◌}
 use Rattle.std.specs.Option.{unwrap_or}
+use Rattle.std.specs.FinMap.{get}
 use Rattle.std.proofs.lemmas.List.{append-nil, drop_all}
 use Rattle.mls_scheme.specs.declared.tuple.Element.{Element}
 use Rattle.mls_filterview.specs.Stored.{with_class}
-use Rattle.mls_filterview.specs.Assembly.{elements_from}
-use Rattle.mls_updates.specs.Rows.{held_in}
+use Rattle.mls_filterview.specs.Assembly.{elements_from, value_held}
+use Rattle.mls_updates.specs.States.{tables_of}
 use Rattle.mls_updates.proofs.LoopLemmas.{numbered_more}
 use Rattle.mls_updates.proofs.making.elements_of.Goals as goal
 
@@ -12,7 +13,7 @@ pub loop-attr-preserved : goal.loop-attr-preserved
 loop-attr-preserved c =
     let p = c.args.place.now in
     let pattern = c.args.pattern.now in
-    let held = held_in c.args.rel p.class c.args.cells.now c.args.rows.now in
+    let held = value_held (get (tables_of c.args.tables.now c.args.relation)) p.class c.args.cells.now in
     let front = c.loop-attr.elements.items in
     let attr = c.loop-attr.attr in
     let m = c.index-pattern-attr.result in
@@ -24,7 +25,7 @@ loop-attr-preserved c =
 pub returns : goal.returns
 returns c =
     let p = c.args.place.now in
-    let held = held_in c.args.rel p.class c.args.cells.now c.args.rows.now in
+    let held = value_held (get (tables_of c.args.tables.now c.args.relation)) p.class c.args.cells.now in
     let front = c.loop-attr.elements.items in
     let none = drop_all c.loop-attr.attr c.args.pattern.now c.loop-attr-test.false in
     sym (ap (λ ms. front ++ elements_from held p c.loop-attr.attr ms) none ∙ append-nil front) ∙ c.loop-attr.invariant

@@ -7,7 +7,7 @@ use Rattle.mls_updates.proofs.raising.update_below.Goals as goal
 
 pub derive-requires-clause-found : goal.derive-requires-clause-found
 derive-requires-clause-found g c = λ clean.
-    c.in_ok-pattern.ensures.found clean ∙ ap (classes_below (labels_of c.args.policy.now) c.args.rel (with_class c.args.place c.args.w) c.args.place.class) (sym (c.in_ok-pattern.ensures.read.same clean))
+    c.in_ok-pattern.ensures.found clean ∙ ap (classes_below (labels_of c.args.policy.now) c.args.relation (with_class c.args.place c.args.w) c.args.place.class) (sym (c.in_ok-pattern.ensures.read.same clean))
 
 pub pattern_below-requires-clause-at : goal.pattern_below-requires-clause-at
 pattern_below-requires-clause-at g c = record { begun = c.requires.at.begun; class = c.requires.from; key_class = c.requires.at.key_class; key = c.requires.at.key }
@@ -21,7 +21,7 @@ derive-requires-clause-can g c = record {
   fits = c.requires.fits;
   values = c.requires.values;
   stored = λ clean.
-      subst (λ x. IsStored (labels_of c.args.policy.now) (length c.args.scheme.now.others) (x.now.db c.args.rel)) (sym (c.in_ok-pattern.ensures.read.same clean)) (c.requires.stored (c.in_ok-pattern.ensures.read.call.clean clean));
+      subst (λ x. IsStored (labels_of c.args.policy.now) (length c.args.scheme.now.others) (x.now.db c.args.relation)) (sym (c.in_ok-pattern.ensures.read.same clean)) (c.requires.stored (c.in_ok-pattern.ensures.read.call.clean clean));
 }
 
 pub returns-clause-step : goal.returns-clause-step
@@ -35,5 +35,5 @@ returns-clause-step g c = record {
 pub returns-clause-done : goal.returns-clause-done
 returns-clause-done g c = λ clean.
     let u = g.B.Base.state c.derive.new.base in
-    subst (λ x. IfOk c.derive.result (IsDerived (labels_of c.args.policy.now) c.args.scheme.now c.args.rel (with_class c.args.place c.args.w) c.args.place.class c.args.sets.now x u))
+    subst (λ x. IfOk c.derive.result (IsDerived (labels_of c.args.policy.now) c.args.scheme.now c.args.relation (with_class c.args.place c.args.w) c.args.place.class c.args.sets.now x u))
     (c.in_ok-pattern.ensures.read.same (c.derive.ensures.step.call.clean clean)) (c.derive.ensures.done clean)

@@ -25,7 +25,7 @@ loop-left-init g c =
       clean = λ clean. clean;
       count = omega arith;
       begun = c.requires.begun;
-      way = λ clean. sym (ap (λ ss. with_relation s c.args.rel (set_each c.args.place.now ss (s.now.db c.args.rel))) (drop_end sets (length sets) (omega arith)) ∙ same_state s c.args.rel);
+      way = λ clean. sym (ap (λ ss. with_relation s c.args.relation (set_each c.args.place.now ss (s.now.db c.args.relation))) (drop_end sets (length sets) (omega arith)) ∙ same_state s c.args.relation);
     }
 
 pub loop-left-preserved : goal.loop-left-preserved
@@ -33,9 +33,9 @@ loop-left-preserved g c =
     let call = c.in_ok-set_one.ensures.step.call in
     let p = c.args.place.now in
     let sets = c.args.sets.now in
-    let rel = c.args.rel in
+    let relation = c.args.relation in
     let s = g.B.Base.state c.args.base.now in
-    let T = s.now.db rel in
+    let T = s.now.db relation in
     let i = c.loop-left.left - 1 in
     let some = c.loop-left-test.true in
     let most = c.loop-left.auto.left in
@@ -51,8 +51,8 @@ loop-left-preserved g c =
       count = (let before = c.loop-left.invariant.count in let after = call.count in omega (arith, before, after));
       begun = c.in_ok-set_one.ensures.step.mode;
       way = λ clean. (let way = c.loop-left.invariant.way (call.clean clean) in
-          c.in_ok-set_one.ensures.done clean ∙ (λ j. with_relation (way j) rel (f ((way j).now.db rel)))
-          ∙ ap (λ S. with_relation (with_relation s rel X) rel (f S)) (table_of s rel X) ∙ put_twice s rel X (f X) ∙ ap (with_relation s rel) next);
+          c.in_ok-set_one.ensures.done clean ∙ (λ j. with_relation (way j) relation (f ((way j).now.db relation)))
+          ∙ ap (λ S. with_relation (with_relation s relation X) relation (f S)) (table_of s relation X) ∙ put_twice s relation X (f X) ∙ ap (with_relation s relation) next);
     }
 
 pub set_one-requires-clause-can : goal.set_one-requires-clause-can
@@ -61,7 +61,7 @@ set_one-requires-clause-can g c =
     let sets = c.args.sets.now in
     let s = g.B.Base.state c.args.base.now in
     let t = g.B.Base.state c.loop-left.base in
-    let T = s.now.db c.args.rel in
+    let T = s.now.db c.args.relation in
     let i = c.loop-left.left - 1 in
     let some = c.loop-left-test.true in
     let most = c.loop-left.auto.left in
@@ -73,7 +73,7 @@ set_one-requires-clause-can g c =
       attr = subst (λ x. x.0 < 15) (sym c.index-sets-left.is) fits.0;
       value = subst (λ x. IfSome x.1 HasSpelling) (sym c.index-sets-left.is) fits.1;
       there = λ clean.
-          let now = ap (λ x. x.now.db c.args.rel) (c.loop-left.invariant.way clean) ∙ table_of s c.args.rel (set_each p (drop c.loop-left.left sets) T) ∙ ap (λ k. set_each p (drop k sets) T) n in
-          subst (λ x. HasCell (t.now.db c.args.rel) p x.0) (sym c.index-sets-left.is)
-          (cell_now p sets i c.index-sets-left.result within T (t.now.db c.args.rel) now (c.requires.there (c.loop-left.invariant.clean clean)));
+          let now = ap (λ x. x.now.db c.args.relation) (c.loop-left.invariant.way clean) ∙ table_of s c.args.relation (set_each p (drop c.loop-left.left sets) T) ∙ ap (λ k. set_each p (drop k sets) T) n in
+          subst (λ x. HasCell (t.now.db c.args.relation) p x.0) (sym c.index-sets-left.is)
+          (cell_now p sets i c.index-sets-left.result within T (t.now.db c.args.relation) now (c.requires.there (c.loop-left.invariant.clean clean)));
     }

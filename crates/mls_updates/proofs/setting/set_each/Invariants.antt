@@ -11,5 +11,5 @@ invariant-loop-left g l =
       clean : g.B.Base.is_clean l.base → g.B.Base.is_clean l.fn.base;
       count : g.B.Base.failures l.fn.base ≤ g.B.Base.failures l.base;
       begun : t.begun ≡ true;
-      way : g.B.Base.is_clean l.base → t ≡ with_relation s l.rel (set_each l.place (drop l.left l.sets) (s.now.db l.rel));
+      way : g.B.Base.is_clean l.base → t ≡ with_relation s l.relation (set_each l.place (drop l.left l.sets) (s.now.db l.relation));
     }

@@ -9,10 +9,10 @@ use Rattle.mls_updates.proofs.setting.set_one.Goals as goal
 
 pub returns-clause-done : goal.returns-clause-done
 returns-clause-done g c = λ clean.
-    let rel = c.args.rel in
+    let relation = c.args.relation in
     let value : c.in_ok-value.value ≡ c.args.value.now = subst (λ r. IfOk r (λ v. v ≡ c.args.value.now)) c.in_ok-value.ensures.value c.copy_value.ensures in
     let same : g.B.Base.state c.settle.new.base ≡ g.B.Base.state c.args.base.now = ap g.B.Base.state c.in_ok-value.ensures.same in
-    on_ok_weaker c.set.result (λ e. e ∙ (λ i. with_relation (same i) rel (change (set_in c.args.place.now c.args.attr (value i)) ((same i).now.db rel)))) (c.set.ensures.done clean)
+    on_ok_weaker c.set.result (λ e. e ∙ (λ i. with_relation (same i) relation (change (set_in c.args.place.now c.args.attr (value i)) ((same i).now.db relation)))) (c.set.ensures.done clean)
 
 pub returns-clause-step : goal.returns-clause-step
 returns-clause-step g c =
@@ -22,5 +22,5 @@ returns-clause-step g c =
 pub set-requires : goal.set-requires
 set-requires g c =
     let value : c.in_ok-value.value ≡ c.args.value.now = subst (λ r. IfOk r (λ v. v ≡ c.args.value.now)) c.in_ok-value.ensures.value c.copy_value.ensures in
-    subst (λ b. CanSet g.B.Base.is_clean g.B.Base.state b c.args.rel c.args.place.now c.args.attr c.in_ok-value.value) (sym c.in_ok-value.ensures.same)
-    (subst (CanSet g.B.Base.is_clean g.B.Base.state c.args.base.now c.args.rel c.args.place.now c.args.attr) (sym value) c.requires.can)
+    subst (λ b. CanSet g.B.Base.is_clean g.B.Base.state b c.args.relation c.args.place.now c.args.attr c.in_ok-value.value) (sym c.in_ok-value.ensures.same)
+    (subst (CanSet g.B.Base.is_clean g.B.Base.state c.args.base.now c.args.relation c.args.place.now c.args.attr) (sym value) c.requires.can)

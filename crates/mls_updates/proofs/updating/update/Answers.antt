@@ -8,91 +8,78 @@ use Rattle.mls_lattice.specs.Policy.{labels_of}
 use Rattle.mls_scheme.specs.Scheme.{Scheme, IsScheme, scheme_of}
 use Rattle.mls_filterview.specs.Stored.{with_class}
 use Rattle.mls_updates.specs.Writes.{Update, place}
-use Rattle.mls_updates.specs.Calls.{IsChanged, IsDerived, IsWritten}
-use Rattle.mls_updates.proofs.CallLemmas.{under_scheme, written_content, step_change}
-use Rattle.mls_updates.proofs.LeftLemmas.{update_null, own_left, below_left}
+use Rattle.mls_updates.specs.Calls.{IsChanged, IsDerived}
+use Rattle.mls_updates.proofs.CallLemmas.{under_scheme, null_written, step_written}
+use Rattle.mls_updates.proofs.LeftLemmas.{own_left, below_left}
 use Rattle.mls_updates.proofs.SpellingLemmas.{key_spelled, sets_spelled, sets_values}
-use Rattle.mls_filterview.specs.Calls.{IsStep}
 use Rattle.mls_updates.specs.Steps.{IsBegunAt, CanDerive}
 use Rattle.mls_updates.proofs.updating.update.Goals as goal
 
-pub returns-then-has_null-clause-done : goal.returns-then-has_null-clause-done
-returns-then-has_null-clause-done g c = λ clean.
-    update_null (labels_of c.args.policy.now) (scheme_of c.args.schemes.now c.args.rel) c.args.rel c.args.w c.args.key.now (g.B.Base.state c.args.base.now) c.args.key_class c.args.sets.now c.args.from
-    (sym c.if-has_null.ensures)
+pub returns-then-has_null : goal.returns-then-has_null
+returns-then-has_null g c =
+    null_written g.B.Base.is_clean g.B.Base.failures g.B.Base.state c.args.policy.now c.args.schemes.now c.args.relation c.args.w
+    (Update c.args.key.now c.args.key_class c.args.from c.args.sets.now) c.args.base.now (sym c.if-not-is_begun.ensures) c.requires.stored (sym c.if-has_null.ensures)
 
 pub update_own-requires-clause-sets : goal.update_own-requires-clause-sets
-update_own-requires-clause-sets g c = sets_spelled (scheme_of c.args.schemes.now c.args.rel) (subst IsScheme c.scheme-scheme.ensures.row c.scheme-scheme.ensures.valid) c.args.sets.now c.requires.fits c.requires.kinds
+update_own-requires-clause-sets g c = sets_spelled (scheme_of c.args.schemes.now c.args.relation) (subst IsScheme c.scheme-scheme.ensures.row c.scheme-scheme.ensures.valid) c.args.sets.now c.requires.fits c.requires.kinds
 
 pub update_own-requires-clause-fits : goal.update_own-requires-clause-fits
 update_own-requires-clause-fits g c = λ clean es found.
     let same : g.B.Base.state c.settle.new.base ≡ g.B.Base.state c.args.base.now = ap g.B.Base.state c.in_ok-place.ensures.same in
     let stored = (c.requires.stored (c.in_ok-place.ensures.call.clean clean)).stored in
-    subst (λ n. AllByRecursion (λ s. s.0 < n) c.args.sets.now) (sym (stored c.in_ok-place.place es (subst (λ x. get (x.now.db c.args.rel) c.in_ok-place.place ≡ Some es) same found)).count) c.requires.fits
+    subst (λ n. AllByRecursion (λ s. s.0 < n) c.args.sets.now) (sym (stored c.in_ok-place.place es (subst (λ x. get (x.now.db c.args.relation) c.in_ok-place.place ≡ Some es) same found)).count) c.requires.fits
 
-pub returns-then-eq-clause-done : goal.returns-then-eq-clause-done
-returns-then-eq-clause-done g c = λ clean.
-    let ls = labels_of c.args.policy.now in
-    let scheme = scheme_of c.args.schemes.now c.args.rel in
+pub returns-then-eq : goal.returns-then-eq
+returns-then-eq g c =
+    let policy = c.args.policy.now in
+    let ls = labels_of policy in
+    let scheme = scheme_of c.args.schemes.now c.args.relation in
+    let key = c.args.key.now in
     let kc = c.args.key_class in
     let sets = c.args.sets.now in
+    let wr = Update key kc c.args.from sets in
     let s = g.B.Base.state c.args.base.now in
     let u = g.B.Base.state c.update_own.new.base in
     let e = eqb-true c.args.from c.args.w (sym c.if-eq.ensures) in
-    let q = place c.args.key.now c.args.key_class c.args.from in
+    let q = place key kc c.args.from in
     let here : c.in_ok-place.place ≡ q = subst (λ r. IfOk r (λ x. x ≡ q)) c.in_ok-place.ensures.value c.place_of.ensures in
-    let there : c.in_ok-place.place ≡ place c.args.key.now kc c.args.w = here ∙ ap (place c.args.key.now kc) e in
+    let there : c.in_ok-place.place ≡ place key kc c.args.w = here ∙ ap (place key kc) e in
     let same : g.B.Base.state c.settle.new.base ≡ s = ap g.B.Base.state c.in_ok-place.ensures.same in
-    IfOk-weaker c.update_own.result (λ o. (x : Scheme) → IsChanged ls x c.args.rel c.in_ok-place.place sets (g.B.Base.state c.settle.new.base) u o) _
-    (λ o done. own_left ls scheme c.args.rel c.args.w c.args.key.now s kc sets c.args.from u o e (sym c.if-has_null.ensures)
-    (subst (λ x. IsChanged ls scheme c.args.rel (place c.args.key.now kc c.args.w) sets x u o) same
-    (subst (λ x. IsChanged ls scheme c.args.rel x sets (g.B.Base.state c.settle.new.base) u o) there (done scheme))))
-    (c.update_own.ensures.done clean)
+    let declared = subst (λ n. c.args.w < n) (sym (length-map policy.labels (λ l. l.value))) c.requires.label in
+    step_written g.B.Base.is_clean g.B.Base.failures g.B.Base.state policy c.args.schemes.now c.args.relation c.args.w wr c.args.base.now (sym c.if-not-is_begun.ensures) c.requires.stored
+    c.label_count-count.ensures.distinct (declared, c.requires.named, c.requires.fits) c.requires.kinds c.settle.new.base c.update_own.new.base c.update_own.result
+    c.in_ok-place.ensures.same c.update_own.ensures.step
+    (λ clean. IfOk-weaker c.update_own.result (λ o. (x : Scheme) → IsChanged ls x c.args.relation c.in_ok-place.place sets (g.B.Base.state c.settle.new.base) u o) _
+    (λ o done. own_left ls scheme c.args.relation c.args.w s key kc c.args.from sets u o (sym c.if-has_null.ensures) e
+    (subst (λ x. IsChanged ls scheme c.args.relation (place key kc c.args.w) sets x u o) same
+    (subst (λ x. IsChanged ls scheme c.args.relation x sets (g.B.Base.state c.settle.new.base) u o) there (done scheme))))
+    (c.update_own.ensures.done clean))
 
-pub returns-then-eq-clause-kept : goal.returns-then-eq-clause-kept
-returns-then-eq-clause-kept g c = λ clean.
-    let declared = subst (λ n. c.args.w < n) (sym (length-map c.args.policy.now.labels (λ l. l.value))) c.requires.label in
-    let ls = labels_of c.args.policy.now in
-    let scheme = scheme_of c.args.schemes.now c.args.rel in
-    let wr = Update c.args.key.now c.args.key_class c.args.from c.args.sets.now in
-    let s = g.B.Base.state c.args.base.now in
-    let u = g.B.Base.state c.update_own.new.base in
-    IfOk-weaker c.update_own.result (IsWritten ls scheme c.args.rel c.args.w wr s u) _
-    (λ o. written_content ls c.label_count-count.ensures.distinct scheme c.args.rel c.args.w wr s u o
-    (declared, c.requires.named, c.requires.fits) c.requires.kinds (c.requires.stored (c.in_ok-place.ensures.call.clean (c.update_own.ensures.step.call.clean clean))))
-    (returns-then-eq-clause-done g c clean)
-
-pub returns-clause-done : goal.returns-clause-done
-returns-clause-done g c = λ clean.
-    let ls = labels_of c.args.policy.now in
-    let scheme = scheme_of c.args.schemes.now c.args.rel in
+pub returns : goal.returns
+returns g c =
+    let policy = c.args.policy.now in
+    let ls = labels_of policy in
+    let scheme = scheme_of c.args.schemes.now c.args.relation in
+    let key = c.args.key.now in
     let kc = c.args.key_class in
     let w = c.args.w in
     let sets = c.args.sets.now in
+    let wr = Update key kc c.args.from sets in
     let s = g.B.Base.state c.args.base.now in
     let u = g.B.Base.state c.update_below.new.base in
-    let q = place c.args.key.now c.args.key_class c.args.from in
+    let q = place key kc c.args.from in
     let here : c.in_ok-place.place ≡ q = subst (λ r. IfOk r (λ x. x ≡ q)) c.in_ok-place.ensures.value c.place_of.ensures in
     let same : g.B.Base.state c.settle.new.base ≡ s = ap g.B.Base.state c.in_ok-place.ensures.same in
-    IfOk-weaker c.update_below.result (IsDerived ls c.scheme-scheme.result.now c.args.rel (with_class c.in_ok-place.place w) c.in_ok-place.place.class sets (g.B.Base.state c.settle.new.base) u) _
-    (λ o done. below_left ls scheme c.args.rel w c.args.key.now s kc sets c.args.from u o (λ e. true≢false (sym (eq-eqb c.args.from w e) ∙ sym c.if-eq.ensures)) (sym c.if-has_null.ensures)
-    (subst (λ (x : Scheme). IsDerived ls x c.args.rel (with_class q w) c.args.from sets s u o) c.scheme-scheme.ensures.row
-    (subst (λ x. IsDerived ls c.scheme-scheme.result.now c.args.rel (with_class q w) c.args.from sets x u o) same
-    (subst (λ x. IsDerived ls c.scheme-scheme.result.now c.args.rel (with_class x w) x.class sets (g.B.Base.state c.settle.new.base) u o) here done))))
-    (c.update_below.ensures.done clean)
-
-pub returns-clause-kept : goal.returns-clause-kept
-returns-clause-kept g c = λ clean.
-    let declared = subst (λ n. c.args.w < n) (sym (length-map c.args.policy.now.labels (λ l. l.value))) c.requires.label in
-    let ls = labels_of c.args.policy.now in
-    let scheme = scheme_of c.args.schemes.now c.args.rel in
-    let wr = Update c.args.key.now c.args.key_class c.args.from c.args.sets.now in
-    let s = g.B.Base.state c.args.base.now in
-    let u = g.B.Base.state c.update_below.new.base in
-    IfOk-weaker c.update_below.result (IsWritten ls scheme c.args.rel c.args.w wr s u) _
-    (λ o. written_content ls c.label_count-count.ensures.distinct scheme c.args.rel c.args.w wr s u o
-    (declared, c.requires.named, c.requires.fits) c.requires.kinds (c.requires.stored (c.in_ok-place.ensures.call.clean (c.update_below.ensures.step.call.clean clean))))
-    (returns-clause-done g c clean)
+    let declared = subst (λ n. w < n) (sym (length-map policy.labels (λ l. l.value))) c.requires.label in
+    step_written g.B.Base.is_clean g.B.Base.failures g.B.Base.state policy c.args.schemes.now c.args.relation w wr c.args.base.now (sym c.if-not-is_begun.ensures) c.requires.stored
+    c.label_count-count.ensures.distinct (declared, c.requires.named, c.requires.fits) c.requires.kinds c.settle.new.base c.update_below.new.base c.update_below.result
+    c.in_ok-place.ensures.same c.update_below.ensures.step
+    (λ clean. IfOk-weaker c.update_below.result (IsDerived ls c.scheme-scheme.result.now c.args.relation (with_class c.in_ok-place.place w) c.in_ok-place.place.class sets (g.B.Base.state c.settle.new.base) u) _
+    (λ o done. below_left ls scheme c.args.relation w s key kc c.args.from sets u o (sym c.if-has_null.ensures) (λ e. true≢false (sym (eq-eqb c.args.from w e) ∙ sym c.if-eq.ensures))
+    (subst (λ (x : Scheme). IsDerived ls x c.args.relation (with_class q w) c.args.from sets s u o) c.scheme-scheme.ensures.row
+    (subst (λ x. IsDerived ls c.scheme-scheme.result.now c.args.relation (with_class q w) c.args.from sets x u o) same
+    (subst (λ x. IsDerived ls c.scheme-scheme.result.now c.args.relation (with_class x w) x.class sets (g.B.Base.state c.settle.new.base) u o) here done))))
+    (c.update_below.ensures.done clean))
 
 pub update_own-requires-clause-at : goal.update_own-requires-clause-at
 update_own-requires-clause-at g c =
@@ -104,23 +91,23 @@ update_own-requires-clause-at g c =
       begun = sym c.if-not-is_begun.ensures;
       class = c.requires.from;
       key_class = c.requires.key_class;
-      key = key_spelled (scheme_of c.args.schemes.now c.args.rel) (subst IsScheme c.scheme-scheme.ensures.row c.scheme-scheme.ensures.valid) c.args.key.now (sym c.if-has_null.ensures) c.requires.key;
+      key = key_spelled (scheme_of c.args.schemes.now c.args.relation) (subst IsScheme c.scheme-scheme.ensures.row c.scheme-scheme.ensures.valid) c.args.key.now (sym c.if-has_null.ensures) c.requires.key;
     }))
 
 pub update_below-requires : goal.update_below-requires
 update_below-requires g c =
     let count = length c.args.policy.now.labels in
-    let rel = c.args.rel in
+    let relation = c.args.relation in
     let w = c.args.w in
     let policy = c.args.policy.now in
     let sets = c.args.sets.now in
-    let scheme = scheme_of c.args.schemes.now rel in
+    let scheme = scheme_of c.args.schemes.now relation in
     let valid = subst IsScheme c.scheme-scheme.ensures.row c.scheme-scheme.ensures.valid in
     let p = place c.args.key.now c.args.key_class c.args.from in
     let here : c.in_ok-place.place ≡ p = subst (λ r. IfOk r (λ q. q ≡ p)) c.in_ok-place.ensures.value c.place_of.ensures in
-    subst (λ b. CanDerive g.B.Base.is_clean g.B.Base.state b rel (with_class c.in_ok-place.place w) policy c.scheme-scheme.result.now c.in_ok-place.place.class sets) (sym c.in_ok-place.ensures.same)
-    (subst (λ q. CanDerive g.B.Base.is_clean g.B.Base.state c.args.base.now rel (with_class q w) policy c.scheme-scheme.result.now q.class sets) (sym here)
-    (subst (λ (x : Scheme). CanDerive g.B.Base.is_clean g.B.Base.state c.args.base.now rel (with_class p w) policy x p.class sets) (sym c.scheme-scheme.ensures.row) (record {
+    subst (λ b. CanDerive g.B.Base.is_clean g.B.Base.state b relation (with_class c.in_ok-place.place w) policy c.scheme-scheme.result.now c.in_ok-place.place.class sets) (sym c.in_ok-place.ensures.same)
+    (subst (λ q. CanDerive g.B.Base.is_clean g.B.Base.state c.args.base.now relation (with_class q w) policy c.scheme-scheme.result.now q.class sets) (sym here)
+    (subst (λ (x : Scheme). CanDerive g.B.Base.is_clean g.B.Base.state c.args.base.now relation (with_class p w) policy x p.class sets) (sym c.scheme-scheme.ensures.row) (record {
       at = record {
         begun = sym c.if-not-is_begun.ensures;
         class = c.requires.label;
@@ -129,18 +116,8 @@ update_below-requires g c =
       };
       from = c.requires.from;
       other = λ e. true≢false (sym (eq-eqb c.args.from w e) ∙ sym c.if-eq.ensures);
-      under = under_scheme count c.args.schemes.now rel c.requires.under c.requires.relation;
+      under = under_scheme count c.args.schemes.now relation c.requires.under c.requires.declared;
       fits = c.requires.fits;
       values = sets_values sets (sets_spelled scheme valid sets c.requires.fits c.requires.kinds);
       stored = λ clean. (c.requires.stored clean).stored;
     })))
-
-pub returns-then-eq-clause-change : goal.returns-then-eq-clause-change
-returns-then-eq-clause-change g c =
-    step_change g.B.Base.is_clean g.B.Base.failures g.B.Base.state c.args.base.now c.update_own.new.base c.update_own.result (sym c.if-not-is_begun.ensures)
-    (subst (λ b. IsStep g.B.Base.is_clean g.B.Base.failures g.B.Base.state b c.update_own.new.base c.update_own.result) c.in_ok-place.ensures.same c.update_own.ensures.step)
-
-pub returns-clause-change : goal.returns-clause-change
-returns-clause-change g c =
-    step_change g.B.Base.is_clean g.B.Base.failures g.B.Base.state c.args.base.now c.update_below.new.base c.update_below.result (sym c.if-not-is_begun.ensures)
-    (subst (λ b. IsStep g.B.Base.is_clean g.B.Base.failures g.B.Base.state b c.update_below.new.base c.update_below.result) c.in_ok-place.ensures.same c.update_below.ensures.step)

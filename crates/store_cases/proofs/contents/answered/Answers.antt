@@ -1,4 +1,4 @@
-use Rattle.store_cases.proofs.StartLemmas.{none_sound}
+use Rattle.mls_audit.proofs.SoundLemmas.{none_sound}
 use Rattle.store_cases.proofs.contents.answered.Goals as goal
 
 pub do_task-end-requires-clause-sound : goal.do_task-end-requires-clause-sound

@@ -2,7 +2,7 @@ use Rattle.std.proofs.Common.{◌≡◌, ◌+◌, [], ◌∷◌, drop, Ok, Err, 
 use Rattle.std.proofs.lemmas.Result.{err_from_is_err_and}
 use Rattle.std.proofs.Math.ListN.{drop_of_length-le}
 use Rattle.mls_translang.specs.Blocks.{block_of}
-use Rattle.mls_certcheck.specs.Rows.{rows_of}
+use Rattle.mls_certcheck.specs.Loops.{loops_of}
 use Rattle.mls_certcheck.specs.Walk.{walked_lines, here_lines, inner_of, block_lines}
 use Rattle.mls_certcheck.proofs.WalkLemmas.{split_statements, split_depth, split_lines, no_lines, same_lines, stmt_whole, none_inside, turn}
 use Rattle.mls_certcheck.proofs.lent.Here.+walk.Goals as goal
@@ -13,7 +13,7 @@ block-returns-in_err-stmt g t c =
     let h = c.args.self.now in
     let l = c.loop-stmt in
     let visits = g.V.Visit.visits in
-    let split = split_lines c.deref-stmt-items.result.now l.stmt-index c.stmt-item.result c.loop-stmt-test.true c.stmt-item.is h.vars l.number h.around l.before (rows_of h.rows) in
+    let split = split_lines c.deref-stmt-items.result.now l.stmt-index c.stmt-item.result c.loop-stmt-test.true c.stmt-item.is h.vars l.number h.around l.before (loops_of h.loops) in
     let whole = ap block_of c.deref-stmt-items.ensures.value ∙ c.block.view_is in
     rw (p.1, p.2) (
     same_lines visits (ap (block_lines h) whole)
@@ -28,7 +28,7 @@ block-loop-stmt-preserved g t c =
     let visits = g.V.Visit.visits in
     let split = split_statements items l.stmt-index c.stmt-item.result c.loop-stmt-test.true c.stmt-item.is in
     let deep = split_depth items l.stmt-index c.stmt-item.result c.loop-stmt-test.true c.stmt-item.is in
-    let lines = split_lines items l.stmt-index c.stmt-item.result c.loop-stmt-test.true c.stmt-item.is h.vars l.number h.around l.before (rows_of h.rows) in
+    let lines = split_lines items l.stmt-index c.stmt-item.result c.loop-stmt-test.true c.stmt-item.is h.vars l.number h.around l.before (loops_of h.loops) in
     let next = ap (λ k. l.number + k) c.statements-number.ensures in
     record {
       counts = omega (arith, split, c.statements-number.ensures, l.invariant.counts);
@@ -37,7 +37,7 @@ block-loop-stmt-preserved g t c =
       walk = λ r w more. l.invariant.walk r w (
           same_lines visits lines (
           g.met.V.Visit.more _ _ _ _ _ _ c.in_ok-stmt.ensures
-          (same_lines visits (ap (λ k. walked_lines h.vars k h.around l.number (rows_of h.rows) (block_of (drop (l.stmt-index + 1) items))) next) more)
+          (same_lines visits (ap (λ k. walked_lines h.vars k h.around l.number (loops_of h.loops) (block_of (drop (l.stmt-index + 1) items))) next) more)
           )
           );
     }
@@ -50,7 +50,7 @@ block-returns g t c =
     let visits = g.V.Visit.visits in
     let none : drop l.stmt-index items ≡ [] = drop_of_length-le items (omega (arith, c.loop-stmt-test.false)) in
     let whole = ap block_of c.deref-stmt-items.ensures.value ∙ c.block.view_is in
-    let left = no_lines h.vars l.number h.around l.before (rows_of h.rows) ∙ ap (λ ss. walked_lines h.vars l.number h.around l.before (rows_of h.rows) (block_of ss)) (sym none) in
+    let left = no_lines h.vars l.number h.around l.before (loops_of h.loops) ∙ ap (λ ss. walked_lines h.vars l.number h.around l.before (loops_of h.loops) (block_of ss)) (sym none) in
     same_lines visits (ap (block_lines h) whole)
     (l.invariant.walk (Ok tt) l.visitor (same_lines visits left (g.met.V.Visit.none l.visitor)))
 
@@ -75,7 +75,7 @@ stmt-returns-in_ok-block-in-If g t c =
     let h = c.args.self.now in
     let visits = g.V.Visit.visits in
     let is = ap (λ s. inner_of h (block_of (s ∷ []))) c.in-If.is in
-    let other = same_lines visits (ap (λ k. walked_lines h.vars (h.number + 1 + k) h.number h.before (rows_of h.rows) c.in-If.other) c.statements.ensures) c.block-in-If.ensures in
+    let other = same_lines visits (ap (λ k. walked_lines h.vars (h.number + 1 + k) h.number h.before (loops_of h.loops) c.in-If.other) c.statements.ensures) c.block-in-If.ensures in
     same_lines visits (stmt_whole h c.args.stmt.now)
     (g.met.V.Visit.more _ _ _ (here_lines h (block_of (c.args.stmt.now ∷ []))) (inner_of h (block_of (c.args.stmt.now ∷ []))) _ c.in_ok-lines.ensures (same_lines visits (sym is) (g.met.V.Visit.more _ _ _ _ _ _ c.in_ok-block-in-If.ensures other)))
 

@@ -2,7 +2,7 @@ use Rattle.std.proofs.Common.{◌≡◌, ◌+◌, ◌*◌, ◌≤◌, [], ◌∷
 use Rattle.mls_translang.specs.Tree.{statements}
 use Rattle.mls_translang.specs.Tx.{depth}
 use Rattle.mls_translang.specs.Blocks.{block_of}
-use Rattle.mls_certcheck.specs.Rows.{rows_of}
+use Rattle.mls_certcheck.specs.Loops.{loops_of}
 use Rattle.mls_certcheck.specs.Walk.{walked_lines, block_lines}
 use Rattle.mls_certcheck.proofs.lent.Here.+walk.Given as goal
 
@@ -14,8 +14,8 @@ invariant-block-loop-stmt g l =
     record {
       counts : l.number + statements left ≡ l.self.number + statements all;
       size : statements left ≤ statements all;
-      shallow : l.self.rows.count + depth left ≤ 16;
-      walk : (r : _) (w : _) → g.V.Visit.visits l.visitor (walked_lines l.self.vars l.number l.self.around l.before (rows_of l.self.rows) left) r w → g.V.Visit.visits l.initial.visitor (block_lines l.self all) r w;
+      shallow : l.self.loops.count + depth left ≤ 16;
+      walk : (r : _) (w : _) → g.V.Visit.visits l.visitor (walked_lines l.self.vars l.number l.self.around l.before (loops_of l.self.loops) left) r w → g.V.Visit.visits l.initial.visitor (block_lines l.self all) r w;
     }
 
 -- ---- how deep

@@ -2,7 +2,6 @@ use Rattle.std.proofs.Common.{◌≡◌, ◌↔◌, ℕ, List, Result, IfOk, sym
 use Rattle.std.specs.Prelude.{MatchOption}
 use Rattle.mls_fragments.specs.Again.{FindsHoldings}
 use Rattle.mls_fragments.specs.Holdings.{Holdings, IsTakenOf}
-use Rattle.mls_host.proofs.StoppingLemmas.{at_fault}
 use Rattle.mls_command.proofs.machine.MachineHost.store.Goals as goal
 
 -- before a run it keeps what the files held

@@ -9,15 +9,15 @@ use Rattle.mls_scheme.specs.Canon as scheme
 use Rattle.mls_scheme.specs.Scheme.{Schemes}
 use Rattle.mls_scheme.specs.declared.file.SchemesFile.{SchemesFile}
 use Rattle.mls_filterview.specs.Content.{State, no_content}
-use Rattle.mls_statements.specs.Rows.{described}
-use Rattle.mls_statements.specs.Schema.{no_schema}
-use Rattle.mls_statements.specs.Store.{IsClean}
+use Rattle.mls_audit.specs.Sound.{IsSoundContent}
+use Rattle.mls_tables.specs.Rows.{described}
+use Rattle.mls_tables.specs.Schema.{no_schema}
+use Rattle.mls_tables.specs.Store.{IsClean}
 use Rattle.mls_fragments.specs.Based.{BaseState, IsBaseOf, state_of}
 use Rattle.mls_fragments.specs.Holdings.{HasHoldings}
 use Rattle.mls_fragments.specs.Opening.{HoldsContent, IsUnadopted, IsUnmade, IsUnopened}
 use Rattle.mls_fragments.specs.declared.open_fault.OpenFault.{OpenFault}
-use Rattle.mls_fragments.specs.Finding.{IsSoundContent}
-use Rattle.mls_fragments.proofs.FindingLemmas.{nothing_sound}
+use Rattle.mls_audit.proofs.SoundLemmas.{nothing_sound}
 use Rattle.mls_fragments.proofs.HoldingsLemmas.{base_made}
 use Rattle.mls_fragments.proofs.OpeningLemmas.{not_other, not_bad}
 use Rattle.mls_fragments.proofs.base.SqlBase.adopt.Goals as goal

@@ -1,7 +1,7 @@
 use Rattle.std.proofs.Common.{refl, sym, subst}
 use Rattle.sqlite.specs.Held.{state}
-use Rattle.mls_statements.specs.Store.{IsClean}
-use Rattle.mls_statements.specs.declared.rows.MetaRow.{MetaRow}
+use Rattle.mls_tables.specs.Store.{IsClean}
+use Rattle.mls_tables.specs.declared.rows.MetaRow.{MetaRow}
 use Rattle.mls_fragments.specs.Based.{BaseState, base_state, HasRow, state_of}
 use Rattle.mls_fragments.specs.Holdings.{HasHoldings, HaveHoldings, four_tables, holdings_of}
 use Rattle.mls_fragments.proofs.base.SqlBase.into_connection.Goals as goal

@@ -3,7 +3,7 @@ use Rattle.std.specs.FinMap.{get, insert}
 use Rattle.mls_scheme.specs.declared.tuple.Element.{Element}
 use Rattle.mls_filterview.specs.Content.{with_relation}
 use Rattle.mls_filterview.specs.Fragment.{place_of_node, IsMadeOf}
-use Rattle.mls_statements.specs.Store.{IsClean}
+use Rattle.mls_tables.specs.Store.{IsClean}
 use Rattle.mls_fragments.specs.Changes.{content_of}
 use Rattle.mls_fragments.specs.Based.{BaseState, base_state, state_of}
 use Rattle.mls_fragments.proofs.NotedLemmas.{based_on, noted_tuple, state_added}

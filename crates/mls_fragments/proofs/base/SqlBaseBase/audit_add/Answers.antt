@@ -1,5 +1,5 @@
 use Rattle.std.proofs.Common.{◌≡◌, ◌+ℤ◌, pos, ap, subst, ◌∙◌, rules, w64, to_z, of_z, to_z-of_z, SFits}
-use Rattle.mls_statements.specs.Statements.{AddsEntry}
+use Rattle.mls_tables.specs.Statements.{AddsEntry}
 use Rattle.mls_fragments.proofs.NotedLemmas.{based_on, noted_entry}
 use Rattle.mls_fragments.proofs.base.SqlBaseBase.audit_add.Goals as goal
 

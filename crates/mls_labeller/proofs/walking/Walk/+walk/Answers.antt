@@ -55,10 +55,10 @@ module _ {looped : Bool} {before : List Range} where
     };
   }
 
-  reaches_write : (rel w : ℕ) (writing : Writing) (outcome : Option ℕ) (rest : Block) (after : List Range)
-      → ((vars : Variables) (o : Outcome) → AreHeld before vars → AreHeld after (set_outcome outcome o vars)) → Reaches looped before (Do (Write_at rel w writing outcome) rest) after rest []
+  reaches_write : (relation w : ℕ) (writing : Writing) (outcome : Option ℕ) (rest : Block) (after : List Range)
+      → ((vars : Variables) (o : Outcome) → AreHeld before vars → AreHeld after (set_outcome outcome o vars)) → Reaches looped before (Do (Write_at relation w writing outcome) rest) after rest []
   unfolding perform
-  reaches_write rel w writing outcome rest after put = reaches_do _ rest after [] (λ ls schemes args around s held. (put s.vars _ held, λ more zs. Silent refl))
+  reaches_write relation w writing outcome rest after put = reaches_do _ rest after [] (λ ls schemes args around s held. (put s.vars _ held, λ more zs. Silent refl))
 
   -- ---- statements with blocks inside
 
@@ -79,10 +79,10 @@ module _ {looped : Bool} {before : List Range} where
     };
   }
 
-  module _ (ls : Labels) (schemes : Schemes) (args : List (Option Value)) (around : List Tuple) (name : List ℕ) (rel label : ℕ) (body rest : Block) (end : List Range) (told more : List Told)
+  module _ (ls : Labels) (schemes : Schemes) (args : List (Option Value)) (around : List Tuple) (name : List ℕ) (relation label : ℕ) (body rest : Block) (end : List Range) (told more : List Told)
       (b : Covers true before body before told) (h : Covers looped before rest end more) where
     for_goes : (rs : List Tuple) (s : Progress) → AreHeld before s.vars
-        → Goes looped (For name rel label body rest) end (told ++ more) s (run_block ls schemes args rest around (for_each (λ row t. run_block ls schemes args body (row ∷ around) t) rs s))
+        → Goes looped (For name relation label body rest) end (told ++ more) s (run_block ls schemes args rest around (for_each (λ row t. run_block ls schemes args body (row ∷ around) t) rs s))
     for_goes [] s held = let g = h.runs ls schemes args around s held in (g.0, Never s.released _ (b.runs ls schemes args (no_tuple ∷ around) s held).1 g.1)
     for_goes (row ∷ rs) s held =
         let x = b.runs ls schemes args (row ∷ around) s held in
@@ -98,12 +98,12 @@ reaches_release {before} {after} e this rest r same gives put = reaches_do _ res
     let value : Holds this.range v = gives (environment args around s) held in
     (put s.vars v held (subst (λ (q : Range). Holds q v) (sym same) value), λ more zs. Released v value))
 
-reaches_for : {looped : Bool} {before now : List Range} {told : List Told} (name : List ℕ) (rel label : ℕ) (body rest : Block) → Wider before now → Covers true now body now told
-    → Reaches looped before (For name rel label body rest) now rest told
+reaches_for : {looped : Bool} {before now : List Range} {told : List Told} (name : List ℕ) (relation label : ℕ) (body rest : Block) → Wider before now → Covers true now body now told
+    → Reaches looped before (For name relation label body rest) now rest told
 unfolding run_block
-reaches_for {looped} {before} {now} {told} name rel label body rest wider b = record {
+reaches_for {looped} {before} {now} {told} name relation label body rest wider b = record {
   covers = λ end more h. record {
-    runs = λ ls schemes args around s held. for_goes ls schemes args around name rel label body rest end told more b h (rows ls label (s.db rel)) s (λ x. wider x (s.vars x) (held x));
+    runs = λ ls schemes args around s held. for_goes ls schemes args around name relation label body rest end told more b h (rows ls label (s.db relation)) s (λ x. wider x (s.vars x) (held x));
   };
 }
 
@@ -122,17 +122,9 @@ stmt-returns-in_ok-either-in-If t c rest =
 pub stmt-returns-in_ok-turns-in-For : goal.stmt-returns-in_ok-turns-in-For
 stmt-returns-in_ok-turns-in-For t c rest = reaches_at _ _ rest c.in-For.is refl refl (reaches_for _ _ _ _ _ c.in_ok-turns-in-For.ensures.wider c.in_ok-turns-in-For.ensures.covers)
 
-pub stmt-returns-in_ok-put_outcome-in-Insert : goal.stmt-returns-in_ok-put_outcome-in-Insert
-stmt-returns-in_ok-put_outcome-in-Insert t c rest =
-    reaches_at _ _ rest c.in-Insert.is c.silent-in-Insert.ensures.ranges c.silent-in-Insert.ensures.told (reaches_write _ _ _ _ _ _ c.in_ok-put_outcome-in-Insert.ensures)
-
-pub stmt-returns-in_ok-put_outcome-in-Update : goal.stmt-returns-in_ok-put_outcome-in-Update
-stmt-returns-in_ok-put_outcome-in-Update t c rest =
-    reaches_at _ _ rest c.in-Update.is c.silent-in-Update.ensures.ranges c.silent-in-Update.ensures.told (reaches_write _ _ _ _ _ _ c.in_ok-put_outcome-in-Update.ensures)
-
-pub stmt-returns-in_ok-put_outcome-in-Delete : goal.stmt-returns-in_ok-put_outcome-in-Delete
-stmt-returns-in_ok-put_outcome-in-Delete t c rest =
-    reaches_at _ _ rest c.in-Delete.is c.silent-in-Delete.ensures.ranges c.silent-in-Delete.ensures.told (reaches_write _ _ _ _ _ _ c.in_ok-put_outcome-in-Delete.ensures)
+pub stmt-returns-in_ok-put_outcome-in-Write : goal.stmt-returns-in_ok-put_outcome-in-Write
+stmt-returns-in_ok-put_outcome-in-Write t c rest =
+    reaches_at _ _ rest c.in-Write.is c.silent-in-Write.ensures.ranges c.silent-in-Write.ensures.told (reaches_write _ _ _ _ _ _ c.in_ok-put_outcome-in-Write.ensures)
 
 pub stmt-returns-in_ok-push-in-Release : goal.stmt-returns-in_ok-push-in-Release
 stmt-returns-in_ok-push-in-Release t c rest =

@@ -9,16 +9,16 @@ use Rattle.mls_scheme.proofs.SchemeNameLemmas.{split_apart}
 use Rattle.mls_scheme.proofs.OlderLemmas.{before_is, distinct_first}
 use Rattle.mls_scheme.proofs.scheme.Scheme.before.Goals as goal
 
-pub first-requires-clause-distinct : goal.first-requires-clause-distinct
-first-requires-clause-distinct c =
+pub first_of-requires-clause-distinct : goal.first_of-requires-clause-distinct
+first_of-requires-clause-distinct c =
     let s = c.args.self.now in
-    subst (λ (xs : List Attribute). IsDistinct bytes_eq (map (λ (a : Attribute). a.name) xs)) (sym c.keys-keys.ensures.keys) (distinct_first s.keys s.others c.keys-keys.ensures.valid.distinct)
+    subst (λ (xs : List Attribute). IsDistinct bytes_eq (map (λ (a : Attribute). a.0) xs)) (sym c.keys-keys.ensures.keys) (distinct_first s.keys s.others c.keys-keys.ensures.valid.distinct)
 
-pub first-requires-2-clause-distinct : goal.first-requires-2-clause-distinct
-first-requires-2-clause-distinct c =
+pub first_of-requires-2-clause-distinct : goal.first_of-requires-2-clause-distinct
+first_of-requires-2-clause-distinct c =
     let s = c.args.self.now in
-    subst (λ (xs : List Attribute). IsDistinct bytes_eq (map (λ (a : Attribute). a.name) xs)) (sym c.others.ensures.others)
-    (distinct_behind bytes_eq (map (λ (a : Attribute). a.name) s.keys) (map (λ (a : Attribute). a.name) s.others) (split_apart s c.keys-keys.ensures.valid))
+    subst (λ (xs : List Attribute). IsDistinct bytes_eq (map (λ (a : Attribute). a.0) xs)) (sym c.others.ensures.others)
+    (distinct_behind bytes_eq (map (λ (a : Attribute). a.0) s.keys) (map (λ (a : Attribute). a.0) s.others) (split_apart s c.keys-keys.ensures.valid))
 
 pub new-requires : goal.new-requires
 new-requires c =

@@ -26,7 +26,7 @@ returns-in-Some-clause-answers g c =
 pub returns-in-View-clause-answers : goal.returns-in-View-clause-answers
 returns-in-View-clause-answers g c =
     answers_over g.B.Base.state g.B.Base.is_clean g.B.Base.failures c.args.self.now c.requires.ready c.args.event.now c.requires.fits c.look.new.base
-    (λ w. viewed (site c.args.self.now) w c.in-View.rel c.in-View.label c.in-View.query) (viewed_is (site c.args.self.now) (world_of g.B.Base.state c.args.self.now) c.args.event.now c.args.user c.requires.held c.in-View.rel c.in-View.label c.in-View.query c.in-View.counts c.in-View.is (sym c.denial_of.ensures ∙ none_from c.denial_of.result c.in_default.not-Some)) c.look.new.views c.look.result c.look.ensures.looked.over.turn c.look.ensures.looked.over.idle c.look.ensures.looked.done c.look.ensures.views
+    (λ w. viewed (site c.args.self.now) w c.in-View.relation c.in-View.label c.in-View.query) (viewed_is (site c.args.self.now) (world_of g.B.Base.state c.args.self.now) c.args.event.now c.args.user c.requires.held c.in-View.relation c.in-View.label c.in-View.query c.in-View.counts c.in-View.is (sym c.denial_of.ensures ∙ none_from c.denial_of.result c.in_default.not-Some)) c.look.new.views c.look.result c.look.ensures.looked.over.turn c.look.ensures.looked.over.idle c.look.ensures.looked.done c.look.ensures.views
 
 pub returns-in-Audit-clause-answers : goal.returns-in-Audit-clause-answers
 returns-in-Audit-clause-answers g c =
@@ -36,12 +36,12 @@ returns-in-Audit-clause-answers g c =
 pub returns-in-Dump-clause-answers : goal.returns-in-Dump-clause-answers
 returns-in-Dump-clause-answers g c =
     answers_stay g.B.Base.state g.B.Base.is_clean g.B.Base.failures c.args.self.now c.requires.ready c.args.event.now c.requires.fits c.dump.new.base
-    (λ w. dumped (site c.args.self.now) w c.in-Dump.rel c.args.event.now.level) (dumped_is (site c.args.self.now) (world_of g.B.Base.state c.args.self.now) c.args.event.now c.args.user c.requires.held c.in-Dump.rel c.in-Dump.is (sym c.denial_of.ensures ∙ none_from c.denial_of.result c.in_default.not-Some)) c.args.self.now.views c.dump.result c.dump.ensures.over.turn c.dump.ensures.over.idle c.dump.ensures.done refl refl
+    (λ w. dumped (site c.args.self.now) w c.in-Dump.relation c.args.event.now.level) (dumped_is (site c.args.self.now) (world_of g.B.Base.state c.args.self.now) c.args.event.now c.args.user c.requires.held c.in-Dump.relation c.in-Dump.is (sym c.denial_of.ensures ∙ none_from c.denial_of.result c.in_default.not-Some)) c.args.self.now.views c.dump.result c.dump.ensures.over.turn c.dump.ensures.over.idle c.dump.ensures.done refl refl
 
-pub returns-in-Insert-clause-answers : goal.returns-in-Insert-clause-answers
-returns-in-Insert-clause-answers g c =
-    answers_over g.B.Base.state g.B.Base.is_clean g.B.Base.failures c.args.self.now c.requires.ready c.args.event.now c.requires.fits c.change-in-Insert.new.base
-    (λ w. step_inside (site c.args.self.now) w c.args.event.now c.args.event.now.command c.args.user) (wrote_is (site c.args.self.now) (world_of g.B.Base.state c.args.self.now) c.args.event.now c.args.user c.requires.held) c.change-in-Insert.new.views c.change-in-Insert.result c.change-in-Insert.ensures.over.turn c.change-in-Insert.ensures.over.idle (λ clean. IfOk-weaker c.change-in-Insert.result _ _ (λ r each. each c.args.user (sym c.denial_of.ensures ∙ none_from c.denial_of.result c.in_default.not-Some)) (c.change-in-Insert.ensures.done.done clean)) c.change-in-Insert.ensures.views
+pub returns-in-Write-clause-answers : goal.returns-in-Write-clause-answers
+returns-in-Write-clause-answers g c =
+    answers_over g.B.Base.state g.B.Base.is_clean g.B.Base.failures c.args.self.now c.requires.ready c.args.event.now c.requires.fits c.change-in-Write.new.base
+    (λ w. step_inside (site c.args.self.now) w c.args.event.now c.args.event.now.command c.args.user) (wrote_is (site c.args.self.now) (world_of g.B.Base.state c.args.self.now) c.args.event.now c.args.user c.requires.held) c.change-in-Write.new.views c.change-in-Write.result c.change-in-Write.ensures.over.turn c.change-in-Write.ensures.over.idle (λ clean. IfOk-weaker c.change-in-Write.result _ _ (λ r each. each c.args.user (sym c.denial_of.ensures ∙ none_from c.denial_of.result c.in_default.not-Some)) (c.change-in-Write.ensures.done.done clean)) c.change-in-Write.ensures.views
 
 pub returns-in-Close-clause-answers : goal.returns-in-Close-clause-answers
 returns-in-Close-clause-answers g c =

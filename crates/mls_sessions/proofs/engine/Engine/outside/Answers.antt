@@ -1,7 +1,6 @@
 use Rattle.std.proofs.lemmas.Result.{IfOk-weaker}
-use Rattle.mls_machine.proofs.KnownLemmas.{numbers_known}
 use Rattle.mls_sessions.specs.Engine.{site, world_of}
-use Rattle.mls_sessions.proofs.EngineLemmas.{outside_is, answers_opened}
+use Rattle.mls_sessions.proofs.EngineLemmas.{outside_is, answers_opened, numbers_known}
 use Rattle.mls_sessions.proofs.engine.Engine.outside.Goals as goal
 
 pub returns-clause-answers : goal.returns-clause-answers

@@ -1,6 +1,6 @@
 use Rattle.std.proofs.Common.{refl, sym, subst}
 use Rattle.mls_lattice.specs.Policy.{labels_of}
-use Rattle.mls_updates.specs.Writes.{place}
+use Rattle.mls_updates.specs.Writes.{named}
 use Rattle.mls_queries.specs.Views.{AreLeftBy}
 use Rattle.mls_trusted.proofs.frame.Frame.wrote.Goals as goal
 
@@ -11,5 +11,5 @@ returns-clause-vars c =
 
 pub returns-clause-views : goal.returns-clause-views
 returns-clause-views c =
-    subst (AreLeftBy (labels_of c.args.call.now.policy.now) c.args.relation c.args.at (place c.args.key.now c.args.key_class c.args.at) c.args.outcome c.args.self.now.views)
+    subst (AreLeftBy (labels_of c.args.call.now.policy.now) c.args.relation c.args.at (named c.args.at c.args.write.now) c.args.outcome c.args.self.now.views)
     (sym c.set_outcome.ensures.views) c.follow.ensures

@@ -1,5 +1,5 @@
 use Rattle.std.proofs.Common.{[]}
-use Rattle.mls_statements.specs.Rows.{first_meta}
+use Rattle.mls_tables.specs.Rows.{first_meta}
 use Rattle.script_cases.proofs.lists.ListsHost.keep.Goals as goal
 
 -- any row will do where anything is kept

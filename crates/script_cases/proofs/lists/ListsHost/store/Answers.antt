@@ -1,15 +1,14 @@
-use Rattle.std.proofs.Common.{ap, refl, sym, subst}
+use Rattle.std.proofs.Common.{ap, refl}
 use Rattle.mls_filterview.specs.Content.{State}
-use Rattle.mls_fragments.specs.Finding.{IsSoundContent}
+use Rattle.mls_audit.proofs.SoundLemmas.{none_sound}
 use Rattle.mls_fragments.specs.Holdings.{as_it_was, holdings_of, row_of}
-use Rattle.mls_fragments.proofs.FindingLemmas.{nothing_sound}
 use Rattle.script_cases.proofs.lists.ListsHost.store.Goals as goal
 
 pub returns-clause-idle : goal.returns-clause-idle
 returns-clause-idle g c = ap (λ (s : State). s.begun) c.new.ensures
 
 pub returns-clause-sound : goal.returns-clause-sound
-returns-clause-sound g c = subst (λ (s : State). IsSoundContent c.args.policy.now c.args.file.now.schemes s.now) (sym c.new.ensures) (nothing_sound c.args.policy.now c.args.file.now.schemes)
+returns-clause-sound g c = none_sound c.args.policy.now c.args.file.now.schemes _ c.new.ensures
 
 pub returns-clause-kept : goal.returns-clause-kept
 returns-clause-kept g c = λ clean.

@@ -1,5 +1,0 @@
-use Rattle.mls_fragments.proofs.entity.nodes_at.Goals as goal
-
-pub returns-clause-found : goal.returns-clause-found
-returns-clause-found g c = λ clean.
-    rw (c.from.ensures, c.byte.ensures, c.from-2.ensures, c.byte-2.ensures, c.from-3.ensures, c.byte-3.ensures) at (c.nodes_of_key.ensures.found clean)

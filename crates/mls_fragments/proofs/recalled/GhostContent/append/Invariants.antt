@@ -1,6 +1,0 @@
-use Rattle.std.proofs.Common.{◌∷◌}
-use Rattle.mls_fragments.specs.Changes.Change.{Appends}
-use Rattle.mls_fragments.proofs.recalled.GhostContent.append.Given as goal
-
-abbrev pub ghost-note : goal.ghost-note
-ghost-note a = Appends a._seen.now.now ∷ a.self.now.changes

@@ -1,4 +1,0 @@
-use Rattle.mls_fragments.proofs.recalled.GhostContent.copy.Given as goal
-
-abbrev pub ghost-note : goal.ghost-note
-ghost-note a = a._seen.now.changes

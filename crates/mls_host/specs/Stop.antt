@@ -1,0 +1,78 @@
+-- Why a command ends without success, and the line that tells it.
+use Rattle.std.specs.Prelude.{ℕ, List, ◌++◌, codes, Result, Ok, Err}
+use Rattle.std.specs.Fmt.{decimal}
+use Rattle.mls_fragments.specs.declared.open_fault.OpenFault.TheVariants as stores
+use Rattle.mls_fragments.specs.OpenFault as store_faults
+use Rattle.mls_sessions.specs.declared.cause.RunCause.{RunCause}
+use Rattle.mls_sessions.specs.declared.cause.RunFault.{RunFault}
+use Rattle.mls_sessions.specs.Cause.{cause_word}
+use Rattle.mls_host.specs.declared.host.CloseFault.{CloseFault}
+use Rattle.mls_host.specs.declared.reason.Reason.{Reason}
+use Rattle.mls_host.specs.declared.reason.Role.TheVariants as role
+use Rattle.mls_host.specs.declared.stop.Stop.{Stop}
+use Rattle.mls_host.specs.declared.stop.Stop.TheVariants.{Before, Run, NotClosed, Output, Served, Unread, Turned}
+use Rattle.mls_host.specs.declared.ending.Ending.{Ending}
+use Rattle.mls_host.specs.declared.ending.Ending.TheVariants.{Well, Refused}
+use Rattle.mls_host.specs.Reason.{fault_text, reason_text, reason_status}
+
+abbrev pub run_text : RunFault → List ℕ
+run_text f = codes "mldb: run: " ++ cause_word f.cause ++ codes " at " ++ decimal f.event ++ codes "\n"
+
+abbrev pub served_text : RunCause → List ℕ
+served_text cause = codes "mldb: serve: " ++ cause_word cause ++ codes "\n"
+
+abbrev pub turned_text : RunCause → List ℕ
+turned_text cause = codes "mldb: turn: " ++ cause_word cause ++ codes "\n"
+
+-- what is told of a stop
+abbrev pub stop_text : Stop → List ℕ
+stop_text (Before reason) = reason_text reason
+stop_text (Run f) = run_text f
+stop_text NotClosed = fault_text role.Store (store_faults.code_of stores.Store) (store_faults.word_of stores.Store)
+stop_text Output = codes "mldb: output: Write\n"
+stop_text (Served cause) = served_text cause
+stop_text Unread = codes "mldb: serve: Unreadable\n"
+stop_text (Turned cause) = turned_text cause
+
+abbrev pub stop_status : Stop → ℕ
+stop_status (Before reason) = reason_status reason
+stop_status (Run f) = 3
+stop_status NotClosed = 3
+stop_status Output = 3
+stop_status (Served cause) = 3
+stop_status Unread = 1
+stop_status (Turned cause) = 3
+
+-- ---- over a store
+
+module _ {A : Type 0} where
+  -- how a run or a shell ended whose store was closed, or not
+  abbrev pub ended : Result A RunFault → Result (Unit {0}) CloseFault → Result A Stop
+  ended (Err fault) closed = Err (Run fault)
+  ended (Ok end) (Err fault) = Err NotClosed
+  ended (Ok end) (Ok _) = Ok end
+
+  -- what holds of one that ended, or was given up at a fault; it is whole where its store was not closed; and what
+  -- holds where none began
+  abbrev pub IsEnd : (Result A RunFault → Type 0) → (Reason → Type 0) → Result A Stop → Type 0
+  IsEnd Ends Nothing (Ok end) = Ends (Ok end)
+  IsEnd Ends Nothing (Err (Before reason)) = Nothing reason
+  IsEnd Ends Nothing (Err (Run fault)) = Ends (Err fault)
+  IsEnd Ends Nothing (Err NotClosed) = (end : A) × Ends (Ok end)
+  IsEnd Ends Nothing (Err Output) = ⊥
+  IsEnd Ends Nothing (Err (Served cause)) = ⊥
+  IsEnd Ends Nothing (Err Unread) = ⊥
+  IsEnd Ends Nothing (Err (Turned cause)) = ⊥
+
+-- how a desk ended, as it is told: without a number, and a line that could not be read as a stop
+abbrev pub served : Result Ending Stop → Result Ending Stop
+served (Ok Well) = Ok Well
+served (Ok Refused) = Err Unread
+served (Err (Run fault)) = Err (Served fault.cause)
+served (Err stop) = Err stop
+
+-- how a turning ended, as it is told: without a number
+abbrev pub turned : Result (Unit {0}) Stop → Result Ending Stop
+turned (Ok _) = Ok Well
+turned (Err (Run fault)) = Err (Turned fault.cause)
+turned (Err stop) = Err stop

@@ -1,8 +1,0 @@
-use Rattle.std.proofs.Common.{take}
-use Rattle.sqlite.specs.Held.{state}
-use Rattle.mls_statements.specs.Statements.{AddsCells}
-use Rattle.mls_statements.proofs.ChangeLemmas.{IsSoFar}
-use Rattle.mls_statements.proofs.statements.cell.add_cells.Given as goal
-
-abbrev pub invariant-loop-cell : goal.invariant-loop-cell
-invariant-loop-cell g l = IsSoFar (AddsCells (take l.cell-index l.cells)) (state g.S.Store l.fn.conn) (state g.S.Store l.conn)

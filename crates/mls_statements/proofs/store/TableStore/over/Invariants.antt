@@ -1,6 +1,0 @@
-use Rattle.sqlite.specs.Held.{state}
-use Rattle.mls_statements.specs.Rows.{tables_of}
-use Rattle.mls_statements.proofs.store.TableStore.over.Given as goal
-
-abbrev pub ghost-remember : goal.ghost-remember
-ghost-remember g a = tables_of (state g.S.Store a._conn.now).committed.trees

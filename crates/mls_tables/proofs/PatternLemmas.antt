@@ -1,0 +1,54 @@
+-- The pattern of the node at a key, which is looked up alone.
+use Rattle.std.proofs.Common.{◌≡◌, ℕ, List, [], ◌∷◌, map, filter, codes, true, Result, IfOk, IfErr, Vec, refl, sym, subst, IsPermutation}
+use Rattle.std.specs.declared.alloc.Global.{Global}
+use Rattle.sqlite_value.specs.Order.{Row, column}
+use Rattle.sqlite.specs.declared.error.Error.{Error}
+use Rattle.sqlite.specs.Command.TheVariants.{Select}
+use Rattle.sqlite.specs.State.{State, HasCleanDisk}
+use Rattle.sqlite.specs.Term.{Term, col, eval_all}
+use Rattle.sqlite.specs.Listing.{understood}
+use Rattle.sqlite_tied.specs.Compute.{everything}
+use Rattle.mls_tables.specs.declared.rows.TupleKey.{TupleKey}
+use Rattle.mls_tables.specs.Schema.{Others, schema}
+use Rattle.sqlite_value.specs.declared.value.Value.TheVariants.{Blob}
+use Rattle.sqlite_trees.proofs.ListLemmas.{map-map}
+use Rattle.mls_tables.specs.Adopting.{IsBytes, ShowsSome, FailsToShow}
+use Rattle.mls_tables.specs.Rows.{tables_of, is_blob, is_node, node_of, is_node_row, class_values}
+use Rattle.mls_tables.specs.Pattern.{pattern_values, shown_bytes}
+use Rattle.mls_tables.specs.Statements.{IsQuery}
+use Rattle.mls_tables.proofs.EditParts.{alone}
+use Rattle.mls_tables.proofs.QueryAnswers.{rows_by, passes}
+use Rattle.mls_tables.proofs.TableRows.{answers, read_back}
+use Rattle.mls_tables.proofs.ValueTests.{blob_is, node_parts, node_in_class}
+use Rattle.mls_tables.proofs.Texts.{Asks, by_class}
+use Rattle.mls_tables.proofs.Finds.{found, query}
+
+-- ---- what the text means
+
+abbrev pattern_shown : List Term
+pattern_shown = col 1 5 ∷ []
+
+abbrev pub patterns_of_key : List ℕ
+patterns_of_key = codes "SELECT pattern FROM node WHERE rel = ?1 AND ent = ?2 AND kclass = ?3 AND label = ?4"
+
+pub patterns_of_key_is : (o : Others) → Asks (schema o) patterns_of_key (Select (alone (rows_by 0 by_class pattern_shown)) (codes "pattern" ∷ []))
+unfolding understood everything
+patterns_of_key_is o = (refl, (refl, refl), refl)
+
+-- ---- what it finds
+
+pattern_shows : (params r : Row) → is_node_row r ≡ true → eval_all pattern_shown (params ∷ r ∷ []) ≡ pattern_values (node_of r)
+pattern_shows params r h = let c = node_parts r h in rw (← blob_is (column r 5) c.pattern)
+
+pub finds_patterns_of_key : (old new : State) (k : TupleKey) (r : Result (Vec (List ℕ) Global) Error) → (HasCleanDisk new → HasCleanDisk old)
+    → (HasCleanDisk new → IfOk r (λ xs. ShowsSome shown_bytes (λ r. is_blob (column r 0)) patterns_of_key (class_values k) old new xs.items))
+    → (HasCleanDisk new → IfErr r (FailsToShow (λ r. IsBytes (column r 0)) patterns_of_key (class_values k) old new))
+    → IsQuery (IsPermutation (map (λ n. n.pattern) (filter (is_node k) (tables_of old.now.trees).nodes))) old new r
+finds_patterns_of_key old new k =
+    let params = class_values k in
+    let nodes = filter (is_node k) (tables_of old.now.trees).nodes in
+    query old new shown_bytes (λ r. is_blob (column r 0)) (λ r. IsBytes (column r 0)) patterns_of_key params (λ o. (patterns_of_key_is o).1) (IsPermutation (map (λ n. n.pattern) nodes)) (λ ready given h.
+    read_back (λ bytes. Blob bytes ∷ []) shown_bytes (λ bytes. refl) (map (λ n. n.pattern) nodes) given
+    (subst (λ (shown : List Row). IsPermutation shown given) (sym (map-map (λ bytes. Blob bytes ∷ []) (λ n. n.pattern) nodes))
+    (answers is_node_row node_of (passes by_class params) (is_node k) _ pattern_values (node_in_class k) (pattern_shows params) (old.now.trees 0) given ready.1.0.1
+    (found old new ready.0.others patterns_of_key params 0 by_class pattern_shown (codes "pattern" ∷ []) [] (patterns_of_key_is ready.0.others) refl ready.0.is given h))))

@@ -8,9 +8,7 @@ use Rattle.mls_translang.specs.Tx.{Tx}
 use Rattle.mls_certcheck.specs.declared.cert.Certificate.{Certificate}
 use Rattle.mls_certcheck.specs.declared.flow.Line.{Line}
 use Rattle.mls_certcheck.specs.Lines.{by, within_ends, tx_lines, lines}
-use Rattle.mls_certcheck.specs.Rules.{Claim, Rules, hi, slot_label, source_label, IsOver, Holds}
-use Rattle.mls_certcheck.specs.declared.flow.Slot.{Slot}
-use Rattle.mls_certcheck.specs.declared.flow.Slot.TheVariants.{Variable, Statement}
+use Rattle.mls_certcheck.specs.Rules.{Claim, Rules, hi, source_label, IsOver, Holds}
 use Rattle.mls_certcheck.specs.declared.flow.Source.{Source}
 use Rattle.mls_certcheck.specs.declared.flow.Source.TheVariants.{Held, Parameter, Declared}
 use Rattle.mls_certcheck.specs.declared.flow.Flow.{Flow}
@@ -61,16 +59,12 @@ module _ (ls : Labels) (tx : Tx) (x y : Certificate) where
   cy = record { labels = ls; tx = tx; cert = y }
 
   module _ (below : Below cx cy) where
-    pub slot_falls : (t : Slot) → Dominates (slot_label cy t) (slot_label cx t)
-    slot_falls (Variable n i) = below.vars n i
-    slot_falls (Statement n) = below.stmts n
-
-    pub source_falls : (s : Source) → Dominates (source_label cy s) (source_label cx s)
-    source_falls (Held t) = slot_falls t
+    source_falls : (s : Source) → Dominates (source_label cy s) (source_label cx s)
+    source_falls (Held t) = below t
     source_falls (Parameter i) = Dominates-refl _
     source_falls (Declared label) = Dominates-refl _
 
-    over_falls : (p : Pair) (ss : List Source) → IsOver cy p ss → IsOver cx p ss
+    pub over_falls : (p : Pair) (ss : List Source) → IsOver cy p ss → IsOver cx p ss
     over_falls p ss h = all_map (λ s. Dominates p (source_label cy s)) (λ s. Dominates p (source_label cx s)) (λ s d. Dominates-trans p (source_label cy s) (source_label cx s) d (source_falls s)) ss h
 
     flow_falls : (f : Flow) → IsBounded cx f → Holds cy f → Holds cx f

@@ -2,5 +2,5 @@ pub mod WalkLemmas
 pub mod FlowLemmas
 pub mod SlotLemmas
 pub mod RoomLemmas
+pub mod RowLemmas
 pub mod RiseLemmas
-pub mod PutLemmas

@@ -1,5 +1,5 @@
 -- A label that rises has less room left.
-use Rattle.std.proofs.Common.{◌≡◌, ℕ, ◌<◌, ◌≤◌, ◌^◌, true, List, length, set, get_or, sym, ◌∙◌, subst, inl, inr, arith}
+use Rattle.std.proofs.Common.{◌≡◌, ℕ, ◌+◌, ◌-◌, ◌<◌, ◌≤◌, ◌^◌, true, List, length, set, get_or, sym, ◌∙◌, subst, inl, inr, arith}
 use Rattle.std.specs.List.{sum_by}
 use Rattle.std.specs.FinSet as set
 use Rattle.std.proofs.lemmas.Bool.{cases_eq}
@@ -9,7 +9,9 @@ use Rattle.mls_lattice.specs.declared.label.Label.{Label}
 use Rattle.mls_lattice.specs.Lattice.{Pair, Dominates, join, cats_of, pair_of}
 use Rattle.mls_lattice.proofs.LatticeLemmas.{join-left, join-right}
 use Rattle.mls_lattice.proofs.CategoryLemmas.{and_by_within}
-use Rattle.mls_labeller.specs.Rising.{room_of}
+
+abbrev room_of : Label → ℕ
+room_of l = 255 - l.rank + (2 ^ 32 - 1 - l.cats)
 
 cats_rise : (a b : ℕ) → ((k : ℕ) → set.contains (cats_of a) k ≡ true → set.contains (cats_of b) k ≡ true) → a ≤ b
 cats_rise a b h = let e = and_by_within a b h in omega (arith, e, and_le_r a b)

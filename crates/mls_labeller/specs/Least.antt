@@ -1,5 +1,5 @@
 -- The least labels that meet the lower bounds.
-use Rattle.std.specs.Prelude.{◌≡◌, ℕ, length}
+use Rattle.std.specs.Prelude.{◌≡◌, length}
 use Rattle.std.specs.List.{AllByRecursion}
 use Rattle.mls_lattice.specs.Lattice.{Dominates}
 use Rattle.mls_lattice.specs.Policy.{Policy}
@@ -8,7 +8,8 @@ use Rattle.mls_translang.specs.Tx.{Tx}
 use Rattle.mls_certcheck.specs.declared.cert.Certificate.{Certificate}
 use Rattle.mls_certcheck.specs.declared.cert.Certificate.TheVariants.{One, Two}
 use Rattle.mls_certcheck.specs.Lines.{lines}
-use Rattle.mls_certcheck.specs.Rules.{Claim, claim, after, pc, var_rows, Counts}
+use Rattle.mls_certcheck.specs.Rules.{Claim, claim, slot_label, var_rows, Counts}
+use Rattle.mls_certcheck.specs.declared.flow.Slot.{Slot}
 use Rattle.mls_labeller.specs.Flows.{IsBounded}
 use Rattle.mls_certcheck.specs.declared.cert.Version.{Version}
 use Rattle.mls_certcheck.specs.declared.cert.Version.TheVariants as version
@@ -27,10 +28,9 @@ module _ (c : Claim) where
     pub stmt_count : Counts (statements c.tx.body) c.cert
     pub bounds : AllByRecursion (λ line. IsBounded c line.flow) (lines c.tx)
 
--- each label of the first is dominated by the label at the same place of the second
-pub record Below (c d : Claim) : Type 0 where
-  pub vars : (n x : ℕ) → Dominates (after d n x) (after c n x)
-  pub stmts : (n : ℕ) → Dominates (pc d n) (pc c n)
+-- each label of the first is dominated by the label of the same slot in the second
+abbrev pub Below : Claim → Claim → Type 0
+Below c d = (slot : Slot) → Dominates (slot_label d slot) (slot_label c slot)
 
 -- it meets the lower bounds, and its labels are below those of each of its version that does
 pub record IsLeast (v : Version) (policy : Policy) (tx : Tx) (cert : Certificate) : Type 0 where

@@ -1,15 +1,16 @@
 //! The least certificate of a transaction, of either version.
 ghost use Rattle.std.specs.Prelude.{◌≡◌, IfOk, IfErr};
 ghost use Rattle.mls_certcheck.specs.Rules.{Rules, claim};
-ghost use Rattle.mls_labeller.specs.Least.{IsLeast, Below};
+ghost use Rattle.mls_labeller.specs.Least.{IsOf, IsLeast, Below};
 ghost use Rattle.mls_labeller.specs.Fault.{HasNone, IsFirst};
 ghost use Rattle.mls_certcheck.specs.declared.cert.Version.TheVariants as version;
 ghost use Rattle.mls_certcheck.specs.declared.cert.Cert.{Cert as SpecCert};
 ghost use Rattle.mls_certcheck.specs.declared.cert.Cert2.{Cert2 as SpecCert2};
+ghost use Rattle.mls_certcheck.specs.declared.cert.Certificate.{Certificate as SpecCertificate};
 ghost use Rattle.mls_certcheck.specs.declared.cert.Certificate.TheVariants.{One, Two};
 
 use crate::fault::LabelFault;
-use crate::least::Labeller;
+use crate::least::{Labeller, Rising};
 use crate::lines::lines_of;
 use mls_certcheck::{Cert, Cert2, Certificate, Version, check};
 use mls_lattice::Policy;
@@ -25,12 +26,15 @@ fn labelled(
 ) -> Result<Certificate, LabelFault>
     ensures obeys { IfOk result (λ cert. Rules (claim policy.now tx.now cert)) }
     ensures least { IfOk result (λ cert. IsLeast version policy.now tx.now cert) }
+    ensures below { IfOk result (λ cert. (other : SpecCertificate) → IsOf version other → Rules (claim policy.now tx.now other)
+        → Below (claim policy.now tx.now cert) (claim policy.now tx.now other)) }
     ensures none { IfErr result (HasNone version policy.now tx.now) }
     ensures first { IfErr result (IsFirst version policy.now tx.now) }
 {
     let lines = lines_of(alloc, tx)?;
     let labeller = Labeller { policy, tx };
-    let cert = labeller.least(alloc, version, &lines)?.into_cert(alloc)?;
+    let rising = Rising { labeller, version };
+    let cert = rising.least(alloc, &lines)?.into_cert(alloc, version)?;
     check(policy, tx, &cert)?;
     Ok(cert)
 }

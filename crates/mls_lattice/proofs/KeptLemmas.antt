@@ -13,7 +13,7 @@ use Rattle.std.proofs.lemmas.List.{append-nil, map_push}
 use Rattle.std.proofs.lemmas.List.Quantifiers.{position-Some}
 use Rattle.std.proofs.lemmas.Map.Keys.{IsDistinct-push}
 use Rattle.toml.specs.Data.{Data, Items, no_items, item, Members}
-use Rattle.mls_lattice.specs.declared.fault.PolicyFault.TheVariants.{UnknownName}
+use Rattle.mls_lattice.specs.declared.fault.FieldFault.TheVariants.{UnknownName}
 use Rattle.mls_lattice.specs.declared.version.Version.{Version}
 use Rattle.mls_lattice.specs.declared.tables.User.{User}
 use Rattle.mls_lattice.specs.declared.tables.Right.{Right}

@@ -2,7 +2,6 @@ pub mod CanonLemmas
 pub mod CategoryLemmas
 pub mod ReadingLemmas
 pub mod ReadsPolicyLemmas
-pub mod NeverLemmas
 pub mod SaysLemmas
 pub mod SaysTablesLemmas
 pub mod TablesLemmas

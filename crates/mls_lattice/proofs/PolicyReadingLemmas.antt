@@ -9,8 +9,8 @@ use Rattle.std.specs.FinSet as set
 use Rattle.toml.specs.declared.value.Value.{Value}
 use Rattle.toml.specs.Data.{Data}
 use Rattle.toml.specs.View.{view, items_view}
-use Rattle.mls_lattice.specs.declared.fault.PolicyFault.{PolicyFault}
-use Rattle.mls_lattice.specs.declared.fault.PolicyFault.TheVariants.{Repeated, WrongKind}
+use Rattle.mls_lattice.specs.declared.fault.FieldFault.{FieldFault}
+use Rattle.mls_lattice.specs.declared.fault.FieldFault.TheVariants.{Repeated, WrongKind}
 use Rattle.mls_lattice.specs.declared.tables.NamedLabel.{NamedLabel}
 use Rattle.mls_lattice.specs.Lattice.{Pair, Dominates, pair_of, same_pair}
 use Rattle.mls_lattice.specs.Labels.{below}
@@ -24,14 +24,14 @@ use Rattle.mls_lattice.proofs.LatticeLemmas.{test-below}
 
 module _ (items : List Value) (i : ℕ) (v : Value) (within : i < length items) (is : v ≡ get_or items i v) where
   -- a row
-  pub rows-more : {B : Type 0} (read : List B → Data → Result B PolicyFault) (front : List B) (row : B) → read front (view v) ≡ Ok row → rows_at read (front ++ row ∷ []) (items_view (drop (i + 1) items)) ≡ rows_at read front (items_view (drop i items))
+  pub rows-more : {B : Type 0} (read : List B → Data → Result B FieldFault) (front : List B) (row : B) → read front (view v) ≡ Ok row → rows_at read (front ++ row ∷ []) (items_view (drop (i + 1) items)) ≡ rows_at read front (items_view (drop i items))
   rows-more read front row ok = sym (here items i v within is (rows_at read front) ∙ rw ok refl)
 
   -- a category
-  pub categories-bad_name : (cs : List Name) (s : set.FinSet nat_cmp) (e : PolicyFault) → name_at (view v) ≡ Err e → more_categories cs s (items_view (drop i items)) ≡ Err e
+  pub categories-bad_name : (cs : List Name) (s : set.FinSet nat_cmp) (e : FieldFault) → name_at (view v) ≡ Err e → more_categories cs s (items_view (drop i items)) ≡ Err e
   categories-bad_name cs s e name = here items i v within is (more_categories cs s) ∙ rw name refl
 
-  pub categories-bad_place : (cs : List Name) (s : set.FinSet nat_cmp) (n : Name) (e : PolicyFault) → name_at (view v) ≡ Ok n → place_in cs n ≡ Err e → more_categories cs s (items_view (drop i items)) ≡ Err e
+  pub categories-bad_place : (cs : List Name) (s : set.FinSet nat_cmp) (n : Name) (e : FieldFault) → name_at (view v) ≡ Ok n → place_in cs n ≡ Err e → more_categories cs s (items_view (drop i items)) ≡ Err e
   categories-bad_place cs s n e name place = here items i v within is (more_categories cs s) ∙ rw (name, place) refl
 
   pub categories-repeated : (cs : List Name) (s : set.FinSet nat_cmp) (n : Name) (k : ℕ) → name_at (view v) ≡ Ok n → place_in cs n ≡ Ok k → set.contains s k ≡ true → more_categories cs s (items_view (drop i items)) ≡ Err Repeated
@@ -42,10 +42,10 @@ module _ (items : List Value) (i : ℕ) (v : Value) (within : i < length items) 
   categories-more cs s n k name place has = sym (here items i v within is (more_categories cs s) ∙ rw (name, place, has) refl)
 
   -- a mode
-  pub modes-bad_word : (m : ℕ) (w : List ℕ) (e : PolicyFault) → text_at (view v) ≡ Ok w → mode_of w ≡ Err e → more_modes m (items_view (drop i items)) ≡ Err e
+  pub modes-bad_word : (m : ℕ) (w : List ℕ) (e : FieldFault) → text_at (view v) ≡ Ok w → mode_of w ≡ Err e → more_modes m (items_view (drop i items)) ≡ Err e
   modes-bad_word m w e text word = here items i v within is (more_modes m) ∙ rw (text, word) refl
 
-  pub modes-bad_kind : (m : ℕ) (e : PolicyFault) → text_at (view v) ≡ Err e → more_modes m (items_view (drop i items)) ≡ Err e
+  pub modes-bad_kind : (m : ℕ) (e : FieldFault) → text_at (view v) ≡ Err e → more_modes m (items_view (drop i items)) ≡ Err e
   modes-bad_kind m e text = here items i v within is (more_modes m) ∙ rw text refl
 
   pub modes-repeated : (m : ℕ) (w : List ℕ) (k : ℕ) → text_at (view v) ≡ Ok w → mode_of w ≡ Ok k → (bit_and m k == k) ≡ true → more_modes m (items_view (drop i items)) ≡ Err Repeated

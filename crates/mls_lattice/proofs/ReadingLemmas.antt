@@ -5,13 +5,17 @@ use Rattle.toml.specs.Data.{Data, string, integer, float, boolean, datetime, arr
 use Rattle.toml.specs.declared.value.Value.{Value}
 use Rattle.toml.specs.View.{view, items_view}
 use Rattle.toml.proofs.Views.{items_view-drop}
-use Rattle.mls_lattice.specs.declared.fault.PolicyFault.{PolicyFault}
-use Rattle.mls_lattice.specs.Reading.{◌>>=◌, Gives, items_len, all_items}
+use Rattle.mls_lattice.specs.declared.failed.Failed.TheVariants.{Fault}
+use Rattle.mls_lattice.specs.Reading.{◌>>=◌, Shows, items_len, all_items}
 
 -- `ok_or` of what a look-up found
-pub Gives-ok_or : {X Y : Type 0} (f : X → Y) (o : Option X) (p : Option Y) (e : PolicyFault) (r : Result X PolicyFault) → option_map f o ≡ p → r ≡ ok_or o e → Gives f r (ok_or p e)
-Gives-ok_or f None p e r h q = rw (q, ← h) (λ _. refl)
-Gives-ok_or f (Some x) p e r h q = rw (q, ← h) refl
+pub Shows-ok_or : {F X Y : Type 0} (f : X → Y) (o : Option X) (p : Option Y) (e : F) (r : Result X F) → option_map f o ≡ p → r ≡ ok_or o e → Shows f r (ok_or p e)
+Shows-ok_or f None p e r h q = rw (q, ← h) refl
+Shows-ok_or f (Some x) p e r h q = rw (q, ← h) refl
+
+-- what a function answers that took memory and met a fault
+pub gives_fault : {F Y : Type 0} (read : Result Y F) (fault : F) → read ≡ Err fault → (other : F) → Fault fault ≡ Fault other → read ≡ Err other
+gives_fault read fault is other same = is ∙ ap (λ (e : _). Err e) (let e : fault ≡ other = cc in e)
 
 -- how many items there are
 pub items_len-view : (vs : List Value) → items_len (items_view vs) ≡ length vs

@@ -1,9 +1,12 @@
 -- Reading is exact, so a document says one policy, and no reader refuses it.
 use Rattle.std.proofs.Common.{◌≡◌, ◌≢◌, ℕ, List, codes, Some, Result, Ok, Err, refl, sym, ap, ◌∙◌, subst, is_some}
-use Rattle.std.specs.Prelude.{◌↔◌, IfOk, IfErr}
+use Rattle.std.specs.Prelude.{IfOk}
 use Rattle.toml.specs.Data.{Members, as_str, as_table}
-use Rattle.mls_lattice.specs.declared.fault.PolicyFault.{PolicyFault}
-use Rattle.mls_lattice.specs.declared.fault.PolicyFault.TheVariants.{NotToml, Memory}
+use Rattle.mls_lattice.specs.declared.failed.Failed.{Failed}
+use Rattle.mls_lattice.specs.declared.failed.Failed.TheVariants as failed
+use Rattle.mls_lattice.specs.declared.fault.FieldFault.{FieldFault}
+use Rattle.mls_lattice.specs.declared.fault.PolicyFault.TheVariants.{Memory}
+use Rattle.mls_lattice.specs.Fault.{failed_fault_of}
 use Rattle.mls_lattice.specs.Policy.{Policy}
 use Rattle.mls_lattice.specs.Reading.{Gives, version_at}
 use Rattle.mls_lattice.specs.PolicyReading.{new_name_at, levels_at, categories_at, label_at, labels_at, user_at, users_at, right_at, matrix_at, policy_at}
@@ -81,20 +84,15 @@ one document p q a b = same_ok (policy_at document) p q (says_again document p a
 pub one_document : (bytes : List ℕ) (d e : Members) → IsDocument bytes d → IsDocument bytes e → d ≡ e
 one_document bytes d e a b = let h : Some d ≡ Some e = sym a.1 ∙ b.1 in cc
 
-pub read_found : (bytes : List ℕ) (document : Members) (r : Result Policy PolicyFault) → IsDocument bytes document → Gives (λ p. p) r (policy_at document) → IfOk r (ReadsPolicy bytes)
+pub read_found : (bytes : List ℕ) (document : Members) (r : Result Policy (Failed FieldFault)) → IsDocument bytes document → Gives (λ p. p) r (policy_at document) → IfOk r (ReadsPolicy bytes)
 read_found bytes document (Ok p) is given = (document, is, says_found document p given)
-read_found bytes document (Err e) is given = tt
+read_found bytes document (Err failed) is given = tt
 
-pub read_refused : (bytes : List ℕ) (document : Members) (r : Result Policy PolicyFault) → IsDocument bytes document → Gives (λ p. p) r (policy_at document)
-    → IfErr r (λ e. e ≢ Memory → (p : Policy) → ReadsPolicy bytes p → ⊥)
-read_refused bytes document (Ok p) is given = tt
-read_refused bytes document (Err e) is given = λ other p (read, is_read, says).
+pub read_refused : (bytes : List ℕ) (document : Members) (failed : Failed FieldFault) → IsDocument bytes document → Gives (λ (p : Policy). p) (Err failed) (policy_at document)
+    → failed_fault_of failed ≢ Memory → (p : Policy) → ReadsPolicy bytes p → ⊥
+read_refused bytes document failed.Memory is given other p reads = absurd (other refl)
+read_refused bytes document (failed.Fault fault) is given other p (read, is_read, says) =
     let same = one_document bytes read document is_read is in
     let ok : policy_at document ≡ Ok p = ap policy_at (sym same) ∙ says_again read p says in
-    let err : policy_at document ≡ Err e = given other in
+    let err : policy_at document ≡ Err fault = given fault refl in
     absurd cc
-
-pub read_not_toml : (bytes : List ℕ) (document : Members) (r : Result Policy PolicyFault) → IsDocument bytes document → IfErr r (λ e. e ≢ NotToml)
-    → IfErr r (λ e. e ≢ Memory → (e ≡ NotToml) ↔ ((document : Members) → IsDocument bytes document → ⊥))
-read_not_toml bytes document (Ok p) is other = tt
-read_not_toml bytes document (Err e) is other = λ _. (λ same. absurd (other same), λ none. absurd (none document is))

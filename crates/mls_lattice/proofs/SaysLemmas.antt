@@ -3,8 +3,8 @@ use Rattle.std.proofs.Common.{◌≡◌, ℕ, suc, ◌<◌, ◌≤◌, Bool, tru
 use Rattle.std.proofs.lemmas.Bool.{ne_eqb, le-ltb, ltb-false, eqb-false}
 use Rattle.std.proofs.lemmas.List.{append-nil}
 use Rattle.toml.specs.Data.{Data, Items, no_items, item, Members, get_member, string, array, as_str, as_array}
-use Rattle.mls_lattice.specs.declared.fault.PolicyFault.{PolicyFault}
-use Rattle.mls_lattice.specs.declared.fault.PolicyFault.TheVariants.{MissingField, WrongKind, TooMany, BadName}
+use Rattle.mls_lattice.specs.declared.fault.FieldFault.{FieldFault}
+use Rattle.mls_lattice.specs.declared.fault.FieldFault.TheVariants.{MissingField, WrongKind, TooMany, BadName}
 use Rattle.mls_lattice.specs.Name.{is_name}
 use Rattle.mls_lattice.specs.Policy.{Name}
 use Rattle.mls_lattice.specs.Reading.{◌>>=◌, wanted, text_at, array_at, name_at, name_field, items_len, all_items, optional, bounded, some_of}
@@ -37,7 +37,7 @@ field_again key fields name h = rw (h.text, h.is_name) refl
 
 -- ---- rows
 
-rows_found : {B : Type 0} (read : List B → Data → Result B PolicyFault) (R : List B → Data → B → Type 0) → ((before : List B) (d : Data) (row : B) → read before d ≡ Ok row → R before d row)
+rows_found : {B : Type 0} (read : List B → Data → Result B FieldFault) (R : List B → Data → B → Type 0) → ((before : List B) (d : Data) (row : B) → read before d ≡ Ok row → R before d row)
     → (front : List B) (ds : Items) (all : List B) → rows_at read front ds ≡ Ok all → (rows : List B) × (all ≡ front ++ rows) × Rows R front ds rows
 rows_found read R found front no_items all e = ([], sym (ok_is front all e) ∙ sym (append-nil front), tt)
 rows_found read R found front (item d ds) all e =
@@ -45,7 +45,7 @@ rows_found read R found front (item d ds) all e =
     let more = rows_found read R found (front ++ a.0 ∷ []) ds all a.2 in
     (a.0 ∷ more.0, more.1 ∙ append_assoc front (a.0 ∷ []) more.0, (found front d a.0 a.1, more.2))
 
-rows_again : {B : Type 0} (read : List B → Data → Result B PolicyFault) (R : List B → Data → B → Type 0) → ((before : List B) (d : Data) (row : B) → R before d row → read before d ≡ Ok row)
+rows_again : {B : Type 0} (read : List B → Data → Result B FieldFault) (R : List B → Data → B → Type 0) → ((before : List B) (d : Data) (row : B) → R before d row → read before d ≡ Ok row)
     → (front : List B) (ds : Items) (rows : List B) → Rows R front ds rows → rows_at read front ds ≡ Ok (front ++ rows)
 rows_again read R again front no_items [] h = ap (λ x. Ok x) (sym (append-nil front))
 rows_again read R again front no_items (row ∷ rows) h = absurd h
@@ -67,7 +67,7 @@ rows_all R p each front (item d ds) (row ∷ rows) h = rw (each front d row h.0)
 
 -- ---- arrays of one kind
 
-abbrev pub kind_at : (Data → Bool) → Data → Result Items PolicyFault
+abbrev pub kind_at : (Data → Bool) → Data → Result Items FieldFault
 kind_at p d = array_at d >>= λ ds. cond (all_items p ds) (Ok ds) (Err WrongKind)
 
 pub kind_found : (p : Data → Bool) (d : Data) (ds : Items) → kind_at p d ≡ Ok ds → d ≡ array ds
@@ -115,7 +115,7 @@ pub record IsTable {B : Type 0} (Has : List B → Type 0) (least most : ℕ) (ro
   pub some : least ≤ length rows
   pub few : length rows ≤ most
 
-module _ {B : Type 0} (read : List B → Data → Result B PolicyFault) (R : List B → Data → B → Type 0) (p : Data → Bool) (key : List ℕ) (document : Members) (most : ℕ) where
+module _ {B : Type 0} (read : List B → Data → Result B FieldFault) (R : List B → Data → B → Type 0) (p : Data → Bool) (key : List ℕ) (document : Members) (most : ℕ) where
   pub required_found : ((before : List B) (d : Data) (row : B) → read before d ≡ Ok row → R before d row)
       → (all : List B) → (wanted key document >>= λ d. kind_at p d >>= λ ds. some_of most ds >>= rows_at read []) ≡ Ok all → IsTable (HasRows R key document) 1 most all
   required_found found all e =

@@ -12,7 +12,7 @@ use Rattle.std.proofs.lemmas.List.Sums.{fold_push}
 use Rattle.std.specs.FinSet.{nat_cmp-IsAntisymmetric}
 use Rattle.std.proofs.lemmas.Cmp.{nat_cmp_total}
 use Rattle.toml.specs.Data.{Data, Items, no_items, item, Members, get_member, integer, array, table, as_str, as_integer, as_table}
-use Rattle.mls_lattice.specs.declared.fault.PolicyFault.TheVariants.{MissingField, WrongKind, Repeated, UnknownName, EmptyInterval}
+use Rattle.mls_lattice.specs.declared.fault.FieldFault.TheVariants.{MissingField, WrongKind, Repeated, UnknownName, EmptyInterval}
 use Rattle.mls_lattice.specs.declared.version.Version.{Version}
 use Rattle.mls_lattice.specs.declared.version.Version.TheVariants.{One, Two}
 use Rattle.mls_lattice.specs.declared.tables.User.{User}

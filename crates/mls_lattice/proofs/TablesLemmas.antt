@@ -5,7 +5,7 @@ use Rattle.std.proofs.lemmas.List.{get_or_append_left, map_push}
 use Rattle.toml.specs.declared.value.Value.{Value}
 use Rattle.toml.specs.Data.{Data}
 use Rattle.toml.specs.View.{view, items_view}
-use Rattle.mls_lattice.specs.declared.fault.PolicyFault.{PolicyFault}
+use Rattle.mls_lattice.specs.declared.fault.FieldFault.{FieldFault}
 use Rattle.mls_lattice.specs.PolicyReading.{rows_at}
 use Rattle.mls_lattice.proofs.PolicyReadingLemmas.{rows-more}
 use Rattle.mls_lattice.specs.declared.tables.NamedLabel.{NamedLabel}
@@ -46,7 +46,7 @@ pub distinct-none : AreDistinct []
 distinct-none a b in_a in_b same = absurd (omega arith)
 
 -- a row of labels
-pub label_rows-more : (items : List Value) (i : ℕ) (v : Value) (read : List Named → Data → Result Named PolicyFault) (front : List NamedLabel) (l : NamedLabel)
+pub label_rows-more : (items : List Value) (i : ℕ) (v : Value) (read : List Named → Data → Result Named FieldFault) (front : List NamedLabel) (l : NamedLabel)
     → i < length items → v ≡ get_or items i v → read (map named front) (view v) ≡ Ok (named l)
     → rows_at read (map named (front ++ l ∷ [])) (items_view (drop (i + 1) items)) ≡ rows_at read (map named front) (items_view (drop i items))
 label_rows-more items i v read front l within is ok =

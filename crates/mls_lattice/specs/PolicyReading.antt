@@ -6,8 +6,8 @@ use Rattle.std.specs.List.{list_any}
 use Rattle.std.specs.Str.{bytes_eq}
 use Rattle.std.specs.FinSet as set
 use Rattle.toml.specs.Data.{Data, Items, no_items, item, Members, get_member}
-use Rattle.mls_lattice.specs.declared.fault.PolicyFault.{PolicyFault}
-use Rattle.mls_lattice.specs.declared.fault.PolicyFault.TheVariants.{WrongKind, Repeated, UnknownName, EmptyInterval}
+use Rattle.mls_lattice.specs.declared.fault.FieldFault.{FieldFault}
+use Rattle.mls_lattice.specs.declared.fault.FieldFault.TheVariants.{WrongKind, Repeated, UnknownName, EmptyInterval}
 use Rattle.mls_lattice.specs.declared.tables.User.{User}
 use Rattle.mls_lattice.specs.declared.tables.Right.{Right}
 use Rattle.mls_lattice.specs.Lattice.{Pair, same_pair}
@@ -16,41 +16,41 @@ use Rattle.mls_lattice.specs.Policy.{Name, Named, Policy, is_entry}
 use Rattle.mls_lattice.specs.Reading.{◌>>=◌, wanted, text_at, table_at, version_at, name_at, name_field, texts_at, tables_at, optional, bounded, some_of}
 
 -- the rows of the items, after those in front, which each row may depend on
-abbrev pub rows_at : {B : Type 0} → (List B → Data → Result B PolicyFault) → List B → Items → Result (List B) PolicyFault
+abbrev pub rows_at : {B : Type 0} → (List B → Data → Result B FieldFault) → List B → Items → Result (List B) FieldFault
 rows_at read front no_items = Ok front
 rows_at read front (item d ds) = read front d >>= λ row. rows_at read (front ++ row ∷ []) ds
 
 -- a test that nothing is repeated
-abbrev pub once : Bool → Result (Unit {0}) PolicyFault
+abbrev pub once : Bool → Result (Unit {0}) FieldFault
 once repeated = if repeated then Err Repeated else Ok tt
 
 -- where a name stands
-abbrev pub place_in : List Name → Name → Result ℕ PolicyFault
+abbrev pub place_in : List Name → Name → Result ℕ FieldFault
 place_in names name = ok_or (position (λ other. bytes_eq other name) names) UnknownName
 
-abbrev pub label_place : List Named → Name → Result ℕ PolicyFault
+abbrev pub label_place : List Named → Name → Result ℕ FieldFault
 label_place labels name = ok_or (position (λ l. bytes_eq l.name name) labels) UnknownName
 
-abbrev pub user_place : List User → Name → Result ℕ PolicyFault
+abbrev pub user_place : List User → Name → Result ℕ FieldFault
 user_place users name = ok_or (position (λ u. bytes_eq u.name name) users) UnknownName
 
 -- ---- levels, categories
 
 -- a name that is none of those in front
-unfoldable pub new_name_at : List Name → Data → Result Name PolicyFault
+unfoldable pub new_name_at : List Name → Data → Result Name FieldFault
 new_name_at front d = do
   name ← name_at d
   new ← once (list_any (bytes_eq name) front)
   Ok name
 
-unfoldable pub levels_at : Members → Result (List Name) PolicyFault
+unfoldable pub levels_at : Members → Result (List Name) FieldFault
 levels_at document = do
   d ← wanted (codes "levels") document
   all ← texts_at d
   ds ← some_of 16 all
   rows_at new_name_at [] ds
 
-unfoldable pub categories_at : Members → Result (List Name) PolicyFault
+unfoldable pub categories_at : Members → Result (List Name) FieldFault
 categories_at document = do
   all ← optional texts_at (get_member (codes "categories") document)
   ds ← bounded 32 all
@@ -59,14 +59,14 @@ categories_at document = do
 -- ---- labels
 
 -- the categories of the items, with those so far, each of them new
-abbrev pub more_categories : List Name → set.FinSet nat_cmp → Items → Result (set.FinSet nat_cmp) PolicyFault
+abbrev pub more_categories : List Name → set.FinSet nat_cmp → Items → Result (set.FinSet nat_cmp) FieldFault
 more_categories categories cats no_items = Ok cats
 more_categories categories cats (item d ds) =
     name_at d >>= λ name. place_in categories name >>= λ k.
     if set.contains cats k then Err Repeated else more_categories categories (set.insert cats k) ds
 
 -- the rank and the categories that the fields of a label say
-unfoldable pub value_at : List Name → List Name → Members → Result Pair PolicyFault
+unfoldable pub value_at : List Name → List Name → Members → Result Pair FieldFault
 value_at levels categories fields = do
   level ← name_field (codes "level") fields
   rank ← place_in levels level
@@ -74,7 +74,7 @@ value_at levels categories fields = do
   cats ← more_categories categories set.empty ds
   Ok (record { rank = rank; cats = cats })
 
-unfoldable pub label_at : List Name → List Name → List Named → Data → Result Named PolicyFault
+unfoldable pub label_at : List Name → List Name → List Named → Data → Result Named FieldFault
 label_at levels categories front d = do
   fields ← table_at d
   name ← name_field (codes "name") fields
@@ -83,7 +83,7 @@ label_at levels categories front d = do
   new_value ← once (list_any (λ l. same_pair l.value value) front)
   Ok (record { name = name; value = value })
 
-unfoldable pub labels_at : List Name → List Name → Members → Result (List Named) PolicyFault
+unfoldable pub labels_at : List Name → List Name → Members → Result (List Named) FieldFault
 labels_at levels categories document = do
   d ← wanted (codes "label") document
   all ← tables_at d
@@ -92,20 +92,20 @@ labels_at levels categories document = do
 
 -- ---- users
 
-abbrev pub label_name_at : List Named → Data → Result ℕ PolicyFault
+abbrev pub label_name_at : List Named → Data → Result ℕ FieldFault
 label_name_at labels d = name_at d >>= label_place labels
 
-abbrev pub interval_at : List Named → Items → Result (Option (ℕ × ℕ)) PolicyFault
+abbrev pub interval_at : List Named → Items → Result (Option (ℕ × ℕ)) FieldFault
 interval_at labels (item low (item high no_items)) =
     label_name_at labels low >>= λ l. label_name_at labels high >>= λ h.
     if below (map (λ x. x.value) labels) l h then Ok (Some (l, h)) else Err EmptyInterval
 interval_at labels _ = Err WrongKind
 
-abbrev pub trusted_at : List Named → Option Data → Result (Option (ℕ × ℕ)) PolicyFault
+abbrev pub trusted_at : List Named → Option Data → Result (Option (ℕ × ℕ)) FieldFault
 trusted_at labels None = Ok None
 trusted_at labels (Some d) = texts_at d >>= interval_at labels
 
-unfoldable pub user_at : List Named → List User → Data → Result User PolicyFault
+unfoldable pub user_at : List Named → List User → Data → Result User FieldFault
 user_at labels front d = do
   fields ← table_at d
   name ← name_field (codes "name") fields
@@ -115,7 +115,7 @@ user_at labels front d = do
   trusted ← trusted_at labels (get_member (codes "trusted") fields)
   Ok (record { name = name; clearance = clearance; trusted = trusted })
 
-unfoldable pub users_at : List Named → Members → Result (List User) PolicyFault
+unfoldable pub users_at : List Named → Members → Result (List User) FieldFault
 users_at labels document = do
   all ← optional tables_at (get_member (codes "user") document)
   ds ← bounded 64 all
@@ -123,7 +123,7 @@ users_at labels document = do
 
 -- ---- the matrix
 
-abbrev pub mode_of : Name → Result ℕ PolicyFault
+abbrev pub mode_of : Name → Result ℕ FieldFault
 mode_of word =
     if bytes_eq word (codes "execute") then Ok 1 else
     if bytes_eq word (codes "read") then Ok 2 else
@@ -131,13 +131,13 @@ mode_of word =
     if bytes_eq word (codes "write") then Ok 8 else Err UnknownName
 
 -- the modes of the items, with those so far, each of them new
-abbrev pub more_modes : ℕ → Items → Result ℕ PolicyFault
+abbrev pub more_modes : ℕ → Items → Result ℕ FieldFault
 more_modes modes no_items = Ok modes
 more_modes modes (item d ds) =
     text_at d >>= λ word. mode_of word >>= λ mode.
     if bit_and modes mode == mode then Err Repeated else more_modes (bit_or modes mode) ds
 
-unfoldable pub right_at : List User → List Right → Data → Result Right PolicyFault
+unfoldable pub right_at : List User → List Right → Data → Result Right FieldFault
 right_at users front d = do
   fields ← table_at d
   name ← name_field (codes "user") fields
@@ -149,7 +149,7 @@ right_at users front d = do
   new ← once (list_any (is_entry user object) front)
   Ok (record { user = user; object = object; modes = record { 0 = modes } })
 
-unfoldable pub matrix_at : List User → Members → Result (List Right) PolicyFault
+unfoldable pub matrix_at : List User → Members → Result (List Right) FieldFault
 matrix_at users document = do
   all ← optional tables_at (get_member (codes "matrix") document)
   ds ← bounded 1024 all
@@ -157,7 +157,7 @@ matrix_at users document = do
 
 -- ---- all of it
 
-unfoldable pub policy_at : Members → Result Policy PolicyFault
+unfoldable pub policy_at : Members → Result Policy FieldFault
 policy_at document = do
   version ← version_at document
   levels ← levels_at document

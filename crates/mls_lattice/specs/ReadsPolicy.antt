@@ -2,7 +2,9 @@
 use Rattle.std.specs.Prelude.{◌≡◌, ◌↔◌, ℕ, List, Some, Ok, Err, IsUtf8}
 use Rattle.toml.specs.Data.{Members}
 use Rattle.toml.specs.Parse.{parse_document}
+use Rattle.mls_lattice.specs.declared.fault.FieldFault.{FieldFault}
 use Rattle.mls_lattice.specs.declared.fault.PolicyFault.{PolicyFault}
+use Rattle.mls_lattice.specs.Fault.{fault_of}
 use Rattle.mls_lattice.specs.Policy.{Policy}
 use Rattle.mls_lattice.specs.PolicyReading.{policy_at}
 use Rattle.mls_lattice.specs.Says.{Says}
@@ -17,7 +19,7 @@ ReadsPolicy bytes p = (document : Members) × IsDocument bytes document × Says 
 
 -- the bytes are a document with this first fault
 abbrev pub HasFault : List ℕ → PolicyFault → Type 0
-HasFault bytes e = (document : Members) × IsDocument bytes document × (policy_at document ≡ Err e)
+HasFault bytes e = (document : Members) × IsDocument bytes document × (fault : FieldFault) × (policy_at document ≡ Err fault) × (e ≡ fault_of fault)
 
 -- a document is that of one policy at most
 abbrev pub SaysOne : Type 0

@@ -1,17 +1,23 @@
 //! Why a policy is refused.
 ghost use Rattle.std.specs.Prelude.{◌≡◌};
-ghost use Rattle.mls_lattice.specs.declared.fault.PolicyFault.TheVariants.{Memory};
-ghost use Rattle.mls_lattice.specs.Fault.{code_of, word_of};
+ghost use Rattle.mls_lattice.specs.declared.failed.Failed.TheVariants.{Fault};
+ghost use Rattle.mls_lattice.specs.Fault.{code_of, word_of, failed_fault_of};
 
-use std::alloc::{AllocError, AllocFailed};
+use crate::failed::Failed;
 use std::fmt;
 use thiserror::Error;
+
+/// Words as texts, for a table of names.
+#[macro_export]
+macro_rules! words {
+    ($($word:ident)*) => { [$(stringify!($word)),*] };
+}
 
 /// Why a policy is refused.
 #[derive(Clone, Copy, PartialEq, Eq, Debug, Error)]
 pub enum PolicyFault {
     /// No TOML document.
-    NotToml,
+    NotToml = 1,
     /// A field is missing.
     MissingField,
     /// A field has the wrong kind.
@@ -30,29 +36,24 @@ pub enum PolicyFault {
     Memory,
 }
 
+/// The names of the faults, in the order of their numbers.
+static WORDS: [&str; 9] = words! {
+    NotToml MissingField WrongKind Repeated UnknownName TooMany BadName EmptyInterval Memory
+};
+
 impl PolicyFault {
     /// The number that messages carry; it never changes.
     pub fn code(self) -> u8
         ensures { result ≡ code_of self }
     {
-        self as u8 + 1
+        self as u8
     }
 
     /// The name that messages carry beside the number.
     pub fn word(self) -> &'static str
         ensures { result.now ≡ word_of self }
     {
-        match self {
-            PolicyFault::NotToml => "NotToml",
-            PolicyFault::MissingField => "MissingField",
-            PolicyFault::WrongKind => "WrongKind",
-            PolicyFault::Repeated => "Repeated",
-            PolicyFault::UnknownName => "UnknownName",
-            PolicyFault::TooMany => "TooMany",
-            PolicyFault::BadName => "BadName",
-            PolicyFault::EmptyInterval => "EmptyInterval",
-            PolicyFault::Memory => "Memory",
-        }
+        WORDS[self as usize - 1]
     }
 }
 
@@ -63,18 +64,39 @@ impl fmt::Display for PolicyFault {
     }
 }
 
-impl From<AllocError> for PolicyFault {
-    ghost from_gives = { λ _ e. e ≡ Memory };
+/// Why a field of a document is refused.
+#[derive(Clone, Copy)]
+pub enum FieldFault {
+    MissingField,
+    WrongKind,
+    Repeated,
+    UnknownName,
+    TooMany,
+    BadName,
+    EmptyInterval,
+}
 
-    fn from(_e: AllocError) -> PolicyFault {
-        PolicyFault::Memory
+impl From<FieldFault> for Failed<FieldFault> {
+    ghost from_gives = { λ fault failed. failed ≡ Fault fault };
+
+    fn from(fault: FieldFault) -> Failed<FieldFault> {
+        Failed::Fault(fault)
     }
 }
 
-impl<T: Drop> From<AllocFailed<T>> for PolicyFault {
-    ghost from_gives = { λ _ e. e ≡ Memory };
+impl From<Failed<FieldFault>> for PolicyFault {
+    ghost from_gives = { λ failed fault. fault ≡ failed_fault_of failed };
 
-    fn from(_e: AllocFailed<T>) -> PolicyFault {
-        PolicyFault::Memory
+    fn from(failed: Failed<FieldFault>) -> PolicyFault {
+        match failed {
+            Failed::Memory => PolicyFault::Memory,
+            Failed::Fault(FieldFault::MissingField) => PolicyFault::MissingField,
+            Failed::Fault(FieldFault::WrongKind) => PolicyFault::WrongKind,
+            Failed::Fault(FieldFault::Repeated) => PolicyFault::Repeated,
+            Failed::Fault(FieldFault::UnknownName) => PolicyFault::UnknownName,
+            Failed::Fault(FieldFault::TooMany) => PolicyFault::TooMany,
+            Failed::Fault(FieldFault::BadName) => PolicyFault::BadName,
+            Failed::Fault(FieldFault::EmptyInterval) => PolicyFault::EmptyInterval,
+        }
     }
 }

@@ -6,11 +6,12 @@ ghost use Rattle.std.specs.FinSet as set;
 ghost use Rattle.toml.specs.View.{view, items_view, table_view};
 ghost use Rattle.mls_lattice.specs.Lattice.{cats_of, pair_of, same_pair};
 ghost use Rattle.mls_lattice.specs.Policy.{named};
-ghost use Rattle.mls_lattice.specs.Reading.{Gives};
+ghost use Rattle.mls_lattice.specs.Reading.{Shows, Gives};
 ghost use Rattle.mls_lattice.specs.PolicyReading.{rows_at, more_categories, value_at, label_at, labels_at, label_place};
 
 use crate::document::{name_field, name_of, optional_texts, some_of, table_of, tables_of, wanted};
-use crate::fault::PolicyFault;
+use crate::failed::Failed;
+use crate::fault::FieldFault;
 use crate::label::Label;
 use crate::names::place_of;
 use crate::tables::NamedLabel;
@@ -24,16 +25,16 @@ const MAX_LABELS: usize = 64;
 
 /// The words of a set with the categories of these names.
 #[tactic(auto, using(crate::proofs::PolicyReadingLemmas::category_steps))]
-fn categories_named(categories: &[Str], items: &[Value], at: &mut Trail) -> Result<u32, PolicyFault>
+fn categories_named(categories: &[Str], items: &[Value], at: &mut Trail) -> Result<u32, FieldFault>
     requires { length categories.now ≤ 32 }
-    ensures { Gives cats_of result (more_categories categories.now set.empty (items_view items.now)) }
+    ensures { Shows cats_of result (more_categories categories.now set.empty (items_view items.now)) }
 {
     let mut label = Label { rank: 0, cats: 0 };
     for value in items {
         at.next(1);
         let place = place_of(categories, name_of(value)?)? as u32;
         if label.has(place) {
-            return Err(PolicyFault::Repeated);
+            return Err(FieldFault::Repeated);
         }
         label = label.with(place);
     }
@@ -59,10 +60,10 @@ fn value_of(
     categories: &[Str],
     fields: &Table,
     at: &mut Trail,
-) -> Result<Label, PolicyFault>
+) -> Result<Label, FieldFault>
     requires few_levels { length levels.now ≤ 16 }
     requires few_categories { length categories.now ≤ 32 }
-    ensures { Gives pair_of result (value_at levels.now categories.now (table_view fields.now)) }
+    ensures { Shows pair_of result (value_at levels.now categories.now (table_view fields.now)) }
 {
     let rank = place_of(levels, name_field(fields, at.field(1, "level"))?)? as u8;
     let items = optional_texts(fields, at.field(1, "categories"))?;
@@ -78,7 +79,7 @@ fn label_of(
     labels: &[NamedLabel],
     value: &Value,
     at: &mut Trail,
-) -> Result<NamedLabel, PolicyFault>
+) -> Result<NamedLabel, Failed<FieldFault>>
     requires few_levels { length levels.now ≤ 16 }
     requires few_categories { length categories.now ≤ 32 }
     ensures { Gives named result (label_at levels.now categories.now (map named labels.now) (view value.now)) }
@@ -86,12 +87,12 @@ fn label_of(
     let fields = table_of(value)?;
     let name = name_field(fields, at.field(1, "name"))?;
     if has_name(labels, name) {
-        return Err(PolicyFault::Repeated);
+        return Err(Failed::Fault(FieldFault::Repeated));
     }
     let label = value_of(levels, categories, fields, at)?;
     at.back(0);
     if has_value(labels, label) {
-        return Err(PolicyFault::Repeated);
+        return Err(Failed::Fault(FieldFault::Repeated));
     }
     let name = Str::copy_of(alloc, name)?;
     Ok(NamedLabel { name, label })
@@ -103,7 +104,7 @@ fn rows_of(
     categories: &[Str],
     items: &[Value],
     at: &mut Trail,
-) -> Result<Vec<NamedLabel>, PolicyFault>
+) -> Result<Vec<NamedLabel>, Failed<FieldFault>>
     requires few_levels { length levels.now ≤ 16 }
     requires few_categories { length categories.now ≤ 32 }
     ensures reads { Gives (λ v. map named v.items) result
@@ -127,7 +128,7 @@ pub(crate) fn labels_of(
     categories: &[Str],
     document: &Table,
     at: &mut Trail,
-) -> Result<Vec<NamedLabel>, PolicyFault>
+) -> Result<Vec<NamedLabel>, Failed<FieldFault>>
     requires few_levels { length levels.now ≤ 16 }
     requires few_categories { length categories.now ≤ 32 }
     ensures reads { Gives (λ v. map named v.items) result
@@ -149,12 +150,12 @@ pub(crate) fn position_of_label(labels: &[NamedLabel], name: &str) -> Option<usi
 
 /// The number of the label of a name.
 #[tactic(auto, using(crate::proofs::PolicyReadingLemmas::label_views))]
-pub(crate) fn label_place(labels: &[NamedLabel], name: &str) -> Result<usize, PolicyFault>
-    ensures reads { Gives (λ place. place) result (label_place (map named labels.now) name.now) }
+pub(crate) fn label_place(labels: &[NamedLabel], name: &str) -> Result<usize, FieldFault>
+    ensures reads { Shows (λ place. place) result (label_place (map named labels.now) name.now) }
     ensures within { IfOk result (λ place. place < length labels.now) }
 {
     match position_of_label(labels, name) {
         Some(place) => Ok(place),
-        None => Err(PolicyFault::UnknownName),
+        None => Err(FieldFault::UnknownName),
     }
 }

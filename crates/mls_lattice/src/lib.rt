@@ -10,6 +10,7 @@ mod canon;
 /// The fields of a document: schemes are read by them too.
 pub mod document;
 mod extending;
+mod failed;
 mod fault;
 mod items;
 mod label;
@@ -26,7 +27,8 @@ mod trail;
 mod users;
 mod version;
 
-pub use fault::PolicyFault;
+pub use failed::Failed;
+pub use fault::{FieldFault, PolicyFault};
 pub use items::Items;
 pub use label::Label;
 pub use modes::Modes;

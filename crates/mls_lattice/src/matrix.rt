@@ -3,11 +3,12 @@ ghost use Rattle.std.specs.Prelude.{◌≡◌, ◌≤◌, [], length};
 ghost use Rattle.std.specs.List.{list_any};
 ghost use Rattle.toml.specs.View.{view, items_view, table_view};
 ghost use Rattle.mls_lattice.specs.Policy.{is_entry, granted_modes};
-ghost use Rattle.mls_lattice.specs.Reading.{Gives};
+ghost use Rattle.mls_lattice.specs.Reading.{Shows, Gives};
 ghost use Rattle.mls_lattice.specs.PolicyReading.{rows_at, mode_of, more_modes, right_at, matrix_at};
 
 use crate::document::{bounded, name_field, optional_tables, table_of, text_of, texts_of, wanted};
-use crate::fault::PolicyFault;
+use crate::failed::Failed;
+use crate::fault::FieldFault;
 use crate::modes::Modes;
 use crate::number::UserNo;
 use crate::tables::{Right, User};
@@ -22,29 +23,29 @@ use toml::{Table, Value};
 const MAX_RIGHTS: usize = 1024;
 
 /// The mode that a word stands for.
-fn mode_of(word: &str) -> Result<Modes, PolicyFault>
-    ensures { Gives (λ m. m.0) result (mode_of word.now) }
+fn mode_of(word: &str) -> Result<Modes, FieldFault>
+    ensures { Shows (λ m. m.0) result (mode_of word.now) }
 {
     match word {
         "execute" => Ok(Modes::EXECUTE),
         "read" => Ok(Modes::READ),
         "append" => Ok(Modes::APPEND),
         "write" => Ok(Modes::WRITE),
-        _ => Err(PolicyFault::UnknownName),
+        _ => Err(FieldFault::UnknownName),
     }
 }
 
 /// The modes of an array of words, none of them twice.
 #[tactic(auto, using(crate::proofs::PolicyReadingLemmas::mode_steps))]
-fn modes_of(items: &[Value], at: &mut Trail) -> Result<Modes, PolicyFault>
-    ensures { Gives (λ m. m.0) result (more_modes 0 (items_view items.now)) }
+fn modes_of(items: &[Value], at: &mut Trail) -> Result<Modes, FieldFault>
+    ensures { Shows (λ m. m.0) result (more_modes 0 (items_view items.now)) }
 {
     let mut modes = Modes::empty();
     for value in items {
         at.next(1);
         let mode = mode_of(text_of(value)?)?;
         if modes.contains(mode) {
-            return Err(PolicyFault::Repeated);
+            return Err(FieldFault::Repeated);
         }
         modes = modes.union(mode);
     }
@@ -83,7 +84,7 @@ fn right_of(
     matrix: &[Right],
     value: &Value,
     at: &mut Trail,
-) -> Result<Right, PolicyFault>
+) -> Result<Right, Failed<FieldFault>>
     requires { length users.now ≤ 64 }
     ensures { Gives (λ r. r) result (right_at users.now matrix.now (view value.now)) }
 {
@@ -94,7 +95,7 @@ fn right_of(
     let modes = modes_of(words, at)?;
     at.back(0);
     if has_entry(matrix, user, object) {
-        return Err(PolicyFault::Repeated);
+        return Err(Failed::Fault(FieldFault::Repeated));
     }
     let object = Str::copy_of(alloc, object)?;
     Ok(Right {
@@ -109,7 +110,7 @@ fn rows_of(
     users: &[User],
     items: &[Value],
     at: &mut Trail,
-) -> Result<Vec<Right>, PolicyFault>
+) -> Result<Vec<Right>, Failed<FieldFault>>
     requires { length users.now ≤ 64 }
     ensures { Gives (λ v. v.items) result (rows_at (right_at users.now) [] (items_view items.now)) }
 {
@@ -129,7 +130,7 @@ pub(crate) fn matrix_of(
     users: &[User],
     document: &Table,
     at: &mut Trail,
-) -> Result<Vec<Right>, PolicyFault>
+) -> Result<Vec<Right>, Failed<FieldFault>>
     requires { length users.now ≤ 64 }
     ensures { Gives (λ v. v.items) result (matrix_at users.now (table_view document.now)) }
 {

@@ -3,11 +3,12 @@ ghost use Rattle.std.specs.Prelude.{◌≡◌, ◌<◌, [], length, IfOk, IfSome
 ghost use Rattle.std.specs.List.{list_any};
 ghost use Rattle.std.specs.Str.{bytes_eq};
 ghost use Rattle.toml.specs.View.{view, items_view};
-ghost use Rattle.mls_lattice.specs.Reading.{Gives};
+ghost use Rattle.mls_lattice.specs.Reading.{Shows, Gives};
 ghost use Rattle.mls_lattice.specs.PolicyReading.{rows_at, new_name_at, place_in};
 
 use crate::document::name_of;
-use crate::fault::PolicyFault;
+use crate::failed::Failed;
+use crate::fault::FieldFault;
 use crate::text::Str;
 use crate::trail::Trail;
 use std::alloc::Global;
@@ -20,12 +21,12 @@ fn contains(names: &[Str], name: &str) -> bool
 }
 
 #[tactic(auto, unfolding(crate::specs::PolicyReading::new_name_at))]
-fn new_name<'a>(names: &[Str], value: &'a Value) -> Result<&'a str, PolicyFault>
-    ensures { Gives (λ s. s.now) result (new_name_at names.now (view value.now)) }
+fn new_name<'a>(names: &[Str], value: &'a Value) -> Result<&'a str, FieldFault>
+    ensures { Shows (λ s. s.now) result (new_name_at names.now (view value.now)) }
 {
     let name = name_of(value)?;
     if contains(names, name) {
-        return Err(PolicyFault::Repeated);
+        return Err(FieldFault::Repeated);
     }
     Ok(name)
 }
@@ -35,7 +36,7 @@ pub(crate) fn names_of(
     alloc: Global,
     items: &[Value],
     at: &mut Trail,
-) -> Result<Vec<Str>, PolicyFault>
+) -> Result<Vec<Str>, Failed<FieldFault>>
     ensures reads { Gives (λ v. v.items) result (rows_at new_name_at [] (items_view items.now)) }
     ensures count { IfOk result (λ v. length v.items ≡ length items.now) }
 {
@@ -56,12 +57,12 @@ fn position_of(names: &[Str], name: &str) -> Option<usize>
 }
 
 /// Where a name stands.
-pub(crate) fn place_of(names: &[Str], name: &str) -> Result<usize, PolicyFault>
-    ensures reads { Gives (λ place. place) result (place_in names.now name.now) }
+pub(crate) fn place_of(names: &[Str], name: &str) -> Result<usize, FieldFault>
+    ensures reads { Shows (λ place. place) result (place_in names.now name.now) }
     ensures within { IfOk result (λ place. place < length names.now) }
 {
     match position_of(names, name) {
         Some(place) => Ok(place),
-        None => Err(PolicyFault::UnknownName),
+        None => Err(FieldFault::UnknownName),
     }
 }

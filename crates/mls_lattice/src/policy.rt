@@ -19,7 +19,8 @@ use crate::canon::{
 };
 use crate::document::{bounded, optional_texts, some_of, texts_of, version_of, wanted};
 use crate::extending::{labels_before, names_before};
-use crate::fault::PolicyFault;
+use crate::failed::Failed;
+use crate::fault::{FieldFault, PolicyFault};
 use crate::items::Items;
 use crate::label::Label;
 use crate::labels::{labels_of, position_of_label};
@@ -83,7 +84,10 @@ impl Policy {
         match toml::table_from_slice(alloc, bytes) {
             Ok(document) => match policy_of(alloc, &document, &mut at) {
                 Ok(policy) => Ok(policy),
-                Err(fault) => Err(Refused { fault, at }),
+                Err(failed) => Err(Refused {
+                    fault: PolicyFault::from(failed),
+                    at,
+                }),
             },
             Err(e) if e.is_memory() => Err(Refused {
                 fault: PolicyFault::Memory,
@@ -296,7 +300,11 @@ const MAX_LEVELS: usize = 16;
 const MAX_CATEGORIES: usize = 32;
 
 #[tactic(auto, using(crate::proofs::ReadingLemmas::counts), unfolding(crate::specs::PolicyReading::levels_at))]
-fn levels_of(alloc: Global, document: &Table, at: &mut Trail) -> Result<Vec<Str>, PolicyFault>
+fn levels_of(
+    alloc: Global,
+    document: &Table,
+    at: &mut Trail,
+) -> Result<Vec<Str>, Failed<FieldFault>>
     ensures reads { Gives (λ v. v.items) result (levels_at (table_view document.now)) }
     ensures count { IfOk result (λ v. length v.items ≤ 16) }
 {
@@ -306,7 +314,11 @@ fn levels_of(alloc: Global, document: &Table, at: &mut Trail) -> Result<Vec<Str>
 }
 
 #[tactic(auto, using(crate::proofs::ReadingLemmas::counts), unfolding(crate::specs::PolicyReading::categories_at))]
-fn categories_of(alloc: Global, document: &Table, at: &mut Trail) -> Result<Vec<Str>, PolicyFault>
+fn categories_of(
+    alloc: Global,
+    document: &Table,
+    at: &mut Trail,
+) -> Result<Vec<Str>, Failed<FieldFault>>
     ensures reads { Gives (λ v. v.items) result (categories_at (table_view document.now)) }
     ensures count { IfOk result (λ v. length v.items ≤ 32) }
 {
@@ -316,7 +328,7 @@ fn categories_of(alloc: Global, document: &Table, at: &mut Trail) -> Result<Vec<
 }
 
 #[tactic(auto, unfolding(crate::specs::PolicyReading::policy_at))]
-fn policy_of(alloc: Global, document: &Table, at: &mut Trail) -> Result<Policy, PolicyFault>
+fn policy_of(alloc: Global, document: &Table, at: &mut Trail) -> Result<Policy, Failed<FieldFault>>
     ensures { Gives (λ p. p) result (policy_at (table_view document.now)) }
 {
     let version = version_of(document, at)?;

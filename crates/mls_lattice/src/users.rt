@@ -6,11 +6,12 @@ ghost use Rattle.toml.specs.Data.{get_member};
 ghost use Rattle.toml.specs.View.{view, items_view, table_view};
 ghost use Rattle.mls_lattice.specs.Labels.{below};
 ghost use Rattle.mls_lattice.specs.Policy.{named};
-ghost use Rattle.mls_lattice.specs.Reading.{Gives};
+ghost use Rattle.mls_lattice.specs.Reading.{Shows, Gives};
 ghost use Rattle.mls_lattice.specs.PolicyReading.{rows_at, label_name_at, interval_at, trusted_at, user_at, users_at, user_place};
 
 use crate::document::{bounded, field, name_field, name_of, optional_tables, table_of, texts_of};
-use crate::fault::PolicyFault;
+use crate::failed::Failed;
+use crate::fault::FieldFault;
 use crate::labels::label_place;
 use crate::number::LabelNo;
 use crate::tables::{NamedLabel, User};
@@ -23,9 +24,9 @@ use toml::{Table, Value};
 const MAX_USERS: usize = 64;
 
 /// The number of the label that a string names.
-fn label_named(labels: &[NamedLabel], value: &Value) -> Result<LabelNo, PolicyFault>
+fn label_named(labels: &[NamedLabel], value: &Value) -> Result<LabelNo, FieldFault>
     requires { length labels.now ≤ 64 }
-    ensures reads { Gives (λ l. l) result (label_name_at (map named labels.now) (view value.now)) }
+    ensures reads { Shows (λ l. l) result (label_name_at (map named labels.now) (view value.now)) }
     ensures within { IfOk result (λ l. l < length labels.now) }
 {
     let place = label_place(labels, name_of(value)?)?;
@@ -47,12 +48,12 @@ fn interval_of(
     labels: &[NamedLabel],
     items: &[Value],
     at: &mut Trail,
-) -> Result<Option<(LabelNo, LabelNo)>, PolicyFault>
+) -> Result<Option<(LabelNo, LabelNo)>, FieldFault>
     requires { length labels.now ≤ 64 }
-    ensures { Gives (λ i. i) result (interval_at (map named labels.now) (items_view items.now)) }
+    ensures { Shows (λ i. i) result (interval_at (map named labels.now) (items_view items.now)) }
 {
     let [low, high] = items else {
-        return Err(PolicyFault::WrongKind);
+        return Err(FieldFault::WrongKind);
     };
     at.next(1);
     let low = label_named(labels, low)?;
@@ -62,7 +63,7 @@ fn interval_of(
     if is_interval(labels, low, high) {
         Ok(Some((low, high)))
     } else {
-        Err(PolicyFault::EmptyInterval)
+        Err(FieldFault::EmptyInterval)
     }
 }
 
@@ -70,9 +71,9 @@ fn trusted_of(
     labels: &[NamedLabel],
     fields: &Table,
     at: &mut Trail,
-) -> Result<Option<(LabelNo, LabelNo)>, PolicyFault>
+) -> Result<Option<(LabelNo, LabelNo)>, FieldFault>
     requires { length labels.now ≤ 64 }
-    ensures { Gives (λ i. i) result (trusted_at (map named labels.now)
+    ensures { Shows (λ i. i) result (trusted_at (map named labels.now)
         (get_member (codes "trusted") (table_view fields.now))) }
 {
     match field(fields, at.field(1, "trusted")) {
@@ -94,14 +95,14 @@ fn user_of(
     users: &[User],
     value: &Value,
     at: &mut Trail,
-) -> Result<User, PolicyFault>
+) -> Result<User, Failed<FieldFault>>
     requires { length labels.now ≤ 64 }
     ensures { Gives (λ u. u) result (user_at (map named labels.now) users.now (view value.now)) }
 {
     let fields = table_of(value)?;
     let name = name_field(fields, at.field(1, "name"))?;
     if has_name(users, name) {
-        return Err(PolicyFault::Repeated);
+        return Err(Failed::Fault(FieldFault::Repeated));
     }
     let clearance = label_place(labels, name_field(fields, at.field(1, "clearance"))?)? as u8;
     let trusted = trusted_of(labels, fields, at)?;
@@ -118,7 +119,7 @@ fn rows_of(
     labels: &[NamedLabel],
     items: &[Value],
     at: &mut Trail,
-) -> Result<Vec<User>, PolicyFault>
+) -> Result<Vec<User>, Failed<FieldFault>>
     requires { length labels.now ≤ 64 }
     ensures reads { Gives (λ v. v.items) result (rows_at (user_at (map named labels.now)) [] (items_view items.now)) }
     ensures count { IfOk result (λ v. length v.items ≡ length items.now) }
@@ -139,7 +140,7 @@ pub(crate) fn users_of(
     labels: &[NamedLabel],
     document: &Table,
     at: &mut Trail,
-) -> Result<Vec<User>, PolicyFault>
+) -> Result<Vec<User>, Failed<FieldFault>>
     requires { length labels.now ≤ 64 }
     ensures reads { Gives (λ v. v.items) result (users_at (map named labels.now) (table_view document.now)) }
     ensures count { IfOk result (λ v. length v.items ≤ 64) }
@@ -158,12 +159,12 @@ pub(crate) fn position_of_user(users: &[User], name: &str) -> Option<usize>
 }
 
 /// The number of the user of a name.
-pub(crate) fn user_place(users: &[User], name: &str) -> Result<usize, PolicyFault>
-    ensures reads { Gives (λ place. place) result (user_place users.now name.now) }
+pub(crate) fn user_place(users: &[User], name: &str) -> Result<usize, FieldFault>
+    ensures reads { Shows (λ place. place) result (user_place users.now name.now) }
     ensures within { IfOk result (λ place. place < length users.now) }
 {
     match position_of_user(users, name) {
         Some(place) => Ok(place),
-        None => Err(PolicyFault::UnknownName),
+        None => Err(FieldFault::UnknownName),
     }
 }

@@ -5,8 +5,8 @@ use Rattle.std.specs.Str.{bytes_eq}
 use Rattle.std.specs.Cmp.Lexicographic.{bytes_decides}
 use Rattle.std.proofs.lemmas.Bool.{ne_eqb, eqb-false}
 use Rattle.toml.specs.Data.{Data, string, integer, array, table, Items, no_items, Members, get_member, as_str, as_table}
-use Rattle.mls_lattice.specs.declared.fault.PolicyFault.{PolicyFault}
-use Rattle.mls_lattice.specs.declared.fault.PolicyFault.TheVariants as policy
+use Rattle.mls_lattice.specs.declared.fault.FieldFault.{FieldFault}
+use Rattle.mls_lattice.specs.declared.fault.FieldFault.TheVariants.{MissingField, WrongKind, UnknownName}
 use Rattle.mls_lattice.specs.Name.{is_name}
 use Rattle.mls_lattice.specs.Policy.{Name, Policy}
 use Rattle.mls_lattice.specs.declared.version.Version.{Version}
@@ -15,30 +15,30 @@ use Rattle.mls_lattice.specs.Reading.{◌>>=◌, wanted, text_at, version_at, ta
 use Rattle.mls_lattice.proofs.ReadingLemmas.{bind_ok, guard_ok, found_ok, string_from_as_str}
 use Rattle.mls_lattice.proofs.SaysLemmas.{field_found, field_again, kind_found as array_of_kind_found, most_found, most_again}
 use Rattle.mls_lattice.proofs.SaysTablesLemmas.{table_found as table_at_found, version_found as policy_version_found, version_again as policy_version_again}
-use Rattle.mls_scheme.specs.declared.fault.SchemeFault.TheVariants.{UnknownName, NoKey}
+use Rattle.mls_scheme.specs.declared.fault.FileFault.TheVariants.{Field, NoKey}
 use Rattle.mls_scheme.specs.declared.value.Kind.{Kind}
 use Rattle.mls_scheme.specs.declared.value.Kind.TheVariants.{Int, Text}
 use Rattle.mls_scheme.specs.Reading.{lift, name_field, text_field, kind_named, label_named, label_field, key_items, other_items, relation_items}
 use Rattle.mls_scheme.specs.Document.{tables_of, HoldsTables, kind_word, NamesLabel}
 
-pub lift_ok : {X : Type 0} (r : Result X PolicyFault) (x : X) → lift r ≡ Ok x → r ≡ Ok x
+pub lift_ok : {X : Type 0} (r : Result X FieldFault) (x : X) → lift Field r ≡ Ok x → r ≡ Ok x
 lift_ok (Ok y) x e = cc
 lift_ok (Err f) x e = absurd cc
 
-pub table_found : (d : Data) (t : Members) → lift (table_at d) ≡ Ok t → d ≡ table t
+pub table_found : (d : Data) (t : Members) → lift Field (table_at d) ≡ Ok t → d ≡ table t
 table_found d t e = table_at_found d t (lift_ok (table_at d) t e)
 
 text_found : (d : Data) (text : Name) → text_at d ≡ Ok text → d ≡ string text
-text_found d text e = string_from_as_str d text (found_ok (as_str d) policy.WrongKind text e)
+text_found d text e = string_from_as_str d text (found_ok (as_str d) WrongKind text e)
 
 wanted_found : (key : Name) (fields : Members) (d : Data) → wanted key fields ≡ Ok d → get_member key fields ≡ Some d
-wanted_found key fields d e = found_ok (get_member key fields) policy.MissingField d e
+wanted_found key fields d e = found_ok (get_member key fields) MissingField d e
 
 pub name_found : (key : Name) (fields : Members) (n : Name) → name_field key fields ≡ Ok n → (get_member key fields ≡ Some (string n)) × (is_name n ≡ true)
 name_found key fields n e = let found = field_found key fields n (lift_ok (wanted key fields >>= name_at) n e) in (found.text, found.is_name)
 
 pub name_again : (key : Name) (fields : Members) (n : Name) → get_member key fields ≡ Some (string n) → is_name n ≡ true → name_field key fields ≡ Ok n
-name_again key fields n h name = ap lift (field_again key fields n (record { text = h; is_name = name }))
+name_again key fields n h name = ap (lift Field) (field_again key fields n (record { text = h; is_name = name }))
 
 pub text_field_found : (key : Name) (fields : Members) (n : Name) → text_field key fields ≡ Ok n → get_member key fields ≡ Some (string n)
 text_field_found key fields n e =
@@ -51,11 +51,11 @@ text_field_again key fields n h = rw h refl
 pub kind_found : (word : Name) (k : Kind) → kind_named word ≡ Ok k → word ≡ kind_word k
 kind_found word k e = by_int (bytes_eq word (codes "int")) refl e
   where
-    by_text : (b : Bool) → bytes_eq word (codes "text") ≡ b → cond b (Ok Text) (Err UnknownName) ≡ Ok k → word ≡ kind_word k
+    by_text : (b : Bool) → bytes_eq word (codes "text") ≡ b → cond b (Ok Text) (Err (Field UnknownName)) ≡ Ok k → word ≡ kind_word k
     by_text true is e = let same : Text ≡ k = cc in (bytes_decides word (codes "text")).0 is ∙ ap kind_word same
     by_text false is e = absurd cc
 
-    by_int : (b : Bool) → bytes_eq word (codes "int") ≡ b → cond b (Ok Int) (cond (bytes_eq word (codes "text")) (Ok Text) (Err UnknownName)) ≡ Ok k → word ≡ kind_word k
+    by_int : (b : Bool) → bytes_eq word (codes "int") ≡ b → cond b (Ok Int) (cond (bytes_eq word (codes "text")) (Ok Text) (Err (Field UnknownName))) ≡ Ok k → word ≡ kind_word k
     by_int true is e = let same : Int ≡ k = cc in (bytes_decides word (codes "int")).0 is ∙ ap kind_word same
     by_int false is e = by_text (bytes_eq word (codes "text")) refl e
 
@@ -67,16 +67,16 @@ pub label_found : (p : Policy) (key : Name) (fields : Members) (label : ℕ) →
 label_found p key fields label e =
     let a = bind_ok (name_field key fields) (label_named p.labels) label e in
     let b = name_found key fields a.0 a.1 in
-    record { name = a.0; field_is = b.0; named = b.1; declared = found_ok (position (λ l. bytes_eq l.name a.0) p.labels) UnknownName label a.2 }
+    record { name = a.0; field_is = b.0; named = b.1; declared = found_ok (position (λ l. bytes_eq l.name a.0) p.labels) (Field UnknownName) label a.2 }
 
 pub label_again : (p : Policy) (key : Name) (fields : Members) (label : ℕ) → NamesLabel p (get_member key fields) label → label_field p.labels key fields ≡ Ok label
 label_again p key fields label h = rw (name_again key fields h.name h.field_is h.named, h.declared) refl
 
-pub version_found : (document : Members) (v : Version) → lift (version_at document) ≡ Ok v → get_member (codes "version") document ≡ Some (integer (pos (version_number v)))
+pub version_found : (document : Members) (v : Version) → lift Field (version_at document) ≡ Ok v → get_member (codes "version") document ≡ Some (integer (pos (version_number v)))
 version_found document v e = policy_version_found document v (lift_ok (version_at document) v e)
 
-pub version_again : (document : Members) (v : Version) → get_member (codes "version") document ≡ Some (integer (pos (version_number v))) → lift (version_at document) ≡ Ok v
-version_again document v e = ap lift (policy_version_again document v e)
+pub version_again : (document : Members) (v : Version) → get_member (codes "version") document ≡ Some (integer (pos (version_number v))) → lift Field (version_at document) ≡ Ok v
+version_again document v e = ap (lift Field) (policy_version_again document v e)
 
 -- ---- lists of tables
 
@@ -99,8 +99,8 @@ optional_found (Some d) ds e = inl (ap (λ (x : Data). Some x) (tables_at_found 
 pub key_found : (fields : Members) (ds : Items) → key_items fields ≡ Ok ds → KeyTables fields ds
 unfolding key_items
 key_found fields ds e =
-    let a = bind_ok (lift (optional tables_at (get_member (codes "key") fields))) _ ds e in
-    let b = guard_ok (items_len a.0 == 0) NoKey (lift (bounded 4 a.0)) ds a.2 in
+    let a = bind_ok (lift Field (optional tables_at (get_member (codes "key") fields))) _ ds e in
+    let b = guard_ok (items_len a.0 == 0) NoKey (lift Field (bounded 4 a.0)) ds a.2 in
     let c = most_found 4 a.0 ds (lift_ok (bounded 4 a.0) ds b.1) in
     let not_none : items_len a.0 ≡ 0 → ⊥ = eqb-false (items_len a.0) 0 b.0 in
     let len : items_len a.0 ≡ items_len ds = ap items_len c.0 in
@@ -143,7 +143,7 @@ unfolding relation_items
 relation_found document ds e =
     let a = bind_ok (wanted (codes "relation") document >>= tables_at) (some_of 16) ds (lift_ok (wanted (codes "relation") document >>= tables_at >>= some_of 16) ds e) in
     let b = bind_ok (wanted (codes "relation") document) tables_at a.0 a.1 in
-    let c = guard_ok (items_len a.0 == 0) policy.MissingField (bounded 16 a.0) ds a.2 in
+    let c = guard_ok (items_len a.0 == 0) MissingField (bounded 16 a.0) ds a.2 in
     let d = most_found 16 a.0 ds c.1 in
     let not_none : items_len a.0 ≡ 0 → ⊥ = eqb-false (items_len a.0) 0 c.0 in
     let len : items_len a.0 ≡ items_len ds = ap items_len d.0 in

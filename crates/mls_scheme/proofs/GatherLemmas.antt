@@ -10,7 +10,7 @@ use Rattle.toml.specs.Data.{Data, table, Items, no_items, item, Members}
 use Rattle.mls_lattice.specs.Policy.{Name}
 use Rattle.mls_lattice.specs.Reading.{items_len}
 use Rattle.mls_lattice.proofs.ReadingLemmas.{bind_ok}
-use Rattle.mls_scheme.specs.declared.fault.SchemeFault.{SchemeFault}
+use Rattle.mls_scheme.specs.declared.fault.FileFault.{FileFault}
 use Rattle.mls_scheme.specs.Reading.{gather}
 use Rattle.mls_scheme.specs.Document.{tables_of}
 
@@ -33,7 +33,7 @@ pub record Gathered {A : Type 0} (Says : Members → A → Type 0) (Follows : Li
   pub says : AllZip Says tables new
   pub follow : Each Follows before new
 
-module _ {A : Type 0} (step : List A → Data → Result A SchemeFault) (Says : Members → A → Type 0) (Follows : List A → A → Type 0) where
+module _ {A : Type 0} (step : List A → Data → Result A FileFault) (Says : Members → A → Type 0) (Follows : List A → A → Type 0) where
   pub gather_found : ((before : List A) (d : Data) (a : A) → step before d ≡ Ok a → Step Says Follows before d a)
       → (before : List A) (ds : Items) (all : List A) → gather step before ds ≡ Ok all → Gathered Says Follows before ds all
   gather_found one before no_items all e =

@@ -7,7 +7,6 @@ pub mod KeyLemmas
 pub mod SchemeSteps
 pub mod GatherLemmas
 pub mod FieldLemmas
-pub mod NeverLemmas
 pub mod SchemeLemmas
 pub mod SchemeNameLemmas
 pub mod CanonLemmas

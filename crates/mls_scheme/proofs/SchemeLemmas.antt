@@ -1,24 +1,29 @@
 -- Reading gives the schemes that the document says, and refuses no others.
 use Rattle.std.proofs.Common.{◌≡◌, ◌≢◌, ℕ, ◌<◌, Bool, true, false, cond, nat_eq, nat_lt, List, [], ◌∷◌, ◌++◌, length, map, Option, None, Some, Result, Ok, Err, refl, sym, ap, ◌∙◌, inl, inr, arith, subst}
-use Rattle.std.specs.Prelude.{◌⊎◌, ◌↔◌, IfOk, IfErr, codes}
+use Rattle.std.specs.Prelude.{◌⊎◌, IfOk, codes}
 use Rattle.std.specs.List.{AllByRecursion, AllZip, IsDistinct, position}
 use Rattle.std.specs.Str.{bytes_eq}
 use Rattle.std.proofs.lemmas.List.{append-nil}
 use Rattle.std.proofs.lemmas.Bool.{eqb-true, ltb-true, eq-eqb, and_parts, and_from}
 use Rattle.toml.specs.Data.{Data, array, table, Items, no_items, Members, get_member, string}
+use Rattle.mls_lattice.specs.declared.failed.Failed.{Failed}
+use Rattle.mls_lattice.specs.declared.failed.Failed.TheVariants as failed
+use Rattle.mls_lattice.specs.declared.fault.FieldFault.TheVariants.{EmptyInterval}
 use Rattle.mls_lattice.specs.Labels.{below}
 use Rattle.mls_lattice.specs.Policy.{Name, Policy, AreNames, labels_of}
 use Rattle.mls_lattice.specs.ReadsPolicy.{IsDocument}
 use Rattle.mls_lattice.specs.declared.version.Version.{Version}
-use Rattle.mls_lattice.specs.Reading.{◌>>=◌, version_at, table_at, items_len}
+use Rattle.mls_lattice.specs.Reading.{◌>>=◌, Gives, version_at, table_at, items_len}
 use Rattle.mls_lattice.proofs.ReadingLemmas.{ok_is, bind_ok, pass_ok}
 use Rattle.mls_lattice.proofs.ReadsPolicyLemmas.{one_document}
-use Rattle.mls_scheme.specs.declared.fault.SchemeFault.{SchemeFault}
-use Rattle.mls_scheme.specs.declared.fault.SchemeFault.TheVariants.{NotToml, Memory, EmptyInterval, KeyIntervals}
+use Rattle.mls_scheme.specs.declared.fault.FileFault.{FileFault}
+use Rattle.mls_scheme.specs.declared.fault.FileFault.TheVariants.{Field, KeyIntervals}
+use Rattle.mls_scheme.specs.declared.fault.SchemeFault.TheVariants.{Memory}
+use Rattle.mls_scheme.specs.Fault.{failed_fault_of}
 use Rattle.mls_scheme.specs.declared.attributes.Column.{Column}
 use Rattle.mls_scheme.specs.Named.{has_name}
 use Rattle.mls_scheme.specs.Scheme.{Attribute, Scheme, Schemes, column_of, no_attribute, first_key, HasInterval, IsScheme, AreSchemes, IsAmongLabels, AreUnder, HaveIntervals}
-use Rattle.mls_scheme.specs.Reading.{Gives, lift, gather, name_field, text_field, kind_named, label_field, column_at, new_name, attribute_at, has_key_interval, key_at, other_at, key_items, other_items, attributes_at, has_relation, scheme_at, relation_items, schemes_at}
+use Rattle.mls_scheme.specs.Reading.{lift, gather, name_field, text_field, kind_named, label_field, column_at, new_name, attribute_at, has_key_interval, key_at, other_at, key_items, other_items, attributes_at, has_relation, scheme_at, relation_items, file_at}
 use Rattle.mls_scheme.specs.Document.{tables_of, HoldsTables, kind_word, SaysAttribute, SaysRelation, Says, ReadsSchemes, SaysOnce}
 use Rattle.mls_scheme.proofs.GatherLemmas.{Each, Step, gather_found, gather_again, items_len-tables_of, Each-left, Each-right, Each-both, distinct_found, distinct_again}
 use Rattle.mls_scheme.proofs.FieldLemmas.{table_found, name_found, name_again, text_field_found, text_field_again, kind_found, kind_again, label_found, label_again, version_found, version_again, key_found, key_again, other_found, other_again, relation_found, relation_again}
@@ -26,7 +31,7 @@ use Rattle.mls_scheme.proofs.FieldLemmas.{table_found, name_found, name_again, t
 -- ---- attributes
 
 -- what follows a new name
-new_found : {A : Type 0} (taken : Bool) (r : Result A SchemeFault) (x : A) → (new_name taken >>= λ _. r) ≡ Ok x → (taken ≡ false) × (r ≡ Ok x)
+new_found : {A : Type 0} (taken : Bool) (r : Result A FileFault) (x : A) → (new_name taken >>= λ _. r) ≡ Ok x → (taken ≡ false) × (r ≡ Ok x)
 new_found true r x e = absurd cc
 new_found false r x e = (refl, e)
 
@@ -38,8 +43,8 @@ says_column p fields name c named e =
     let b = bind_ok (kind_named a.0) _ c a.2 in
     let d = bind_ok (label_field p.labels (codes "low") fields) _ c b.2 in
     let f = bind_ok (label_field p.labels (codes "high") fields) _ c d.2 in
-    let g = pass_ok (below (labels_of p) d.0 f.0) EmptyInterval _ c f.2 in
-    let made : Result Column SchemeFault = Ok (record { kind = b.0; low = d.0; high = f.0 }) in
+    let g = pass_ok (below (labels_of p) d.0 f.0) (Field EmptyInterval) _ c f.2 in
+    let made : Result Column FileFault = Ok (record { kind = b.0; low = d.0; high = f.0 }) in
     let same : made ≡ Ok c = g.1 in
     let whole : SaysAttribute p fields (name, (record { kind = b.0; low = d.0; high = f.0 })) = record {
       name = n.0;
@@ -51,7 +56,7 @@ says_column p fields name c named e =
     } in
     subst (λ x. SaysAttribute p fields (name, x)) (ap (λ r. column_or r) same) whole
   where
-    column_or : Result Column SchemeFault → Column
+    column_or : Result Column FileFault → Column
     column_or (Ok x) = x
     column_or (Err e) = column_of no_attribute
 
@@ -61,18 +66,18 @@ IsNewAfter base before a = has_name (base ++ before) a.0 ≡ false
 attribute_found : (p : Policy) (before : List Attribute) (d : Data) (a : Attribute) → attribute_at p before d ≡ Ok a → Step (SaysAttribute p) (IsNewAfter []) before d a
 unfolding attribute_at
 attribute_found p before d a e =
-    let f = bind_ok (lift (table_at d)) _ a e in
+    let f = bind_ok (lift Field (table_at d)) _ a e in
     let n = bind_ok (name_field (codes "name") f.0) _ a f.2 in
     let w = new_found (has_name before n.0) _ a n.2 in
     let c = bind_ok (column_at p f.0) _ a w.1 in
-    let made : Result Attribute SchemeFault = Ok (n.0, c.0) in
+    let made : Result Attribute FileFault = Ok (n.0, c.0) in
     let same : made ≡ Ok a = c.2 in
     let here : ◌≡◌ {A = Attribute} (n.0, c.0) a = ap (λ r. attribute_or r) same in
     let says : SaysAttribute p f.0 a = subst (SaysAttribute p f.0) here (says_column p f.0 n.0 c.0 n.1 c.1) in
     let fresh : has_name before a.0 ≡ false = subst (λ (x : Attribute). has_name before x.0 ≡ false) here w.0 in
     record { fields = f.0; text = table_found d f.0 f.1; says = says; follows = fresh }
   where
-    attribute_or : Result Attribute SchemeFault → Attribute
+    attribute_or : Result Attribute FileFault → Attribute
     attribute_or (Ok x) = x
     attribute_or (Err e) = no_attribute
 
@@ -234,7 +239,7 @@ IsNewRelation before s = has_relation before s.name ≡ false
 scheme_step : (p : Policy) (before : Schemes) (d : Data) (s : Scheme) → scheme_at p before d ≡ Ok s → Step (SaysRelation p) IsNewRelation before d s
 unfolding scheme_at
 scheme_step p before d s e =
-    let f = bind_ok (lift (table_at d)) _ s e in
+    let f = bind_ok (lift Field (table_at d)) _ s e in
     let n = bind_ok (name_field (codes "name") f.0) _ s f.2 in
     let w = new_found (has_relation before n.0) _ s n.2 in
     let a = bind_ok (attributes_at p f.0) _ s w.1 in
@@ -293,7 +298,7 @@ each_valid p [] (s ∷ schemes) h = absurd h
 each_valid p (t ∷ ts) [] h = absurd h
 each_valid p (t ∷ ts) (s ∷ schemes) h = (h.0.valid, each_valid p ts schemes h.1)
 
-relations_says : (p : Policy) (document : Members) (v : Version) (ds : Items) (schemes : Schemes) → lift (version_at document) ≡ Ok v → relation_items document ≡ Ok ds → gather (scheme_at p) [] ds ≡ Ok schemes → Says p document v schemes
+relations_says : (p : Policy) (document : Members) (v : Version) (ds : Items) (schemes : Schemes) → lift Field (version_at document) ≡ Ok v → relation_items document ≡ Ok ds → gather (scheme_at p) [] ds ≡ Ok schemes → Says p document v schemes
 unfolding IsDistinct
 relations_says p document v ds schemes version text e =
     let r = relation_found document ds text in
@@ -316,17 +321,17 @@ relations_says p document v ds schemes version text e =
       };
     }
 
-pub says_found : (p : Policy) (document : Members) (f : Version × Schemes) → schemes_at p document ≡ Ok f → Says p document f.0 f.1
-unfolding schemes_at
+pub says_found : (p : Policy) (document : Members) (f : Version × Schemes) → file_at p document ≡ Ok f → Says p document f.0 f.1
+unfolding file_at
 says_found p document f e =
-    let v = bind_ok (lift (version_at document)) _ f e in
+    let v = bind_ok (lift Field (version_at document)) _ f e in
     let r = bind_ok (relation_items document) _ f v.2 in
     let g = bind_ok (gather (scheme_at p) [] r.0) _ f r.2 in
     let same : (v.0, g.0) ≡ f = ok_is (v.0, g.0) f g.2 in
     subst (λ (x : Version × Schemes). Says p document x.0 x.1) same (relations_says p document v.0 r.0 g.0 v.1 r.1 g.1)
 
-pub says_again : (p : Policy) (document : Members) (v : Version) (schemes : Schemes) → Says p document v schemes → schemes_at p document ≡ Ok (v, schemes)
-unfolding schemes_at
+pub says_again : (p : Policy) (document : Members) (v : Version) (schemes : Schemes) → Says p document v schemes → file_at p document ≡ Ok (v, schemes)
+unfolding file_at
 says_again p document v schemes s =
     let len : items_len (tables_of s.tables) ≡ length schemes = items_len-tables_of (SaysRelation p) s.tables schemes s.relations in
     let some = s.valid.some in
@@ -342,7 +347,7 @@ says_again p document v schemes s =
 pub scheme_valid : (p : Policy) (fields : Members) (s : Scheme) → name_field (codes "name") fields ≡ Ok s.name → attributes_at p fields ≡ Ok (s.keys, s.others) → IsScheme s
 scheme_valid p fields s name attributes = (parts_says p fields s name (attributes_found p fields s attributes)).valid
 
-pub schemes_valid : (p : Policy) (document : Members) (v : Version) (ds : Items) (schemes : Schemes) → lift (version_at document) ≡ Ok v → relation_items document ≡ Ok ds → gather (scheme_at p) [] ds ≡ Ok schemes → AreSchemes schemes
+pub schemes_valid : (p : Policy) (document : Members) (v : Version) (ds : Items) (schemes : Schemes) → lift Field (version_at document) ≡ Ok v → relation_items document ≡ Ok ds → gather (scheme_at p) [] ds ≡ Ok schemes → AreSchemes schemes
 schemes_valid p document v ds schemes version text e = (relations_says p document v ds schemes version text e).valid
 
 among : (p : Policy) (fields : Members) (a : Attribute) → SaysAttribute p fields a → IsAmongLabels (length p.labels) a
@@ -377,34 +382,29 @@ all_have_intervals p (t ∷ ts) (s ∷ schemes) h =
 -- ---- the clauses of the reader
 
 module _ {F : Type 0} (file : F → Version × Schemes) (p : Policy) (document : Members) where
-  pub read_found : (bytes : List ℕ) (r : Result F SchemeFault) → IsDocument bytes document → Gives file r (schemes_at p document) → IfOk r (λ f. ReadsSchemes p bytes (file f).0 (file f).1)
+  pub read_found : (bytes : List ℕ) (r : Result F (Failed FileFault)) → IsDocument bytes document → Gives file r (file_at p document) → IfOk r (λ f. ReadsSchemes p bytes (file f).0 (file f).1)
   read_found bytes (Ok f) is given = (document, is, says_found p document (file f) given)
   read_found bytes (Err e) is given = tt
 
-  pub read_under : (r : Result F SchemeFault) → Gives file r (schemes_at p document) → IfOk r (λ f. AreUnder (length p.labels) (file f).1)
+  pub read_under : (r : Result F (Failed FileFault)) → Gives file r (file_at p document) → IfOk r (λ f. AreUnder (length p.labels) (file f).1)
   read_under (Ok f) given = let says = says_found p document (file f) given in all_under p says.tables (file f).1 says.relations
   read_under (Err e) given = tt
 
-  pub read_intervals : (r : Result F SchemeFault) → Gives file r (schemes_at p document) → IfOk r (λ f. HaveIntervals (labels_of p) (file f).1)
+  pub read_intervals : (r : Result F (Failed FileFault)) → Gives file r (file_at p document) → IfOk r (λ f. HaveIntervals (labels_of p) (file f).1)
   read_intervals (Ok f) given = let says = says_found p document (file f) given in all_have_intervals p says.tables (file f).1 says.relations
   read_intervals (Err e) given = tt
 
-  pub read_refused : (bytes : List ℕ) (r : Result F SchemeFault) → IsDocument bytes document → Gives file r (schemes_at p document)
-      → IfErr r (λ e. e ≢ Memory → (v : Version) (s : Schemes) → ReadsSchemes p bytes v s → ⊥)
-  read_refused bytes (Ok f) is given = tt
-  read_refused bytes (Err e) is given = λ other v s (read, is_read, says).
-      let ok : schemes_at p document ≡ Ok (v, s) = ap (schemes_at p) (one_document bytes document read is is_read) ∙ says_again p read v s says in
-      let err : schemes_at p document ≡ Err e = given other in
+  pub read_refused : (bytes : List ℕ) (failed : Failed FileFault) → IsDocument bytes document → Gives file (Err failed) (file_at p document)
+      → failed_fault_of failed ≢ Memory → (v : Version) (s : Schemes) → ReadsSchemes p bytes v s → ⊥
+  read_refused bytes failed.Memory is given other v s reads = absurd (other refl)
+  read_refused bytes (failed.Fault fault) is given other v s (read, is_read, says) =
+      let ok : file_at p document ≡ Ok (v, s) = ap (file_at p) (one_document bytes document read is is_read) ∙ says_again p read v s says in
+      let err : file_at p document ≡ Err fault = given fault refl in
       absurd cc
-
-pub read_not_toml : {F : Type 0} (bytes : List ℕ) (document : Members) (r : Result F SchemeFault) → IsDocument bytes document → IfErr r (λ e. e ≢ NotToml)
-    → IfErr r (λ e. e ≢ Memory → (e ≡ NotToml) ↔ ((d : Members) → IsDocument bytes d → ⊥))
-read_not_toml bytes document (Ok f) is other = tt
-read_not_toml bytes document (Err e) is other = λ _. (λ same. absurd (other same), λ none. absurd (none document is))
 
 pub says_once : SaysOnce
 says_once p bytes v w s t (d, is, says) (e, is_too, says_too) =
-    let a : schemes_at p d ≡ Ok (v, s) = says_again p d v s says in
-    let b : schemes_at p d ≡ Ok (w, t) = ap (schemes_at p) (one_document bytes d e is is_too) ∙ says_again p e w t says_too in
+    let a : file_at p d ≡ Ok (v, s) = says_again p d v s says in
+    let b : file_at p d ≡ Ok (w, t) = ap (file_at p) (one_document bytes d e is is_too) ∙ says_again p e w t says_too in
     let both : (v, s) ≡ (w, t) = ok_is (v, s) (w, t) (sym a ∙ b) in
     (ap (λ (f : Version × Schemes). f.0) both, ap (λ (f : Version × Schemes). f.1) both)

@@ -1,9 +1,13 @@
 -- The numbers and names of the faults of schemes.
-use Rattle.std.specs.Prelude.{ℕ, List, codes}
-use Rattle.mls_lattice.specs.declared.fault.PolicyFault.{PolicyFault}
-use Rattle.mls_lattice.specs.declared.fault.PolicyFault.TheVariants as policy
+use Rattle.std.specs.Prelude.{ℕ, List, ◌-◌, [], map, get_or}
+use Rattle.mls_lattice.specs.declared.failed.Failed.{Failed}
+use Rattle.mls_lattice.specs.declared.failed.Failed.TheVariants as failed
+use Rattle.mls_lattice.specs.declared.fault.FieldFault.TheVariants as field
+use Rattle.mls_scheme.specs.declared.fault.FileFault.{FileFault}
+use Rattle.mls_scheme.specs.declared.fault.FileFault.TheVariants as file
 use Rattle.mls_scheme.specs.declared.fault.SchemeFault.{SchemeFault}
 use Rattle.mls_scheme.specs.declared.fault.SchemeFault.TheVariants.{NotToml, MissingField, WrongKind, Repeated, UnknownName, TooMany, BadName, EmptyInterval, Memory, NoKey, KeyIntervals}
+use Rattle.mls_scheme.specs.declared.fault.TheConstants.{WORDS}
 
 abbrev pub code_of : SchemeFault → ℕ
 code_of NotToml = 1
@@ -19,26 +23,20 @@ code_of NoKey = 10
 code_of KeyIntervals = 11
 
 abbrev pub word_of : SchemeFault → List ℕ
-word_of NotToml = codes "NotToml"
-word_of MissingField = codes "MissingField"
-word_of WrongKind = codes "WrongKind"
-word_of Repeated = codes "Repeated"
-word_of UnknownName = codes "UnknownName"
-word_of TooMany = codes "TooMany"
-word_of BadName = codes "BadName"
-word_of EmptyInterval = codes "EmptyInterval"
-word_of Memory = codes "Memory"
-word_of NoKey = codes "NoKey"
-word_of KeyIntervals = codes "KeyIntervals"
+word_of f = get_or (map (λ w. w.now) WORDS) (code_of f - 1) []
 
--- the fault of the same number
-abbrev pub scheme_fault_of : PolicyFault → SchemeFault
-scheme_fault_of policy.NotToml = NotToml
-scheme_fault_of policy.MissingField = MissingField
-scheme_fault_of policy.WrongKind = WrongKind
-scheme_fault_of policy.Repeated = Repeated
-scheme_fault_of policy.UnknownName = UnknownName
-scheme_fault_of policy.TooMany = TooMany
-scheme_fault_of policy.BadName = BadName
-scheme_fault_of policy.EmptyInterval = EmptyInterval
-scheme_fault_of policy.Memory = Memory
+-- the fault of the same name
+abbrev pub scheme_fault_of : FileFault → SchemeFault
+scheme_fault_of (file.Field field.MissingField) = MissingField
+scheme_fault_of (file.Field field.WrongKind) = WrongKind
+scheme_fault_of (file.Field field.Repeated) = Repeated
+scheme_fault_of (file.Field field.UnknownName) = UnknownName
+scheme_fault_of (file.Field field.TooMany) = TooMany
+scheme_fault_of (file.Field field.BadName) = BadName
+scheme_fault_of (file.Field field.EmptyInterval) = EmptyInterval
+scheme_fault_of file.NoKey = NoKey
+scheme_fault_of file.KeyIntervals = KeyIntervals
+
+abbrev pub failed_fault_of : Failed FileFault → SchemeFault
+failed_fault_of failed.Memory = Memory
+failed_fault_of (failed.Fault fault) = scheme_fault_of fault

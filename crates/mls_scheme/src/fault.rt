@@ -1,10 +1,10 @@
 //! Why schemes are refused.
 ghost use Rattle.std.specs.Prelude.{◌≡◌};
-ghost use Rattle.mls_scheme.specs.declared.fault.SchemeFault.TheVariants.{Memory};
-ghost use Rattle.mls_scheme.specs.Fault.{code_of, word_of, scheme_fault_of};
+ghost use Rattle.mls_lattice.specs.declared.failed.Failed.TheVariants.{Fault};
+ghost use Rattle.mls_scheme.specs.declared.fault.FileFault.TheVariants.{Field};
+ghost use Rattle.mls_scheme.specs.Fault.{code_of, word_of, failed_fault_of};
 
-use mls_lattice::PolicyFault;
-use std::alloc::{AllocError, AllocFailed};
+use mls_lattice::{Failed, FieldFault, words};
 use std::fmt;
 use thiserror::Error;
 
@@ -12,7 +12,7 @@ use thiserror::Error;
 #[derive(Clone, Copy, PartialEq, Eq, Debug, Error)]
 pub enum SchemeFault {
     /// No TOML document.
-    NotToml,
+    NotToml = 1,
     /// A field is missing.
     MissingField,
     /// A field has the wrong kind.
@@ -35,31 +35,25 @@ pub enum SchemeFault {
     KeyIntervals,
 }
 
+/// The names of the faults, in the order of their numbers.
+static WORDS: [&str; 11] = words! {
+    NotToml MissingField WrongKind Repeated UnknownName TooMany BadName EmptyInterval Memory
+    NoKey KeyIntervals
+};
+
 impl SchemeFault {
     /// What stands before the word where the fault is printed. The faults that policies have too have their numbers there.
     pub fn code(self) -> u8
         ensures { result ≡ code_of self }
     {
-        self as u8 + 1
+        self as u8
     }
 
     /// The variant's name, as the fault is printed.
     pub fn word(self) -> &'static str
         ensures { result.now ≡ word_of self }
     {
-        match self {
-            SchemeFault::NotToml => "NotToml",
-            SchemeFault::MissingField => "MissingField",
-            SchemeFault::WrongKind => "WrongKind",
-            SchemeFault::Repeated => "Repeated",
-            SchemeFault::UnknownName => "UnknownName",
-            SchemeFault::TooMany => "TooMany",
-            SchemeFault::BadName => "BadName",
-            SchemeFault::EmptyInterval => "EmptyInterval",
-            SchemeFault::Memory => "Memory",
-            SchemeFault::NoKey => "NoKey",
-            SchemeFault::KeyIntervals => "KeyIntervals",
-        }
+        WORDS[self as usize - 1]
     }
 }
 
@@ -70,36 +64,47 @@ impl fmt::Display for SchemeFault {
     }
 }
 
-impl From<AllocError> for SchemeFault {
-    ghost from_gives = { λ _ e. e ≡ Memory };
+/// Why a file of relations is refused.
+#[derive(Clone, Copy)]
+pub(crate) enum FileFault {
+    Field(FieldFault),
+    NoKey,
+    KeyIntervals,
+}
 
-    fn from(_e: AllocError) -> SchemeFault {
-        SchemeFault::Memory
+impl From<FieldFault> for FileFault {
+    ghost from_gives = { λ field fault. fault ≡ Field field };
+
+    fn from(fault: FieldFault) -> FileFault {
+        FileFault::Field(fault)
     }
 }
 
-impl<T: Drop> From<AllocFailed<T>> for SchemeFault {
-    ghost from_gives = { λ _ e. e ≡ Memory };
+impl From<FileFault> for Failed<FileFault> {
+    ghost from_gives = { λ fault failed. failed ≡ Fault fault };
 
-    fn from(_e: AllocFailed<T>) -> SchemeFault {
-        SchemeFault::Memory
+    fn from(fault: FileFault) -> Failed<FileFault> {
+        Failed::Fault(fault)
     }
 }
 
-impl From<PolicyFault> for SchemeFault {
-    ghost from_gives = { λ p s. s ≡ scheme_fault_of p };
+impl From<Failed<FileFault>> for SchemeFault {
+    ghost from_gives = { λ failed fault. fault ≡ failed_fault_of failed };
 
-    fn from(fault: PolicyFault) -> SchemeFault {
-        match fault {
-            PolicyFault::NotToml => SchemeFault::NotToml,
-            PolicyFault::MissingField => SchemeFault::MissingField,
-            PolicyFault::WrongKind => SchemeFault::WrongKind,
-            PolicyFault::Repeated => SchemeFault::Repeated,
-            PolicyFault::UnknownName => SchemeFault::UnknownName,
-            PolicyFault::TooMany => SchemeFault::TooMany,
-            PolicyFault::BadName => SchemeFault::BadName,
-            PolicyFault::EmptyInterval => SchemeFault::EmptyInterval,
-            PolicyFault::Memory => SchemeFault::Memory,
+    fn from(failed: Failed<FileFault>) -> SchemeFault {
+        match failed {
+            Failed::Memory => SchemeFault::Memory,
+            Failed::Fault(FileFault::NoKey) => SchemeFault::NoKey,
+            Failed::Fault(FileFault::KeyIntervals) => SchemeFault::KeyIntervals,
+            Failed::Fault(FileFault::Field(fault)) => match fault {
+                FieldFault::MissingField => SchemeFault::MissingField,
+                FieldFault::WrongKind => SchemeFault::WrongKind,
+                FieldFault::Repeated => SchemeFault::Repeated,
+                FieldFault::UnknownName => SchemeFault::UnknownName,
+                FieldFault::TooMany => SchemeFault::TooMany,
+                FieldFault::BadName => SchemeFault::BadName,
+                FieldFault::EmptyInterval => SchemeFault::EmptyInterval,
+            },
         }
     }
 }

@@ -50,7 +50,10 @@ impl SchemesFile {
         match toml::table_from_slice(alloc, bytes) {
             Ok(document) => match schemes_of(alloc, policy, &document, &mut at) {
                 Ok(file) => Ok(file),
-                Err(fault) => Err(Refused { fault, at }),
+                Err(failed) => Err(Refused {
+                    fault: SchemeFault::from(failed),
+                    at,
+                }),
             },
             Err(e) if e.is_memory() => Err(Refused {
                 fault: SchemeFault::Memory,

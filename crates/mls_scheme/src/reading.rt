@@ -2,24 +2,24 @@
 ghost use Rattle.std.specs.Prelude.{◌≡◌, ◌++◌, [], false, IfOk, string_bytes};
 ghost use Rattle.toml.specs.View.{view, items_view, table_view};
 ghost use Rattle.mls_scheme.specs.Named.{item_of, has_name};
-ghost use Rattle.mls_scheme.specs.Reading.{Gives, column_at, attribute_at, has_key_interval, key_at, other_at, gather, attributes_at, has_relation, scheme_at, schemes_at};
+ghost use Rattle.mls_lattice.specs.Reading.{Shows, Gives};
+ghost use Rattle.mls_scheme.specs.Reading.{column_at, attribute_at, has_key_interval, key_at, other_at, gather, attributes_at, has_relation, scheme_at, file_at};
 
 use crate::attributes::{Attributes, Column};
-use crate::fault::SchemeFault;
+use crate::fault::FileFault;
 use crate::fields::{
     fields_of, key_items, kind_named, label_field, name_field, other_items, relation_items,
-    text_field,
+    text_field, version_field,
 };
 use crate::file::SchemesFile;
 use crate::scheme::{Scheme, Schemes};
-use mls_lattice::document::version_of;
-use mls_lattice::{Policy, Str, Trail};
+use mls_lattice::{Failed, FieldFault, Policy, Str, Trail};
 use std::alloc::Global;
 use toml::{Table, Value};
 
 #[tactic(auto, unfolding(crate::specs::Reading::column_at))]
-fn column_of(policy: &Policy, fields: &Table, at: &mut Trail) -> Result<Column, SchemeFault>
-    ensures { Gives (λ c. c) result (column_at policy.now (table_view fields.now)) }
+fn column_of(policy: &Policy, fields: &Table, at: &mut Trail) -> Result<Column, FileFault>
+    ensures { Shows (λ c. c) result (column_at policy.now (table_view fields.now)) }
 {
     let kind = kind_named(text_field(fields, at.field(2, "kind"))?)?;
     let low = label_field(policy, fields, at.field(2, "low"))?;
@@ -27,7 +27,7 @@ fn column_of(policy: &Policy, fields: &Table, at: &mut Trail) -> Result<Column, 
     if policy.dominates(high, low) {
         Ok(Column { kind, low, high })
     } else {
-        Err(SchemeFault::EmptyInterval)
+        Err(FileFault::Field(FieldFault::EmptyInterval))
     }
 }
 
@@ -47,14 +47,14 @@ fn read_attribute(
     others: &Attributes,
     value: &Value,
     at: &mut Trail,
-) -> Result<(String, Column), SchemeFault>
+) -> Result<(String, Column), Failed<FileFault>>
     ensures reads { Gives item_of result (attribute_at policy.now (keys.now ++ others.now) (view value.now)) }
     ensures fresh { IfOk result (λ a. has_name (keys.now ++ others.now) (string_bytes a.0) ≡ false) }
 {
     let fields = fields_of(value)?;
     let name = name_field(fields, at.field(2, "name"))?;
     if is_taken(keys, others, name) {
-        return Err(SchemeFault::Repeated);
+        return Err(Failed::Fault(FileFault::Field(FieldFault::Repeated)));
     }
     let column = column_of(policy, fields, at)?;
     Ok((String::from_str(alloc, name)?, column))
@@ -78,7 +78,7 @@ fn read_key_attribute(
     keys: &Attributes,
     value: &Value,
     at: &mut Trail,
-) -> Result<(String, Column), SchemeFault>
+) -> Result<(String, Column), Failed<FileFault>>
     ensures reads { Gives item_of result (key_at policy.now keys.now (view value.now)) }
     ensures fresh { IfOk result (λ a. has_name keys.now (string_bytes a.0) ≡ false) }
 {
@@ -88,7 +88,7 @@ fn read_key_attribute(
     if has_key_interval(keys, attribute.1) {
         Ok(attribute)
     } else {
-        Err(SchemeFault::KeyIntervals)
+        Err(Failed::Fault(FileFault::KeyIntervals))
     }
 }
 
@@ -100,7 +100,7 @@ fn read_other_attribute(
     others: &Attributes,
     value: &Value,
     at: &mut Trail,
-) -> Result<(String, Column), SchemeFault>
+) -> Result<(String, Column), Failed<FileFault>>
     ensures reads { Gives item_of result (other_at policy.now keys.now others.now (view value.now)) }
     ensures fresh { IfOk result (λ a. has_name others.now (string_bytes a.0) ≡ false) }
 {
@@ -114,7 +114,7 @@ fn read_key_attributes(
     policy: &Policy,
     items: &[Value],
     at: &mut Trail,
-) -> Result<Attributes, SchemeFault>
+) -> Result<Attributes, Failed<FileFault>>
     ensures { Gives (λ a. a) result (gather (key_at policy.now) [] (items_view items.now)) }
 {
     let mut keys = Attributes::new(alloc);
@@ -134,7 +134,7 @@ fn read_other_attributes(
     keys: &Attributes,
     items: &[Value],
     at: &mut Trail,
-) -> Result<Attributes, SchemeFault>
+) -> Result<Attributes, Failed<FileFault>>
     ensures { Gives (λ a. a) result (gather (other_at policy.now keys.now) [] (items_view items.now)) }
 {
     let mut others = Attributes::new(alloc);
@@ -159,7 +159,7 @@ fn read_attributes(
     policy: &Policy,
     fields: &Table,
     at: &mut Trail,
-) -> Result<(Attributes, Attributes), SchemeFault>
+) -> Result<(Attributes, Attributes), Failed<FileFault>>
     ensures { Gives (λ a. a) result (attributes_at policy.now (table_view fields.now)) }
 {
     let items = key_items(fields, at)?;
@@ -176,13 +176,13 @@ fn read_scheme(
     before: &[Scheme],
     value: &Value,
     at: &mut Trail,
-) -> Result<Scheme, SchemeFault>
+) -> Result<Scheme, Failed<FileFault>>
     ensures { Gives (λ s. s) result (scheme_at policy.now before.now (view value.now)) }
 {
     let fields = fields_of(value)?;
     let name = name_field(fields, at.field(1, "name"))?;
     if has_relation(before, name) {
-        return Err(SchemeFault::Repeated);
+        return Err(Failed::Fault(FileFault::Field(FieldFault::Repeated)));
     }
     let (keys, others) = read_attributes(alloc, policy, fields, at)?;
     let name = Str::copy_of(alloc, name)?;
@@ -195,7 +195,7 @@ fn read_relations(
     policy: &Policy,
     items: &[Value],
     at: &mut Trail,
-) -> Result<Vec<Scheme>, SchemeFault>
+) -> Result<Vec<Scheme>, Failed<FileFault>>
     ensures { Gives (λ v. v.items) result (gather (scheme_at policy.now) [] (items_view items.now)) }
 {
     let mut relations = Vec::new(alloc);
@@ -207,16 +207,16 @@ fn read_relations(
     Ok(relations)
 }
 
-#[tactic(auto, unfolding(crate::specs::Reading::schemes_at))]
+#[tactic(auto, unfolding(crate::specs::Reading::file_at))]
 pub(crate) fn schemes_of(
     alloc: Global,
     policy: &Policy,
     document: &Table,
     at: &mut Trail,
-) -> Result<SchemesFile, SchemeFault>
-    ensures { Gives (λ f. (f.version, f.schemes)) result (schemes_at policy.now (table_view document.now)) }
+) -> Result<SchemesFile, Failed<FileFault>>
+    ensures { Gives (λ f. (f.version, f.schemes)) result (file_at policy.now (table_view document.now)) }
 {
-    let version = version_of(document, at)?;
+    let version = version_field(document, at)?;
     let items = relation_items(document, at)?;
     let relations = read_relations(alloc, policy, items, at)?;
     Ok(SchemesFile {

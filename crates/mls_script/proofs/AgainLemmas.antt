@@ -31,9 +31,8 @@ use Rattle.mls_script.specs.Event.{Sets, SetsFit}
 use Rattle.mls_tokens.specs.Text.{separated}
 use Rattle.mls_lattice.specs.Canon.{label_name}
 use Rattle.mls_script.specs.Tokens.{relation_name, value_token, list_tokens, set_tokens}
-use Rattle.mls_script.specs.ReadQuery.{known_or, label_named}
-use Rattle.mls_script.specs.Reading.{relation_named, value_of_token, valued, PlacedValue, pass_value, after_item, items_from, none_listed, push_value, list_behind, pass_list, misfit, place_at, set_at, push_set, pass_setting, pass_sets}
-use Rattle.mls_script.proofs.FoundLemmas.{pushed}
+use Rattle.mls_script.specs.ReadQuery.{heard, known_or, label_named}
+use Rattle.mls_script.specs.Reading.{relation_named, value_of_token, valued, PlacedValue, pass_value, and_more, items_from, items_at, listed, list_behind, pass_list, misfit, place_at, set_at, sets_from, pass_setting}
 
 -- ---- one name, one number
 
@@ -65,59 +64,59 @@ commas_length : {Y : Type 0} (toks : Y → List Token) (ys : List Y) → length 
 commas_length toks [] = omega arith
 commas_length toks (y ∷ ys) = let h = commas_length toks ys in omega (arith, length-append (toks y) (flat_map (λ z. Sign Comma ∷ toks z) ys), h)
 
-module _ {X A Y : Type 0} (item : Left → Result (X × Left) TokenFault) (push : A → X → A) (toks : Y → List Token) (Is : Y → X → Type 0) (Good : Y → Type 0)
+module _ {X Y : Type 0} (item : Left → Result (X × Left) TokenFault) (toks : Y → List Token) (Is : Y → X → Type 0) (Good : Y → Type 0)
     (again : (y : Y) (us : List Token) (l : Left) → Good y → without_places l.placed ≡ toks y ++ us → Gets (item l) l (Is y) us) where
-  pub record ItemsRead (n : ℕ) (acc : A) (l : Left) (ys : List Y) (us : List Token) : Type 0 where
+  pub record ItemsRead (n : ℕ) (l : Left) (ys : List Y) (us : List Token) : Type 0 where
     pub values : List X
     pub rest : Left
-    pub is : items_from item push n acc l ≡ Ok (pushed push acc values, rest)
+    pub is : items_from item n l ≡ Ok (values, rest)
     pub alike : AllZip Is ys values
     pub tokens : without_places rest.placed ≡ us
     pub stop : rest.stop ≡ l.stop
 
-  abbrev onward : ℕ → A → Result (X × Left) TokenFault → Result (A × Left) TokenFault
-  onward n acc r = r >>= λ x. after_item (λ a r. items_from item push n a r) (push acc x.0) x.1 (taken (is_sign Comma) x.1)
+  abbrev onward : ℕ → Result (X × Left) TokenFault → Result (List X × Left) TokenFault
+  onward n r = r >>= λ x. and_more (λ r. items_from item n r) x.0 x.1 (taken (is_sign Comma) x.1)
 
-  items_read : (ys : List Y) (n : ℕ) (acc : A) (l : Left) (y : Y) (us : List Token) → length ys ≤ n → Good y → AllByRecursion Good ys → NotNext (is_sign Comma) us
-      → without_places l.placed ≡ separated toks (y ∷ ys) ++ us → ItemsRead (suc n) acc l (y ∷ ys) us
-  items_read [] n acc l y us enough good all end e =
+  items_read : (ys : List Y) (n : ℕ) (l : Left) (y : Y) (us : List Token) → length ys ≤ n → Good y → AllByRecursion Good ys → NotNext (is_sign Comma) us
+      → without_places l.placed ≡ separated toks (y ∷ ys) ++ us → ItemsRead (suc n) l (y ∷ ys) us
+  items_read [] n l y us enough good all end e =
       let first = again y us l good (e ∙ append_assoc (toks y) [] us) in
       record {
         values = first.value ∷ [];
         rest = first.rest;
-        is = ap (onward n acc) first.is ∙ ap (after_item (λ a r. items_from item push n a r) (push acc first.value) first.rest) (not_taken (is_sign Comma) us first.rest end first.tokens);
+        is = ap (onward n) first.is ∙ ap (and_more (λ r. items_from item n r) first.value first.rest) (not_taken (is_sign Comma) us first.rest end first.tokens);
         alike = (first.holds, tt);
         tokens = first.tokens;
         stop = first.stop;
       }
-  items_read (z ∷ zs) zero acc l y us enough good all end e = absurd (omega arith)
-  items_read (z ∷ zs) (suc n) acc l y us enough good all end e =
+  items_read (z ∷ zs) zero l y us enough good all end e = absurd (omega arith)
+  items_read (z ∷ zs) (suc n) l y us enough good all end e =
       let first = again y (flat_map (λ z. Sign Comma ∷ toks z) (z ∷ zs) ++ us) l good (e ∙ append_assoc (toks y) (flat_map (λ z. Sign Comma ∷ toks z) (z ∷ zs)) us) in
       let comma = took_sign Comma (separated toks (z ∷ zs) ++ us) first.rest first.tokens in
-      let more = items_read zs n (push acc first.value) comma.rest z us (omega arith) all.0 all.1 end comma.tokens in
+      let more = items_read zs n comma.rest z us (omega arith) all.0 all.1 end comma.tokens in
       record {
         values = first.value ∷ more.values;
         rest = more.rest;
-        is = ap (onward (suc n) acc) first.is ∙ ap (after_item (λ a r. items_from item push (suc n) a r) (push acc first.value) first.rest) comma.is ∙ more.is;
+        is = ap (onward (suc n)) first.is ∙ ap (and_more (λ r. items_from item (suc n) r) first.value first.rest) comma.is ∙ ap (heard (λ xs. first.value ∷ xs)) more.is;
         alike = (first.holds, more.alike);
         tokens = more.tokens;
         stop = more.stop ∙ comma.stop ∙ first.stop;
       }
 
-  pub all_read : (ys : List Y) (acc : A) (l : Left) (y : Y) (us : List Token) → Good y → AllByRecursion Good ys → NotNext (is_sign Comma) us
-      → without_places l.placed ≡ separated toks (y ∷ ys) ++ us → ItemsRead (suc (length l.placed)) acc l (y ∷ ys) us
-  all_read ys acc l y us good all end e =
-      items_read ys (length l.placed) acc l y us
+  pub all_read : (ys : List Y) (l : Left) (y : Y) (us : List Token) → Good y → AllByRecursion Good ys → NotNext (is_sign Comma) us
+      → without_places l.placed ≡ separated toks (y ∷ ys) ++ us → ItemsRead (suc (length l.placed)) l (y ∷ ys) us
+  all_read ys l y us good all end e =
+      items_read ys (length l.placed) l y us
       (omega (arith, commas_length toks ys, sym (length-map l.placed (λ (p : Placed). p.token)) ∙ ap length e, length-append (toks y ++ flat_map (λ z. Sign Comma ∷ toks z) ys) us, length-append (toks y) (flat_map (λ z. Sign Comma ∷ toks z) ys)))
       good all end e
 
 -- ---- lists of values
 
-values_alike : (vs : List (Option Value)) (xs : List PlacedValue) → AllZip (λ v x. x.0 ≡ v) vs xs → (acc : Listed) → (pushed push_value acc xs).values ≡ acc.values ++ vs
-values_alike [] [] h acc = sym (append-nil acc.values)
-values_alike [] (x ∷ xs) h acc = absurd h
-values_alike (v ∷ vs) [] h acc = absurd h
-values_alike (v ∷ vs) (x ∷ xs) h acc = values_alike vs xs h.1 (push_value acc x) ∙ append_assoc acc.values (x.0 ∷ []) vs ∙ ap (λ y. acc.values ++ y ∷ vs) h.0
+values_alike : (vs : List (Option Value)) (xs : List PlacedValue) → AllZip (λ v x. x.0 ≡ v) vs xs → map (λ x. x.0) xs ≡ vs
+values_alike [] [] h = refl
+values_alike [] (x ∷ xs) h = absurd h
+values_alike (v ∷ vs) [] h = absurd h
+values_alike (v ∷ vs) (x ∷ xs) h = λ i. h.0 i ∷ values_alike vs xs h.1 i
 
 no_paren : (v : Option Value) → is_sign RightParen (value_token v) ≡ false
 no_paren None = refl
@@ -131,18 +130,17 @@ all_good (y ∷ ys) = (tt, all_good ys)
 behind_read : (vs : List (Option Value)) (us : List Token) (l : Left) → without_places l.placed ≡ separated (λ v. value_token v ∷ []) vs ++ Sign RightParen ∷ us → Gets (list_behind l (taken (is_sign RightParen) l)) l (λ x. x.values ≡ vs) us
 behind_read [] us l e =
     let end = took_sign RightParen us l e in
-    record { value = record none_listed { end = end.at }; rest = end.rest; is = ap (list_behind l) end.is; holds = refl; tokens = end.tokens; stop = end.stop }
+    record { value = record (listed []) { end = end.at }; rest = end.rest; is = ap (list_behind l) end.is; holds = refl; tokens = end.tokens; stop = end.stop }
 behind_read (v ∷ vs) us l e =
-    let items = all_read pass_value push_value (λ v. value_token v ∷ []) (λ v x. x.0 ≡ v) (λ v. ⊤) (λ v us l good e. value_read v us l e) vs none_listed l v (Sign RightParen ∷ us) tt (all_good vs) refl e in
+    let items = all_read pass_value (λ v. value_token v ∷ []) (λ v x. x.0 ≡ v) (λ v. ⊤) (λ v us l good e. value_read v us l e) vs l v (Sign RightParen ∷ us) tt (all_good vs) refl e in
     let end = sign_gets RightParen us items.rest items.tokens in
-    let listed = pushed push_value none_listed items.values in
     record {
-      value = record listed { end = end.value };
+      value = record (listed items.values) { end = end.value };
       rest = end.rest;
       is = ap (list_behind l) (not_taken (is_sign RightParen) (separated (λ v. value_token v ∷ []) (v ∷ vs) ++ Sign RightParen ∷ us) l (no_paren v) e)
-          ∙ ap (λ r. r >>= λ (vs : Listed × Left). pass (is_sign RightParen) vs.1 >>= λ end. Ok (record vs.0 { end = end.0 }, end.1)) items.is
-          ∙ ap (λ r. r >>= λ (end : ℕ × Left). Ok (record listed { end = end.0 }, end.1)) end.is;
-      holds = values_alike (v ∷ vs) items.values items.alike none_listed;
+          ∙ ap (λ r. heard listed r >>= λ (vs : Listed × Left). pass (is_sign RightParen) vs.1 >>= λ end. Ok (record vs.0 { end = end.0 }, end.1)) items.is
+          ∙ ap (λ r. r >>= λ (end : ℕ × Left). Ok (record (listed items.values) { end = end.0 }, end.1)) end.is;
+      holds = values_alike (v ∷ vs) items.values items.alike;
       tokens = end.tokens;
       stop = end.stop ∙ items.stop;
     }
@@ -192,15 +190,14 @@ set_again scheme valid front y s is known new kind =
     rw (found, new, fits) (ap (λ (x : Option Value). Ok (y.0, x)) is.1)
 
 sets_again : (scheme : Scheme) → IsScheme scheme → (ys : Sets) (ss : List Setting) (front : Sets) → AllZip (IsSetting scheme) ys ss → AllByRecursion (λ y. y.0 < length scheme.others) ys
-    → IsDistinct nat_eq (map (λ y. y.0) (front ++ ys)) → AllByRecursion (λ y. fits_kind y.1 (other_of scheme y.0).1.kind ≡ true) ys → pushed (push_set (Some scheme)) (Ok front) ss ≡ Ok (front ++ ys)
+    → IsDistinct nat_eq (map (λ y. y.0) (front ++ ys)) → AllByRecursion (λ y. fits_kind y.1 (other_of scheme y.0).1.kind ≡ true) ys → sets_from (Some scheme) front ss ≡ Ok (front ++ ys)
 sets_again scheme valid [] [] front h known distinct kinds = ap (λ (x : Sets). Ok x) (sym (append-nil front))
 sets_again scheme valid [] (s ∷ ss) front h known distinct kinds = absurd h
 sets_again scheme valid (y ∷ ys) [] front h known distinct kinds = absurd h
 sets_again scheme valid (y ∷ ys) (s ∷ ss) front h known distinct kinds =
     let new = fresh (map (λ x. x.0) front) (map (λ x. x.0) ys) y.0 (subst (IsDistinct nat_eq) (map-append (λ x. x.0) front (y ∷ ys)) distinct) in
-    let here : push_set (Some scheme) (Ok front) s ≡ Ok (front ++ y ∷ []) = ap (λ r. r >>= λ x. Ok (front ++ x ∷ [])) (set_again scheme valid front y s h.0 known.0 new kinds.0) in
     let moved : (front ++ y ∷ []) ++ ys ≡ front ++ y ∷ ys = append_assoc front (y ∷ []) ys in
-    ap (λ r. pushed (push_set (Some scheme)) r ss) here
+    ap (λ r. r >>= λ x. sets_from (Some scheme) (front ++ x ∷ []) ss) (set_again scheme valid front y s h.0 known.0 new kinds.0)
     ∙ sets_again scheme valid ys ss (front ++ y ∷ []) h.1 known.1 (subst (λ (x : Sets). IsDistinct nat_eq (map (λ y. y.0) x)) (sym moved) distinct) kinds.1
     ∙ ap (λ (x : Sets). Ok x) moved
 
@@ -209,10 +206,9 @@ names_good scheme valid [] h = tt
 names_good scheme valid (y ∷ ys) h = (other_is_name scheme valid y.0 h.0, names_good scheme valid ys h.1)
 
 pub sets_read : (scheme : Scheme) → IsScheme scheme → (sets : Sets) (us : List Token) (l : Left) → SetsFit scheme sets → NotNext (is_sign Comma) us → without_places l.placed ≡ separated (set_tokens scheme) sets ++ us
-    → Gets (pass_sets (Some scheme) l) l (λ x. x ≡ Ok sets) us
-unfolding pass_sets
+    → Gets (items_at pass_setting l) l (λ ss. sets_from (Some scheme) [] ss ≡ Ok sets) us
 sets_read scheme valid [] us l fit end e = absurd (let some = fit.some in omega arith)
 sets_read scheme valid (y ∷ ys) us l fit end e =
     let good = names_good scheme valid (y ∷ ys) fit.known in
-    let items = all_read pass_setting (push_set (Some scheme)) (set_tokens scheme) (IsSetting scheme) (λ y. is_name (other_of scheme y.0).0 ≡ true) (λ y us l named e. setting_read scheme y us l named e) ys (Ok []) l y us good.0 good.1 end e in
-    record { value = pushed (push_set (Some scheme)) (Ok []) items.values; rest = items.rest; is = items.is; holds = sets_again scheme valid (y ∷ ys) items.values [] items.alike fit.known fit.distinct fit.kinds; tokens = items.tokens; stop = items.stop }
+    let items = all_read pass_setting (set_tokens scheme) (IsSetting scheme) (λ y. is_name (other_of scheme y.0).0 ≡ true) (λ y us l named e. setting_read scheme y us l named e) ys l y us good.0 good.1 end e in
+    record { value = items.values; rest = items.rest; is = items.is; holds = sets_again scheme valid (y ∷ ys) items.values [] items.alike fit.known fit.distinct fit.kinds; tokens = items.tokens; stop = items.stop }

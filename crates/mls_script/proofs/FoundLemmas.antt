@@ -1,5 +1,5 @@
 -- What is read is what stands there: the tokens that were passed, part by part.
-use Rattle.std.proofs.Common.{◌≡◌, ℕ, zero, suc, List, [], ◌∷◌, ◌++◌, length, map, Option, Some, None, Result, Ok, inl, inr, refl, sym, ap, ◌∙◌, subst, append_assoc}
+use Rattle.std.proofs.Common.{◌≡◌, ℕ, zero, suc, ◌<◌, arith, List, [], ◌∷◌, ◌++◌, length, map, Option, Some, None, Result, Ok, inl, inr, refl, sym, ap, ◌∙◌, subst}
 use Rattle.std.specs.Prelude.{codes}
 use Rattle.std.specs.List.{flat_map}
 use Rattle.std.specs.Str.{bytes_eq}
@@ -8,7 +8,7 @@ use Rattle.std.proofs.lemmas.List.{append-nil}
 use Rattle.std.proofs.lemmas.Slice.Eq.{bytes_eq-Decides}
 use Rattle.mls_lattice.specs.Policy.{Name}
 use Rattle.mls_lattice.specs.Reading.{◌>>=◌}
-use Rattle.mls_lattice.proofs.ReadingLemmas.{bind_ok, same_ok}
+use Rattle.mls_lattice.proofs.ReadingLemmas.{ok_is, bind_ok, same_ok}
 use Rattle.mls_scheme.specs.declared.value.Value.{Value}
 use Rattle.mls_scheme.specs.declared.value.Value.TheVariants as values
 use Rattle.mls_tokens.specs.declared.fault.TokenFault.{TokenFault}
@@ -23,7 +23,7 @@ use Rattle.mls_script.specs.declared.lists.Listed.{Listed}
 use Rattle.mls_script.specs.declared.lists.Setting.{Setting}
 use Rattle.mls_tokens.specs.Text.{separated}
 use Rattle.mls_script.specs.Tokens.{value_token, list_tokens}
-use Rattle.mls_script.specs.Reading.{value_of_token, valued, PlacedValue, pass_value_of, pass_value, after_item, items_from, items_at, none_listed, push_value, values_at, list_behind, pass_list, pass_setting}
+use Rattle.mls_script.specs.Reading.{value_of_token, valued, PlacedValue, pass_value_of, pass_value, and_more, items_from, items_at, listed, values_at, list_behind, pass_list, pass_setting}
 
 -- ---- values
 
@@ -55,72 +55,66 @@ value_found l x e = value_of_found l.placed l.stop x e
 
 -- ---- items with a comma between each two
 
-abbrev pub pushed : {X A : Type 0} → (A → X → A) → A → List X → A
-pushed push acc [] = acc
-pushed push acc (x ∷ xs) = pushed push (push acc x) xs
-
-module _ {X A : Type 0} (item : Left → Result (X × Left) TokenFault) (push : A → X → A) (tokens : X → List Token)
+module _ {X : Type 0} (item : Left → Result (X × Left) TokenFault) (tokens : X → List Token)
     (sound : (l : Left) (x : X × Left) → item l ≡ Ok x → Passed (tokens x.0) l x.1) where
   -- these items were passed, one at least
-  pub record ItemsFound (acc : A) (l : Left) (y : A × Left) : Type 0 where
-    pub head : X
-    pub tail : List X
-    pub whole : pushed push acc (head ∷ tail) ≡ y.0
-    pub passed : Passed (separated tokens (head ∷ tail)) l y.1
+  pub record ItemsFound (l : Left) (y : List X × Left) : Type 0 where
+    pub some : 0 < length y.0
+    pub passed : Passed (separated tokens y.0) l y.1
 
-  items_found : (n : ℕ) (acc : A) (l : Left) (y : A × Left) → items_from item push n acc l ≡ Ok y → ItemsFound acc l y
-  items_found zero acc l y e = absurd cc
-  items_found (suc n) acc l y e =
-      let x = bind_ok (item l) (λ x. after_item (λ a r. items_from item push n a r) (push acc x.0) x.1 (taken (is_sign Comma) x.1)) y e in
-      behind x.0 (sound l x.0 x.1) (taken (is_sign Comma) x.0.1) refl (λ c h. items_found n (push acc x.0.0) c y h) x.2
+  separated_more : (x : X) (xs : List X) → 0 < length xs → separated tokens (x ∷ xs) ≡ tokens x ++ Sign Comma ∷ separated tokens xs
+  separated_more x [] some = absurd (omega arith)
+  separated_more x (y ∷ xs) some = refl
+
+  items_found : (n : ℕ) (l : Left) (y : List X × Left) → items_from item n l ≡ Ok y → ItemsFound l y
+  items_found zero l y e = absurd cc
+  items_found (suc n) l y e =
+      let x = bind_ok (item l) (λ x. and_more (λ r. items_from item n r) x.0 x.1 (taken (is_sign Comma) x.1)) y e in
+      behind x.0 (sound l x.0 x.1) (taken (is_sign Comma) x.0.1) refl (λ c z h. items_found n c z h) x.2
     where
       behind : (x : X × Left) → Passed (tokens x.0) l x.1 → (o : Option (ℕ × Left)) → taken (is_sign Comma) x.1 ≡ o
-          → ((c : Left) → items_from item push n (push acc x.0) c ≡ Ok y → ItemsFound (push acc x.0) c y)
-          → after_item (λ a r. items_from item push n a r) (push acc x.0) x.1 o ≡ Ok y → ItemsFound acc l y
+          → ((c : Left) (z : List X × Left) → items_from item n c ≡ Ok z → ItemsFound c z)
+          → and_more (λ r. items_from item n r) x.0 x.1 o ≡ Ok y → ItemsFound l y
       behind x here None is more h =
-          let done : Result (A × Left) TokenFault = Ok (push acc x.0, x.1) in
-          subst (λ z. ItemsFound acc l z) (same_ok done (push acc x.0, x.1) y refl h) (record { head = x.0; tail = []; whole = refl; passed = rw (append-nil (tokens x.0)) here })
+          subst (λ z. ItemsFound l z) (ok_is {E = TokenFault} (x.0 ∷ [], x.1) y h) (record { some = omega arith; passed = rw (append-nil (tokens x.0)) here })
       behind x here (Some c) is more h =
-          let rest = more c.1 h in
+          let z = bind_ok (items_from item n c.1) (λ z. Ok (x.0 ∷ z.0, z.1)) y h in
+          let rest = more c.1 z.0 z.1 in
           let comma = sign_taken Comma x.1 c is in
-          record {
-            head = x.0;
-            tail = rest.head ∷ rest.tail;
-            whole = rest.whole;
-            passed = passed_more (tokens x.0) (Sign Comma ∷ separated tokens (rest.head ∷ rest.tail)) l x.1 y.1 here (passed_more (Sign Comma ∷ []) (separated tokens (rest.head ∷ rest.tail)) x.1 c.1 y.1 comma rest.passed);
-          }
+          subst (λ w. ItemsFound l w) (ok_is {E = TokenFault} (x.0 ∷ z.0.0, z.0.1) y z.2) (record {
+            some = omega arith;
+            passed = subst (λ ts. Passed ts l z.0.1) (sym (separated_more x.0 z.0.0 rest.some))
+                (passed_more (tokens x.0) (Sign Comma ∷ separated tokens z.0.0) l x.1 z.0.1 here (passed_more (Sign Comma ∷ []) (separated tokens z.0.0) x.1 c.1 z.0.1 comma rest.passed));
+          })
 
-  pub all_found : (acc : A) (l : Left) (y : A × Left) → items_at item push acc l ≡ Ok y → ItemsFound acc l y
-  all_found acc l y e = items_found (suc (length l.placed)) acc l y e
+  pub all_found : (l : Left) (y : List X × Left) → items_at item l ≡ Ok y → ItemsFound l y
+  all_found l y e = items_found (suc (length l.placed)) l y e
 
 -- ---- lists of values
 
-listed_values : (acc : Listed) (xs : List PlacedValue) → (pushed push_value acc xs).values ≡ acc.values ++ map (λ v. v.0) xs
-listed_values acc [] = sym (append-nil acc.values)
-listed_values acc (x ∷ xs) = listed_values (push_value acc x) xs ∙ append_assoc acc.values (x.0 ∷ []) (map (λ v. v.0) xs)
+values_separated : (xs : List PlacedValue) → separated (λ v. value_token v.0 ∷ []) xs ≡ separated (λ v. value_token v ∷ []) (map (λ v. v.0) xs)
+values_separated [] = refl
+values_separated (x ∷ xs) = ap (λ l. value_token x.0 ∷ l) (commas xs)
+  where
+    commas : (xs : List PlacedValue) → flat_map (λ v. Sign Comma ∷ value_token v.0 ∷ []) xs ≡ flat_map (λ v. Sign Comma ∷ value_token v ∷ []) (map (λ v. v.0) xs)
+    commas [] = refl
+    commas (x ∷ xs) = ap (λ l. Sign Comma ∷ value_token x.0 ∷ l) (commas xs)
 
-commas_mapped : (xs : List PlacedValue) → flat_map (λ v. Sign Comma ∷ value_token v.0 ∷ []) xs ≡ flat_map (λ v. Sign Comma ∷ value_token v ∷ []) (map (λ v. v.0) xs)
-commas_mapped [] = refl
-commas_mapped (x ∷ xs) = ap (λ l. Sign Comma ∷ value_token x.0 ∷ l) (commas_mapped xs)
-
-values_separated : (x : PlacedValue) (xs : List PlacedValue) → separated (λ v. value_token v.0 ∷ []) (x ∷ xs) ≡ separated (λ v. value_token v ∷ []) (map (λ v. v.0) (x ∷ xs))
-values_separated x xs = ap (λ l. value_token x.0 ∷ l) (commas_mapped xs)
+values_found : (l : Left) (y : Listed × Left) → values_at l ≡ Ok y → Passed (separated (λ v. value_token v ∷ []) y.0.values) l y.1
+values_found l y e =
+    let xs = bind_ok (items_at pass_value l) (λ x. Ok (listed x.0, x.1)) y e in
+    subst (λ z. Passed (separated (λ v. value_token v ∷ []) z.0.values) l z.1) (ok_is {E = TokenFault} (listed xs.0.0, xs.0.1) y xs.2)
+    (subst (λ ts. Passed ts l xs.0.1) (values_separated xs.0.0) (all_found pass_value (λ v. value_token v.0 ∷ []) value_found l xs.0 xs.1).passed)
 
 behind_found : (l : Left) (o : Option (ℕ × Left)) (x : Listed × Left) → taken (is_sign RightParen) l ≡ o → list_behind l o ≡ Ok x → Passed (separated (λ v. value_token v ∷ []) x.0.values ++ Sign RightParen ∷ []) l x.1
 behind_found l (Some end) x is e =
-    subst (λ y. Passed (separated (λ v. value_token v ∷ []) y.0.values ++ Sign RightParen ∷ []) l y.1) (same_ok (list_behind l (Some end)) (record none_listed { end = end.0 }, end.1) x refl e)
+    subst (λ y. Passed (separated (λ v. value_token v ∷ []) y.0.values ++ Sign RightParen ∷ []) l y.1) (same_ok (list_behind l (Some end)) (record (listed []) { end = end.0 }, end.1) x refl e)
     (sign_taken RightParen l end is)
 behind_found l None x is e =
     let vs = bind_ok (values_at l) (λ vs. pass (is_sign RightParen) vs.1 >>= λ end. Ok (record vs.0 { end = end.0 }, end.1)) x e in
     let end = bind_ok (pass (is_sign RightParen) vs.0.1) (λ end. Ok (record vs.0.0 { end = end.0 }, end.1)) x vs.2 in
-    let found = all_found pass_value push_value (λ v. value_token v.0 ∷ []) value_found none_listed l vs.0 vs.1 in
-    let whole : vs.0.0.values ≡ map (λ v. v.0) (found.head ∷ found.tail) = ap (λ (y : Listed). y.values) (sym found.whole) ∙ listed_values none_listed (found.head ∷ found.tail) in
-    let tokens : separated (λ v. value_token v.0 ∷ []) (found.head ∷ found.tail) ≡ separated (λ v. value_token v ∷ []) vs.0.0.values = values_separated found.head found.tail ∙ ap (separated (λ v. value_token v ∷ [])) (sym whole) in
-    subst (λ y. Passed (separated (λ v. value_token v ∷ []) y.0.values ++ Sign RightParen ∷ []) l y.1) (last end.0 vs.0.0 x end.2)
-    (passed_more (separated (λ v. value_token v ∷ []) vs.0.0.values) (Sign RightParen ∷ []) l vs.0.1 end.0.1 (subst (λ ts. Passed ts l vs.0.1) tokens found.passed) (sign_found RightParen vs.0.1 end.0 end.1))
-  where
-    last : (end : ℕ × Left) (vs : Listed) (y : Listed × Left) → (let r : Result (Listed × Left) TokenFault = Ok (record vs { end = end.0 }, end.1) in r) ≡ Ok y → (record vs { end = end.0 }, end.1) ≡ y
-    last end vs y h = cc
+    subst (λ y. Passed (separated (λ v. value_token v ∷ []) y.0.values ++ Sign RightParen ∷ []) l y.1) (ok_is {E = TokenFault} (record vs.0.0 { end = end.0.0 }, end.0.1) x end.2)
+    (passed_more (separated (λ v. value_token v ∷ []) vs.0.0.values) (Sign RightParen ∷ []) l vs.0.1 end.0.1 (values_found l vs.0 vs.1) (sign_found RightParen vs.0.1 end.0 end.1))
 
 pub list_found : (l : Left) (x : Listed × Left) → pass_list l ≡ Ok x → Passed (list_tokens x.0.values) l x.1
 unfolding pass_list

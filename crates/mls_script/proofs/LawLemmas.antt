@@ -27,17 +27,17 @@ use Rattle.mls_script.specs.declared.fault.ScriptFault.{ScriptFault}
 use Rattle.mls_script.specs.declared.draft.Draft.{Draft}
 use Rattle.mls_script.specs.declared.grammar.Verb.{Verb}
 use Rattle.mls_script.specs.declared.grammar.Verb.TheVariants.{Open, Close, Audit, View, Count, Dump, Insert, Update, Delete, Call}
-use Rattle.mls_script.specs.declared.grammar.Part.TheVariants as parts
+use Rattle.mls_script.specs.declared.query.Asked.{Asked}
 use Rattle.mls_script.specs.Event.{CommandFits, EventFits}
-use Rattle.mls_script.specs.Grammar.{verbs, verb_word, parts_of, blank, no_query, command_of, event_of}
+use Rattle.mls_script.specs.Grammar.{verbs, verb_word, parts_of, blank, command_of, event_of}
 use Rattle.mls_script.specs.Tokens.{parts_tokens, event_tokens}
 use Rattle.mls_script.specs.QueryTokens.{TellsTail}
-use Rattle.mls_script.specs.ReadQuery.{form_of, query_at, tail_at}
-use Rattle.mls_script.specs.Reading.{Looked, parts_at, verb_or, verb_among, drafted_relation, event_from, command_at, sentence_at, told_at, event_in, line_at, in_script, lines_at, split_lines, script_at, IsRead}
+use Rattle.mls_script.specs.ReadQuery.{form_of, nothing_asked, query_at, tail_at, query_from}
+use Rattle.mls_script.specs.Reading.{AllWritten, parts_at, verb_or, verb_among, Order, heads, Sentence, Drafted, drafted_relation, event_from, draft_parts, order_at, sentence_at, told_by, event_told, form_at, event_in, line_at, in_script, lines_at, split_lines, script_at, IsRead}
 use Rattle.mls_script.specs.Script.{Line, Tells, IsLineOf, ReadsScript}
-use Rattle.mls_script.proofs.KindLemmas.{IsToken, all_tokens, list_kinds}
-use Rattle.mls_script.proofs.QueryFound.{told, form_found, of_text, query_found}
-use Rattle.mls_script.proofs.PartLemmas.{upto, PartFits, PartsFound, parts_found, Rising}
+use Rattle.mls_script.proofs.KindLemmas.{IsToken, all_tokens as all_of_text, list_kinds}
+use Rattle.mls_script.proofs.QueryFound.{of_read, form_found, of_text, query_found}
+use Rattle.mls_script.proofs.PartLemmas.{upto, Rising, PartFits, all_tokens, PartsPassed, parts_passed, PartsDrafted, parts_drafted}
 
 -- ---- verbs
 
@@ -78,18 +78,16 @@ module _ (policy : Policy) (schemes : Schemes) where
   in_relation : (d : Draft) → d.relation < length schemes → drafted_relation schemes (Ok d) ≡ Some d.relation
   in_relation d within = rw (lt-ltb d.relation (length schemes) within) refl
 
-  no_tail : (v : Verb) (d : Draft) (q : Query) (l : Left) (y : Result Query LineFault × Left)
-      → ((p : Query) → TellsTail policy schemes (command_of v d p) [])
+  no_tail : (v : Verb) (d : Draft) (q : Query) (l : Left) (y : Asked × Left) → ((p : Query) → TellsTail policy schemes (command_of v d p) [])
       → ((p : Query) → AllByRecursion (PartFits policy schemes d) (parts_of v) → AllByRecursion IsToken (parts_tokens policy schemes d (parts_of v)) → CommandFits policy schemes (command_of v d p))
-      → Path (Result (Result Query LineFault × Left) LineFault) (Ok (Ok no_query, l)) (Ok y) → y.0 ≡ Ok q → TailFound v d q l y.1
-  no_tail v d q l y none fits e was =
-      let pair = ok_is (Ok no_query, l) y e in
-      subst (TailFound v d q l) (ap (λ (z : Result Query LineFault × Left). z.1) pair)
-      (record { tokens = []; passed = passed_none l; tells = λ all. none q; fits = λ all h tokens. fits q h tokens })
+      → Path (Result (Asked × Left) LineFault) (Ok (nothing_asked, l)) (Ok y) → query_from policy y.0 ≡ Ok q → TailFound v d q l y.1
+  no_tail v d q l y none fits e =
+      of_read (λ (z : Asked × Left). query_from policy z.0 ≡ Ok q → TailFound v d q l z.1) (nothing_asked, l) y e
+      (λ same. record { tokens = []; passed = passed_none l; tells = λ all. none q; fits = λ all h tokens. fits q h tokens })
 
-  a_query : (v : Verb) (counts : Bool) (d : Draft) (q : Query) (l : Left) (y : Result Query LineFault × Left) → command_of v d q ≡ commands.View d.relation d.label q counts
+  a_query : (v : Verb) (counts : Bool) (d : Draft) (q : Query) (l : Left) (y : Asked × Left) → command_of v d q ≡ commands.View d.relation d.label q counts
       → (AllByRecursion (PartFits policy schemes d) (parts_of v) → (d.relation < length schemes) × (d.label < length policy.labels)) → d.relation < length schemes
-      → query_at policy schemes counts (drafted_relation schemes (Ok d)) l ≡ Ok y → y.0 ≡ Ok q → TailFound v d q l y.1
+      → query_at policy schemes counts (drafted_relation schemes (Ok d)) l ≡ Ok y → query_from policy y.0 ≡ Ok q → TailFound v d q l y.1
   a_query v counts d q l y same known within e was =
       let found = query_found policy schemes d.relation counts l y q (ap (λ o. query_at policy schemes counts o l) (sym (in_relation d within)) ∙ e) was in
       record {
@@ -99,8 +97,8 @@ module _ (policy : Policy) (schemes : Schemes) where
         fits = λ all h tokens. subst (CommandFits policy schemes) (sym same) ((known h).0, (known h).1, found.fits all);
       }
 
-  tail_found : (v : Verb) (d : Draft) (q : Query) (l : Left) (y : Result Query LineFault × Left) → AllByRecursion (PartFits policy schemes d) (parts_of v)
-      → tail_at policy schemes v (drafted_relation schemes (Ok d)) l ≡ Ok y → y.0 ≡ Ok q → TailFound v d q l y.1
+  tail_found : (v : Verb) (d : Draft) (q : Query) (l : Left) (y : Asked × Left) → AllByRecursion (PartFits policy schemes d) (parts_of v)
+      → tail_at policy schemes v (drafted_relation schemes (Ok d)) l ≡ Ok y → query_from policy y.0 ≡ Ok q → TailFound v d q l y.1
   tail_found Open d q l y fits e was = no_tail Open d q l y (λ p. refl) (λ p h tokens. h.0) e was
   tail_found Close d q l y fits e was = no_tail Close d q l y (λ p. refl) (λ p h tokens. tt) e was
   tail_found Audit d q l y fits e was = no_tail Audit d q l y (λ p. refl) (λ p h tokens. tt) e was
@@ -113,7 +111,7 @@ module _ (policy : Policy) (schemes : Schemes) where
   tail_found Call d q l y fits e was = no_tail Call d q l y (λ p. refl) (λ p h tokens. (h.0, list_kinds d.values [] tokens.1)) e was
 
   -- the draft that an event is told by says the same
-  tokens_kept : (v : Verb) (d : Draft) (q : Query) → event_tokens policy schemes (event_of v d q) ≡ parts_tokens policy schemes d (parts.Level ∷ parts.Session ∷ []) ++ Word (verb_word v) ∷ parts_tokens policy schemes d (parts_of v)
+  tokens_kept : (v : Verb) (d : Draft) (q : Query) → event_tokens policy schemes (event_of v d q) ≡ parts_tokens policy schemes d heads ++ Word (verb_word v) ∷ parts_tokens policy schemes d (parts_of v)
   tokens_kept Open d q = refl
   tokens_kept Close d q = refl
   tokens_kept Audit d q = refl
@@ -132,32 +130,32 @@ module _ (policy : Policy) (schemes : Schemes) where
     pub fits : AllByRecursion IsToken (without_places l.placed) → EventFits policy schemes e
     pub passed : Passed (event_tokens policy schemes e ++ tail) l r
 
-  front_tokens : (d f : Draft) → upto 2 d ≡ upto 2 f → parts_tokens policy schemes d (parts.Level ∷ parts.Session ∷ []) ≡ parts_tokens policy schemes f (parts.Level ∷ parts.Session ∷ [])
-  front_tokens d f same = ap (λ (x : Draft). parts_tokens policy schemes x (parts.Level ∷ parts.Session ∷ [])) same
+  front_tokens : (d f : Draft) → upto 2 d ≡ upto 2 f → parts_tokens policy schemes d heads ≡ parts_tokens policy schemes f heads
+  front_tokens d f same = ap (λ (x : Draft). parts_tokens policy schemes x heads) same
 
-  front_fits : (d f : Draft) → upto 2 d ≡ upto 2 f → AllByRecursion (PartFits policy schemes d) (parts.Level ∷ parts.Session ∷ []) → AllByRecursion (PartFits policy schemes f) (parts.Level ∷ parts.Session ∷ [])
-  front_fits d f same h = subst (λ (x : Draft). AllByRecursion (PartFits policy schemes x) (parts.Level ∷ parts.Session ∷ [])) same h
+  front_fits : (d f : Draft) → upto 2 d ≡ upto 2 f → AllByRecursion (PartFits policy schemes d) heads → AllByRecursion (PartFits policy schemes f) heads
+  front_fits d f same h = subst (λ (x : Draft). AllByRecursion (PartFits policy schemes x) heads) same h
 
-  event_found : (v : Verb) (front : Looked) (d : Draft) (q : Query) (l m n k r : Left) → PartsFound policy schemes 2 (parts_of v) front d n k → Passed (Word (verb_word v) ∷ []) m n
-      → TailFound v d q k r
-      → ((f : Draft) → front ≡ Ok f → PartsFound policy schemes 0 (parts.Level ∷ parts.Session ∷ []) (Ok blank) f l m) → EventFound (event_of v d q) l r
-  event_found v front d q l m n k r more word tail start =
-      let first = start more.front more.was in
-      let fits = front_fits more.front d more.kept first.fits in
+  event_found : (v : Verb) (front : AllWritten heads) (ws : AllWritten (parts_of v)) (f d : Draft) (q : Query) (l m n k r : Left)
+      → PartsDrafted policy schemes 0 heads (all_tokens heads front) blank f → PartsDrafted policy schemes 2 (parts_of v) (all_tokens (parts_of v) ws) f d
+      → Passed (all_tokens heads front) l m → Passed (Word (verb_word v) ∷ []) m n → Passed (all_tokens (parts_of v) ws) n k → TailFound v d q k r → EventFound (event_of v d q) l r
+  event_found v front ws f d q l m n k r first more start word written tail =
+      let fits = front_fits f d more.kept first.fits in
       let behind = parts_tokens policy schemes d (parts_of v) in
-      let heads = parts_tokens policy schemes d (parts.Level ∷ parts.Session ∷ []) in
-      let to_verb : Passed heads l m = subst (λ ts. Passed ts l m) (front_tokens more.front d more.kept) first.passed in
-      let to_parts = passed_more heads (Word (verb_word v) ∷ []) l m n to_verb word in
-      let whole = passed_more heads (Word (verb_word v) ∷ behind) l m k to_verb (passed_more (Word (verb_word v) ∷ []) behind m n k word more.passed) in
+      let begun = parts_tokens policy schemes d heads in
+      let to_verb : Passed begun l m = subst (λ ts. Passed ts l m) (sym first.said ∙ front_tokens f d more.kept) start in
+      let passed : Passed behind n k = subst (λ ts. Passed ts n k) (sym more.said) written in
+      let to_parts = passed_more begun (Word (verb_word v) ∷ []) l m n to_verb word in
+      let whole = passed_more begun (Word (verb_word v) ∷ behind) l m k to_verb (passed_more (Word (verb_word v) ∷ []) behind m n k word passed) in
       record {
         tail = tail.tokens;
         query = tail.tells;
         fits = λ all. record {
           level = fits.0;
           session = fits.1.0;
-          command = tail.fits (of_text tail.tokens k r tail.passed (of_text (heads ++ Word (verb_word v) ∷ behind) l k whole all).1).0 more.fits (of_text behind n k more.passed (of_text (heads ++ Word (verb_word v) ∷ []) l n to_parts all).1).0;
+          command = tail.fits (of_text tail.tokens k r tail.passed (of_text (begun ++ Word (verb_word v) ∷ behind) l k whole all).1).0 more.fits (of_text behind n k passed (of_text (begun ++ Word (verb_word v) ∷ []) l n to_parts all).1).0;
         };
-        passed = subst (λ ts. Passed (ts ++ tail.tokens) l r) (sym (tokens_kept v d q)) (passed_more (heads ++ Word (verb_word v) ∷ behind) tail.tokens l k r whole tail.passed);
+        passed = subst (λ ts. Passed (ts ++ tail.tokens) l r) (sym (tokens_kept v d q)) (passed_more (begun ++ Word (verb_word v) ∷ behind) tail.tokens l k r whole tail.passed);
       }
 
   end_found : (l : Left) (u : Unit {0}) → pass_end l ≡ Ok u → has_ended l ≡ true
@@ -167,32 +165,34 @@ module _ (policy : Policy) (schemes : Schemes) where
         | inr more ↦ absurd (let h = rw more at e in cc)
       ]
 
-  ended_at : {X : Type 0} (l : Left) (x : X) (y : X) → (form_of (pass_end l) >>= λ _. let r : Result X LineFault = Ok x in r) ≡ Ok y → (has_ended l ≡ true) × (x ≡ y)
-  ended_at {X = X} l x y h =
-      let over = bind_ok (form_of (pass_end l)) (λ _. let r : Result X LineFault = Ok x in r) y h in
-      (end_found l over.0 (form_found (pass_end l) over.0 over.1), ok_is {E = LineFault} x y over.2)
-
   -- what a verb, its parts and what stands behind them say
-  behind_parts : (v : Verb) (l m n k r : Left) (front looked : Looked) (asked : Result Query LineFault) (e : Event)
-      → ((f : Draft) → front ≡ Ok f → PartsFound policy schemes 0 (parts.Level ∷ parts.Session ∷ []) (Ok blank) f l m) → Passed (Word (verb_word v) ∷ []) m n
-      → parts_at policy schemes (parts_of v) front n ≡ Ok (looked, k) → tail_at policy schemes v (drafted_relation schemes looked) k ≡ Ok (asked, r) → event_from v looked asked ≡ Ok e → EventFound e l r
-  behind_parts v l m n k r front (Err f) asked e start word parts tail from = absurd cc
-  behind_parts v l m n k r front (Ok d) (Err f) e start word parts tail from = absurd cc
-  behind_parts v l m n k r front (Ok d) (Ok q) e start word parts tail from =
-      let more = parts_found policy schemes 2 (parts_of v) front n (Ok d, k) d (parts_rise v) parts refl in
-      subst (λ z. EventFound z l r) (ok_is {E = LineFault} (event_of v d q) e from)
-      (event_found v front d q l m n k r more word (tail_found v d q k (Ok q, r) more.fits tail refl) start)
+  behind_parts : (v : Verb) (front : AllWritten heads) (ws : AllWritten (parts_of v)) (asked : Asked) (l m n k r : Left) (e : Event)
+      → PartsPassed heads l (front, m) → Passed (Word (verb_word v) ∷ []) m n → PartsPassed (parts_of v) n (ws, k)
+      → tail_at policy schemes v (drafted_relation schemes (draft_parts policy schemes heads front blank >>= λ d. draft_parts policy schemes (parts_of v) ws d)) k ≡ Ok (asked, r)
+      → event_from policy v (draft_parts policy schemes heads front blank >>= λ d. draft_parts policy schemes (parts_of v) ws d) asked ≡ Ok e → EventFound e l r
+  behind_parts v front ws asked l m n k r e start word parts tail from =
+      let d = bind_ok (draft_parts policy schemes heads front blank >>= λ d. draft_parts policy schemes (parts_of v) ws d) (λ d. query_from policy asked >>= λ q. Ok (event_of v d q)) e from in
+      let q = bind_ok (query_from policy asked) (λ q. Ok (event_of v d.0 q)) e d.2 in
+      let f = bind_ok (draft_parts policy schemes heads front blank) (λ d. draft_parts policy schemes (parts_of v) ws d) d.0 d.1 in
+      let first = parts_drafted policy schemes 0 heads front blank f.0 (omega arith, (omega arith, tt)) start.1 f.1 in
+      let more = parts_drafted policy schemes 2 (parts_of v) ws f.0 d.0 (parts_rise v) parts.1 f.2 in
+      let known = ap (λ (x : Drafted). tail_at policy schemes v (drafted_relation schemes x) k) (sym d.1) ∙ tail in
+      subst (λ z. EventFound z l r) (ok_is {E = LineFault} (event_of v d.0 q.0) e q.2)
+      (event_found v front ws f.0 d.0 q.0 l m n k r first more start.0 word parts.0 (tail_found v d.0 q.0 k (asked, r) more.fits known q.1))
 
-  command_found : (l m : Left) (front : Looked) (x : Result Event LineFault × Left) (e : Event)
-      → ((f : Draft) → front ≡ Ok f → PartsFound policy schemes 0 (parts.Level ∷ parts.Session ∷ []) (Ok blank) f l m)
-      → command_at policy schemes front m ≡ Ok x → x.0 ≡ Ok e → EventFound e l x.1
-  unfolding command_at
-  command_found l m front x e start h was =
-      let v = bind_ok (form_of (verb_among verbs m)) (λ v. form_of (parts_at policy schemes (parts_of v.0) front v.1) >>= λ x. tail_at policy schemes v.0 (drafted_relation schemes x.0) x.1 >>= λ q. Ok (event_from v.0 x.0 q.0, q.1)) x h in
-      let y = bind_ok (form_of (parts_at policy schemes (parts_of v.0.0) front v.0.1)) (λ x. tail_at policy schemes v.0.0 (drafted_relation schemes x.0) x.1 >>= λ q. Ok (event_from v.0.0 x.0 q.0, q.1)) x v.2 in
-      let t = bind_ok (tail_at policy schemes v.0.0 (drafted_relation schemes y.0.0) y.0.1) (λ q. Ok (event_from v.0.0 y.0.0 q.0, q.1)) x y.2 in
-      told (λ z r. EventFound z l r) (event_from v.0.0 y.0.0 t.0.0) t.0.1 x e t.2 was
-      (behind_parts v.0.0 l m v.0.1 y.0.1 t.0.1 front y.0.0 t.0.0 e start (verb_found verbs m v.0 (form_found (verb_among verbs m) v.0 v.1)) (form_found (parts_at policy schemes (parts_of v.0.0) front v.0.1) y.0 y.1) t.1)
+  order_found : (l m : Left) (front : AllWritten heads) (x : Order × Left) (e : Event) → PartsPassed heads l (front, m) → order_at policy schemes (draft_parts policy schemes heads front blank) m ≡ Ok x
+      → told_by policy schemes (draft_parts policy schemes heads front blank) x.0 ≡ Ok e → EventFound e l x.1
+  unfolding order_at
+  order_found l m front x e start h was =
+      let drafted = draft_parts policy schemes heads front blank in
+      let v = bind_ok (form_of (verb_among verbs m)) (λ v. form_of (parts_at (parts_of v.0) v.1)
+      >>= λ ws. tail_at policy schemes v.0 (drafted_relation schemes (drafted >>= λ d. draft_parts policy schemes (parts_of v.0) ws.0 d)) ws.1 >>= λ q. Ok (record { verb = v.0; parts = ws.0; asked = q.0 }, q.1)) x h in
+      let ws = bind_ok (form_of (parts_at (parts_of v.0.0) v.0.1)) (λ ws. tail_at policy schemes v.0.0 (drafted_relation schemes (drafted >>= λ d. draft_parts policy schemes (parts_of v.0.0) ws.0 d)) ws.1
+      >>= λ q. Ok (record { verb = v.0.0; parts = ws.0; asked = q.0 }, q.1)) x v.2 in
+      let t = bind_ok (tail_at policy schemes v.0.0 (drafted_relation schemes (drafted >>= λ d. draft_parts policy schemes (parts_of v.0.0) ws.0.0 d)) ws.0.1) (λ q. Ok (record { verb = v.0.0; parts = ws.0.0; asked = q.0 }, q.1)) x ws.2 in
+      of_read (λ (z : Order × Left). told_by policy schemes drafted z.0 ≡ Ok e → EventFound e l z.1) (record { verb = v.0.0; parts = ws.0.0; asked = t.0.0 }, t.0.1) x t.2
+      (behind_parts v.0.0 front ws.0.0 t.0.0 l m v.0.1 ws.0.1 t.0.1 e start (verb_found verbs m v.0 (form_found (verb_among verbs m) v.0 v.1))
+      (parts_passed (parts_of v.0.0) v.0.1 ws.0 (form_found (parts_at (parts_of v.0.0) v.0.1) ws.0 ws.1)) t.1) was
 
   record SentenceFound (e : Event) (l : Left) : Type 0 where
     tail : List Token
@@ -212,36 +212,37 @@ module _ (policy : Policy) (schemes : Schemes) where
         stop = ap (λ (s : TokenFault). s.cause) (sym found.passed.stop) ∙ end.1;
       }
 
-  sentence_found : (l : Left) (e : Event) → sentence_at policy schemes l ≡ Ok (Ok e) → SentenceFound e l
-  unfolding sentence_at
-  sentence_found l e h =
-      let front = bind_ok (form_of (parts_at policy schemes (parts.Level ∷ parts.Session ∷ []) (Ok blank) l)) (λ front. command_at policy schemes front.0 front.1 >>= λ x. form_of (pass_end x.1) >>= λ _. Ok x.0) (Ok e) h in
-      let x = bind_ok (command_at policy schemes front.0.0 front.0.1) (λ x. form_of (pass_end x.1) >>= λ _. Ok x.0) (Ok e) front.2 in
-      let end = ended_at x.0.1 x.0.0 (Ok e) x.2 in
-      at_end e l x.0.1
-      (command_found l front.0.1 front.0.0 x.0 e
-      (λ f is. parts_found policy schemes 0 (parts.Level ∷ parts.Session ∷ []) (Ok blank) l front.0 f (omega arith, (omega arith, tt)) (form_found (parts_at policy schemes (parts.Level ∷ parts.Session ∷ []) (Ok blank) l) front.0 front.1) is)
-      x.1 end.1)
-      end.0
+  sentence_found : (l : Left) (s : Sentence) (e : Event) → sentence_at policy schemes l ≡ Ok s → event_told policy schemes s ≡ Ok e → SentenceFound e l
+  unfolding sentence_at event_told
+  sentence_found l s e h was =
+      let front = bind_ok (form_of (parts_at heads l)) (λ front. order_at policy schemes (draft_parts policy schemes heads front.0 blank) front.1
+      >>= λ order. form_of (pass_end order.1) >>= λ _. Ok (record { front = front.0; order = order.0 })) s h in
+      let order = bind_ok (order_at policy schemes (draft_parts policy schemes heads front.0.0 blank) front.0.1) (λ order. form_of (pass_end order.1) >>= λ _. Ok (record { front = front.0.0; order = order.0 })) s front.2 in
+      let over = bind_ok (form_of (pass_end order.0.1)) (λ _. let r : Result Sentence LineFault = Ok (record { front = front.0.0; order = order.0.0 }) in r) s order.2 in
+      let read : Sentence = record { front = front.0.0; order = order.0.0 } in
+      let told = ap (λ (z : Sentence). told_by policy schemes (draft_parts policy schemes heads z.front blank) z.order) (ok_is {E = LineFault} read s over.2) ∙ was in
+      at_end e l order.0.1
+      (order_found l front.0.1 front.0.0 order.0 e (parts_passed heads l front.0 (form_found (parts_at heads l) front.0 front.1)) order.1 told)
+      (end_found order.0.1 over.0 (form_found (pass_end order.0.1) over.0 over.1))
 
   -- ---- a line
 
-  told_found : (line : List ℕ) (told : Option (Result Event LineFault)) (o : Option Event) → told_at policy schemes (tokens_at line) ≡ Ok told → event_in told ≡ Ok o → Tells policy schemes line o
-  told_found line told o e is =
+  told_found : (line : List ℕ) (s : Option Sentence) (o : Option Event) → form_at policy schemes (tokens_at line) ≡ Ok s → event_in policy schemes s ≡ Ok o → Tells policy schemes line o
+  told_found line s o e is =
       elim (cases_Bool (has_ended (tokens_at line))) [
         | inl over ↦
-            let none : None ≡ told = let h = rw over at e in cc in
-            let blank_line : None ≡ o = let h : event_in None ≡ Ok o = ap event_in none ∙ is in cc in
+            let none : None ≡ s = let h = rw over at e in cc in
+            let blank_line : None ≡ o = let h : event_in policy schemes None ≡ Ok o = ap (event_in policy schemes) none ∙ is in cc in
             let end = over_is (tokens_at line).placed (tokens_at line).stop over in
             subst (Tells policy schemes line) blank_line ((tokens_exact line []).0 (end.0, end.1))
         | inr more ↦
-            let r = bind_ok (sentence_at policy schemes (tokens_at line)) (λ x. Ok (Some x)) told (rw more at e) in
-            let some : Some r.0 ≡ told = let h = r.2 in cc in
-            let event = bind_ok r.0 (λ x. Ok (Some x)) o (ap event_in some ∙ is) in
-            let found = sentence_found (tokens_at line) event.0 (r.1 ∙ ap (λ z. Ok z) event.1) in
+            let r = bind_ok (sentence_at policy schemes (tokens_at line)) (λ x. Ok (Some x)) s (rw more at e) in
+            let some : Some r.0 ≡ s = let h = r.2 in cc in
+            let event = bind_ok (event_told policy schemes r.0) (λ x. Ok (Some x)) o (ap (event_in policy schemes) some ∙ is) in
+            let found = sentence_found (tokens_at line) r.0 event.0 r.1 event.1 in
             let told_event : Some event.0 ≡ o = let h = event.2 in cc in
             let tokens = (tokens_exact line (event_tokens policy schemes event.0 ++ found.tail)).0 (found.tokens, found.stop) in
-            let own = all_tokens (event_tokens policy schemes event.0 ++ found.tail) line tokens in
+            let own = all_of_text (event_tokens policy schemes event.0 ++ found.tail) line tokens in
             let all = subst (AllByRecursion IsToken) (sym found.tokens) own in
             subst (Tells policy schemes line) told_event (record { fits = found.fits all; tail = found.tail; tokens = tokens; query = found.query (split (event_tokens policy schemes event.0) found.tail own).1 })
       ]
@@ -249,11 +250,11 @@ module _ (policy : Policy) (schemes : Schemes) where
   pub line_found : (line : List ℕ) (ended : Bool) (o : Option Event) → line_at policy schemes line ended ≡ Ok o → (ended ≡ true) × Tells policy schemes line o
   unfolding line_at
   line_found line true o e =
-      let told = bind_ok (told_at policy schemes (tokens_at line)) (λ told. event_in told) o e in
-      (refl, told_found line told.0 o told.1 told.2)
+      let s = bind_ok (form_at policy schemes (tokens_at line)) (λ s. event_in policy schemes s) o e in
+      (refl, told_found line s.0 o s.1 s.2)
   line_found line false o e =
-      let told = bind_ok (told_at policy schemes (tokens_at line)) (λ (told : Option (Result Event LineFault)). let r : Result (Option Event) LineFault = Err (record { at = length line + 1; cause = Unterminated }) in r) o e in
-      absurd (let h = told.2 in cc)
+      let s = bind_ok (form_at policy schemes (tokens_at line)) (λ (s : Option Sentence). let r : Result (Option Event) LineFault = Err (record { at = length line + 1; cause = Unterminated }) in r) o e in
+      absurd (let h = s.2 in cc)
 
 -- ---- the lines of a text
 

@@ -1,4 +1,5 @@
 pub mod ItemSteps
+pub mod LineSteps
 pub mod FitSteps
 pub mod ScriptSteps
 pub mod KindLemmas

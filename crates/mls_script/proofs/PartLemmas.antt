@@ -1,5 +1,5 @@
 -- What the parts of a line say is what was read, and fits.
-use Rattle.std.proofs.Common.{◌≡◌, ℕ, zero, suc, ◌<◌, ◌≤◌, true, false, List, [], ◌∷◌, ◌++◌, length, map, drop, Option, Some, None, Result, Ok, Err, inl, inr, refl, sym, ap, ◌∙◌, subst, arith, append_assoc, cond, nat_lt}
+use Rattle.std.proofs.Common.{◌≡◌, ℕ, zero, suc, ◌<◌, ◌≤◌, true, false, List, [], ◌∷◌, ◌++◌, length, map, drop, Option, Some, None, Result, Ok, inl, inr, refl, sym, ap, ◌∙◌, subst, arith, append_assoc, cond, nat_lt}
 use Rattle.std.proofs.SliceLists.{all_by_recursion_push}
 use Rattle.std.specs.Prelude.{nat_eq, option_map, if◌then◌else◌, ⊤}
 use Rattle.std.specs.Cmp.{nat_eq_equiv}
@@ -13,9 +13,8 @@ use Rattle.std.proofs.lemmas.Map.Keys.{IsDistinct-push}
 use Rattle.std.proofs.lemmas.Slice.Eq.{bytes_eq-Decides}
 use Rattle.mls_lattice.specs.Name.{is_name}
 use Rattle.mls_lattice.specs.Policy.{Name, Policy}
-use Rattle.mls_lattice.specs.Reading.{◌>>=◌}
 use Rattle.mls_lattice.proofs.NamedLemmas.{label_found}
-use Rattle.mls_lattice.proofs.ReadingLemmas.{bind_ok, same_ok}
+use Rattle.mls_lattice.proofs.ReadingLemmas.{ok_is, bind_ok, same_ok}
 use Rattle.mls_scheme.specs.declared.value.Value.{Value}
 use Rattle.mls_scheme.specs.Value.{fits_kind}
 use Rattle.mls_scheme.specs.Scheme.{Attribute, Scheme, Schemes, scheme_of, no_attribute, other_of}
@@ -26,7 +25,7 @@ use Rattle.mls_tokens.specs.declared.token.Token.{Token}
 use Rattle.mls_tokens.specs.declared.token.Token.TheVariants.{Word, Sign}
 use Rattle.mls_tokens.specs.declared.sign.Sign.TheVariants.{Comma, Equals}
 use Rattle.mls_tokens.specs.Scanning.{Left}
-use Rattle.mls_tokens.specs.Passing.{is_word, pass, pass_name}
+use Rattle.mls_tokens.specs.Passing.{is_word, pass, PlacedName}
 use Rattle.mls_tokens.proofs.PassedLemmas.{Passed, passed_none, passed_more, word_found, name_found}
 use Rattle.mls_script.specs.declared.fault.LineFault.{LineFault}
 use Rattle.mls_script.specs.declared.draft.Draft.{Draft}
@@ -38,11 +37,12 @@ use Rattle.mls_script.specs.Event.{Sets, SetsFit}
 use Rattle.mls_script.specs.Grammar.{part_word}
 use Rattle.mls_tokens.specs.Text.{separated}
 use Rattle.mls_lattice.specs.Canon.{label_name}
-use Rattle.mls_script.specs.Tokens.{relation_name, value_token, list_tokens, set_tokens, word_tokens, said, part_tokens, parts_tokens}
-use Rattle.mls_script.specs.ReadQuery.{known_or, label_named}
-use Rattle.mls_script.specs.Reading.{Looked, relation_named, misfit, fit_or, held, place_at, new_or, kind_or, set_at, push_set, pass_setting, pass_sets, pass_list, put_label, put_name, put_values, attributes_of, with_label, with_name, with_relation, with_sets, with_values, with_arguments, label_at, name_at, relation_at, list_at, arguments_at, sets_at, content_at, pass_word, part_at, parts_at}
-use Rattle.mls_script.proofs.QueryFound.{known_found}
-use Rattle.mls_script.proofs.FoundLemmas.{pushed, all_found, list_found, setting_tokens, setting_found}
+use Rattle.mls_script.specs.Tokens.{value_token, list_tokens, set_tokens, word_tokens, said, parts_tokens}
+use Rattle.mls_script.specs.ReadQuery.{heard, known_or, label_named}
+use Rattle.mls_script.specs.Reading.{relation_named, misfit, fit_or, held, place_at, new_or, kind_or, set_at, sets_from, pass_setting, Written, written_at, pass_word, part_at, AllWritten, parts_at, draft_part, draft_parts}
+use Rattle.mls_script.specs.OnePass.{put_label, put_values, attributes_of, with_label, with_values}
+use Rattle.mls_script.proofs.QueryFound.{of_read, known_found}
+use Rattle.mls_script.proofs.FoundLemmas.{all_found, list_found, setting_tokens, setting_found}
 
 -- ---- values
 
@@ -134,30 +134,25 @@ set_said : (scheme : Scheme) (sets : Sets) (s : Setting) (x : ℕ × Option Valu
 set_said scheme sets s x f = λ i. Word (sym f.name i) ∷ Sign Equals ∷ value_token (sym f.value i) ∷ []
 
 -- what settings add to new values
-record SetsMore (scheme : Scheme) (acc : Result Sets LineFault) (xs : List Setting) (sets : Sets) : Type 0 where
-  front : Sets
+record SetsMore (scheme : Scheme) (front : Sets) (xs : List Setting) (sets : Sets) : Type 0 where
   new : Sets
-  was : acc ≡ Ok front
   whole : sets ≡ front ++ new
   said : map setting_tokens xs ≡ map (set_tokens scheme) new
   fit : AreSet scheme front → AreSet scheme sets
 
-sets_more : (scheme : Scheme) (xs : List Setting) (acc : Result Sets LineFault) (sets : Sets) → pushed (push_set (Some scheme)) acc xs ≡ Ok sets → SetsMore scheme acc xs sets
-sets_more scheme [] acc sets e = record { front = sets; new = []; was = e; whole = sym (append-nil sets); said = refl; fit = λ h. h }
-sets_more scheme (s ∷ xs) acc sets e =
-    let more = sets_more scheme xs (push_set (Some scheme) acc s) sets e in
-    let front = bind_ok acc (λ front. set_at scheme front s >>= λ x. Ok (front ++ x ∷ [])) more.front more.was in
-    let x = bind_ok (set_at scheme front.0 s) (λ x. Ok (front.0 ++ x ∷ [])) more.front front.2 in
-    let found = set_found scheme front.0 s x.0 x.1 in
-    let done : Result Sets LineFault = Ok (front.0 ++ x.0 ∷ []) in
-    let same : front.0 ++ x.0 ∷ [] ≡ more.front = same_ok done (front.0 ++ x.0 ∷ []) more.front refl x.2 in
+sets_more : (scheme : Scheme) (xs : List Setting) (front sets : Sets) → sets_from (Some scheme) front xs ≡ Ok sets → SetsMore scheme front xs sets
+sets_more scheme [] front sets e =
+    let same = ok_is {E = LineFault} front sets e in
+    record { new = []; whole = sym same ∙ sym (append-nil front); said = refl; fit = λ h. subst (AreSet scheme) same h }
+sets_more scheme (s ∷ xs) front sets e =
+    let x = bind_ok (set_at scheme front s) (λ x. sets_from (Some scheme) (front ++ x ∷ []) xs) sets e in
+    let found = set_found scheme front s x.0 x.1 in
+    let more = sets_more scheme xs (front ++ x.0 ∷ []) sets x.2 in
     record {
-      front = front.0;
       new = x.0 ∷ more.new;
-      was = front.1;
-      whole = more.whole ∙ ap (λ (f : Sets). f ++ more.new) (sym same) ∙ append_assoc front.0 (x.0 ∷ []) more.new;
-      said = λ i. set_said scheme front.0 s x.0 found i ∷ more.said i;
-      fit = λ h. more.fit (subst (AreSet scheme) same (set_more scheme front.0 s x.0 found h));
+      whole = more.whole ∙ append_assoc front (x.0 ∷ []) more.new;
+      said = λ i. set_said scheme front s x.0 found i ∷ more.said i;
+      fit = λ h. more.fit (set_more scheme front s x.0 found h);
     }
 
 separated_is : {A : Type 0} (tokens : A → List Token) (xs : List A) → separated tokens xs ≡ separated (λ (ts : List Token). ts) (map tokens xs)
@@ -168,35 +163,102 @@ separated_is tokens (x ∷ xs) = ap (λ ts. tokens x ++ ts) (behind xs)
     behind [] = refl
     behind (y ∷ ys) = ap (λ ts. (Sign Comma ∷ tokens y) ++ ts) (behind ys)
 
-err_pushed : (o : Option Scheme) (e : LineFault) (xs : List Setting) → pushed (push_set o) (Err e) xs ≡ Err e
-err_pushed o e [] = refl
-err_pushed o e (x ∷ xs) = err_pushed o e xs
-
-record SetsFound (scheme : Scheme) (sets : Sets) (l r : Left) : Type 0 where
-  passed : Passed (separated (set_tokens scheme) sets) l r
+record SetsFound (scheme : Scheme) (sets : Sets) (xs : List Setting) : Type 0 where
+  said : separated (set_tokens scheme) sets ≡ separated setting_tokens xs
   fit : SetsFit scheme sets
 
-sets_found : (schemes : Schemes) (relation : ℕ) (o : Option Scheme) (l : Left) (y : Result Sets LineFault × Left) (sets : Sets) → slice_get schemes relation ≡ o → pass_sets o l ≡ Ok y → y.0 ≡ Ok sets → SetsFound (scheme_of schemes relation) sets l y.1
-unfolding pass_sets
-sets_found schemes relation None l y sets is e was =
-    let items = all_found pass_setting (push_set None) setting_tokens setting_found (Ok []) l y e in
-    absurd (let h = sym (err_pushed None _ items.tail) ∙ items.whole ∙ was in cc)
-sets_found schemes relation (Some scheme) l y sets is e was =
-    let items = all_found pass_setting (push_set (Some scheme)) setting_tokens setting_found (Ok []) l y e in
-    let more = sets_more scheme (items.head ∷ items.tail) (Ok []) sets (items.whole ∙ was) in
-    let none : [] ≡ more.front = let h = more.was in cc in
-    let whole : sets ≡ more.new = more.whole ∙ ap (λ (f : Sets). f ++ more.new) (sym none) in
-    let said : separated setting_tokens (items.head ∷ items.tail) ≡ separated (set_tokens scheme) sets =
-    separated_is setting_tokens (items.head ∷ items.tail) ∙ ap (separated (λ (ts : List Token). ts)) (more.said ∙ ap (map (set_tokens scheme)) (sym whole)) ∙ sym (separated_is (set_tokens scheme) sets) in
-    let set = more.fit (subst (AreSet scheme) none (set_none scheme)) in
-    subst (λ (s : Scheme). SetsFound s sets l y.1) (sym (scheme_found schemes relation scheme is)) (record {
-      passed = subst (λ ts. Passed ts l y.1) said items.passed;
-      fit = record { some = some more.new sets items.head items.tail whole more.said; known = set.known; distinct = set.distinct; kinds = set.kinds };
+sets_found : (schemes : Schemes) (relation : ℕ) (o : Option Scheme) (xs : List Setting) (sets : Sets) → slice_get schemes relation ≡ o → 0 < length xs → sets_from o [] xs ≡ Ok sets → SetsFound (scheme_of schemes relation) sets xs
+sets_found schemes relation o [] sets is some e = absurd (omega arith)
+sets_found schemes relation None (x ∷ xs) sets is some e = absurd cc
+sets_found schemes relation (Some scheme) (x ∷ xs) sets is some e =
+    let more = sets_more scheme (x ∷ xs) [] sets e in
+    let set = more.fit (set_none scheme) in
+    subst (λ (s : Scheme). SetsFound s sets (x ∷ xs)) (sym (scheme_found schemes relation scheme is)) (record {
+      said = separated_is (set_tokens scheme) sets ∙ ap (λ (ys : Sets). separated (λ (ts : List Token). ts) (map (set_tokens scheme) ys)) more.whole ∙ ap (separated (λ (ts : List Token). ts)) (sym more.said) ∙ sym (separated_is setting_tokens (x ∷ xs));
+      fit = record { some = some_new more.new sets x xs more.whole more.said; known = set.known; distinct = set.distinct; kinds = set.kinds };
     })
   where
-    some : (new sets : Sets) (x : Setting) (xs : List Setting) → sets ≡ new → map setting_tokens (x ∷ xs) ≡ map (set_tokens scheme) new → 0 < length sets
-    some [] sets x xs whole same = absurd cc
-    some (n ∷ new) sets x xs whole same = omega (arith, ap length whole)
+    some_new : (new sets : Sets) (x : Setting) (xs : List Setting) → sets ≡ new → map setting_tokens (x ∷ xs) ≡ map (set_tokens scheme) new → 0 < length sets
+    some_new [] sets x xs whole same = absurd cc
+    some_new (n ∷ new) sets x xs whole same = omega (arith, ap length whole)
+
+-- ---- what is written for a part
+
+abbrev pub written_tokens : (p : Part) → Written p → List Token
+written_tokens Level n = Word n.0 ∷ []
+written_tokens Session n = Word n.0 ∷ []
+written_tokens Named n = Word n.0 ∷ []
+written_tokens Relation n = Word n.0 ∷ []
+written_tokens Key l = list_tokens l.values
+written_tokens Values l = list_tokens l.values
+written_tokens Arguments l = list_tokens l.values
+written_tokens At n = Word n.0 ∷ []
+written_tokens Class n = Word n.0 ∷ []
+written_tokens From n = Word n.0 ∷ []
+written_tokens Settings ss = separated setting_tokens ss
+
+abbrev pub IsWritten : (p : Part) → Written p → Type 0
+IsWritten Level n = ⊤
+IsWritten Session n = is_name n.0 ≡ true
+IsWritten Named n = is_name n.0 ≡ true
+IsWritten Relation n = ⊤
+IsWritten Key l = ⊤
+IsWritten Values l = ⊤
+IsWritten Arguments l = ⊤
+IsWritten At n = ⊤
+IsWritten Class n = ⊤
+IsWritten From n = ⊤
+IsWritten Settings ss = 0 < length ss
+
+abbrev WrittenFound : (p : Part) → Left → Written p × Left → Type 0
+WrittenFound p l y = Passed (written_tokens p y.0) l y.1 × IsWritten p y.0
+
+written_found : (p : Part) (l : Left) (y : Written p × Left) → written_at p l ≡ Ok y → WrittenFound p l y
+unfolding written_at
+written_found Level l y e = ((name_found l y e).passed, tt)
+written_found Session l y e = ((name_found l y e).passed, (name_found l y e).name)
+written_found Named l y e = ((name_found l y e).passed, (name_found l y e).name)
+written_found Relation l y e = ((name_found l y e).passed, tt)
+written_found Key l y e = (list_found l y e, tt)
+written_found Values l y e = (list_found l y e, tt)
+written_found Arguments l y e = (list_found l y e, tt)
+written_found At l y e = ((name_found l y e).passed, tt)
+written_found Class l y e = ((name_found l y e).passed, tt)
+written_found From l y e = ((name_found l y e).passed, tt)
+written_found Settings l y e = let items = all_found pass_setting setting_tokens setting_found l y e in (items.passed, items.some)
+
+passed_word : (o : Option Name) (l r : Left) → pass_word o l ≡ Ok r → Passed (word_tokens o) l r
+passed_word None l r e = subst (λ x. Passed [] l x) (same_ok (pass_word None l) l r refl e) (passed_none l)
+passed_word (Some w) l r e =
+    let x = bind_ok (pass (is_word w) l) (λ x. Ok x.1) r e in
+    let done : Result Left TokenFault = Ok x.0.1 in
+    subst (λ y. Passed (Word w ∷ []) l y) (same_ok done x.0.1 r refl x.2) (word_found w l x.0 x.1)
+
+-- in order, each behind its word
+abbrev pub all_tokens : (ps : List Part) → AllWritten ps → List Token
+all_tokens [] ws = []
+all_tokens (p ∷ ps) ws = (word_tokens (part_word p) ++ written_tokens p ws.0) ++ all_tokens ps ws.1
+
+abbrev pub AreWritten : (ps : List Part) → AllWritten ps → Type 0
+AreWritten [] ws = ⊤
+AreWritten (p ∷ ps) ws = IsWritten p ws.0 × AreWritten ps ws.1
+
+abbrev pub PartsPassed : (ps : List Part) → Left → AllWritten ps × Left → Type 0
+PartsPassed ps l y = Passed (all_tokens ps y.0) l y.1 × AreWritten ps y.0
+
+pub parts_passed : (ps : List Part) (l : Left) (y : AllWritten ps × Left) → parts_at ps l ≡ Ok y → PartsPassed ps l y
+parts_passed [] l y e = of_read {E = TokenFault} (PartsPassed [] l) (tt, l) y e (passed_none l, tt)
+parts_passed (p ∷ ps) l y e =
+    let x = bind_ok (part_at p l) (λ x. heard (λ xs. (x.0, xs)) (parts_at ps x.1)) y e in
+    let word = bind_ok (pass_word (part_word p) l) (λ r. written_at p r) x.0 x.1 in
+    let xs = bind_ok (parts_at ps x.0.1) (λ z. Ok ((x.0.0, z.0), z.1)) y x.2 in
+    let here = written_found p word.0 x.0 word.2 in
+    let more = parts_passed ps x.0.1 xs.0 xs.1 in
+    of_read {E = TokenFault} (PartsPassed (p ∷ ps) l) ((x.0.0, xs.0.0), xs.0.1) y xs.2 (
+      passed_more (word_tokens (part_word p) ++ written_tokens p x.0.0) (all_tokens ps xs.0.0) l x.0.1 xs.0.1
+          (passed_more (word_tokens (part_word p)) (written_tokens p x.0.0) l word.0 x.0.1 (passed_word (part_word p) l word.0 word.1) here.0) more.0,
+      (here.1, more.1),
+    )
 
 -- ---- the parts, in the order of their fields in a draft
 
@@ -272,188 +334,94 @@ module _ (policy : Policy) (schemes : Schemes) where
   PartFits d Settings = SetsFit (scheme_of schemes d.relation) d.sets
 
   -- what a part says depends on the fields up to its own
-  abbrev Says : Part → Draft → Left → Left → Type 0
-  Says p d l r = PartFits d p × Passed (said policy schemes d p) l r
+  abbrev Says : Part → Draft → List Token → Type 0
+  Says p d ts = PartFits d p × (said policy schemes d p ≡ ts)
 
-  says_upto : (p : Part) (d : Draft) (l r : Left) → Says p d l r → Says p (upto (suc (rank p)) d) l r
-  says_upto Level d l r h = h
-  says_upto Session d l r h = h
-  says_upto Named d l r h = h
-  says_upto Relation d l r h = h
-  says_upto Key d l r h = h
-  says_upto Values d l r h = h
-  says_upto Arguments d l r h = h
-  says_upto At d l r h = h
-  says_upto Class d l r h = h
-  says_upto From d l r h = h
-  says_upto Settings d l r h = h
+  says_upto : (p : Part) (d : Draft) (ts : List Token) → Says p d ts → Says p (upto (suc (rank p)) d) ts
+  says_upto Level d ts h = h
+  says_upto Session d ts h = h
+  says_upto Named d ts h = h
+  says_upto Relation d ts h = h
+  says_upto Key d ts h = h
+  says_upto Values d ts h = h
+  says_upto Arguments d ts h = h
+  says_upto At d ts h = h
+  says_upto Class d ts h = h
+  says_upto From d ts h = h
+  says_upto Settings d ts h = h
 
-  says_from : (p : Part) (d : Draft) (l r : Left) → Says p (upto (suc (rank p)) d) l r → Says p d l r
-  says_from Level d l r h = h
-  says_from Session d l r h = h
-  says_from Named d l r h = h
-  says_from Relation d l r h = h
-  says_from Key d l r h = h
-  says_from Values d l r h = h
-  says_from Arguments d l r h = h
-  says_from At d l r h = h
-  says_from Class d l r h = h
-  says_from From d l r h = h
-  says_from Settings d l r h = h
+  says_from : (p : Part) (d : Draft) (ts : List Token) → Says p (upto (suc (rank p)) d) ts → Says p d ts
+  says_from Level d ts h = h
+  says_from Session d ts h = h
+  says_from Named d ts h = h
+  says_from Relation d ts h = h
+  says_from Key d ts h = h
+  says_from Values d ts h = h
+  says_from Arguments d ts h = h
+  says_from At d ts h = h
+  says_from Class d ts h = h
+  says_from From d ts h = h
+  says_from Settings d ts h = h
 
-  -- a part that was read, behind its word
-  record ContentFound (p : Part) (looked : Looked) (d : Draft) (l r : Left) : Type 0 where
-    front : Draft
-    was : looked ≡ Ok front
-    kept : upto (rank p) front ≡ upto (rank p) d
-    says : Says p d l r
+  -- what was put into a draft says what is written, and no field before is changed
+  record PartDrafted (p : Part) (ts : List Token) (d e : Draft) : Type 0 where
+    kept : upto (rank p) d ≡ upto (rank p) e
+    says : Says p e ts
 
-  found_label : (p : Part) (looked : Looked) (l : Left) (y : Looked × Left) (d : Draft)
-      → ((e : Draft) (n : ℕ) → upto (rank p) e ≡ upto (rank p) (put_label p e n))
-      → ((e : Draft) (n : ℕ) (r : Left) → n < length policy.labels → Passed (Word (label_name policy.labels n) ∷ []) l r → Says p (put_label p e n) l r)
-      → label_at policy p looked l ≡ Ok y → y.0 ≡ Ok d → ContentFound p looked d l y.1
-  found_label p looked l y d kept says e was =
-      let n = bind_ok (pass_name l) (λ n. Ok (with_label p looked (label_named policy n.0), n.1)) y e in
-      let pair = same_ok (label_at policy p looked l) (with_label p looked (label_named policy n.0.0), n.0.1) y (ap (λ r. r >>= λ n. Ok (with_label p looked (label_named policy n.0), n.1)) n.1) e in
-      let front = bind_ok looked (λ d. label_named policy n.0.0 >>= λ m. Ok (put_label p d m)) d (ap (λ (z : Looked × Left). z.0) pair ∙ was) in
-      let m = bind_ok (label_named policy n.0.0) (λ m. Ok (put_label p front.0 m)) d front.2 in
-      let done : Looked = Ok (put_label p front.0 m.0) in
-      let same : put_label p front.0 m.0 ≡ d = same_ok done (put_label p front.0 m.0) d refl m.2 in
-      let label = label_found policy.labels n.0.0.0 m.0 (known_found n.0.0.1 _ m.0 m.1) in
-      let passed : Passed (Word (label_name policy.labels m.0) ∷ []) l y.1 = subst (λ (s : Name). Passed (Word s ∷ []) l y.1) (sym label.1) (subst (λ (z : Looked × Left). Passed (Word n.0.0.0 ∷ []) l z.1) pair (name_found l n.0 n.1).passed) in
-      record {
-        front = front.0;
-        was = front.1;
-        kept = kept front.0 m.0 ∙ ap (upto (rank p)) same;
-        says = subst (λ x. Says p x l y.1) same (says front.0 m.0 y.1 label.0 passed);
-      }
+  drafted_label : (p : Part) (n : PlacedName) (d e : Draft) → ((m : ℕ) → upto (rank p) d ≡ upto (rank p) (put_label p d m))
+      → ((m : ℕ) → m < length policy.labels → Word (label_name policy.labels m) ∷ [] ≡ Word n.0 ∷ [] → Says p (put_label p d m) (Word n.0 ∷ []))
+      → with_label policy p n d ≡ Ok e → PartDrafted p (Word n.0 ∷ []) d e
+  drafted_label p n d e kept says h =
+      let m = bind_ok (label_named policy n) (λ m. Ok (put_label p d m)) e h in
+      let label = label_found policy.labels n.0 m.0 (known_found n.1 _ m.0 m.1) in
+      subst (PartDrafted p (Word n.0 ∷ []) d) (ok_is {E = LineFault} (put_label p d m.0) e m.2)
+      (record { kept = kept m.0; says = says m.0 label.0 (ap (λ (x : Name). Word x ∷ []) label.1) })
 
-  found_name : (p : Part) (looked : Looked) (l : Left) (y : Looked × Left) (d : Draft)
-      → ((e : Draft) (s : Name) → upto (rank p) e ≡ upto (rank p) (put_name p e s))
-      → ((e : Draft) (s : Name) (r : Left) → is_name s ≡ true → Passed (Word s ∷ []) l r → Says p (put_name p e s) l r)
-      → name_at p looked l ≡ Ok y → y.0 ≡ Ok d → ContentFound p looked d l y.1
-  found_name p looked l y d kept says e was =
-      let n = bind_ok (pass_name l) (λ n. Ok (with_name p looked n.0.0, n.1)) y e in
-      let pair = same_ok (name_at p looked l) (with_name p looked n.0.0.0, n.0.1) y (ap (λ r. r >>= λ n. Ok (with_name p looked n.0.0, n.1)) n.1) e in
-      let front = bind_ok looked (λ d. Ok (put_name p d n.0.0.0)) d (ap (λ (z : Looked × Left). z.0) pair ∙ was) in
-      let done : Looked = Ok (put_name p front.0 n.0.0.0) in
-      let same : put_name p front.0 n.0.0.0 ≡ d = same_ok done (put_name p front.0 n.0.0.0) d refl front.2 in
-      let name = name_found l n.0 n.1 in
-      record {
-        front = front.0;
-        was = front.1;
-        kept = kept front.0 n.0.0.0 ∙ ap (upto (rank p)) same;
-        says = subst (λ x. Says p x l y.1) same (says front.0 n.0.0.0 y.1 name.name (subst (λ (z : Looked × Left). Passed (Word n.0.0.0 ∷ []) l z.1) pair name.passed));
-      }
+  drafted_values : (p : Part) (l : Listed) (d e : Draft) → ((vs : List (Option Value)) → upto (rank p) d ≡ upto (rank p) (put_values p d vs))
+      → ((vs : List (Option Value)) → HaveKinds (attributes_of p (scheme_of schemes d.relation)) vs → vs ≡ l.values → Says p (put_values p d vs) (list_tokens l.values))
+      → with_values schemes p l d ≡ Ok e → PartDrafted p (list_tokens l.values) d e
+  drafted_values p l d e kept says h =
+      let vs = bind_ok (held (option_map (attributes_of p) (slice_get schemes d.relation)) l) (λ vs. Ok (put_values p d vs)) e h in
+      let fit = held_found schemes p d.relation (slice_get schemes d.relation) l vs.0 refl vs.1 in
+      subst (PartDrafted p (list_tokens l.values) d) (ok_is {E = LineFault} (put_values p d vs.0) e vs.2) (record { kept = kept vs.0; says = says vs.0 fit.1 (sym fit.0) })
 
-  found_relation : (looked : Looked) (l : Left) (y : Looked × Left) (d : Draft) → relation_at schemes looked l ≡ Ok y → y.0 ≡ Ok d → ContentFound Relation looked d l y.1
-  found_relation looked l y d e was =
-      let n = bind_ok (pass_name l) (λ n. Ok (with_relation looked (relation_named schemes n.0), n.1)) y e in
-      let pair = same_ok (relation_at schemes looked l) (with_relation looked (relation_named schemes n.0.0), n.0.1) y (ap (λ r. r >>= λ n. Ok (with_relation looked (relation_named schemes n.0), n.1)) n.1) e in
-      let front = bind_ok looked (λ d. relation_named schemes n.0.0 >>= λ m. Ok (record d { relation = m })) d (ap (λ (z : Looked × Left). z.0) pair ∙ was) in
-      let m = bind_ok (relation_named schemes n.0.0) (λ m. Ok (record front.0 { relation = m })) d front.2 in
-      let done : Looked = Ok (record front.0 { relation = m.0 }) in
-      let same : record front.0 { relation = m.0 } ≡ d = same_ok done (record front.0 { relation = m.0 }) d refl m.2 in
-      let relation = relation_found schemes n.0.0.0 m.0 (known_found n.0.0.1 _ m.0 m.1) in
-      let passed : Passed (Word (relation_name schemes m.0) ∷ []) l y.1 = subst (λ (s : Name). Passed (Word s ∷ []) l y.1) (sym relation.1) (subst (λ (z : Looked × Left). Passed (Word n.0.0.0 ∷ []) l z.1) pair (name_found l n.0 n.1).passed) in
-      record { front = front.0; was = front.1; kept = ap (upto 3) same; says = subst (λ x. Says Relation x l y.1) same (relation.0, passed) }
-
-  found_list : (p : Part) (looked : Looked) (l : Left) (y : Looked × Left) (d : Draft)
-      → ((e : Draft) (vs : List (Option Value)) → upto (rank p) e ≡ upto (rank p) (put_values p e vs))
-      → ((e : Draft) (vs : List (Option Value)) (r : Left) → HaveKinds (attributes_of p (scheme_of schemes e.relation)) vs → Passed (list_tokens vs) l r → Says p (put_values p e vs) l r)
-      → list_at schemes p looked l ≡ Ok y → y.0 ≡ Ok d → ContentFound p looked d l y.1
-  found_list p looked l y d kept says e was =
-      let vs = bind_ok (pass_list l) (λ vs. Ok (with_values schemes p looked vs.0, vs.1)) y e in
-      let pair = same_ok (list_at schemes p looked l) (with_values schemes p looked vs.0.0, vs.0.1) y (ap (λ r. r >>= λ vs. Ok (with_values schemes p looked vs.0, vs.1)) vs.1) e in
-      let front = bind_ok looked (λ d. held (option_map (attributes_of p) (slice_get schemes d.relation)) vs.0.0 >>= λ ws. Ok (put_values p d ws)) d (ap (λ (z : Looked × Left). z.0) pair ∙ was) in
-      let ws = bind_ok (held (option_map (attributes_of p) (slice_get schemes front.0.relation)) vs.0.0) (λ ws. Ok (put_values p front.0 ws)) d front.2 in
-      let done : Looked = Ok (put_values p front.0 ws.0) in
-      let same : put_values p front.0 ws.0 ≡ d = same_ok done (put_values p front.0 ws.0) d refl ws.2 in
-      let fit = held_found schemes p front.0.relation (slice_get schemes front.0.relation) vs.0.0 ws.0 refl ws.1 in
-      let passed : Passed (list_tokens ws.0) l y.1 = subst (λ (x : List (Option Value)). Passed (list_tokens x) l y.1) fit.0 (subst (λ (z : Looked × Left). Passed (list_tokens vs.0.0.values) l z.1) pair (list_found l vs.0 vs.1)) in
-      record {
-        front = front.0;
-        was = front.1;
-        kept = kept front.0 ws.0 ∙ ap (upto (rank p)) same;
-        says = subst (λ x. Says p x l y.1) same (says front.0 ws.0 y.1 fit.1 passed);
-      }
-
-  found_arguments : (looked : Looked) (l : Left) (y : Looked × Left) (d : Draft) → arguments_at looked l ≡ Ok y → y.0 ≡ Ok d → ContentFound Arguments looked d l y.1
-  found_arguments looked l y d e was =
-      let vs = bind_ok (pass_list l) (λ vs. Ok (with_arguments looked vs.0.values, vs.1)) y e in
-      let pair = same_ok (arguments_at looked l) (with_arguments looked vs.0.0.values, vs.0.1) y (ap (λ r. r >>= λ vs. Ok (with_arguments looked vs.0.values, vs.1)) vs.1) e in
-      let front = bind_ok looked (λ d. Ok (record d { values = vs.0.0.values })) d (ap (λ (z : Looked × Left). z.0) pair ∙ was) in
-      let done : Looked = Ok (record front.0 { values = vs.0.0.values }) in
-      let same : record front.0 { values = vs.0.0.values } ≡ d = same_ok done (record front.0 { values = vs.0.0.values }) d refl front.2 in
-      let passed : Passed (list_tokens vs.0.0.values) l y.1 = subst (λ (z : Looked × Left). Passed (list_tokens vs.0.0.values) l z.1) pair (list_found l vs.0 vs.1) in
-      record { front = front.0; was = front.1; kept = ap (upto 5) same; says = subst (λ x. Says Arguments x l y.1) same (tt, passed) }
-
-  found_sets : (looked : Looked) (l : Left) (y : Looked × Left) (d : Draft) → sets_at schemes looked l ≡ Ok y → y.0 ≡ Ok d → ContentFound Settings looked d l y.1
-  found_sets (Err f) l y d e was =
-      let s = bind_ok (pass_sets None l) (λ s. Ok (with_sets (Err f) s.0, s.1)) y e in
-      let done : Result (Looked × Left) TokenFault = Ok (with_sets (Err f) s.0.0, s.0.1) in
-      let pair = same_ok done (with_sets (Err f) s.0.0, s.0.1) y refl s.2 in
-      absurd (let h : with_sets (Err f) s.0.0 ≡ Ok d = ap (λ (z : Looked × Left). z.0) pair ∙ was in cc)
-  found_sets (Ok front) l y d e was =
-      let s = bind_ok (pass_sets (slice_get schemes front.relation) l) (λ s. Ok (with_sets (Ok front) s.0, s.1)) y e in
-      let done : Result (Looked × Left) TokenFault = Ok (with_sets (Ok front) s.0.0, s.0.1) in
-      let pair = same_ok done (with_sets (Ok front) s.0.0, s.0.1) y refl s.2 in
-      let sets = bind_ok s.0.0 (λ x. Ok (record front { sets = x })) d (ap (λ (z : Looked × Left). z.0) pair ∙ was) in
-      let put : Looked = Ok (record front { sets = sets.0 }) in
-      let same : record front { sets = sets.0 } ≡ d = same_ok put (record front { sets = sets.0 }) d refl sets.2 in
-      let found = sets_found schemes front.relation (slice_get schemes front.relation) l s.0 sets.0 refl s.1 sets.1 in
-      record {
-        front = front;
-        was = refl;
-        kept = ap (upto 8) same;
-        says = subst (λ x. Says Settings x l y.1) same (found.fit, subst (λ (z : Looked × Left). Passed (separated (set_tokens (scheme_of schemes front.relation)) sets.0) l z.1) pair found.passed);
-      }
-
-  content_found : (p : Part) (looked : Looked) (l : Left) (y : Looked × Left) (d : Draft) → content_at policy schemes p looked l ≡ Ok y → y.0 ≡ Ok d → ContentFound p looked d l y.1
-  unfolding content_at
-  content_found Level looked l y d e was = found_label Level looked l y d (λ e n. refl) (λ e n r h k. (h, k)) e was
-  content_found Session looked l y d e was = found_name Session looked l y d (λ e n. refl) (λ e n r h k. (h, k)) e was
-  content_found Named looked l y d e was = found_name Named looked l y d (λ e n. refl) (λ e n r h k. (h, k)) e was
-  content_found Relation looked l y d e was = found_relation looked l y d e was
-  content_found Key looked l y d e was = found_list Key looked l y d (λ e n. refl) (λ e n r h k. (h, k)) e was
-  content_found Values looked l y d e was = found_list Values looked l y d (λ e n. refl) (λ e n r h k. (h, k)) e was
-  content_found Arguments looked l y d e was = found_arguments looked l y d e was
-  content_found At looked l y d e was = found_label At looked l y d (λ e n. refl) (λ e n r h k. (h, k)) e was
-  content_found Class looked l y d e was = found_label Class looked l y d (λ e n. refl) (λ e n r h k. (h, k)) e was
-  content_found From looked l y d e was = found_label From looked l y d (λ e n. refl) (λ e n r h k. (h, k)) e was
-  content_found Settings looked l y d e was = found_sets looked l y d e was
-
-  passed_word : (o : Option Name) (l r : Left) → pass_word o l ≡ Ok r → Passed (word_tokens o) l r
-  passed_word None l r e = subst (λ x. Passed [] l x) (same_ok (pass_word None l) l r refl e) (passed_none l)
-  passed_word (Some w) l r e =
-      let x = bind_ok (pass (is_word w) l) (λ x. Ok x.1) r e in
-      let done : Result Left TokenFault = Ok x.0.1 in
-      subst (λ y. Passed (Word w ∷ []) l y) (same_ok done x.0.1 r refl x.2) (word_found w l x.0 x.1)
+  part_drafted : (p : Part) (w : Written p) (d e : Draft) → IsWritten p w → draft_part policy schemes p w d ≡ Ok e → PartDrafted p (written_tokens p w) d e
+  unfolding draft_part
+  part_drafted Level n d e is h = drafted_label Level n d e (λ m. refl) (λ m within same. (within, same)) h
+  part_drafted Session n d e is h = subst (PartDrafted Session (Word n.0 ∷ []) d) (ok_is {E = LineFault} (record d { session = n.0 }) e h) (record { kept = refl; says = (is, refl) })
+  part_drafted Named n d e is h = subst (PartDrafted Named (Word n.0 ∷ []) d) (ok_is {E = LineFault} (record d { name = n.0 }) e h) (record { kept = refl; says = (is, refl) })
+  part_drafted Relation n d e is h =
+      let m = bind_ok (relation_named schemes n) (λ m. Ok (record d { relation = m })) e h in
+      let relation = relation_found schemes n.0 m.0 (known_found n.1 _ m.0 m.1) in
+      subst (PartDrafted Relation (Word n.0 ∷ []) d) (ok_is {E = LineFault} (record d { relation = m.0 }) e m.2)
+      (record { kept = refl; says = (relation.0, ap (λ (x : Name). Word x ∷ []) relation.1) })
+  part_drafted Key l d e is h = drafted_values Key l d e (λ vs. refl) (λ vs kinds same. (kinds, ap list_tokens same)) h
+  part_drafted Values l d e is h = drafted_values Values l d e (λ vs. refl) (λ vs kinds same. (kinds, ap list_tokens same)) h
+  part_drafted Arguments l d e is h = subst (PartDrafted Arguments (list_tokens l.values) d) (ok_is {E = LineFault} (record d { values = l.values }) e h) (record { kept = refl; says = (tt, refl) })
+  part_drafted At n d e is h = drafted_label At n d e (λ m. refl) (λ m within same. (within, same)) h
+  part_drafted Class n d e is h = drafted_label Class n d e (λ m. refl) (λ m within same. (within, same)) h
+  part_drafted From n d e is h = drafted_label From n d e (λ m. refl) (λ m within same. (within, same)) h
+  part_drafted Settings ss d e is h =
+      let sets = bind_ok (sets_from (slice_get schemes d.relation) [] ss) (λ s. Ok (record d { sets = s })) e h in
+      let found = sets_found schemes d.relation (slice_get schemes d.relation) ss sets.0 refl is sets.1 in
+      subst (PartDrafted Settings (separated setting_tokens ss) d) (ok_is {E = LineFault} (record d { sets = sets.0 }) e sets.2) (record { kept = refl; says = (found.fit, found.said) })
 
   -- ---- parts in order
 
-  pub record PartsFound (k : ℕ) (ps : List Part) (looked : Looked) (d : Draft) (l r : Left) : Type 0 where
-    pub front : Draft
-    pub was : looked ≡ Ok front
-    pub kept : upto k front ≡ upto k d
-    pub passed : Passed (parts_tokens policy schemes d ps) l r
-    pub fits : AllByRecursion (PartFits d) ps
+  pub record PartsDrafted (k : ℕ) (ps : List Part) (ts : List Token) (d e : Draft) : Type 0 where
+    pub kept : upto k d ≡ upto k e
+    pub said : parts_tokens policy schemes e ps ≡ ts
+    pub fits : AllByRecursion (PartFits e) ps
 
-  pub parts_found : (k : ℕ) (ps : List Part) (looked : Looked) (l : Left) (y : Looked × Left) (d : Draft) → Rising k ps → parts_at policy schemes ps looked l ≡ Ok y → y.0 ≡ Ok d → PartsFound k ps looked d l y.1
-  parts_found k [] looked l y d rising e was =
-      let pair = same_ok (parts_at policy schemes [] looked l) (looked, l) y refl e in
-      record { front = d; was = ap (λ (z : Looked × Left). z.0) pair ∙ was; kept = refl; passed = subst (λ (z : Looked × Left). Passed [] l z.1) pair (passed_none l); fits = tt }
-  parts_found k (p ∷ ps) looked l y d rising e was =
-      let x = bind_ok (part_at policy schemes p looked l) (λ x. parts_at policy schemes ps x.0 x.1) y e in
-      let word = bind_ok (pass_word (part_word p) l) (λ r. content_at policy schemes p looked r) x.0 x.1 in
-      let more = parts_found (suc (rank p)) ps x.0.0 x.0.1 y d rising.1 x.2 was in
-      let here = content_found p looked word.0 x.0 more.front word.2 more.was in
-      let says = says_from p d word.0 x.0.1 (subst (λ z. Says p z word.0 x.0.1) more.kept (says_upto p more.front word.0 x.0.1 here.says)) in
+  pub parts_drafted : (k : ℕ) (ps : List Part) (ws : AllWritten ps) (d e : Draft) → Rising k ps → AreWritten ps ws → draft_parts policy schemes ps ws d ≡ Ok e → PartsDrafted k ps (all_tokens ps ws) d e
+  parts_drafted k [] ws d e rising are h = subst (PartsDrafted k [] [] d) (ok_is {E = LineFault} d e h) (record { kept = refl; said = refl; fits = tt })
+  parts_drafted k (p ∷ ps) ws d e rising are h =
+      let f = bind_ok (draft_part policy schemes p ws.0 d) (λ f. draft_parts policy schemes ps ws.1 f) e h in
+      let here = part_drafted p ws.0 d f.0 are.0 f.1 in
+      let more = parts_drafted (suc (rank p)) ps ws.1 f.0 e rising.1 are.1 f.2 in
+      let says = says_from p e (written_tokens p ws.0) (subst (λ x. Says p x (written_tokens p ws.0)) more.kept (says_upto p f.0 (written_tokens p ws.0) here.says)) in
       record {
-        front = here.front;
-        was = here.was;
-        kept = fewer k (rank p) here.front more.front rising.0 here.kept ∙ fewer k (suc (rank p)) more.front d (let h = rising.0 in omega arith) more.kept;
-        passed = passed_more (part_tokens policy schemes d p) (parts_tokens policy schemes d ps) l x.0.1 y.1
-            (passed_more (word_tokens (part_word p)) (said policy schemes d p) l word.0 x.0.1 (passed_word (part_word p) l word.0 word.1) says.1) more.passed;
+        kept = fewer k (rank p) d f.0 rising.0 here.kept ∙ fewer k (suc (rank p)) f.0 e (let h = rising.0 in omega arith) more.kept;
+        said = ap (λ ts. (word_tokens (part_word p) ++ ts) ++ parts_tokens policy schemes e ps) says.1 ∙ ap (λ ts. (word_tokens (part_word p) ++ written_tokens p ws.0) ++ ts) more.said;
         fits = (says.0, more.fits);
       }

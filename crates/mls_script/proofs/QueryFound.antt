@@ -1,5 +1,5 @@
 -- What a query says is what was read, and fits.
-use Rattle.std.proofs.Common.{◌≡◌, ℕ, ◌<◌, Bool, true, false, ℤ, pos, negsuc, List, [], ◌∷◌, ◌++◌, length, Option, Some, None, Result, Ok, Err, refl, sym, ap, ◌∙◌, subst}
+use Rattle.std.proofs.Common.{◌≡◌, ℕ, ◌<◌, Bool, true, false, ℤ, pos, negsuc, List, [], ◌∷◌, ◌++◌, length, Option, Some, None, Result, Ok, Err, refl, sym, ap, subst}
 use Rattle.std.specs.Prelude.{codes, IfSome}
 use Rattle.mls_lattice.specs.Policy.{Name, Policy}
 use Rattle.mls_lattice.specs.Reading.{◌>>=◌}
@@ -24,16 +24,15 @@ use Rattle.mls_queries.specs.declared.query.Comparison.{Comparison}
 use Rattle.mls_queries.specs.declared.query.ClassTest.{ClassTest}
 use Rattle.mls_queries.specs.declared.query.Query.{Query}
 use Rattle.mls_script.specs.declared.fault.LineFault.{LineFault}
+use Rattle.mls_script.specs.declared.query.Asked.{Asked}
+use Rattle.mls_script.specs.declared.query.PlacedClass.{PlacedClass}
 use Rattle.mls_script.specs.Event.{QueryFits}
 use Rattle.mls_script.specs.QueryTokens.{comparison_sign, highest_tokens, class_tokens, first_tokens, TellsTest, TellsQuery}
-use Rattle.mls_script.specs.ReadQuery.{form_of, known_or, label_named, highest_behind, highest_at, comparisons, comparison_or, comparison_among, class_test, class_behind, class_at, number_in, numbered, pass_number_of, pass_number, count_or, first_behind, first_at, read_of, test_of, query_from, where_behind, where_at, query_at}
+use Rattle.mls_script.specs.ReadQuery.{form_of, highest_behind, highest_at, comparisons, comparison_or, comparison_among, class_behind, class_at, number_in, numbered, pass_number_of, pass_number, first_behind, first_at, read_of, where_behind, where_at, query_at, known_or, label_named, class_from, first_from, test_from, query_from}
 
--- what a part says, and what is left, where both are known
-pub told : {X E : Type 0} (P : X → Left → Type 0) (found : Result X LineFault) (l : Left) (y : Result X LineFault × Left) (x : X)
-    → Path (Result (Result X LineFault × Left) E) (Ok (found, l)) (Ok y) → y.0 ≡ Ok x → (found ≡ Ok x → P x l) → P x y.1
-told P found l y x e was h =
-    let pair = ok_is (found, l) y e in
-    subst (P x) (ap (λ (z : Result _ LineFault × Left). z.1) pair) (h (ap (λ (z : Result _ LineFault × Left). z.0) pair ∙ was))
+-- what holds of what is read
+pub of_read : {X E : Type 0} (P : X × Left → Type 0) (x y : X × Left) → Path (Result (X × Left) E) (Ok x) (Ok y) → P x → P y
+of_read P x y e h = subst P (ok_is x y e) h
 
 pub form_found : {X : Type 0} (r : Result X TokenFault) (x : X) → form_of r ≡ Ok x → r ≡ Ok x
 form_found (Ok y) x e = ap (λ z. Ok z) (ok_is y x e)
@@ -76,34 +75,32 @@ module _ (policy : Policy) where
     passed : Passed (class_tokens policy c) l r
     within : IfSome c (λ c. c.label < length policy.labels)
 
-  one_class : (l m r : Left) (at : ℕ) (c : Comparison) (name : Name) (found : Result ℕ LineFault) (o : Option ClassTest)
-      → Passed (Word (codes "class") ∷ Sign (comparison_sign c) ∷ Word name ∷ []) l r → found ≡ label_named policy (name, at) → class_test c found ≡ Ok o → ClassFound l o r
-  one_class l m r at c name found o passed is e =
-      let n = bind_ok found (λ n. Ok (Some (record { comparison = c; label = n }))) o e in
-      let label = label_found policy.labels name n.0 (known_found at _ n.0 (sym is ∙ n.1)) in
-      let test : ClassTest = record { comparison = c; label = n.0 } in
-      let same : Some test ≡ o = ok_is {E = LineFault} (Some test) o n.2 in
-      subst (λ (x : Option ClassTest). ClassFound l x r) same (record {
-        passed = subst (λ (s : Name). Passed (Word (codes "class") ∷ Sign (comparison_sign c) ∷ Word s ∷ []) l r) (sym label.1) passed;
+  one_class : (l r : Left) (c : PlacedClass) (o : Option ClassTest) → Passed (Word (codes "class") ∷ Sign (comparison_sign c.comparison) ∷ Word c.name ∷ []) l r → class_from policy (Some c) ≡ Ok o → ClassFound l o r
+  one_class l r c o passed e =
+      let n = bind_ok (label_named policy (c.name, c.at)) (λ n. Ok (Some (record { comparison = c.comparison; label = n }))) o e in
+      let label = label_found policy.labels c.name n.0 (known_found c.at _ n.0 n.1) in
+      let test : ClassTest = record { comparison = c.comparison; label = n.0 } in
+      subst (λ (x : Option ClassTest). ClassFound l x r) (ok_is {E = LineFault} (Some test) o n.2) (record {
+        passed = subst (λ (s : Name). Passed (Word (codes "class") ∷ Sign (comparison_sign c.comparison) ∷ Word s ∷ []) l r) (sym label.1) passed;
         within = label.0;
       })
 
-  class_found : (l : Left) (y : Result (Option ClassTest) LineFault × Left) (c : Option ClassTest) → class_at policy l ≡ Ok y → y.0 ≡ Ok c → ClassFound l c y.1
+  class_found : (l : Left) (y : Option PlacedClass × Left) (c : Option ClassTest) → class_at l ≡ Ok y → class_from policy y.0 ≡ Ok c → ClassFound l c y.1
   unfolding class_at
-  class_found l y c e was = behind (taken (is_word (codes "class")) l) refl e
+  class_found l y c e was = behind (taken (is_word (codes "class")) l) refl e was
     where
-      behind : (o : Option (ℕ × Left)) → taken (is_word (codes "class")) l ≡ o → class_behind policy l o ≡ Ok y → ClassFound l c y.1
+      behind : (o : Option (ℕ × Left)) → taken (is_word (codes "class")) l ≡ o → class_behind l o ≡ Ok y → class_from policy y.0 ≡ Ok c → ClassFound l c y.1
       behind None is h =
-          told (ClassFound l) (Ok None) l y c h was
+          of_read (λ (z : Option PlacedClass × Left). class_from policy z.0 ≡ Ok c → ClassFound l c z.1) (None, l) y h
           (λ same. subst (λ (x : Option ClassTest). ClassFound l x l) (ok_is {E = LineFault} None c same) (record { passed = passed_none l; within = tt }))
       behind (Some x) is h =
-          let k = bind_ok (comparison_among comparisons x.1) (λ k. pass_name k.1 >>= λ n. Ok (class_test k.0 (label_named policy n.0), n.1)) y h in
-          let n = bind_ok (pass_name k.0.1) (λ n. Ok (class_test k.0.0 (label_named policy n.0), n.1)) y k.2 in
+          let k = bind_ok (comparison_among comparisons x.1) (λ k. pass_name k.1 >>= λ n. Ok (Some (record { comparison = k.0; name = n.0.0; at = n.0.1 }), n.1)) y h in
+          let n = bind_ok (pass_name k.0.1) (λ n. Ok (Some (record { comparison = k.0.0; name = n.0.0; at = n.0.1 }), n.1)) y k.2 in
+          let placed : PlacedClass = record { comparison = k.0.0; name = n.0.0.0; at = n.0.0.1 } in
           let passed =
           passed_more (Word (codes "class") ∷ []) (Sign (comparison_sign k.0.0) ∷ Word n.0.0.0 ∷ []) l x.1 n.0.1 (word_taken (codes "class") l x is)
           (passed_more (Sign (comparison_sign k.0.0) ∷ []) (Word n.0.0.0 ∷ []) x.1 k.0.1 n.0.1 (comparison_found comparisons x.1 k.0 k.1) (name_found k.0.1 n.0 n.1).passed) in
-          told (ClassFound l) (class_test k.0.0 (label_named policy n.0.0)) n.0.1 y c n.2 was
-          (λ same. one_class l x.1 n.0.1 n.0.0.1 k.0.0 n.0.0.0 (label_named policy n.0.0) c passed refl same)
+          of_read (λ (z : Option PlacedClass × Left). class_from policy z.0 ≡ Ok c → ClassFound l c z.1) (Some placed, n.0.1) y n.2 (one_class l n.0.1 placed c passed)
 
 -- ---- the first
 
@@ -134,28 +131,27 @@ record FirstFound (counts : Bool) (l : Left) (f : Option ℕ) (r : Left) : Type 
   passed : Passed (first_tokens f) l r
   whole : counts ≡ true → f ≡ None
 
-no_first : (counts : Bool) (l : Left) (y : Result (Option ℕ) LineFault × Left) (f : Option ℕ) → Path (Result (Result (Option ℕ) LineFault × Left) TokenFault) (Ok (Ok None, l)) (Ok y)
-    → y.0 ≡ Ok f → FirstFound counts l f y.1
-no_first counts l y f e was =
-    told (FirstFound counts l) (Ok None) l y f e was
+no_first : (counts : Bool) (l : Left) (y : Option (ℤ × ℕ) × Left) (f : Option ℕ) → Path (Result (Option (ℤ × ℕ) × Left) TokenFault) (Ok (None, l)) (Ok y) → first_from y.0 ≡ Ok f → FirstFound counts l f y.1
+no_first counts l y f e =
+    of_read (λ (z : Option (ℤ × ℕ) × Left). first_from z.0 ≡ Ok f → FirstFound counts l f z.1) (None, l) y e
     (λ same. subst (λ (x : Option ℕ). FirstFound counts l x l) (ok_is {E = LineFault} None f same) (record { passed = passed_none l; whole = λ _. refl }))
 
-one_first : (l r : Left) (at : ℕ) (n : ℤ) (f : Option ℕ) → Passed (Word (codes "first") ∷ Int n ∷ []) l r → count_or at n ≡ Ok f → FirstFound false l f r
-one_first l r at (pos n) f passed e =
+one_first : (l r : Left) (n : ℤ) (at : ℕ) (f : Option ℕ) → Passed (Word (codes "first") ∷ Int n ∷ []) l r → first_from (Some (n, at)) ≡ Ok f → FirstFound false l f r
+one_first l r (pos n) at f passed e =
     subst (λ (x : Option ℕ). FirstFound false l x r) (ok_is {E = LineFault} (Some n) f e) (record { passed = passed; whole = λ h. absurd cc })
-one_first l r at (negsuc n) f passed e = absurd cc
+one_first l r (negsuc n) at f passed e = absurd cc
 
-first_found : (counts : Bool) (l : Left) (y : Result (Option ℕ) LineFault × Left) (f : Option ℕ) → first_at counts l ≡ Ok y → y.0 ≡ Ok f → FirstFound counts l f y.1
+first_found : (counts : Bool) (l : Left) (y : Option (ℤ × ℕ) × Left) (f : Option ℕ) → first_at counts l ≡ Ok y → first_from y.0 ≡ Ok f → FirstFound counts l f y.1
 unfolding first_at
 first_found true l y f e was = no_first true l y f e was
-first_found false l y f e was = behind (taken (is_word (codes "first")) l) refl e
+first_found false l y f e was = behind (taken (is_word (codes "first")) l) refl e was
   where
-    behind : (o : Option (ℕ × Left)) → taken (is_word (codes "first")) l ≡ o → first_behind l o ≡ Ok y → FirstFound false l f y.1
-    behind None is h = no_first false l y f h was
+    behind : (o : Option (ℕ × Left)) → taken (is_word (codes "first")) l ≡ o → first_behind l o ≡ Ok y → first_from y.0 ≡ Ok f → FirstFound false l f y.1
+    behind None is h = no_first false l y f h
     behind (Some x) is h =
-        let n = bind_ok (pass_number x.1) (λ n. Ok (count_or n.0.1 n.0.0, n.1)) y h in
+        let n = bind_ok (pass_number x.1) (λ n. Ok (Some n.0, n.1)) y h in
         let passed = passed_more (Word (codes "first") ∷ []) (Int n.0.0.0 ∷ []) l x.1 n.0.1 (word_taken (codes "first") l x is) (number_found x.1 n.0 n.1) in
-        told (FirstFound false l) (count_or n.0.0.1 n.0.0.0) n.0.1 y f n.2 was (λ same. one_first l n.0.1 n.0.0.1 n.0.0.0 f passed same)
+        of_read (λ (z : Option (ℤ × ℕ) × Left). first_from z.0 ≡ Ok f → FirstFound false l f z.1) (Some n.0.0, n.0.1) y n.2 (one_first l n.0.1 n.0.0.0 n.0.0.1 f passed)
 
 -- ---- the condition
 
@@ -163,7 +159,7 @@ read_found : {X : Type 0} (r : Result X PlacedFault) (x : X) → read_of r ≡ O
 read_found (Ok y) x e = ap (λ z. Ok z) (ok_is y x e)
 read_found (Err f) x e = absurd cc
 
-test_found : (r : Result core.Expr PlacedFault) (t : Option core.Expr) → test_of true r ≡ Ok t → (e : core.Expr) × (r ≡ Ok e) × (Some e ≡ t)
+test_found : (r : Result core.Expr PlacedFault) (t : Option core.Expr) → test_from (Some r) ≡ Ok t → (e : core.Expr) × (r ≡ Ok e) × (Some e ≡ t)
 test_found (Ok e) t h = (e, refl, ok_is {E = LineFault} (Some e) t h)
 test_found (Err f) t h = absurd cc
 
@@ -176,7 +172,7 @@ module _ (policy : Policy) (schemes : Schemes) (relation : ℕ) where
     fits : AreOfText tokens → IfSome t (IsConditionOf schemes relation)
 
   one_test : (l m r : Left) (at : ℕ) (read : Result core.Expr PlacedFault) (t : Option core.Expr) → taken (is_word (codes "where")) l ≡ Some (at, m) → condition_at policy schemes relation m ≡ Ok (read, r)
-      → test_of true read ≡ Ok t → TestFound l t r
+      → test_from (Some read) ≡ Ok t → TestFound l t r
   one_test l m r at read t is reads e =
       let word = word_taken (codes "where") l (at, m) is in
       let found = condition_found policy schemes relation m (read, r) reads in
@@ -189,18 +185,18 @@ module _ (policy : Policy) (schemes : Schemes) (relation : ℕ) where
         fits = λ all. told_of_row schemes relation policy test.0 found.tokens (told all.1);
       })
 
-  where_found : (l : Left) (y : Result (Option core.Expr) LineFault × Left) (t : Option core.Expr) → where_at policy schemes (Some relation) l ≡ Ok y → y.0 ≡ Ok t → TestFound l t y.1
+  where_found : (l : Left) (y : Option (Result core.Expr PlacedFault) × Left) (t : Option core.Expr) → where_at policy schemes (Some relation) l ≡ Ok y → test_from y.0 ≡ Ok t → TestFound l t y.1
   unfolding where_at
-  where_found l y t e was = behind (taken (is_word (codes "where")) l) refl e
+  where_found l y t e was = behind (taken (is_word (codes "where")) l) refl e was
     where
-      behind : (o : Option (ℕ × Left)) → taken (is_word (codes "where")) l ≡ o → where_behind policy schemes (Some relation) l o ≡ Ok y → TestFound l t y.1
+      behind : (o : Option (ℕ × Left)) → taken (is_word (codes "where")) l ≡ o → where_behind policy schemes (Some relation) l o ≡ Ok y → test_from y.0 ≡ Ok t → TestFound l t y.1
       behind None is h =
-          told (TestFound l) (Ok None) l y t h was
+          of_read (λ (z : Option (Result core.Expr PlacedFault) × Left). test_from z.0 ≡ Ok t → TestFound l t z.1) (None, l) y h
           (λ same. subst (λ (x : Option core.Expr). TestFound l x l) (ok_is {E = LineFault} None t same) (record { tokens = []; passed = passed_none l; tells = λ _. refl; fits = λ _. tt }))
       behind (Some x) is h =
-          let c = bind_ok (read_of (condition_at policy schemes relation x.1)) (λ c. Ok (test_of true c.0, c.1)) y h in
-          told (TestFound l) (test_of true c.0.0) c.0.1 y t c.2 was
-          (λ same. one_test l x.1 c.0.1 x.0 c.0.0 t is (read_found (condition_at policy schemes relation x.1) c.0 c.1) same)
+          let c = bind_ok (read_of (condition_at policy schemes relation x.1)) (λ c. Ok (Some c.0, c.1)) y h in
+          of_read (λ (z : Option (Result core.Expr PlacedFault) × Left). test_from z.0 ≡ Ok t → TestFound l t z.1) (Some c.0.0, c.0.1) y c.2
+          (one_test l x.1 c.0.1 x.0 c.0.0 t is (read_found (condition_at policy schemes relation x.1) c.0 c.1))
 
   -- ---- a query
 
@@ -210,32 +206,33 @@ module _ (policy : Policy) (schemes : Schemes) (relation : ℕ) where
     pub tells : AreOfText tokens → TellsQuery policy schemes relation q tokens
     pub fits : AreOfText tokens → QueryFits policy schemes relation q counts
 
-  record PartsSaid (highest : Bool) (class : Result (Option ClassTest) LineFault) (first : Result (Option ℕ) LineFault) (test : Result (Option core.Expr) LineFault) (q : Query) : Type 0 where
-    highest_is : q.highest ≡ highest
-    class_is : class ≡ Ok q.class
-    first_is : first ≡ Ok q.first
-    test_is : test ≡ Ok q.test
+  record PartsSaid (a : Asked) (q : Query) : Type 0 where
+    highest_is : q.highest ≡ a.highest
+    class_is : class_from policy a.class ≡ Ok q.class
+    first_is : first_from a.first ≡ Ok q.first
+    test_is : test_from a.test ≡ Ok q.test
 
-  parts_said : (highest : Bool) (class : Result (Option ClassTest) LineFault) (first : Result (Option ℕ) LineFault) (test : Result (Option core.Expr) LineFault) (q : Query)
-      → query_from highest class first test ≡ Ok q → PartsSaid highest class first test q
-  parts_said highest (Ok c) (Ok f) (Ok t) q e =
-      let made : Query = record { highest = highest; class = c; test = t; first = f } in
-      subst (PartsSaid highest (Ok c) (Ok f) (Ok t)) (ok_is {E = LineFault} made q e) (record { highest_is = refl; class_is = refl; first_is = refl; test_is = refl })
-  parts_said highest (Err x) first test q e = absurd cc
-  parts_said highest (Ok c) (Err x) test q e = absurd cc
-  parts_said highest (Ok c) (Ok f) (Err x) q e = absurd cc
+  parts_said : (a : Asked) (q : Query) → query_from policy a ≡ Ok q → PartsSaid a q
+  unfolding query_from
+  parts_said a q e =
+      let c = bind_ok (class_from policy a.class) (λ c. first_from a.first >>= λ f. test_from a.test >>= λ t. Ok (record { highest = a.highest; class = c; test = t; first = f })) q e in
+      let f = bind_ok (first_from a.first) (λ f. test_from a.test >>= λ t. Ok (record { highest = a.highest; class = c.0; test = t; first = f })) q c.2 in
+      let t = bind_ok (test_from a.test) (λ t. Ok (record { highest = a.highest; class = c.0; test = t; first = f.0 })) q f.2 in
+      let made : Query = record { highest = a.highest; class = c.0; test = t.0; first = f.0 } in
+      subst (PartsSaid a) (ok_is {E = LineFault} made q t.2) (record { highest_is = refl; class_is = c.1; first_is = f.1; test_is = t.1 })
 
-  pub query_found : (counts : Bool) (l : Left) (y : Result Query LineFault × Left) (q : Query) → query_at policy schemes counts (Some relation) l ≡ Ok y → y.0 ≡ Ok q → QueryFound counts l q y.1
+  pub query_found : (counts : Bool) (l : Left) (y : Asked × Left) (q : Query) → query_at policy schemes counts (Some relation) l ≡ Ok y → query_from policy y.0 ≡ Ok q → QueryFound counts l q y.1
   unfolding query_at
   query_found counts l y q e was =
       let h = highest_at l in
-      let c = bind_ok (form_of (class_at policy h.1)) (λ c. form_of (first_at counts c.1) >>= λ f. where_at policy schemes (Some relation) f.1 >>= λ t. Ok (query_from h.0 c.0 f.0 t.0, t.1)) y e in
-      let f = bind_ok (form_of (first_at counts c.0.1)) (λ f. where_at policy schemes (Some relation) f.1 >>= λ t. Ok (query_from h.0 c.0.0 f.0 t.0, t.1)) y c.2 in
-      let t = bind_ok (where_at policy schemes (Some relation) f.0.1) (λ t. Ok (query_from h.0 c.0.0 f.0.0 t.0, t.1)) y f.2 in
-      told (QueryFound counts l) (query_from h.0 c.0.0 f.0.0 t.0.0) t.0.1 y q t.2 was (λ same.
-      let said = parts_said h.0 c.0.0 f.0.0 t.0.0 q same in
+      let c = bind_ok (form_of (class_at h.1)) (λ c. form_of (first_at counts c.1) >>= λ f. where_at policy schemes (Some relation) f.1 >>= λ t. Ok (record { highest = h.0; class = c.0; first = f.0; test = t.0 }, t.1)) y e in
+      let f = bind_ok (form_of (first_at counts c.0.1)) (λ f. where_at policy schemes (Some relation) f.1 >>= λ t. Ok (record { highest = h.0; class = c.0.0; first = f.0; test = t.0 }, t.1)) y c.2 in
+      let t = bind_ok (where_at policy schemes (Some relation) f.0.1) (λ t. Ok (record { highest = h.0; class = c.0.0; first = f.0.0; test = t.0 }, t.1)) y f.2 in
+      let asked : Asked = record { highest = h.0; class = c.0.0; first = f.0.0; test = t.0.0 } in
+      of_read (λ (z : Asked × Left). query_from policy z.0 ≡ Ok q → QueryFound counts l q z.1) (asked, t.0.1) y t.2 (λ same.
+      let said = parts_said asked q same in
       let highest : Passed (highest_tokens q.highest) l h.1 = subst (λ (b : Bool). Passed (highest_tokens b) l h.1) (sym said.highest_is) (highest_found l) in
-      let class = class_found policy h.1 c.0 q.class (form_found (class_at policy h.1) c.0 c.1) said.class_is in
+      let class = class_found policy h.1 c.0 q.class (form_found (class_at h.1) c.0 c.1) said.class_is in
       let first = first_found counts c.0.1 f.0 q.first (form_found (first_at counts c.0.1) f.0 f.1) said.first_is in
       let test = where_found f.0.1 t.0 q.test t.1 said.test_is in
       let behind_class = passed_more (first_tokens q.first) test.tokens c.0.1 f.0.1 t.0.1 first.passed test.passed in
@@ -247,4 +244,4 @@ module _ (policy : Policy) (schemes : Schemes) (relation : ℕ) where
         passed = passed_more (highest_tokens q.highest) (class_tokens policy q.class ++ (first_tokens q.first ++ test.tokens)) l h.1 t.0.1 highest behind_highest;
         tells = λ all. record { behind = test.tokens; tokens = refl; test = test.tells (own all) };
         fits = λ all. record { class = class.within; test = test.fits (own all); whole = first.whole };
-      })
+      }) was

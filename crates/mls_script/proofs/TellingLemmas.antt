@@ -21,7 +21,7 @@ use Rattle.mls_tokens.specs.declared.token.Token.{Token}
 use Rattle.mls_tokens.specs.declared.token.Token.TheVariants.{Word}
 use Rattle.mls_tokens.specs.declared.sign.Sign.TheVariants.{Comma}
 use Rattle.mls_tokens.specs.Scanning.{Left, without_places, tokens_at}
-use Rattle.mls_tokens.specs.Passing.{is_word, is_sign, has_ended, pass_end}
+use Rattle.mls_tokens.specs.Passing.{is_word, is_sign, pass_name, has_ended, pass_end}
 use Rattle.mls_tokens.proofs.TokensLemmas.{tokens_exact}
 use Rattle.mls_tokens.proofs.NextLemmas.{Gets, gets_more, done, gets_done, gets_is, took, NotNext, not_taken, word_gets, name_gets, over_again, not_over}
 use Rattle.mls_scheme.specs.declared.write.Write.TheVariants as writes
@@ -37,14 +37,16 @@ use Rattle.mls_script.specs.declared.grammar.Verb.TheVariants as v
 use Rattle.mls_script.specs.declared.grammar.Part.{Part}
 use Rattle.mls_script.specs.declared.grammar.Part.TheVariants.{Level, Session, Name as Named, Relation, Key, Values, Arguments, At, Class, From, Sets as Settings}
 use Rattle.mls_script.specs.declared.lists.Listed.{Listed}
+use Rattle.mls_script.specs.declared.query.Asked.{Asked}
 use Rattle.mls_script.specs.Event.{Sets, SetsFit, CommandFits, EventFits}
 use Rattle.mls_script.specs.Grammar.{verbs, verb_word, parts_of, part_word, blank, no_query, event_of, verb_of, draft_of, drafted, query_of}
 use Rattle.mls_tokens.specs.Text.{separated}
 use Rattle.mls_lattice.specs.Canon.{label_name}
 use Rattle.mls_script.specs.Tokens.{relation_name, list_tokens, set_tokens, word_tokens, said, part_tokens, parts_tokens, event_tokens}
 use Rattle.mls_script.specs.QueryTokens.{TellsTail}
-use Rattle.mls_script.specs.ReadQuery.{label_named, form_of, query_at, tail_at}
-use Rattle.mls_script.specs.Reading.{Looked, relation_named, pass_sets, fit_or, held, put_label, put_values, attributes_of, with_label, with_name, with_relation, with_sets, with_values, with_arguments, label_at, name_at, relation_at, list_at, arguments_at, sets_at, content_at, pass_word, part_at, parts_at, verb_or, verb_among, drafted_relation, event_from, command_at, sentence_at, told_at, event_in, line_at, in_script, lines_at, split_lines, script_at, IsRead}
+use Rattle.mls_script.specs.ReadQuery.{form_of, heard, nothing_asked, query_at, tail_at, label_named, query_from}
+use Rattle.mls_script.specs.Reading.{items_at, pass_list, pass_setting, written_at, pass_word, part_at, AllWritten, parts_at, verb_or, verb_among, Order, heads, Sentence, relation_named, fit_or, held, sets_from, Drafted, drafted_relation, event_from, draft_part, draft_parts, order_at, sentence_at, told_by, event_told, form_at, event_in, line_at, in_script, lines_at, split_lines, script_at, IsRead}
+use Rattle.mls_script.specs.OnePass.{put_label, put_name, put_values, attributes_of, with_label, with_values}
 use Rattle.mls_script.specs.Script.{Line, Tells, IsLineOf, ReadsScript, ScriptsAreOnce}
 use Rattle.mls_script.proofs.ScriptSteps.{split_ended}
 use Rattle.mls_script.proofs.PartLemmas.{PartFits}
@@ -71,26 +73,24 @@ abbrev filled : List Part → Draft → Draft → Draft
 filled [] d f = f
 filled (p ∷ ps) d f = filled ps d (put p d f)
 
+gets_as : {X E : Type 0} {r : Result (X × Left) E} {l : Left} {P Q : X → Type 0} {us : List Token} → ((x : X) → P x → Q x) → Gets r l P us → Gets r l Q us
+gets_as more g = record { value = g.value; rest = g.rest; is = g.is; holds = more g.value g.holds; tokens = g.tokens; stop = g.stop }
+
 module _ (policy : Policy) (schemes : Schemes) (is_policy : IsPolicy policy) (are_schemes : AreSchemes schemes) where
-  abbrev Reads : (Left → Result (Looked × Left) TokenFault) → Left → Draft → List Token → Type 0
-  Reads f l d us = Gets (f l) l (λ looked. looked ≡ Ok d) us
-
-  label_read : (p : Part) (n : ℕ) (f : Draft) (us : List Token) (l : Left) → n < length policy.labels → without_places l.placed ≡ Word (label_name policy.labels n) ∷ us → Reads (label_at policy p (Ok f)) l (put_label p f n) us
+  label_read : (p : Part) (n : ℕ) (f : Draft) (us : List Token) (l : Left) → n < length policy.labels → without_places l.placed ≡ Word (label_name policy.labels n) ∷ us
+      → Gets (pass_name l) l (λ x. with_label policy p x f ≡ Ok (put_label p f n)) us
   label_read p n f us l within e =
-      gets_more (λ x. done (with_label p (Ok f) (label_named policy x.0)) x.1) (name_gets (label_name policy.labels n) us l (label_is_name policy is_policy n within) e)
-      (λ x m same t. gets_done (with_label p (Ok f) (label_named policy x)) m (λ looked. looked ≡ Ok (put_label p f n)) us
-      (ap (with_label p (Ok f)) (ap (λ (s : Name). label_named policy (s, x.1)) same ∙ label_again policy is_policy n x.1 within)) t)
+      gets_as (λ x same. ap (λ r. r >>= λ m. Ok (put_label p f m)) (ap (λ (s : Name). label_named policy (s, x.1)) same ∙ label_again policy is_policy n x.1 within))
+      (name_gets (label_name policy.labels n) us l (label_is_name policy is_policy n within) e)
 
-  name_part_read : (p : Part) (s : Name) (f : Draft) (us : List Token) (l : Left) → is_name s ≡ true → without_places l.placed ≡ Word s ∷ us → Gets (name_at p (Ok f) l) l (λ looked. looked ≡ with_name p (Ok f) s) us
-  name_part_read p s f us l named e =
-      gets_more (λ x. done (with_name p (Ok f) x.0.0) x.1) (name_gets s us l named e)
-      (λ x m same t. gets_done (with_name p (Ok f) x.0) m (λ looked. looked ≡ with_name p (Ok f) s) us (ap (with_name p (Ok f)) same) t)
+  name_part_read : (p : Part) (s : Name) (f : Draft) (us : List Token) (l : Left) → is_name s ≡ true → without_places l.placed ≡ Word s ∷ us → Gets (pass_name l) l (λ x. Path Drafted (Ok (put_name p f x.0)) (Ok (put_name p f s))) us
+  name_part_read p s f us l named e = gets_as (λ x same. ap (λ (y : Name). Ok (put_name p f y)) same) (name_gets s us l named e)
 
-  relation_read : (n : ℕ) (f : Draft) (us : List Token) (l : Left) → n < length schemes → without_places l.placed ≡ Word (relation_name schemes n) ∷ us → Reads (relation_at schemes (Ok f)) l (record f { relation = n }) us
+  relation_read : (n : ℕ) (f : Draft) (us : List Token) (l : Left) → n < length schemes → without_places l.placed ≡ Word (relation_name schemes n) ∷ us
+      → Gets (pass_name l) l (λ x. (relation_named schemes x >>= λ r. Ok (record f { relation = r })) ≡ Ok (record f { relation = n })) us
   relation_read n f us l within e =
-      gets_more (λ x. done (with_relation (Ok f) (relation_named schemes x.0)) x.1) (name_gets (relation_name schemes n) us l ((scheme_is schemes are_schemes n within).named) e)
-      (λ x m same t. gets_done (with_relation (Ok f) (relation_named schemes x)) m (λ looked. looked ≡ Ok (record f { relation = n })) us
-      (ap (with_relation (Ok f)) (ap (λ (s : Name). relation_named schemes (s, x.1)) same ∙ relation_again schemes are_schemes n x.1 within)) t)
+      gets_as (λ x same. ap (λ r. r >>= λ m. Ok (record f { relation = m })) (ap (λ (s : Name). relation_named schemes (s, x.1)) same ∙ relation_again schemes are_schemes n x.1 within))
+      (name_gets (relation_name schemes n) us l ((scheme_is schemes are_schemes n within).named) e)
 
   held_again : (p : Part) (relation : ℕ) (l : Listed) (vs : List (Option Value)) → relation < length schemes → l.values ≡ vs → HaveKinds (attributes_of p (scheme_of schemes relation)) vs → held (option_map (attributes_of p) (slice_get schemes relation)) l ≡ Ok vs
   held_again p relation l vs within same kinds =
@@ -99,24 +99,18 @@ module _ (policy : Policy) (schemes : Schemes) (is_policy : IsPolicy policy) (ar
       ∙ ap (λ (x : List (Option Value)). Ok x) same
 
   list_part_read : (p : Part) (vs : List (Option Value)) (f : Draft) (us : List Token) (l : Left) → f.relation < length schemes → HaveKinds (attributes_of p (scheme_of schemes f.relation)) vs → without_places l.placed ≡ list_tokens vs ++ us
-      → Reads (list_at schemes p (Ok f)) l (put_values p f vs) us
+      → Gets (pass_list l) l (λ x. with_values schemes p x f ≡ Ok (put_values p f vs)) us
   list_part_read p vs f us l within kinds e =
-      gets_more (λ x. done (with_values schemes p (Ok f) x.0) x.1) (list_read vs us l e)
-      (λ x m same t. gets_done (with_values schemes p (Ok f) x) m (λ looked. looked ≡ Ok (put_values p f vs)) us
-      (ap (λ r. r >>= λ vs. Ok (put_values p f vs)) (held_again p f.relation x vs within same kinds)) t)
+      gets_as (λ x same. ap (λ r. r >>= λ vs. Ok (put_values p f vs)) (held_again p f.relation x vs within same kinds)) (list_read vs us l e)
 
-  arguments_read : (vs : List (Option Value)) (f : Draft) (us : List Token) (l : Left) → without_places l.placed ≡ list_tokens vs ++ us → Reads (arguments_at (Ok f)) l (record f { values = vs }) us
-  arguments_read vs f us l e =
-      gets_more (λ x. done (with_arguments (Ok f) x.0.values) x.1) (list_read vs us l e)
-      (λ x m same t. gets_done (with_arguments (Ok f) x.values) m (λ looked. looked ≡ Ok (record f { values = vs })) us (ap (with_arguments (Ok f)) same) t)
+  arguments_read : (vs : List (Option Value)) (f : Draft) (us : List Token) (l : Left) → without_places l.placed ≡ list_tokens vs ++ us → Gets (pass_list l) l (λ x. Path Drafted (Ok (record f { values = x.values })) (Ok (record f { values = vs }))) us
+  arguments_read vs f us l e = gets_as (λ x same. ap (λ (ws : List (Option Value)). Ok (record f { values = ws })) same) (list_read vs us l e)
 
   sets_part_read : (sets : Sets) (f : Draft) (us : List Token) (l : Left) → f.relation < length schemes → SetsFit (scheme_of schemes f.relation) sets → NotNext (is_sign Comma) us → without_places l.placed ≡ separated (set_tokens (scheme_of schemes f.relation)) sets ++ us
-      → Reads (sets_at schemes (Ok f)) l (record f { sets = sets }) us
+      → Gets (items_at pass_setting l) l (λ ss. (sets_from (slice_get schemes f.relation) [] ss >>= λ s. Ok (record f { sets = s })) ≡ Ok (record f { sets = sets })) us
   sets_part_read sets f us l within fit end e =
-      gets_is (sets_at schemes (Ok f) l) (pass_sets (Some (scheme_of schemes f.relation)) l >>= λ x. done (with_sets (Ok f) x.0) x.1) l (λ looked. looked ≡ Ok (record f { sets = sets })) us
-      (ap (λ o. pass_sets o l >>= λ x. Ok (with_sets (Ok f) x.0, x.1)) (slice_get-get_or schemes f.relation no_scheme within))
-      (gets_more (λ x. done (with_sets (Ok f) x.0) x.1) (sets_read (scheme_of schemes f.relation) (scheme_is schemes are_schemes f.relation within) sets us l fit end e)
-      (λ x m same t. gets_done (with_sets (Ok f) x) m (λ looked. looked ≡ Ok (record f { sets = sets })) us (ap (with_sets (Ok f)) same) t))
+      gets_as (λ ss found. ap (λ o. sets_from o [] ss >>= λ s. Ok (record f { sets = s })) (slice_get-get_or schemes f.relation no_scheme within) ∙ ap (λ r. r >>= λ s. Ok (record f { sets = s })) found)
+      (sets_read (scheme_of schemes f.relation) (scheme_is schemes are_schemes f.relation within) sets us l fit end e)
 
   -- a key, other values and new values stand behind their relation
   abbrev Knows : Part → Draft → Draft → Type 0
@@ -140,8 +134,8 @@ module _ (policy : Policy) (schemes : Schemes) (is_policy : IsPolicy policy) (ar
   within_of d f h = subst (λ n. n < length schemes) (sym h.0) h.1
 
   content_read : (p : Part) (d f : Draft) (us : List Token) (l : Left) → Knows p d f → PartFits policy schemes d p → NotNext (is_sign Comma) us → without_places l.placed ≡ said policy schemes d p ++ us
-      → Reads (content_at policy schemes p (Ok f)) l (put p d f) us
-  unfolding content_at
+      → Gets (written_at p l) l (λ w. draft_part policy schemes p w f ≡ Ok (put p d f)) us
+  unfolding written_at draft_part
   content_read Level d f us l known fits end e = label_read Level d.level f us l fits e
   content_read Session d f us l known fits end e = name_part_read Session d.session f us l fits e
   content_read Named d f us l known fits end e = name_part_read Named d.name f us l fits e
@@ -164,14 +158,14 @@ module _ (policy : Policy) (schemes : Schemes) (is_policy : IsPolicy policy) (ar
       (x.rest, ap (λ r. r >>= λ (x : ℕ × Left). Ok x.1) x.is, x.tokens, x.stop)
 
   part_read : (p : Part) (d f : Draft) (us : List Token) (l : Left) → Knows p d f → PartFits policy schemes d p → NotNext (is_sign Comma) us → without_places l.placed ≡ part_tokens policy schemes d p ++ us
-      → Reads (part_at policy schemes p (Ok f)) l (put p d f) us
+      → Gets (part_at p l) l (λ w. draft_part policy schemes p w f ≡ Ok (put p d f)) us
   part_read p d f us l known fits end e =
       let word = word_read (part_word p) (said policy schemes d p ++ us) l (e ∙ append_assoc (word_tokens (part_word p)) (said policy schemes d p) us) in
       let content = content_read p d f us word.0 known fits end word.2 in
       record {
         value = content.value;
         rest = content.rest;
-        is = ap (λ x. x >>= λ r. content_at policy schemes p (Ok f) r) word.1 ∙ content.is;
+        is = ap (λ x. x >>= λ r. written_at p r) word.1 ∙ content.is;
         holds = content.holds;
         tokens = content.tokens;
         stop = content.stop ∙ word.3;
@@ -196,13 +190,14 @@ module _ (policy : Policy) (schemes : Schemes) (is_policy : IsPolicy policy) (ar
   parts_no_comma (p ∷ ps) d us h = subst (NotNext (is_sign Comma)) (sym (append_assoc (part_tokens policy schemes d p) (parts_tokens policy schemes d ps) us)) (no_comma p d (parts_tokens policy schemes d ps ++ us))
 
   parts_read : (ps : List Part) (d f : Draft) (us : List Token) (l : Left) → KnowsAll ps d f → AllByRecursion (PartFits policy schemes d) ps → NotNext (is_sign Comma) us
-      → without_places l.placed ≡ parts_tokens policy schemes d ps ++ us → Reads (parts_at policy schemes ps (Ok f)) l (filled ps d f) us
-  parts_read [] d f us l known fits end e = record { value = Ok f; rest = l; is = refl; holds = refl; tokens = e; stop = refl }
+      → without_places l.placed ≡ parts_tokens policy schemes d ps ++ us → Gets (parts_at ps l) l (λ ws. draft_parts policy schemes ps ws f ≡ Ok (filled ps d f)) us
+  parts_read [] d f us l known fits end e = record { value = tt; rest = l; is = refl; holds = refl; tokens = e; stop = refl }
   parts_read (p ∷ ps) d f us l known fits end e =
-      gets_more (λ x. parts_at policy schemes ps x.0 x.1)
+      gets_more (λ x. heard (λ xs. (x.0, xs)) (parts_at ps x.1))
       (part_read p d f (parts_tokens policy schemes d ps ++ us) l known.0 fits.0 (parts_no_comma ps d us end) (e ∙ append_assoc (part_tokens policy schemes d p) (parts_tokens policy schemes d ps) us))
-      (λ x m same t. gets_is (parts_at policy schemes ps x m) (parts_at policy schemes ps (Ok (put p d f)) m) m (λ looked. looked ≡ Ok (filled ps d (put p d f))) us
-      (ap (λ looked. parts_at policy schemes ps looked m) same) (parts_read ps d (put p d f) us m known.1 fits.1 end t))
+      (λ x m same t. gets_more (λ xs. done (x, xs.0) xs.1) (parts_read ps d (put p d f) us m known.1 fits.1 end t)
+      (λ xs m2 more t2. gets_done (x, xs) m2 (λ ws. draft_parts policy schemes (p ∷ ps) ws f ≡ Ok (filled ps d (put p d f))) us
+      (ap (λ r. r >>= λ e. draft_parts policy schemes ps xs e) same ∙ more) t2))
 
 -- ---- verbs
 
@@ -238,11 +233,11 @@ verb_read (y ∷ ys) w x us l e first =
 
 -- ---- a line
 
-abbrev Commanded : Type 0
-Commanded = Result (Result Event LineFault × Left) LineFault
+abbrev ordered : (v : Verb) → AllWritten (parts_of v) → Asked → Order
+ordered v ws q = record { verb = v; parts = ws; asked = q }
 
-abbrev ended : Commanded → Result (Result Event LineFault) LineFault
-ended r = r >>= λ x. form_of (pass_end x.1) >>= λ _. Ok x.0
+abbrev closed : AllWritten heads → Result (Order × Left) LineFault → Result Sentence LineFault
+closed front r = r >>= λ order. form_of (pass_end order.1) >>= λ _. Ok (record { front = front; order = order.0 })
 
 abbrev begun : ℕ → Name → Draft
 begun level session = record blank { level = level; session = session }
@@ -299,21 +294,22 @@ module _ (policy : Policy) (schemes : Schemes) where
 
     -- what stands behind the parts is the query, or nothing
     tail_read : (b : Draft) (c : Command) (ts : List Token) (l : Left) → CommandFits policy schemes c → TellsTail policy schemes c ts → without_places l.placed ≡ ts
-        → Gets (tail_at policy schemes (verb_of c) (drafted_relation schemes (Ok (filled (parts_of (verb_of c)) (draft_of b c) b))) l) l (λ x. x ≡ Ok (query_of c)) []
-    tail_read b (commands.Open user) ts l fits tells e = gets_done (Ok no_query) l (λ x. x ≡ Ok no_query) [] refl (e ∙ tells)
-    tail_read b commands.Close ts l fits tells e = gets_done (Ok no_query) l (λ x. x ≡ Ok no_query) [] refl (e ∙ tells)
-    tail_read b commands.Audit ts l fits tells e = gets_done (Ok no_query) l (λ x. x ≡ Ok no_query) [] refl (e ∙ tells)
+        → Gets (tail_at policy schemes (verb_of c) (drafted_relation schemes (Ok (filled (parts_of (verb_of c)) (draft_of b c) b))) l) l (λ x. query_from policy x ≡ Ok (query_of c)) []
+    unfolding query_from
+    tail_read b (commands.Open user) ts l fits tells e = gets_done nothing_asked l (λ x. query_from policy x ≡ Ok no_query) [] refl (e ∙ tells)
+    tail_read b commands.Close ts l fits tells e = gets_done nothing_asked l (λ x. query_from policy x ≡ Ok no_query) [] refl (e ∙ tells)
+    tail_read b commands.Audit ts l fits tells e = gets_done nothing_asked l (λ x. query_from policy x ≡ Ok no_query) [] refl (e ∙ tells)
     tail_read b (commands.View relation label query false) ts l fits tells e =
-        gets_is (query_at policy schemes false (drafted_relation schemes (Ok (record b { relation = relation; label = label }))) l) (query_at policy schemes false (Some relation) l) l (λ x. x ≡ Ok query) []
+        gets_is (query_at policy schemes false (drafted_relation schemes (Ok (record b { relation = relation; label = label }))) l) (query_at policy schemes false (Some relation) l) l (λ x. query_from policy x ≡ Ok query) []
         (rw (lt-ltb relation (length schemes) fits.0) refl) (query_read policy schemes relation is_policy are_schemes fits.0 false query ts l fits.2 tells e)
     tail_read b (commands.View relation label query true) ts l fits tells e =
-        gets_is (query_at policy schemes true (drafted_relation schemes (Ok (record b { relation = relation; label = label }))) l) (query_at policy schemes true (Some relation) l) l (λ x. x ≡ Ok query) []
+        gets_is (query_at policy schemes true (drafted_relation schemes (Ok (record b { relation = relation; label = label }))) l) (query_at policy schemes true (Some relation) l) l (λ x. query_from policy x ≡ Ok query) []
         (rw (lt-ltb relation (length schemes) fits.0) refl) (query_read policy schemes relation is_policy are_schemes fits.0 true query ts l fits.2 tells e)
-    tail_read b (commands.Dump relation) ts l fits tells e = gets_done (Ok no_query) l (λ x. x ≡ Ok no_query) [] refl (e ∙ tells)
-    tail_read b (commands.Write relation (writes.Insert key values)) ts l fits tells e = gets_done (Ok no_query) l (λ x. x ≡ Ok no_query) [] refl (e ∙ tells)
-    tail_read b (commands.Write relation (writes.Update key key_class from sets)) ts l fits tells e = gets_done (Ok no_query) l (λ x. x ≡ Ok no_query) [] refl (e ∙ tells)
-    tail_read b (commands.Write relation (writes.Delete key key_class)) ts l fits tells e = gets_done (Ok no_query) l (λ x. x ≡ Ok no_query) [] refl (e ∙ tells)
-    tail_read b (commands.Call tx args) ts l fits tells e = gets_done (Ok no_query) l (λ x. x ≡ Ok no_query) [] refl (e ∙ tells)
+    tail_read b (commands.Dump relation) ts l fits tells e = gets_done nothing_asked l (λ x. query_from policy x ≡ Ok no_query) [] refl (e ∙ tells)
+    tail_read b (commands.Write relation (writes.Insert key values)) ts l fits tells e = gets_done nothing_asked l (λ x. query_from policy x ≡ Ok no_query) [] refl (e ∙ tells)
+    tail_read b (commands.Write relation (writes.Update key key_class from sets)) ts l fits tells e = gets_done nothing_asked l (λ x. query_from policy x ≡ Ok no_query) [] refl (e ∙ tells)
+    tail_read b (commands.Write relation (writes.Delete key key_class)) ts l fits tells e = gets_done nothing_asked l (λ x. query_from policy x ≡ Ok no_query) [] refl (e ∙ tells)
+    tail_read b (commands.Call tx args) ts l fits tells e = gets_done nothing_asked l (λ x. query_from policy x ≡ Ok no_query) [] refl (e ∙ tells)
 
     -- no query begins with a comma
     tail_no_comma : (c : Command) (ts : List Token) → TellsTail policy schemes c ts → NotNext (is_sign Comma) ts
@@ -325,65 +321,68 @@ module _ (policy : Policy) (schemes : Schemes) where
     tail_no_comma (commands.Write relation write) ts tells = subst (NotNext (is_sign Comma)) (sym tells) tt
     tail_no_comma (commands.Call tx args) ts tells = subst (NotNext (is_sign Comma)) (sym tells) tt
 
-    abbrev heads : Event → List Token
-    heads e = parts_tokens policy schemes (drafted e) (Level ∷ Session ∷ [])
+    abbrev head_tokens : Event → List Token
+    head_tokens e = parts_tokens policy schemes (drafted e) heads
 
     abbrev behind_heads : Event → List Token
     behind_heads e = Word (verb_word (verb_of e.command)) ∷ parts_tokens policy schemes (drafted e) (parts_of (verb_of e.command))
 
-    command_again : (e : Event) (ts : List Token) (l : Left) → EventFits policy schemes e → TellsTail policy schemes e.command ts → without_places l.placed ≡ behind_heads e ++ ts
-        → Gets (command_at policy schemes (Ok (begun e.level e.session)) l) l (λ x. x ≡ Ok e) []
-    unfolding command_at
-    command_again e ts l fits tells tokens =
+    order_again : (e : Event) (ts : List Token) (l : Left) → EventFits policy schemes e → TellsTail policy schemes e.command ts → without_places l.placed ≡ behind_heads e ++ ts
+        → Gets (order_at policy schemes (Ok (begun e.level e.session)) l) l (λ o. told_by policy schemes (Ok (begun e.level e.session)) o ≡ Ok e) []
+    unfolding order_at
+    order_again e ts l fits tells tokens =
         let b = begun e.level e.session in
         let d = draft_of b e.command in
         let x = verb_of e.command in
-        gets_more (λ v. form_of (parts_at policy schemes (parts_of v.0) (Ok b) v.1) >>= λ p. tail_at policy schemes v.0 (drafted_relation schemes p.0) p.1 >>= λ q. done (event_from v.0 p.0 q.0) q.1)
+        gets_more (λ v. form_of (parts_at (parts_of v.0) v.1) >>= λ ws. tail_at policy schemes v.0 (drafted_relation schemes (draft_parts policy schemes (parts_of v.0) ws.0 b)) ws.1 >>= λ q. done (ordered v.0 ws.0 q.0) q.1)
         (form_again (verb_read verbs (verb_word x) x (parts_tokens policy schemes d (parts_of x) ++ ts) l tokens (known_verb x)))
         (λ v m same t. gets_is _
-        (form_of (parts_at policy schemes (parts_of x) (Ok b) m) >>= λ p. tail_at policy schemes x (drafted_relation schemes p.0) p.1 >>= λ q. done (event_from x p.0 q.0) q.1) m (λ y. y ≡ Ok e) []
-        (ap (λ (w : Verb). form_of (parts_at policy schemes (parts_of w) (Ok b) m) >>= λ p. tail_at policy schemes w (drafted_relation schemes p.0) p.1 >>= λ q. done (event_from w p.0 q.0) q.1) same)
-        (gets_more (λ p. tail_at policy schemes x (drafted_relation schemes p.0) p.1 >>= λ q. done (event_from x p.0 q.0) q.1)
+        (form_of (parts_at (parts_of x) m) >>= λ ws. tail_at policy schemes x (drafted_relation schemes (draft_parts policy schemes (parts_of x) ws.0 b)) ws.1 >>= λ q. done (ordered x ws.0 q.0) q.1)
+        m (λ o. told_by policy schemes (Ok b) o ≡ Ok e) []
+        (ap (λ (w : Verb). form_of (parts_at (parts_of w) m) >>= λ ws. tail_at policy schemes w (drafted_relation schemes (draft_parts policy schemes (parts_of w) ws.0 b)) ws.1 >>= λ q. done (ordered w ws.0 q.0) q.1) same)
+        (gets_more (λ ws. tail_at policy schemes x (drafted_relation schemes (draft_parts policy schemes (parts_of x) ws.0 b)) ws.1 >>= λ q. done (ordered x ws.0 q.0) q.1)
         (form_again (parts_read policy schemes is_policy are_schemes (parts_of x) d b ts m (parts_known b b e.command fits.command) (parts_fit b e.command fits.command) (tail_no_comma e.command ts tells) t))
-        (λ p m2 put t2. gets_is _
-        (tail_at policy schemes x (drafted_relation schemes (Ok (filled (parts_of x) d b))) m2 >>= λ q. done (event_from x (Ok (filled (parts_of x) d b)) q.0) q.1) m2 (λ y. y ≡ Ok e) []
-        (ap (λ (looked : Looked). tail_at policy schemes x (drafted_relation schemes looked) m2 >>= λ q. done (event_from x looked q.0) q.1) put)
-        (gets_more (λ q. done (event_from x (Ok (filled (parts_of x) d b)) q.0) q.1)
+        (λ ws m2 put t2. gets_is _
+        (tail_at policy schemes x (drafted_relation schemes (Ok (filled (parts_of x) d b))) m2 >>= λ q. done (ordered x ws q.0) q.1) m2 (λ o. told_by policy schemes (Ok b) o ≡ Ok e) []
+        (ap (λ (z : Drafted). tail_at policy schemes x (drafted_relation schemes z) m2 >>= λ q. done (ordered x ws q.0) q.1) put)
+        (gets_more (λ q. done (ordered x ws q.0) q.1)
         (tail_read b e.command ts m2 fits.command tells t2)
-        (λ q m3 asked t3. gets_done (event_from x (Ok (filled (parts_of x) d b)) q) m3 (λ y. y ≡ Ok e) []
-        (ap (event_from x (Ok (filled (parts_of x) d b))) asked ∙ ap (λ (z : Event). Ok z) (event_again e.level e.session e.command)) t3)))))
+        (λ q m3 asked t3. gets_done (ordered x ws q) m3 (λ o. told_by policy schemes (Ok b) o ≡ Ok e) []
+        (ap (λ (z : Drafted). event_from policy x z q) put ∙ ap (λ r. r >>= λ q. Ok (event_of x (filled (parts_of x) d b) q)) asked ∙ ap (λ (z : Event). Ok z) (event_again e.level e.session e.command)) t3)))))
 
     sentence_again : (e : Event) (ts : List Token) (l : Left) → EventFits policy schemes e → TellsTail policy schemes e.command ts → without_places l.placed ≡ event_tokens policy schemes e ++ ts
-        → l.stop.cause ≡ causes.Expected → sentence_at policy schemes l ≡ Ok (Ok e)
-    unfolding sentence_at
+        → l.stop.cause ≡ causes.Expected → (s : Sentence) × (sentence_at policy schemes l ≡ Ok s) × (event_told policy schemes s ≡ Ok e)
+    unfolding sentence_at event_told
     sentence_again e ts l fits tells tokens stop =
         let b = begun e.level e.session in
-        let d = draft_of b e.command in
         let behind = behind_heads e ++ ts in
-        let front = form_again (parts_read policy schemes is_policy are_schemes (Level ∷ Session ∷ []) b blank behind l (tt, (tt, tt)) (fits.level, (fits.session, tt)) refl
-        (tokens ∙ append_assoc (heads e) (behind_heads e) ts ∙ ap (λ ts. ts ++ behind) (front_same e.level e.session e.command))) in
-        let command = command_again e ts front.rest fits tells front.tokens in
-        let over : has_ended command.rest ≡ true = over_again command.rest.placed command.rest.stop command.tokens (ap (λ (s : TokenFault). s.cause) (command.stop ∙ front.stop) ∙ stop) in
-        let end : pass_end command.rest ≡ Ok tt = rw over refl in
-        ap (λ r. r >>= λ (front : Looked × Left). ended (command_at policy schemes front.0 front.1)) front.is
-        ∙ ap (λ looked. ended (command_at policy schemes looked front.rest)) front.holds
-        ∙ ap ended command.is
-        ∙ ap (λ r. form_of r >>= λ (u : Unit {0}). Ok command.value) end
-        ∙ ap (λ (r : Result Event LineFault). Ok r) command.holds
+        let front = form_again (parts_read policy schemes is_policy are_schemes heads b blank behind l (tt, (tt, tt)) (fits.level, (fits.session, tt)) refl
+        (tokens ∙ append_assoc (head_tokens e) (behind_heads e) ts ∙ ap (λ ts. ts ++ behind) (front_same e.level e.session e.command))) in
+        let order = order_again e ts front.rest fits tells front.tokens in
+        let over : has_ended order.rest ≡ true = over_again order.rest.placed order.rest.stop order.tokens (ap (λ (s : TokenFault). s.cause) (order.stop ∙ front.stop) ∙ stop) in
+        let end : pass_end order.rest ≡ Ok tt = rw over refl in (
+          record { front = front.value; order = order.value },
+          ap (λ r. r >>= λ (front : AllWritten heads × Left). closed front.0 (order_at policy schemes (draft_parts policy schemes heads front.0 blank) front.1)) front.is
+              ∙ ap (λ (z : Drafted). closed front.value (order_at policy schemes z front.rest)) front.holds
+              ∙ ap (closed front.value) order.is
+              ∙ ap (λ r. form_of r >>= λ (u : Unit {0}). Ok (record { front = front.value; order = order.value })) end,
+          ap (λ (z : Drafted). told_by policy schemes z order.value) front.holds ∙ order.holds,
+        )
 
     line_again : (line : List ℕ) (o : Option Event) → Tells policy schemes line o → line_at policy schemes line true ≡ Ok o
     unfolding line_at
     line_again line None h =
         let t = (tokens_exact line []).1 h in
         let over : has_ended (tokens_at line) ≡ true = over_again (tokens_at line).placed (tokens_at line).stop t.0 t.1 in
-        let told : told_at policy schemes (tokens_at line) ≡ Ok None = rw over refl in
-        ap (λ r. r >>= λ told. event_in told) told
+        let form : form_at policy schemes (tokens_at line) ≡ Ok None = rw over refl in
+        ap (λ r. r >>= λ s. event_in policy schemes s) form
     line_again line (Some e) h =
         let t = (tokens_exact line (event_tokens policy schemes e ++ h.tail)).1 h.tokens in
-        let first = t.0 ∙ append_assoc (heads e) (behind_heads e) h.tail ∙ ap (λ ts. ts ++ (behind_heads e ++ h.tail)) (front_same e.level e.session e.command) in
+        let first = t.0 ∙ append_assoc (head_tokens e) (behind_heads e) h.tail ∙ ap (λ ts. ts ++ (behind_heads e ++ h.tail)) (front_same e.level e.session e.command) in
         let more : has_ended (tokens_at line) ≡ false = not_over (tokens_at line).placed (tokens_at line).stop _ _ first in
-        let told : told_at policy schemes (tokens_at line) ≡ Ok (Some (Ok e)) = rw more (ap (λ r. r >>= λ x. Ok (Some x)) (sentence_again e h.tail (tokens_at line) h.fits h.query t.0 t.1)) in
-        ap (λ r. r >>= λ told. event_in told) told
+        let s = sentence_again e h.tail (tokens_at line) h.fits h.query t.0 t.1 in
+        let form : form_at policy schemes (tokens_at line) ≡ Ok (Some s.0) = rw more (ap (λ r. r >>= λ x. Ok (Some x)) s.1) in
+        ap (λ r. r >>= λ s. event_in policy schemes s) form ∙ ap (λ r. r >>= λ (e : Event). Ok (Some e)) s.2
 
     -- ---- all lines
 

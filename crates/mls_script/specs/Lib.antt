@@ -7,5 +7,6 @@ pub mod Tokens
 pub mod QueryTokens
 pub mod ReadQuery
 pub mod Reading
+pub mod OnePass
 pub mod Script
 pub mod Writing

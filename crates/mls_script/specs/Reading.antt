@@ -1,5 +1,5 @@
 -- What a script says, or its first fault: line by line, on a line first its form, then its names and kinds.
-use Rattle.std.specs.Prelude.{◌≡◌, ℕ, zero, suc, ◌+◌, Bool, true, false, ◌==◌, nat_eq, nat_lt, if◌then◌else◌, List, [], ◌∷◌, ◌++◌, map, length, drop, slice_index_or, codes, Option, Some, None, option_map, option_to_list, Result, Ok, Err}
+use Rattle.std.specs.Prelude.{◌≡◌, ℕ, zero, suc, ◌+◌, Bool, true, false, ◌==◌, nat_eq, nat_lt, if◌then◌else◌, List, [], ◌∷◌, ◌++◌, map, length, drop, slice_index_or, codes, Option, Some, None, option_map, option_to_list, Result, Ok, Err, ⊤}
 use Rattle.std.specs.List.{position, slice_get, list_any}
 use Rattle.std.specs.Str.{bytes_eq}
 use Rattle.mls_lattice.specs.Policy.{Name, Policy}
@@ -16,7 +16,6 @@ use Rattle.mls_tokens.specs.declared.token.Placed.{Placed}
 use Rattle.mls_tokens.specs.declared.sign.Sign.TheVariants.{LeftParen, RightParen, Comma, Equals}
 use Rattle.mls_tokens.specs.Scanning.{Left, fault_at, tokens_at}
 use Rattle.mls_tokens.specs.Passing.{left, refused, is_word, is_sign, taken, pass, PlacedName, pass_name, has_ended, pass_end}
-use Rattle.mls_queries.specs.declared.query.Query.{Query}
 use Rattle.mls_script.specs.declared.event.Event.{Event}
 use Rattle.mls_script.specs.declared.fault.ScriptCause.TheVariants.{UnknownName, Kind, Repeated, Memory, Unterminated}
 use Rattle.mls_script.specs.declared.fault.LineFault.{LineFault}
@@ -25,12 +24,13 @@ use Rattle.mls_script.specs.declared.draft.Draft.{Draft}
 use Rattle.mls_script.specs.declared.grammar.Verb.{Verb}
 use Rattle.mls_script.specs.declared.grammar.Part.{Part}
 use Rattle.mls_script.specs.declared.grammar.Part.TheVariants as parts
+use Rattle.mls_script.specs.declared.query.Asked.{Asked}
 use Rattle.mls_script.specs.declared.lists.Listed.{Listed}
 use Rattle.mls_script.specs.declared.lists.Setting.{Setting}
 use Rattle.mls_script.specs.Event.{Sets}
 use Rattle.mls_script.specs.Fault.{line_fault, in_line}
 use Rattle.mls_script.specs.Grammar.{verbs, verb_word, parts_of, part_word, blank, event_of}
-use Rattle.mls_script.specs.ReadQuery.{known_or, label_named, form_of, tail_at}
+use Rattle.mls_script.specs.ReadQuery.{form_of, heard, known_or, label_named, query_from, tail_at}
 
 -- ---- values
 
@@ -57,38 +57,105 @@ pass_value l = pass_value_of l.placed l.stop
 
 -- ---- items with a comma between each two
 
-abbrev pub after_item : {A : Type 0} → (A → Left → Result (A × Left) TokenFault) → A → Left → Option (ℕ × Left) → Result (A × Left) TokenFault
-after_item more acc l None = Ok (acc, l)
-after_item more acc l (Some comma) = more acc comma.1
+abbrev pub and_more : {X : Type 0} → (Left → Result (List X × Left) TokenFault) → X → Left → Option (ℕ × Left) → Result (List X × Left) TokenFault
+and_more more x l None = Ok (x ∷ [], l)
+and_more more x l (Some comma) = heard (λ xs. x ∷ xs) (more comma.1)
 
-module _ {X A : Type 0} (item : Left → Result (X × Left) TokenFault) (push : A → X → A) where
+module _ {X : Type 0} (item : Left → Result (X × Left) TokenFault) where
   -- n items at most
-  abbrev pub items_from : ℕ → A → Left → Result (A × Left) TokenFault
-  items_from zero acc l = Err (refused l)
-  items_from (suc n) acc l = item l >>= λ x. after_item (λ a r. items_from n a r) (push acc x.0) x.1 (taken (is_sign Comma) x.1)
+  abbrev pub items_from : ℕ → Left → Result (List X × Left) TokenFault
+  items_from zero l = Err (refused l)
+  items_from (suc n) l = item l >>= λ x. and_more (λ r. items_from n r) x.0 x.1 (taken (is_sign Comma) x.1)
 
   -- no more of them than there are tokens
-  abbrev pub items_at : A → Left → Result (A × Left) TokenFault
-  items_at acc l = items_from (suc (length l.placed)) acc l
+  abbrev pub items_at : Left → Result (List X × Left) TokenFault
+  items_at l = items_from (suc (length l.placed)) l
 
--- ---- lists of values
+-- ---- lists of values, and new values
 
-abbrev pub none_listed : Listed
-none_listed = record { values = []; places = []; end = 0 }
-
-abbrev pub push_value : Listed → PlacedValue → Listed
-push_value l v = record l { values = l.values ++ v.0 ∷ []; places = l.places ++ v.1 ∷ [] }
+abbrev pub listed : List PlacedValue → Listed
+listed vs = record { values = map (λ v. v.0) vs; places = map (λ v. v.1) vs; end = 0 }
 
 abbrev pub values_at : Left → Result (Listed × Left) TokenFault
-values_at = items_at pass_value push_value none_listed
+values_at l = heard listed (items_at pass_value l)
 
 -- up to the end of the list
 abbrev pub list_behind : Left → Option (ℕ × Left) → Result (Listed × Left) TokenFault
-list_behind l (Some end) = Ok (record none_listed { end = end.0 }, end.1)
+list_behind l (Some end) = Ok (record (listed []) { end = end.0 }, end.1)
 list_behind l None = values_at l >>= λ vs. pass (is_sign RightParen) vs.1 >>= λ end. Ok (record vs.0 { end = end.0 }, end.1)
 
 unfoldable pub pass_list : Left → Result (Listed × Left) TokenFault
 pass_list l = pass (is_sign LeftParen) l >>= λ x. list_behind x.1 (taken (is_sign RightParen) x.1)
+
+unfoldable pub pass_setting : Left → Result (Setting × Left) TokenFault
+pass_setting l =
+    pass_name l >>= λ n. pass (is_sign Equals) n.1 >>= λ e. pass_value e.1
+    >>= λ v. Ok (record { name = n.0.0; name_at = n.0.1; value = v.0.0; value_at = v.0.1 }, v.1)
+
+-- ---- the form of a line
+
+-- what a part says: a name, a list or new values, with their places
+abbrev pub Written : Part → Type 0
+Written parts.Key = Listed
+Written parts.Values = Listed
+Written parts.Arguments = Listed
+Written parts.Sets = List Setting
+Written _ = PlacedName
+
+-- behind its word
+unfoldable pub written_at : (p : Part) → Left → Result (Written p × Left) TokenFault
+written_at parts.Level l = pass_name l
+written_at parts.Session l = pass_name l
+written_at parts.Name l = pass_name l
+written_at parts.Relation l = pass_name l
+written_at parts.Key l = pass_list l
+written_at parts.Values l = pass_list l
+written_at parts.Arguments l = pass_list l
+written_at parts.At l = pass_name l
+written_at parts.Class l = pass_name l
+written_at parts.From l = pass_name l
+written_at parts.Sets l = items_at pass_setting l
+
+abbrev pub pass_word : Option Name → Left → Result Left TokenFault
+pass_word None l = Ok l
+pass_word (Some w) l = pass (is_word w) l >>= λ x. Ok x.1
+
+abbrev pub part_at : (p : Part) → Left → Result (Written p × Left) TokenFault
+part_at p l = pass_word (part_word p) l >>= λ r. written_at p r
+
+-- what parts say, in order
+abbrev pub AllWritten : List Part → Type 0
+AllWritten [] = ⊤
+AllWritten (p ∷ ps) = Written p × AllWritten ps
+
+abbrev pub parts_at : (ps : List Part) → Left → Result (AllWritten ps × Left) TokenFault
+parts_at [] l = Ok (tt, l)
+parts_at (p ∷ ps) l = part_at p l >>= λ x. heard (λ xs. (x.0, xs)) (parts_at ps x.1)
+
+abbrev pub verb_or : (Left → Result (Verb × Left) TokenFault) → Left → Verb → Option (ℕ × Left) → Result (Verb × Left) TokenFault
+verb_or next l v (Some x) = Ok (v, x.1)
+verb_or next l v None = next l
+
+-- the first of some verbs that is next
+abbrev pub verb_among : List Verb → Left → Result (Verb × Left) TokenFault
+verb_among [] l = Err (refused l)
+verb_among (v ∷ vs) l = verb_or (λ r. verb_among vs r) l v (taken (is_word (verb_word v)) l)
+
+pub record Order : Type 0 where
+  pub verb : Verb
+  pub parts : AllWritten (parts_of verb)
+  pub asked : Asked
+
+-- what a line begins with
+abbrev pub heads : List Part
+heads = parts.Level ∷ parts.Session ∷ []
+
+-- a line that is not blank, as it stands
+pub record Sentence : Type 0 where
+  pub front : AllWritten heads
+  pub order : Order
+
+-- ---- names and kinds, one by one
 
 -- where values do not fit attributes: at the first of the wrong kind, else at the end of a list of the wrong length
 abbrev pub misfit : List Attribute → List (Option Value) → List ℕ → ℕ → Option ℕ
@@ -105,22 +172,8 @@ abbrev pub held : Option (List Attribute) → Listed → Result (List (Option Va
 held None l = Err (line_fault l.end Kind)
 held (Some attributes) l = fit_or l (misfit attributes l.values l.places l.end)
 
--- the answer whether values fit tells what is held
-abbrev pub Holds : Result (Unit {0}) LineFault → Result (List (Option Value)) LineFault → Listed → Type 0
-Holds (Ok u) found l = found ≡ Ok l.values
-Holds (Err e) found l = found ≡ Err e
-
--- ---- names
-
 abbrev pub relation_named : Schemes → PlacedName → Result ℕ LineFault
 relation_named schemes name = known_or name.1 (position (λ s. bytes_eq s.name name.0) schemes)
-
--- ---- new values
-
-unfoldable pub pass_setting : Left → Result (Setting × Left) TokenFault
-pass_setting l =
-    pass_name l >>= λ n. pass (is_sign Equals) n.1 >>= λ e. pass_value e.1
-    >>= λ v. Ok (record { name = n.0.0; name_at = n.0.1; value = v.0.0; value_at = v.0.1 }, v.1)
 
 abbrev pub new_or : Sets → Setting → ℕ → Result ℕ LineFault
 new_or sets s n = if list_any (nat_eq n) (map (λ x. x.0) sets) then Err (line_fault s.name_at Repeated) else Ok n
@@ -140,150 +193,84 @@ abbrev pub set_in : Option Scheme → Sets → Setting → Result (ℕ × Option
 set_in None sets s = Err (line_fault s.name_at UnknownName)
 set_in (Some scheme) sets s = set_at scheme sets s
 
-abbrev pub push_set : Option Scheme → Result Sets LineFault → Setting → Result Sets LineFault
-push_set scheme looked s = looked >>= λ sets. set_in scheme sets s >>= λ x. Ok (sets ++ x ∷ [])
+-- behind these new values
+abbrev pub sets_from : Option Scheme → Sets → List Setting → Result Sets LineFault
+sets_from scheme sets [] = Ok sets
+sets_from scheme sets (s ∷ ss) = set_in scheme sets s >>= λ x. sets_from scheme (sets ++ x ∷ []) ss
 
-unfoldable pub pass_sets : Option Scheme → Left → Result (Result Sets LineFault × Left) TokenFault
-pass_sets scheme l = items_at pass_setting (push_set scheme) (Ok []) l
+-- ---- names and kinds of a line
 
--- ---- the parts of a line
-
--- what the parts up to here say; or the first unknown name, wrong kind or repeated name
-abbrev pub Looked : Type 0
-Looked = Result Draft LineFault
-
-abbrev pub put_label : Part → Draft → ℕ → Draft
-put_label parts.Level d n = record d { level = n }
-put_label parts.From d n = record d { from = n }
-put_label p d n = record d { label = n }
-
-abbrev pub put_name : Part → Draft → Name → Draft
-put_name parts.Session d s = record d { session = s }
-put_name p d s = record d { name = s }
-
-abbrev pub put_values : Part → Draft → List (Option Value) → Draft
-put_values parts.Key d vs = record d { key = vs }
-put_values p d vs = record d { values = vs }
-
-abbrev pub attributes_of : Part → Scheme → List Attribute
-attributes_of parts.Key scheme = scheme.keys
-attributes_of p scheme = scheme.others
-
-abbrev pub with_label : Part → Looked → Result ℕ LineFault → Looked
-with_label p looked found = looked >>= λ d. found >>= λ n. Ok (put_label p d n)
-
-abbrev pub with_name : Part → Looked → Name → Looked
-with_name p looked s = looked >>= λ d. Ok (put_name p d s)
-
-abbrev pub with_relation : Looked → Result ℕ LineFault → Looked
-with_relation looked found = looked >>= λ d. found >>= λ n. Ok (record d { relation = n })
-
-abbrev pub with_sets : Looked → Result Sets LineFault → Looked
-with_sets looked found = looked >>= λ d. found >>= λ s. Ok (record d { sets = s })
-
-abbrev pub with_values : Schemes → Part → Looked → Listed → Looked
-with_values schemes p looked l = looked >>= λ d. held (option_map (attributes_of p) (slice_get schemes d.relation)) l >>= λ vs. Ok (put_values p d vs)
-
-abbrev pub with_arguments : Looked → List (Option Value) → Looked
-with_arguments looked vs = looked >>= λ d. Ok (record d { values = vs })
-
-abbrev pub drafted_scheme : Schemes → Looked → Option Scheme
-drafted_scheme schemes (Ok d) = slice_get schemes d.relation
-drafted_scheme schemes (Err e) = None
-
-abbrev pub label_at : Policy → Part → Looked → Left → Result (Looked × Left) TokenFault
-label_at policy p looked l = pass_name l >>= λ n. Ok (with_label p looked (label_named policy n.0), n.1)
-
-abbrev pub name_at : Part → Looked → Left → Result (Looked × Left) TokenFault
-name_at p looked l = pass_name l >>= λ n. Ok (with_name p looked n.0.0, n.1)
-
-abbrev pub relation_at : Schemes → Looked → Left → Result (Looked × Left) TokenFault
-relation_at schemes looked l = pass_name l >>= λ n. Ok (with_relation looked (relation_named schemes n.0), n.1)
-
-abbrev pub list_at : Schemes → Part → Looked → Left → Result (Looked × Left) TokenFault
-list_at schemes p looked l = pass_list l >>= λ vs. Ok (with_values schemes p looked vs.0, vs.1)
-
-abbrev pub arguments_at : Looked → Left → Result (Looked × Left) TokenFault
-arguments_at looked l = pass_list l >>= λ vs. Ok (with_arguments looked vs.0.values, vs.1)
-
-abbrev pub sets_at : Schemes → Looked → Left → Result (Looked × Left) TokenFault
-sets_at schemes looked l = pass_sets (drafted_scheme schemes looked) l >>= λ s. Ok (with_sets looked s.0, s.1)
-
-abbrev pub pass_word : Option Name → Left → Result Left TokenFault
-pass_word None l = Ok l
-pass_word (Some w) l = pass (is_word w) l >>= λ x. Ok x.1
-
-abbrev pub verb_or : (Left → Result (Verb × Left) TokenFault) → Left → Verb → Option (ℕ × Left) → Result (Verb × Left) TokenFault
-verb_or next l v (Some x) = Ok (v, x.1)
-verb_or next l v None = next l
-
--- the first of some verbs that is next
-abbrev pub verb_among : List Verb → Left → Result (Verb × Left) TokenFault
-verb_among [] l = Err (refused l)
-verb_among (v ∷ vs) l = verb_or (λ r. verb_among vs r) l v (taken (is_word (verb_word v)) l)
+-- what the parts up to here say, or their first fault
+abbrev pub Drafted : Type 0
+Drafted = Result Draft LineFault
 
 -- the number of the relation that the parts name, if there is one and they had no fault
-abbrev pub drafted_relation : Schemes → Looked → Option ℕ
+abbrev pub drafted_relation : Schemes → Drafted → Option ℕ
 drafted_relation schemes (Ok d) = if nat_lt d.relation (length schemes) then Some d.relation else None
 drafted_relation schemes (Err e) = None
 
 -- the event of a verb, if what its parts and its query say has no fault
-abbrev pub event_from : Verb → Looked → Result Query LineFault → Result Event LineFault
-event_from v looked asked = looked >>= λ d. asked >>= λ q. Ok (event_of v d q)
+abbrev pub event_from : Policy → Verb → Drafted → Asked → Result Event LineFault
+event_from policy v drafted asked = drafted >>= λ d. query_from policy asked >>= λ q. Ok (event_of v d q)
 
 -- ---- a line in a script
-
-abbrev pub event_in : Option (Result Event LineFault) → Result (Option Event) LineFault
-event_in None = Ok None
-event_in (Some r) = r >>= λ e. Ok (Some e)
 
 abbrev pub in_script : {X : Type 0} → ℕ → Result X LineFault → Result X ScriptFault
 in_script number (Ok x) = Ok x
 in_script number (Err e) = Err (in_line number e)
 
 module _ (policy : Policy) (schemes : Schemes) where
-  -- what a part says, behind its word
-  unfoldable pub content_at : Part → Looked → Left → Result (Looked × Left) TokenFault
-  content_at parts.Level looked l = label_at policy parts.Level looked l
-  content_at parts.Session looked l = name_at parts.Session looked l
-  content_at parts.Name looked l = name_at parts.Name looked l
-  content_at parts.Relation looked l = relation_at schemes looked l
-  content_at parts.Key looked l = list_at schemes parts.Key looked l
-  content_at parts.Values looked l = list_at schemes parts.Values looked l
-  content_at parts.Arguments looked l = arguments_at looked l
-  content_at parts.At looked l = label_at policy parts.At looked l
-  content_at parts.Class looked l = label_at policy parts.Class looked l
-  content_at parts.From looked l = label_at policy parts.From looked l
-  content_at parts.Sets looked l = sets_at schemes looked l
+  unfoldable pub draft_part : (p : Part) → Written p → Draft → Drafted
+  draft_part parts.Level n d = label_named policy n >>= λ l. Ok (record d { level = l })
+  draft_part parts.Session n d = Ok (record d { session = n.0 })
+  draft_part parts.Name n d = Ok (record d { name = n.0 })
+  draft_part parts.Relation n d = relation_named schemes n >>= λ r. Ok (record d { relation = r })
+  draft_part parts.Key l d = held (option_map (λ s. s.keys) (slice_get schemes d.relation)) l >>= λ vs. Ok (record d { key = vs })
+  draft_part parts.Values l d = held (option_map (λ s. s.others) (slice_get schemes d.relation)) l >>= λ vs. Ok (record d { values = vs })
+  draft_part parts.Arguments l d = Ok (record d { values = l.values })
+  draft_part parts.At n d = label_named policy n >>= λ l. Ok (record d { label = l })
+  draft_part parts.Class n d = label_named policy n >>= λ l. Ok (record d { label = l })
+  draft_part parts.From n d = label_named policy n >>= λ l. Ok (record d { from = l })
+  draft_part parts.Sets ss d = sets_from (slice_get schemes d.relation) [] ss >>= λ s. Ok (record d { sets = s })
 
-  abbrev pub part_at : Part → Looked → Left → Result (Looked × Left) TokenFault
-  part_at p looked l = pass_word (part_word p) l >>= λ r. content_at p looked r
-
-  abbrev pub parts_at : List Part → Looked → Left → Result (Looked × Left) TokenFault
-  parts_at [] looked l = Ok (looked, l)
-  parts_at (p ∷ ps) looked l = part_at p looked l >>= λ x. parts_at ps x.0 x.1
+  abbrev pub draft_parts : (ps : List Part) → AllWritten ps → Draft → Drafted
+  draft_parts [] ws d = Ok d
+  draft_parts (p ∷ ps) ws d = draft_part p ws.0 d >>= λ e. draft_parts ps ws.1 e
 
   -- ---- a line
 
-  unfoldable pub command_at : Looked → Left → Result (Result Event LineFault × Left) LineFault
-  command_at looked l =
-      form_of (verb_among verbs l) >>= λ v. form_of (parts_at (parts_of v.0) looked v.1)
-      >>= λ x. tail_at policy schemes v.0 (drafted_relation schemes x.0) x.1 >>= λ q. Ok (event_from v.0 x.0 q.0, q.1)
+  -- its form behind what it begins with; a condition is read on the relation that the parts name
+  unfoldable pub order_at : Drafted → Left → Result (Order × Left) LineFault
+  order_at front l =
+      form_of (verb_among verbs l) >>= λ v. form_of (parts_at (parts_of v.0) v.1)
+      >>= λ ws. tail_at policy schemes v.0 (drafted_relation schemes (front >>= λ d. draft_parts (parts_of v.0) ws.0 d)) ws.1
+      >>= λ q. Ok (record { verb = v.0; parts = ws.0; asked = q.0 }, q.1)
 
-  -- the event, or the first fault of its names and kinds
-  unfoldable pub sentence_at : Left → Result (Result Event LineFault) LineFault
+  -- its form
+  unfoldable pub sentence_at : Left → Result Sentence LineFault
   sentence_at l =
-      form_of (parts_at (parts.Level ∷ parts.Session ∷ []) (Ok blank) l)
-      >>= λ front. command_at front.0 front.1 >>= λ x. form_of (pass_end x.1) >>= λ _. Ok x.0
+      form_of (parts_at heads l) >>= λ front. order_at (draft_parts heads front.0 blank) front.1
+      >>= λ order. form_of (pass_end order.1) >>= λ _. Ok (record { front = front.0; order = order.0 })
+
+  abbrev pub told_by : Drafted → Order → Result Event LineFault
+  told_by front o = event_from policy o.verb (front >>= λ d. draft_parts (parts_of o.verb) o.parts d) o.asked
+
+  -- its names and kinds: the event, or the first fault of them
+  unfoldable pub event_told : Sentence → Result Event LineFault
+  event_told s = told_by (draft_parts heads s.front blank) s.order
 
   -- nothing, where the line is blank
-  abbrev pub told_at : Left → Result (Option (Result Event LineFault)) LineFault
-  told_at l = if has_ended l then Ok None else (sentence_at l >>= λ x. Ok (Some x))
+  abbrev pub form_at : Left → Result (Option Sentence) LineFault
+  form_at l = if has_ended l then Ok None else (sentence_at l >>= λ s. Ok (Some s))
 
-  -- a line without its end is a fault between the two passes
+  abbrev pub event_in : Option Sentence → Result (Option Event) LineFault
+  event_in None = Ok None
+  event_in (Some s) = event_told s >>= λ e. Ok (Some e)
+
+  -- first the form, then whether the line has its end, then names and kinds
   unfoldable pub line_at : List ℕ → Bool → Result (Option Event) LineFault
   line_at line ended =
-      told_at (tokens_at line) >>= λ told. if ended then event_in told else Err (line_fault (length line + 1) Unterminated)
+      form_at (tokens_at line) >>= λ s. if ended then event_in s else Err (line_fault (length line + 1) Unterminated)
 
   -- ---- all lines
 

@@ -6,7 +6,7 @@ use crate::event::{Command, Event};
 use crate::grammar::Verb;
 use mls_lattice::{Items, LabelNo, Str};
 use mls_queries::Query;
-use mls_scheme::{RelNo, Value, Write};
+use mls_scheme::{RelNo, Value};
 use std::alloc::Global;
 
 /// What the parts of a line say; what no part says is blank. It is set part by part, in its place: one that
@@ -61,39 +61,16 @@ impl Draft {
             Verb::Open => Command::Open(name),
             Verb::Close => Command::Close,
             Verb::Audit => Command::Audit,
-            Verb::View => Command::View {
+            Verb::View | Verb::Count => Command::View {
                 relation,
                 label,
                 query,
-                counts: false,
-            },
-            Verb::Count => Command::View {
-                relation,
-                label,
-                query,
-                counts: true,
+                counts: matches!(verb, Verb::Count),
             },
             Verb::Dump => Command::Dump { relation },
-            Verb::Insert => Command::Write {
-                relation,
-                write: Write::Insert { key, values },
-            },
-            Verb::Update => Command::Write {
-                relation,
-                write: Write::Update {
-                    key,
-                    key_class: label,
-                    from,
-                    sets,
-                },
-            },
-            Verb::Delete => Command::Write {
-                relation,
-                write: Write::Delete {
-                    key,
-                    key_class: label,
-                },
-            },
+            Verb::Insert => Command::insert(relation, key, values),
+            Verb::Update => Command::update(relation, key, label, from, sets),
+            Verb::Delete => Command::delete(relation, key, label),
             Verb::Call => Command::Call {
                 tx: name,
                 args: values,

@@ -1,4 +1,8 @@
 //! What sessions do.
+ghost use Rattle.std.specs.Prelude.{◌≡◌};
+ghost use Rattle.mls_script.specs.declared.event.Command.TheVariants as commands;
+ghost use Rattle.mls_scheme.specs.declared.write.Write.TheVariants as writes;
+
 use mls_lattice::{Items, LabelNo, Str};
 use mls_queries::Query;
 use mls_scheme::{RelNo, Value, Write};
@@ -44,4 +48,48 @@ pub enum Command {
         tx: Str,
         args: Items<Option<Value>>,
     },
+}
+
+/// The new values of an update: numbers of attributes outside the key, and what they get.
+type Sets = Items<(usize, Option<Value>)>;
+
+impl Command {
+    /// Writes a new tuple.
+    pub(crate) fn insert(
+        relation: RelNo,
+        key: Items<Option<Value>>,
+        values: Items<Option<Value>>,
+    ) -> Command
+        ensures { result ≡ commands.Write relation (writes.Insert key values) }
+    {
+        let write = Write::Insert { key, values };
+        Command::Write { relation, write }
+    }
+
+    /// Gives a tuple new values.
+    pub(crate) fn update(
+        relation: RelNo,
+        key: Items<Option<Value>>,
+        key_class: LabelNo,
+        from: LabelNo,
+        sets: Sets,
+    ) -> Command
+        ensures { result ≡ commands.Write relation (writes.Update key key_class from sets) }
+    {
+        let write = Write::Update {
+            key,
+            key_class,
+            from,
+            sets,
+        };
+        Command::Write { relation, write }
+    }
+
+    /// Removes a tuple.
+    pub(crate) fn delete(relation: RelNo, key: Items<Option<Value>>, key_class: LabelNo) -> Command
+        ensures { result ≡ commands.Write relation (writes.Delete key key_class) }
+    {
+        let write = Write::Delete { key, key_class };
+        Command::Write { relation, write }
+    }
 }

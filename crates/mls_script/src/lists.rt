@@ -1,8 +1,10 @@
 //! Lists of values, and new values.
-ghost use Rattle.std.specs.Prelude.{◌≡◌, ◌<◌, length, IfOk, IfErr, option_map};
+ghost use Rattle.std.specs.Prelude.{◌≡◌, ◌<◌, [], length, IfOk, IfErr, option_map};
 ghost use Rattle.mls_tokens.specs.declared.fault.TokenCause.TheVariants.{Memory};
 ghost use Rattle.mls_tokens.specs.Scanning.{Reads};
-ghost use Rattle.mls_script.specs.Reading.{value_of_token, pass_value, none_listed, push_value, values_at, pass_list, pass_setting, push_set, pass_sets};
+ghost use Rattle.mls_script.specs.ReadQuery.{heard};
+ghost use Rattle.mls_script.specs.Reading.{value_of_token, pass_value, items_at, listed, values_at, pass_list, pass_setting, sets_from};
+ghost use Rattle.mls_script.specs.OnePass.{push_value, push_set};
 
 use crate::fault::LineFault;
 use crate::lookup::set_of;
@@ -88,7 +90,7 @@ fn push_value(listed: Listed, value: Option<Value>, at: usize) -> Result<Listed,
 }
 
 fn none_listed(alloc: Global) -> Listed
-    ensures { result ≡ none_listed }
+    ensures { result ≡ listed [] }
 {
     Listed {
         values: Items::from(Vec::new(alloc)),
@@ -169,13 +171,14 @@ fn push_set(
 }
 
 /// Passes new values, one or more with a comma between each two.
-#[tactic(auto, using(crate::proofs::ItemSteps::item_steps), unfolding(crate::specs::Reading::pass_sets))]
+#[tactic(auto, using(crate::proofs::ItemSteps::item_steps))]
 pub(crate) fn new_sets(
     alloc: Global,
     scheme: Option<&Scheme>,
     tokens: &mut Tokens,
 ) -> Result<Result<Sets, LineFault>, TokenFault>
-    ensures { Reads (λ x. (x, tokens.new)) result (pass_sets (option_map (λ s. s.now) scheme.entry) tokens.old) }
+    ensures { Reads (λ x. (x, tokens.new)) result
+        (heard (sets_from (option_map (λ s. s.now) scheme.entry) []) (items_at pass_setting tokens.old)) }
 {
     let mut looked = Ok(Items::from(Vec::new(alloc)));
     loop {

@@ -1,8 +1,10 @@
 //! The second pass: names and values, held against policy and schemes.
-ghost use Rattle.std.specs.Prelude.{◌≡◌, ◌<◌, length, nat_eq, map, option_map, slice_index_or, IfOk, IfSome};
+ghost use Rattle.std.specs.Prelude.{◌≡◌, ◌<◌, length, nat_eq, map, option_map, slice_index_or, Ok, IfOk, IfSome};
 ghost use Rattle.std.specs.List.{list_any, slice_get};
-ghost use Rattle.mls_script.specs.ReadQuery.{label_named};
-ghost use Rattle.mls_script.specs.Reading.{misfit, held, Holds, attributes_of, drafted_relation, relation_named, place_at, set_at, set_in, with_arguments, with_label, with_name, with_relation, with_sets, with_values, drafted_scheme};
+ghost use Rattle.mls_script.specs.declared.grammar.Part.TheVariants as parts;
+ghost use Rattle.mls_script.specs.ReadQuery.{onward, label_named};
+ghost use Rattle.mls_script.specs.OnePass.{attributes_of, put_label, put_name, put_values, with_values, Holds, drafted_scheme};
+ghost use Rattle.mls_script.specs.Reading.{misfit, held, drafted_relation, relation_named, place_at, set_at, set_in};
 
 use crate::draft::Draft;
 use crate::fault::{LineFault, ScriptCause};
@@ -140,7 +142,7 @@ fn held(schemes: &Schemes, relation: RelNo, part: Part, listed: &Listed) -> Resu
 
 /// The values of a key or of the other attributes, which have to fit.
 pub(crate) fn put_values(schemes: &Schemes, part: Part, looked: &mut Looked, listed: Listed)
-    ensures { looked.new ≡ with_values schemes.now part looked.old listed }
+    ensures { looked.new ≡ onward (with_values schemes.now part listed) looked.old }
 {
     let Ok(draft) = looked else {
         return;
@@ -156,7 +158,7 @@ pub(crate) fn put_values(schemes: &Schemes, part: Part, looked: &mut Looked, lis
 
 /// Arguments, which are left to the denials.
 pub(crate) fn put_arguments(looked: &mut Looked, values: Items<Option<Value>>)
-    ensures { looked.new ≡ with_arguments looked.old values }
+    ensures { looked.new ≡ onward (λ d. Ok (put_values parts.Arguments d values)) looked.old }
 {
     if let Ok(draft) = looked {
         draft.values = values;
@@ -165,7 +167,7 @@ pub(crate) fn put_arguments(looked: &mut Looked, values: Items<Option<Value>>)
 
 /// A label, in its place in the draft.
 pub(crate) fn put_label(part: Part, looked: &mut Looked, found: Result<LabelNo, LineFault>)
-    ensures { looked.new ≡ with_label part looked.old found }
+    ensures { looked.new ≡ onward (λ d. onward (λ n. Ok (put_label part d n)) found) looked.old }
 {
     let Ok(draft) = looked else {
         return;
@@ -182,7 +184,7 @@ pub(crate) fn put_label(part: Part, looked: &mut Looked, found: Result<LabelNo, 
 
 /// The name of a session, a user or a transaction: users and transactions are left to the denials.
 pub(crate) fn put_name(part: Part, looked: &mut Looked, name: Str)
-    ensures { looked.new ≡ with_name part looked.old name }
+    ensures { looked.new ≡ onward (λ d. Ok (put_name part d name)) looked.old }
 {
     if let Ok(draft) = looked {
         match part {
@@ -194,7 +196,7 @@ pub(crate) fn put_name(part: Part, looked: &mut Looked, name: Str)
 
 /// A relation.
 pub(crate) fn put_relation(looked: &mut Looked, found: Result<RelNo, LineFault>)
-    ensures { looked.new ≡ with_relation looked.old found }
+    ensures { looked.new ≡ onward (λ d. onward (λ n. Ok (record d { relation = n })) found) looked.old }
 {
     let Ok(draft) = looked else {
         return;
@@ -207,7 +209,7 @@ pub(crate) fn put_relation(looked: &mut Looked, found: Result<RelNo, LineFault>)
 
 /// New values.
 pub(crate) fn put_sets(looked: &mut Looked, found: Result<Sets, LineFault>)
-    ensures { looked.new ≡ with_sets looked.old found }
+    ensures { looked.new ≡ onward (λ d. onward (λ s. Ok (record d { sets = s })) found) looked.old }
 {
     let Ok(draft) = looked else {
         return;

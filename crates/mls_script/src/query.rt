@@ -4,18 +4,36 @@ ghost use Rattle.std.specs.Prelude.{◌≡◌, ◌<◌, length, option_map, IfSo
 ghost use Rattle.std.specs.Option.{unwrap_or};
 ghost use Rattle.mls_tokens.specs.Scanning.{Reads};
 ghost use Rattle.mls_script.specs.QueryTokens.{comparison_sign};
-ghost use Rattle.mls_script.specs.ReadQuery.{Gives, comparison_among, class_at, pass_number, count_or, first_at, test_of, where_at, query_from, query_at, tail_at};
+ghost use Rattle.mls_script.specs.ReadQuery.{Gives, comparison_among, class_at, pass_number, first_at, where_at, nothing_asked, query_at, tail_at, class_from, first_from, test_from, query_from};
 
 use crate::fault::{LineFault, ScriptCause};
 use crate::grammar::Verb;
 use crate::lookup::label_named;
-use mls_lattice::Policy;
+use mls_lattice::{Policy, Str};
 use mls_parser::PlacedFault;
 use mls_queries::{ClassTest, Comparison, Query};
 use mls_scheme::{RelNo, Schemes};
 use mls_tokens::{Sign, Token, TokenCause, TokenFault, Tokens};
 use mls_translang::Expr;
 use std::alloc::Global;
+
+/// The comparison and the label of a test of classes, as they stand.
+#[derive(Drop)]
+pub(crate) struct PlacedClass {
+    pub comparison: Comparison,
+    pub name: Str,
+    pub at: usize,
+}
+
+/// What is asked of the rows of a view, as it stands.
+#[derive(Drop)]
+pub(crate) struct Asked {
+    pub highest: bool,
+    pub class: Option<PlacedClass>,
+    pub first: Option<(i64, usize)>,
+    /// The condition, or the first fault of its names and kinds.
+    pub test: Option<Result<Expr, PlacedFault>>,
+}
 
 /// Every comparison.
 static COMPARISONS: [Comparison; 6] = [
@@ -58,21 +76,19 @@ fn comparison_among(
 
 /// Passes a test of classes if its word is next.
 #[tactic(auto, unfolding(crate::specs::ReadQuery::class_at))]
-fn class(
-    policy: &Policy,
-    tokens: &mut Tokens,
-) -> Result<Result<Option<ClassTest>, LineFault>, TokenFault>
-    ensures { Reads (λ c. (c, tokens.new)) result (class_at policy.now tokens.old) }
+fn class(tokens: &mut Tokens) -> Result<Option<PlacedClass>, TokenFault>
+    ensures { Reads (λ c. (c, tokens.new)) result (class_at tokens.old) }
 {
     if tokens.takes_word("class").is_none() {
-        return Ok(Ok(None));
+        return Ok(None);
     }
     let comparison = comparison_among(&COMPARISONS, tokens)?;
     let (name, at) = tokens.name()?;
-    match label_named(policy, &name, at) {
-        Ok(label) => Ok(Ok(Some(ClassTest { comparison, label }))),
-        Err(fault) => Ok(Err(fault)),
-    }
+    Ok(Some(PlacedClass {
+        comparison,
+        name,
+        at,
+    }))
 }
 
 /// Passes a number, and gives it with its place.
@@ -91,30 +107,15 @@ fn number(tokens: &mut Tokens) -> Result<(i64, usize), TokenFault>
     }
 }
 
-/// A number of rows, which is not negative.
-fn count_or(at: usize, number: i64) -> Result<Option<usize>, LineFault>
-    ensures { result ≡ count_or at number }
-{
-    if number >= 0 {
-        Ok(Some(number as usize))
-    } else {
-        Err(LineFault {
-            at,
-            cause: ScriptCause::Kind,
-        })
-    }
-}
-
 /// Passes how many rows are asked for, if the word is next. Rows that are counted are all that are found.
 #[tactic(auto, unfolding(crate::specs::ReadQuery::first_at))]
-fn first(counts: bool, tokens: &mut Tokens) -> Result<Result<Option<usize>, LineFault>, TokenFault>
+fn first(counts: bool, tokens: &mut Tokens) -> Result<Option<(i64, usize)>, TokenFault>
     ensures { Reads (λ f. (f, tokens.new)) result (first_at counts tokens.old) }
 {
     if counts || tokens.takes_word("first").is_none() {
-        return Ok(Ok(None));
+        return Ok(None);
     }
-    let (number, at) = number(tokens)?;
-    Ok(count_or(at, number))
+    Ok(Some(number(tokens)?))
 }
 
 /// The relation, or the first.
@@ -131,19 +132,6 @@ fn known_or_first(schemes: &Schemes, relation: Option<RelNo>) -> RelNo
     }
 }
 
-/// The condition that was read, if the relation is known, or its fault.
-fn test_of(is_known: bool, read: Result<Expr, PlacedFault>) -> Result<Option<Expr>, LineFault>
-    ensures { result ≡ test_of is_known read }
-{
-    if !is_known {
-        return Ok(None);
-    }
-    match read {
-        Ok(test) => Ok(Some(test)),
-        Err(fault) => Err(LineFault::from(fault)),
-    }
-}
-
 /// Passes a condition if its word is next. Where the relation is not known, it is read as one on the first.
 #[tactic(auto, unfolding(crate::specs::ReadQuery::where_at))]
 fn condition(
@@ -152,37 +140,16 @@ fn condition(
     schemes: &Schemes,
     relation: Option<RelNo>,
     tokens: &mut Tokens,
-) -> Result<Result<Option<Expr>, LineFault>, LineFault>
+) -> Result<Option<Result<Expr, PlacedFault>>, LineFault>
     requires { IfSome relation (λ n. n < length schemes.now) }
     ensures { Gives (λ t. (t, tokens.new)) result (where_at policy.now schemes.now relation tokens.old) }
 {
     if tokens.takes_word("where").is_none() {
-        return Ok(Ok(None));
+        return Ok(None);
     }
-    let is_known = relation.is_some();
     let relation = known_or_first(schemes, relation);
     let read = mls_parser::condition(alloc, policy, schemes, relation, tokens)?;
-    Ok(test_of(is_known, read))
-}
-
-/// What a query says, or the fault of its part that stands first.
-fn query_from(
-    highest: bool,
-    class: Result<Option<ClassTest>, LineFault>,
-    first: Result<Option<usize>, LineFault>,
-    test: Result<Option<Expr>, LineFault>,
-) -> Result<Query, LineFault>
-    ensures { result ≡ query_from highest class first test }
-{
-    let class = class?;
-    let first = first?;
-    let test = test?;
-    Ok(Query {
-        highest,
-        class,
-        test,
-        first,
-    })
+    Ok(Some(read))
 }
 
 /// Passes what is asked of the rows of a view.
@@ -194,15 +161,20 @@ fn query(
     counts: bool,
     relation: Option<RelNo>,
     tokens: &mut Tokens,
-) -> Result<Result<Query, LineFault>, LineFault>
+) -> Result<Asked, LineFault>
     requires { IfSome relation (λ n. n < length schemes.now) }
     ensures { Gives (λ q. (q, tokens.new)) result (query_at policy.now schemes.now counts relation tokens.old) }
 {
     let highest = tokens.takes_word("highest").is_some();
-    let class = class(policy, tokens)?;
+    let class = class(tokens)?;
     let first = first(counts, tokens)?;
     let test = condition(alloc, policy, schemes, relation, tokens)?;
-    Ok(query_from(highest, class, first, test))
+    Ok(Asked {
+        highest,
+        class,
+        first,
+        test,
+    })
 }
 
 /// Passes what stands behind the parts of a verb: the query of a view, on a relation that is known or not.
@@ -213,18 +185,81 @@ pub(crate) fn tail(
     verb: Verb,
     relation: Option<RelNo>,
     tokens: &mut Tokens,
-) -> Result<Result<Query, LineFault>, LineFault>
+) -> Result<Asked, LineFault>
     requires { IfSome relation (λ n. n < length schemes.now) }
     ensures { Gives (λ q. (q, tokens.new)) result (tail_at policy.now schemes.now verb relation tokens.old) }
 {
     match verb {
         Verb::View => query(alloc, policy, schemes, false, relation, tokens),
         Verb::Count => query(alloc, policy, schemes, true, relation, tokens),
-        _ => Ok(Ok(Query {
+        _ => Ok(Asked {
             highest: false,
             class: None,
-            test: None,
             first: None,
-        })),
+            test: None,
+        }),
     }
+}
+
+// ---- names and kinds
+
+fn class_from(policy: &Policy, class: Option<PlacedClass>) -> Result<Option<ClassTest>, LineFault>
+    ensures { result ≡ class_from policy.now class }
+{
+    match class {
+        Some(class) => {
+            let label = label_named(policy, &class.name, class.at)?;
+            Ok(Some(ClassTest {
+                comparison: class.comparison,
+                label,
+            }))
+        }
+        None => Ok(None),
+    }
+}
+
+/// A number of rows, which is not negative.
+fn first_from(first: Option<(i64, usize)>) -> Result<Option<usize>, LineFault>
+    ensures { result ≡ first_from first }
+{
+    match first {
+        Some((number, _)) if number >= 0 => Ok(Some(number as usize)),
+        Some((_, at)) => Err(LineFault {
+            at,
+            cause: ScriptCause::Kind,
+        }),
+        None => Ok(None),
+    }
+}
+
+fn test_from(test: Option<Result<Expr, PlacedFault>>) -> Result<Option<Expr>, LineFault>
+    ensures { result ≡ test_from test }
+{
+    match test {
+        Some(Ok(test)) => Ok(Some(test)),
+        Some(Err(fault)) => Err(LineFault::from(fault)),
+        None => Ok(None),
+    }
+}
+
+/// What a query says, or the fault of its part that stands first.
+#[tactic(auto, unfolding(crate::specs::ReadQuery::query_from))]
+pub(crate) fn query_from(policy: &Policy, asked: Asked) -> Result<Query, LineFault>
+    ensures { result ≡ query_from policy.now asked }
+{
+    let Asked {
+        highest,
+        class,
+        first,
+        test,
+    } = asked;
+    let class = class_from(policy, class)?;
+    let first = first_from(first)?;
+    let test = test_from(test)?;
+    Ok(Query {
+        highest,
+        class,
+        test,
+        first,
+    })
 }

@@ -6,7 +6,8 @@ ghost use Rattle.mls_script.specs.declared.fault.ScriptCause.TheVariants.{Memory
 ghost use Rattle.mls_script.specs.Event.{EventFits};
 ghost use Rattle.mls_script.specs.Script.{ReadsScript};
 ghost use Rattle.mls_script.specs.ReadQuery.{Gives};
-ghost use Rattle.mls_script.specs.Reading.{IsRead, line_at, script_at};
+ghost use Rattle.mls_script.specs.Reading.{IsRead, script_at};
+ghost use Rattle.mls_script.specs.OnePass.{line_heard};
 
 use crate::event::Event;
 use crate::fault::{LineFault, ScriptCause, ScriptFault};
@@ -29,7 +30,7 @@ fn split_line(bytes: &[u8]) -> (&[u8], bool, &[u8])
 }
 
 /// What a line tells, or its first fault.
-#[tactic(auto, unfolding(crate::specs::Reading::line_at))]
+#[tactic(auto, unfolding(crate::specs::OnePass::line_heard))]
 fn line_event(
     alloc: Global,
     policy: &Policy,
@@ -37,7 +38,7 @@ fn line_event(
     line: &[u8],
     ended: bool,
 ) -> Result<Option<Event>, LineFault>
-    ensures { Gives (λ e. e) result (line_at policy.now schemes.now line.now ended) }
+    ensures { Gives (λ e. e) result (line_heard policy.now schemes.now line.now ended) }
 {
     let mut tokens = Tokens::new(alloc, line)?;
     let told = told(alloc, policy, schemes, &mut tokens)?;

@@ -1,7 +1,8 @@
 //! A line, part by part: its form, and what its names and values say.
 ghost use Rattle.std.specs.Prelude.{◌≡◌, Ok};
 ghost use Rattle.mls_tokens.specs.Scanning.{Reads};
-ghost use Rattle.mls_script.specs.Reading.{label_at, name_at, relation_at, list_at, arguments_at, sets_at, content_at, pass_word, part_at, parts_at, verb_among, event_from, command_at, sentence_at, told_at};
+ghost use Rattle.mls_script.specs.OnePass.{label_heard, name_heard, relation_heard, list_heard, arguments_heard, sets_heard, content_heard, part_heard, parts_heard, order_heard, sentence_heard, told_heard};
+ghost use Rattle.mls_script.specs.Reading.{pass_word, verb_among, event_from};
 ghost use Rattle.mls_script.specs.ReadQuery.{Gives};
 ghost use Rattle.mls_script.specs.Grammar.{part_word, verbs};
 
@@ -14,9 +15,8 @@ use crate::lookup::{
     Looked, drafted_relation, drafted_scheme, label_named, put_arguments, put_label, put_name,
     put_relation, put_sets, put_values, relation_named,
 };
-use crate::query::tail;
+use crate::query::{Asked, query_from, tail};
 use mls_lattice::Policy;
-use mls_queries::Query;
 use mls_scheme::Schemes;
 use mls_tokens::{TokenFault, Tokens};
 use std::alloc::Global;
@@ -27,7 +27,7 @@ fn label(
     looked: &mut Looked,
     tokens: &mut Tokens,
 ) -> Result<(), TokenFault>
-    ensures { Reads (λ _. (looked.new, tokens.new)) result (label_at policy.now part looked.old tokens.old) }
+    ensures { Reads (λ _. (looked.new, tokens.new)) result (label_heard policy.now part looked.old tokens.old) }
 {
     let (name, at) = tokens.name()?;
     put_label(part, looked, label_named(policy, &name, at));
@@ -35,7 +35,7 @@ fn label(
 }
 
 fn name(part: Part, looked: &mut Looked, tokens: &mut Tokens) -> Result<(), TokenFault>
-    ensures { Reads (λ _. (looked.new, tokens.new)) result (name_at part looked.old tokens.old) }
+    ensures { Reads (λ _. (looked.new, tokens.new)) result (name_heard part looked.old tokens.old) }
 {
     let (name, _) = tokens.name()?;
     put_name(part, looked, name);
@@ -43,7 +43,7 @@ fn name(part: Part, looked: &mut Looked, tokens: &mut Tokens) -> Result<(), Toke
 }
 
 fn relation(schemes: &Schemes, looked: &mut Looked, tokens: &mut Tokens) -> Result<(), TokenFault>
-    ensures { Reads (λ _. (looked.new, tokens.new)) result (relation_at schemes.now looked.old tokens.old) }
+    ensures { Reads (λ _. (looked.new, tokens.new)) result (relation_heard schemes.now looked.old tokens.old) }
 {
     let (name, at) = tokens.name()?;
     put_relation(looked, relation_named(schemes, &name, at));
@@ -57,7 +57,7 @@ fn values(
     looked: &mut Looked,
     tokens: &mut Tokens,
 ) -> Result<(), TokenFault>
-    ensures { Reads (λ _. (looked.new, tokens.new)) result (list_at schemes.now part looked.old tokens.old) }
+    ensures { Reads (λ _. (looked.new, tokens.new)) result (list_heard schemes.now part looked.old tokens.old) }
 {
     let listed = list(alloc, tokens)?;
     put_values(schemes, part, looked, listed);
@@ -65,7 +65,7 @@ fn values(
 }
 
 fn arguments(alloc: Global, looked: &mut Looked, tokens: &mut Tokens) -> Result<(), TokenFault>
-    ensures { Reads (λ _. (looked.new, tokens.new)) result (arguments_at looked.old tokens.old) }
+    ensures { Reads (λ _. (looked.new, tokens.new)) result (arguments_heard looked.old tokens.old) }
 {
     let listed = list(alloc, tokens)?;
     put_arguments(looked, listed.values);
@@ -78,7 +78,7 @@ fn new_values(
     looked: &mut Looked,
     tokens: &mut Tokens,
 ) -> Result<(), TokenFault>
-    ensures { Reads (λ _. (looked.new, tokens.new)) result (sets_at schemes.now looked.old tokens.old) }
+    ensures { Reads (λ _. (looked.new, tokens.new)) result (sets_heard schemes.now looked.old tokens.old) }
 {
     let found = new_sets(alloc, drafted_scheme(schemes, looked), tokens)?;
     put_sets(looked, found);
@@ -86,7 +86,7 @@ fn new_values(
 }
 
 /// What a part says, behind its word.
-#[tactic(auto, unfolding(crate::specs::Reading::content_at))]
+#[tactic(auto, unfolding(crate::specs::OnePass::content_heard))]
 fn content(
     alloc: Global,
     policy: &Policy,
@@ -96,7 +96,7 @@ fn content(
     tokens: &mut Tokens,
 ) -> Result<(), TokenFault>
     ensures { Reads (λ _. (looked.new, tokens.new)) result
-        (content_at policy.now schemes.now part looked.old tokens.old) }
+        (content_heard policy.now schemes.now part looked.old tokens.old) }
 {
     match part {
         Part::Level | Part::At | Part::Class | Part::From => label(policy, part, looked, tokens),
@@ -128,7 +128,8 @@ fn part(
     looked: &mut Looked,
     tokens: &mut Tokens,
 ) -> Result<(), TokenFault>
-    ensures { Reads (λ _. (looked.new, tokens.new)) result (part_at policy.now schemes.now part looked.old tokens.old) }
+    ensures { Reads (λ _. (looked.new, tokens.new)) result
+        (part_heard policy.now schemes.now part looked.old tokens.old) }
 {
     word(part, tokens)?;
     content(alloc, policy, schemes, part, looked, tokens)
@@ -144,7 +145,7 @@ fn parts(
     tokens: &mut Tokens,
 ) -> Result<(), TokenFault>
     ensures { Reads (λ _. (looked.new, tokens.new)) result
-        (parts_at policy.now schemes.now parts.now looked.old tokens.old) }
+        (parts_heard policy.now schemes.now parts.now looked.old tokens.old) }
 {
     for next in parts {
         part(alloc, policy, schemes, *next, looked, tokens)?;
@@ -165,28 +166,25 @@ fn verb_among(verbs: &[Verb], tokens: &mut Tokens) -> Result<Verb, TokenFault>
 }
 
 /// The event of a verb, if what its parts and its query say has no fault.
-fn event_from(
-    verb: Verb,
-    looked: Looked,
-    asked: Result<Query, LineFault>,
-) -> Result<Event, LineFault>
-    ensures { result ≡ event_from verb looked asked }
+fn event_from(policy: &Policy, verb: Verb, looked: Looked, asked: Asked) -> Result<Event, LineFault>
+    ensures { result ≡ event_from policy.now verb looked asked }
 {
     let draft = looked?;
-    Ok(draft.into_event(verb, asked?))
+    let query = query_from(policy, asked)?;
+    Ok(draft.into_event(verb, query))
 }
 
 /// A verb, its parts and what stands behind them.
-#[tactic(auto, unfolding(crate::specs::Reading::command_at))]
-fn command(
+#[tactic(auto, unfolding(crate::specs::OnePass::order_heard))]
+fn order(
     alloc: Global,
     policy: &Policy,
     schemes: &Schemes,
     looked: &mut Looked,
     tokens: &mut Tokens,
-) -> Result<(Verb, Result<Query, LineFault>), LineFault>
-    ensures { Gives (λ x. (event_from x.0 looked.new x.1, tokens.new)) result
-        (command_at policy.now schemes.now looked.old tokens.old) }
+) -> Result<(Verb, Asked), LineFault>
+    ensures { Gives (λ x. (event_from policy.now x.0 looked.new x.1, tokens.new)) result
+        (order_heard policy.now schemes.now looked.old tokens.old) }
 {
     let verb = verb_among(&VERBS, tokens)?;
     parts(alloc, policy, schemes, verb.parts(), looked, tokens)?;
@@ -195,22 +193,22 @@ fn command(
     Ok((verb, asked))
 }
 
-/// The event of a line that is not blank; or the first fault of its names and kinds.
-#[tactic(auto, unfolding(crate::specs::Reading::sentence_at))]
+/// The event of a line that is not blank; or the first fault of its names and kinds, where its form has none.
+#[tactic(auto, unfolding(crate::specs::OnePass::sentence_heard))]
 fn sentence(
     alloc: Global,
     policy: &Policy,
     schemes: &Schemes,
     tokens: &mut Tokens,
 ) -> Result<Result<Event, LineFault>, LineFault>
-    ensures { Gives (λ x. x) result (sentence_at policy.now schemes.now tokens.old) }
+    ensures { Gives (λ x. x) result (sentence_heard policy.now schemes.now tokens.old) }
 {
     let front = [Part::Level, Part::Session];
     let mut looked = Ok(Draft::new(alloc));
     parts(alloc, policy, schemes, &front, &mut looked, tokens)?;
-    let (verb, asked) = command(alloc, policy, schemes, &mut looked, tokens)?;
+    let (verb, asked) = order(alloc, policy, schemes, &mut looked, tokens)?;
     tokens.end()?;
-    Ok(event_from(verb, looked, asked))
+    Ok(event_from(policy, verb, looked, asked))
 }
 
 /// The same of any line: nothing, if it is blank.
@@ -220,7 +218,7 @@ pub(crate) fn told(
     schemes: &Schemes,
     tokens: &mut Tokens,
 ) -> Result<Option<Result<Event, LineFault>>, LineFault>
-    ensures { Gives (λ x. x) result (told_at policy.now schemes.now tokens.old) }
+    ensures { Gives (λ x. x) result (told_heard policy.now schemes.now tokens.old) }
 {
     if tokens.has_ended() {
         return Ok(None);

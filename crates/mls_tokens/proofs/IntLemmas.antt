@@ -9,7 +9,7 @@ use Rattle.std.specs.Char.{is_ascii_digit}
 use Rattle.std.proofs.lemmas.Bool.{cases_Bool, eqb-true, lt-ltb, le-leb, leb-true, ltb-true, false_from_ne_true}
 use Rattle.std.proofs.lemmas.Bool.Decides.{nat_tests}
 use Rattle.std.proofs.lemmas.Str.Parse.{IsNumeralModel, numerals_by_value, tells_all_ascii_digits, parse_signed_minus, parse_signed_plain, not_in_digits}
-use Rattle.mls_tokens.specs.declared.fault.TokenCause.TheVariants.{Token as BadToken}
+use Rattle.mls_tokens.specs.declared.fault.ScanFault.TheVariants.{Token as BadToken}
 use Rattle.mls_tokens.specs.Scanning.{int_value, IsIntText, starts_int, int_length}
 use Rattle.std.proofs.lemmas.Str.Ascii.{IsAscii-cons}
 use Rattle.mls_tokens.proofs.RunLemmas.{digits_ascii}

@@ -4,7 +4,7 @@ use Rattle.std.specs.Prelude.{IsUtf8}
 use Rattle.std.specs.Str.{is_utf8}
 use Rattle.std.proofs.lemmas.Str.{is_utf8-from_IsUtf8, IsUtf8-from_is_utf8}
 use Rattle.std.proofs.lemmas.Bool.{false_from_ne_true}
-use Rattle.mls_tokens.specs.declared.fault.TokenCause.TheVariants.{Token as BadToken}
+use Rattle.mls_tokens.specs.declared.fault.ScanFault.TheVariants.{Token as BadToken}
 use Rattle.mls_tokens.specs.Scanning.{utf8_of}
 
 pub utf8_of-ok : (bytes : List ℕ) → IsUtf8 bytes → utf8_of bytes ≡ Ok bytes

@@ -12,15 +12,17 @@ use Rattle.std.proofs.lemmas.Bool.Decides.{nat_tests}
 use Rattle.std.proofs.lemmas.List.{take-append-drop, length-append, length-take, append-nil}
 use Rattle.mls_lattice.specs.Name.{is_name_byte}
 use Rattle.mls_lattice.specs.Reading.{◌>>=◌}
-use Rattle.mls_tokens.specs.declared.fault.TokenCause.{TokenCause}
-use Rattle.mls_tokens.specs.declared.fault.TokenCause.TheVariants.{Token as BadToken, TooLong}
+use Rattle.mls_lattice.specs.declared.failed.Failed.{Failed}
+use Rattle.mls_lattice.specs.Reading.{Gives}
+use Rattle.mls_tokens.specs.declared.fault.ScanFault.{ScanFault}
+use Rattle.mls_tokens.specs.declared.fault.ScanFault.TheVariants.{Token as BadToken, TooLong}
 use Rattle.mls_tokens.specs.declared.token.Token.{Token}
 use Rattle.mls_tokens.specs.declared.token.Token.TheVariants.{Word, Int, Text, Sign as Sign_token}
 use Rattle.mls_tokens.specs.declared.sign.Sign.{Sign}
 use Rattle.mls_tokens.specs.Sign.{sign_text, leading_sign}
 use Rattle.mls_tokens.specs.Writing.{is_control, is_escaped, quoted_byte, quoted}
 use Rattle.mls_tokens.specs.Text.{IsWord, IsInt, Spells, goes_on}
-use Rattle.mls_tokens.specs.Scanning.{Gives, Found, found, IsIntText, leading_word, int_value, int_length, leading_int, starts_int, text_at, utf8_of, leading_quoted, sign_found, leading_token}
+use Rattle.mls_tokens.specs.Scanning.{Found, found, IsIntText, leading_word, int_value, int_length, leading_int, starts_int, text_at, utf8_of, leading_quoted, sign_found, leading_token}
 use Rattle.mls_lattice.proofs.ReadingLemmas.{ok_is, bind_ok, guard_ok, pass_ok}
 use Rattle.mls_tokens.proofs.RunLemmas.{run_all, run_stops}
 use Rattle.mls_tokens.proofs.IntLemmas.{int_text}
@@ -197,7 +199,7 @@ quoted_found bs s rest e =
 -- ---- any of them
 
 -- what stands before the rest of a token's text is the token
-bound : {A : Type 0} (bs : List ℕ) (token : A → Token) (r : Result (A × List ℕ) TokenCause) (t : Token) (rest : List ℕ) → ((x : A) (after : List ℕ) → r ≡ Ok (x, after) → First bs (token x) after) → (r >>= λ x. found token x) ≡ Ok (t, rest) → First bs t rest
+bound : {A : Type 0} (bs : List ℕ) (token : A → Token) (r : Result (A × List ℕ) ScanFault) (t : Token) (rest : List ℕ) → ((x : A) (after : List ℕ) → r ≡ Ok (x, after) → First bs (token x) after) → (r >>= λ x. found token x) ≡ Ok (t, rest) → First bs t rest
 bound bs token (Err d) t rest h e = absurd cc
 bound bs token (Ok x) t rest h e =
     let pair : (token x.0, x.1) ≡ (t, rest) = ok_is _ _ e in
@@ -250,6 +252,6 @@ token_shorter bs t rest e =
     let some = spells_some f.text t f.spells in
     omega (arith, ap length f.parts, length-append f.text rest)
 
-pub scan_shorter : (bs : List ℕ) (r : Result (Token × Bor (List ℕ)) TokenCause) → Gives (λ x. (x.0, x.1.now)) r (leading_token bs) → IfOk r (λ x. length x.1.now < length bs)
+pub scan_shorter : (bs : List ℕ) (r : Result (Token × Bor (List ℕ)) (Failed ScanFault)) → Gives (λ x. (x.0, x.1.now)) r (leading_token bs) → IfOk r (λ x. length x.1.now < length bs)
 scan_shorter bs (Ok x) given = token_shorter bs x.0 x.1.now given
 scan_shorter bs (Err e) given = tt

@@ -1,27 +1,18 @@
 -- A text token by token.
-use Rattle.std.proofs.Common.{◌≡◌, ◌≢◌, ℕ, zero, suc, ◌<◌, ◌≤◌, ◌-◌, ◌+◌, ◌^◌, slice_index, drop, take, length-append, Option, Some, None, Bool, true, false, ◌==◌, nat_lt, nat_le, cond, List, [], ◌∷◌, ◌++◌, length, Result, Ok, Err, refl, sym, ap, ◌∙◌, subst, arith, append_assoc}
+use Rattle.std.proofs.Common.{◌≡◌, ◌≢◌, ℕ, zero, suc, ◌<◌, ◌≤◌, ◌-◌, ◌+◌, length-append, false, List, [], ◌∷◌, ◌++◌, length, Result, Ok, Err, refl, sym, ap, ◌∙◌, subst, arith, append_assoc}
 use Rattle.std.proofs.lemmas.List.{append-nil}
-use Rattle.std.specs.List.{prefix_len}
-use Rattle.std.specs.Char.{is_ascii_alphabetic}
-use Rattle.std.specs.Str.{is_utf8}
-use Rattle.std.specs.Str.Parse.{digits_value}
 use Rattle.std.proofs.lemmas.Bool.{ne_eqb}
-use Rattle.mls_lattice.specs.Name.{is_name_byte}
-use Rattle.mls_lattice.specs.Reading.{◌>>=◌}
-use Rattle.mls_tokens.specs.declared.fault.TokenCause.{TokenCause}
-use Rattle.mls_tokens.specs.declared.fault.TokenCause.TheVariants.{Token as BadToken, Expected}
+use Rattle.mls_tokens.specs.declared.fault.ScanFault.{ScanFault}
+use Rattle.mls_tokens.specs.declared.fault.ScanFault.TheVariants as scan
+use Rattle.mls_tokens.specs.declared.fault.TokenCause.TheVariants.{Token as BadToken, Expected, TooLong}
 use Rattle.mls_tokens.specs.declared.fault.TokenFault.{TokenFault}
 use Rattle.mls_tokens.specs.declared.token.Token.{Token}
-use Rattle.mls_tokens.specs.declared.token.Token.TheVariants.{Word, Int, Text}
-use Rattle.mls_tokens.specs.declared.sign.Sign.{Sign}
-use Rattle.mls_tokens.specs.Writing.{is_control, is_escaped}
-use Rattle.mls_tokens.specs.Sign.{leading_sign}
 use Rattle.mls_tokens.specs.Text.{Begins, IsOver, AreTokens, TextsAreOnce}
 use Rattle.mls_tokens.specs.declared.token.Placed.{Placed}
 use Rattle.mls_tokens.proofs.GapLemmas.{gap_found, over_found, front_again, front_over}
 use Rattle.mls_tokens.proofs.TokenLemmas.{token_found, spells_some}
 use Rattle.mls_tokens.proofs.AgainLemmas.{token_again, no_gap}
-use Rattle.mls_tokens.specs.Scanning.{TokensAreExact, Found, found, sign_found, leading_word, int_value, digits_of, int_length, leading_int, starts_int, text_at, utf8_of, leading_quoted, leading_token, after_gap, fault_at, placed_at, behind, without_places, Left, with_front, next_placed, next_then, tokens_from, tokens_at}
+use Rattle.mls_tokens.specs.Scanning.{TokensAreExact, Found, leading_token, after_gap, fault_at, placed_at, behind, without_places, Left, with_front, next_placed, next_then, tokens_from, tokens_at}
 
 -- what is left to scan, behind the tokens that were scanned, is the whole
 pub record ScannedSoFar (text : List ℕ) (placed : List Placed) (rest : List ℕ) : Type 0 where
@@ -52,61 +43,6 @@ module _ (text : List ℕ) (placed : List Placed) (rest : List ℕ) (h : Scanned
 
 pub ruleset token_steps = (scanned_none, scanned_more, scanned_end)
 
--- ---- no token is Expected: that is the end
-
-abbrev Never : {A : Type 0} → Result A TokenCause → Type 0
-Never r = (r ≡ Err Expected) → ⊥
-
-never_bind : {A B : Type 0} (r : Result A TokenCause) (f : A → Result B TokenCause) → Never r → ((x : A) → Never (f x)) → Never (r >>= f)
-never_bind (Ok x) f h k e = k x e
-never_bind (Err c) f h k e = h (let same : c ≡ Expected = cc in ap (λ (x : TokenCause). Err x) same)
-
-never_if : {A : Type 0} (b : Bool) (r s : Result A TokenCause) → Never r → Never s → Never (cond b r s)
-never_if true r s h k = h
-never_if false r s h k = k
-
-word_never : (bytes : List ℕ) → Never (leading_word bytes)
-unfolding leading_word
-word_never bytes = never_if (nat_lt 32 (prefix_len is_name_byte bytes)) _ _ (λ e. absurd cc) (λ e. absurd cc)
-
-int_never : (bytes : List ℕ) → Never (leading_int bytes)
-unfolding leading_int int_value
-int_never bytes = never_bind (int_value (take (int_length bytes) bytes)) _ (in_never (take (int_length bytes) bytes)) (λ n e. absurd cc)
-  where
-    in_never : (text : List ℕ) → Never (int_value text)
-    in_never text =
-        never_if (slice_index text 0 == 45) _ _
-        (never_if (nat_le (digits_value 10 (digits_of text)) (2 ^ 63)) _ _ (λ e. absurd cc) (λ e. absurd cc))
-        (never_if (nat_lt (digits_value 10 (digits_of text)) (2 ^ 63)) _ _ (λ e. absurd cc) (λ e. absurd cc))
-
-text_never : (escaped : Bool) (bytes front : List ℕ) → Never (text_at escaped front bytes)
-text_never escaped [] front = λ e. absurd cc
-text_never true (b ∷ bs) front = never_if (is_escaped b) _ _ (text_never false bs (front ++ b ∷ [])) (λ e. absurd cc)
-text_never false (b ∷ bs) front =
-    never_if (b == 34) _ _ (λ e. absurd cc)
-    (never_if (b == 92) _ _ (text_never true bs front) (never_if (is_control b) _ _ (λ e. absurd cc) (text_never false bs (front ++ b ∷ []))))
-
-quoted_never : (bytes : List ℕ) → Never (leading_quoted bytes)
-unfolding leading_quoted utf8_of
-quoted_never bytes =
-    never_bind (text_at false [] bytes) _ (text_never false bytes []) (λ x.
-    never_bind (utf8_of x.0) _ (never_if (is_utf8 x.0) _ _ (λ e. absurd cc) (λ e. absurd cc)) (λ text.
-    never_if (nat_lt 1024 (length text)) _ _ (λ e. absurd cc) (λ e. absurd cc)))
-
-found_never : {A : Type 0} (token : A → Token) (r : Result (A × List ℕ) TokenCause) → Never r → Never (r >>= λ x. found token x)
-found_never token r h = never_bind r _ h (λ x e. absurd cc)
-
-sign_never : (o : Option (Sign × List ℕ)) → Never (sign_found o)
-sign_never None e = absurd cc
-sign_never (Some x) e = absurd cc
-
-token_never : (bytes : List ℕ) → Never (leading_token bytes)
-unfolding leading_token
-token_never bytes =
-    never_if (is_ascii_alphabetic (slice_index bytes 0)) _ _ (found_never Word (leading_word bytes) (word_never bytes))
-    (never_if (starts_int bytes) _ _ (found_never Int (leading_int bytes) (int_never bytes))
-    (never_if (slice_index bytes 0 == 34) _ _ (found_never Text (leading_quoted (drop 1 bytes)) (quoted_never (drop 1 bytes))) (sign_never (leading_sign bytes))))
-
 -- ---- the next token
 
 -- what scanning of the next token tells
@@ -114,12 +50,13 @@ abbrev Tells : List ℕ → Result (Placed × List ℕ) TokenFault → Type 0
 Tells bytes (Ok x) = Begins bytes x.0.token x.1
 Tells bytes (Err stop) = stop.cause ≡ Expected → IsOver bytes
 
-tells_token : (bytes front : List ℕ) (b : ℕ) (at : ℕ) → after_gap false bytes ≡ Ok (b ∷ front) → (r : Result Found TokenCause) → leading_token (b ∷ front) ≡ r → Tells bytes (placed_at at r)
+tells_token : (bytes front : List ℕ) (b : ℕ) (at : ℕ) → after_gap false bytes ≡ Ok (b ∷ front) → (r : Result Found ScanFault) → leading_token (b ∷ front) ≡ r → Tells bytes (placed_at at r)
 tells_token bytes front b at e (Ok x) h =
     let gap = gap_found bytes b front e in
     let f = token_found (b ∷ front) x.0 x.1 h in
     record { gap = gap.0; text = f.text; parts = gap.1 ∙ ap (λ (y : List ℕ). gap.0 ++ y) f.parts; is_gap = gap.2; spells = f.spells; ends = f.ends }
-tells_token bytes front b at e (Err c) h = λ same. absurd (token_never (b ∷ front) (h ∙ ap (λ (x : TokenCause). Err x) same))
+tells_token bytes front b at e (Err scan.Token) h = λ same. absurd (let f : BadToken ≡ Expected = same in cc)
+tells_token bytes front b at e (Err scan.TooLong) h = λ same. absurd (let f : TooLong ≡ Expected = same in cc)
 
 tells_front : (len : ℕ) (bytes : List ℕ) (r : Result (List ℕ) ℕ) → after_gap false bytes ≡ r → Tells bytes (behind len r)
 tells_front len bytes (Ok []) e = λ _. over_found bytes e

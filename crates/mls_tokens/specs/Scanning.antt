@@ -7,6 +7,10 @@ use Rattle.std.specs.Str.Lossy.{utf8_valid_len}
 use Rattle.std.specs.Str.Parse.{digits_value}
 use Rattle.mls_lattice.specs.Name.{is_name_byte}
 use Rattle.mls_lattice.specs.Reading.{◌>>=◌, GivesUnless}
+use Rattle.mls_lattice.specs.declared.failed.Failed.{Failed}
+use Rattle.mls_lattice.specs.declared.failed.Failed.TheVariants as failed
+use Rattle.mls_tokens.specs.declared.fault.ScanFault.{ScanFault}
+use Rattle.mls_tokens.specs.declared.fault.ScanFault.TheVariants as scan
 use Rattle.mls_tokens.specs.declared.fault.TokenCause.{TokenCause}
 use Rattle.mls_tokens.specs.declared.fault.TokenCause.TheVariants.{Token as BadToken, Expected, TooLong, Memory}
 use Rattle.mls_tokens.specs.declared.fault.TokenFault.{TokenFault}
@@ -19,22 +23,22 @@ use Rattle.mls_tokens.specs.Sign.{leading_sign}
 use Rattle.mls_tokens.specs.Text.{is_blank, is_no_feed, AreTokens}
 
 -- What a function returned, seen by view, is what scanning gives, unless memory ran out.
-abbrev pub Gives : {X Y : Type 0} → (X → Y) → Result X TokenCause → Result Y TokenCause → Type 0
-Gives = GivesUnless (λ e. e ≡ Memory)
-
--- The same, where the place of a fault is told.
 abbrev pub Reads : {X Y : Type 0} → (X → Y) → Result X TokenFault → Result Y TokenFault → Type 0
 Reads = GivesUnless (λ e. e.cause ≡ Memory)
 
--- What a function that takes no memory returned, seen by view, is what scanning gives.
-abbrev pub Shows : {X Y E : Type 0} → (X → Y) → Result X E → Result Y E → Type 0
-Shows view (Ok x) scan = scan ≡ Ok (view x)
-Shows view (Err e) scan = scan ≡ Err e
+-- the cause of the same name
+abbrev pub cause_of : ScanFault → TokenCause
+cause_of scan.Token = BadToken
+cause_of scan.TooLong = TooLong
 
-unfoldable pub leading_word : List ℕ → Result (List ℕ × List ℕ) TokenCause
+abbrev pub failed_cause_of : Failed ScanFault → TokenCause
+failed_cause_of failed.Memory = Memory
+failed_cause_of (failed.Fault fault) = cause_of fault
+
+unfoldable pub leading_word : List ℕ → Result (List ℕ × List ℕ) ScanFault
 leading_word bytes =
     let n = prefix_len is_name_byte bytes in
-    if nat_lt 32 n then Err BadToken else Ok (take n bytes, drop n bytes)
+    if nat_lt 32 n then Err scan.Token else Ok (take n bytes, drop n bytes)
 
 -- ---- numbers
 
@@ -43,10 +47,10 @@ abbrev pub digits_of : List ℕ → List ℕ
 digits_of text = if slice_index text 0 == 45 then drop 1 text else text
 
 -- the number that digits, or a minus and digits, stand for
-unfoldable pub int_value : List ℕ → Result ℤ TokenCause
+unfoldable pub int_value : List ℕ → Result ℤ ScanFault
 int_value text =
     let n = digits_value 10 (digits_of text) in
-    if slice_index text 0 == 45 then (if nat_le n (2 ^ 63) then Ok (neg_ℤ (pos n)) else Err BadToken) else (if nat_lt n (2 ^ 63) then Ok (pos n) else Err BadToken)
+    if slice_index text 0 == 45 then (if nat_le n (2 ^ 63) then Ok (neg_ℤ (pos n)) else Err scan.Token) else (if nat_lt n (2 ^ 63) then Ok (pos n) else Err scan.Token)
 
 -- the text is such
 pub record IsIntText (text : List ℕ) : Type 0 where
@@ -60,28 +64,28 @@ starts_int bytes = is_ascii_digit (slice_index bytes 0) || (slice_index bytes 0 
 unfoldable pub int_length : List ℕ → ℕ
 int_length bytes = if slice_index bytes 0 == 45 then 1 + prefix_len is_ascii_digit (drop 1 bytes) else prefix_len is_ascii_digit bytes
 
-unfoldable pub leading_int : List ℕ → Result (ℤ × List ℕ) TokenCause
+unfoldable pub leading_int : List ℕ → Result (ℤ × List ℕ) ScanFault
 leading_int bytes = int_value (take (int_length bytes) bytes) >>= λ n. Ok (n, drop (int_length bytes) bytes)
 
 -- ---- texts
 
 -- the text after what was read before, which may end in a backslash, and what follows its quote
-abbrev pub text_at : Bool → List ℕ → List ℕ → Result (List ℕ × List ℕ) TokenCause
-text_at escaped front [] = Err BadToken
+abbrev pub text_at : Bool → List ℕ → List ℕ → Result (List ℕ × List ℕ) ScanFault
+text_at escaped front [] = Err scan.Token
 text_at escaped front (b ∷ bs) =
-    if escaped then (if is_escaped b then text_at false (front ++ b ∷ []) bs else Err BadToken)
+    if escaped then (if is_escaped b then text_at false (front ++ b ∷ []) bs else Err scan.Token)
     else (if b == 34 then Ok (front, bs)
     else (if b == 92 then text_at true front bs
-    else (if is_control b then Err BadToken else text_at false (front ++ b ∷ []) bs)))
+    else (if is_control b then Err scan.Token else text_at false (front ++ b ∷ []) bs)))
 
-unfoldable pub utf8_of : List ℕ → Result (List ℕ) TokenCause
-utf8_of bytes = if is_utf8 bytes then Ok bytes else Err BadToken
+unfoldable pub utf8_of : List ℕ → Result (List ℕ) ScanFault
+utf8_of bytes = if is_utf8 bytes then Ok bytes else Err scan.Token
 
-unfoldable pub leading_quoted : List ℕ → Result (List ℕ × List ℕ) TokenCause
+unfoldable pub leading_quoted : List ℕ → Result (List ℕ × List ℕ) ScanFault
 leading_quoted bytes = do
   x ← text_at false [] bytes
   text ← utf8_of x.0
-  if nat_lt 1024 (length text) then Err TooLong else Ok (text, x.1)
+  if nat_lt 1024 (length text) then Err scan.TooLong else Ok (text, x.1)
 
 -- ---- any of them
 
@@ -89,15 +93,15 @@ leading_quoted bytes = do
 abbrev pub Found : Type 0
 Found = Token × List ℕ
 
-abbrev pub found : {A : Type 0} → (A → Token) → A × List ℕ → Result Found TokenCause
+abbrev pub found : {A : Type 0} → (A → Token) → A × List ℕ → Result Found ScanFault
 found token x = Ok (token x.0, x.1)
 
-abbrev pub sign_found : Option (Sign × List ℕ) → Result Found TokenCause
-sign_found None = Err BadToken
+abbrev pub sign_found : Option (Sign × List ℕ) → Result Found ScanFault
+sign_found None = Err scan.Token
 sign_found (Some x) = Ok (Sign_token x.0, x.1)
 
 -- the token at the front of bytes
-unfoldable pub leading_token : List ℕ → Result Found TokenCause
+unfoldable pub leading_token : List ℕ → Result Found ScanFault
 leading_token bytes =
     if is_ascii_alphabetic (slice_index bytes 0) then (leading_word bytes >>= λ x. found Word x)
     else (if starts_int bytes then (leading_int bytes >>= λ x. found Int x)
@@ -139,9 +143,9 @@ with_front front l = record { placed = front ++ l.placed; stop = l.stop }
 abbrev pub fault_at : ℕ → TokenCause → TokenFault
 fault_at at cause = record { at = at; cause = cause }
 
-abbrev pub placed_at : ℕ → Result Found TokenCause → Result (Placed × List ℕ) TokenFault
+abbrev pub placed_at : ℕ → Result Found ScanFault → Result (Placed × List ℕ) TokenFault
 placed_at at (Ok x) = Ok (record { token = x.0; at = at }, x.1)
-placed_at at (Err cause) = Err (fault_at at cause)
+placed_at at (Err fault) = Err (fault_at at (cause_of fault))
 
 -- the token at the front of the last bytes of len, if there are any
 abbrev pub token_or_end : ℕ → List ℕ → Result (Placed × List ℕ) TokenFault

@@ -1,7 +1,9 @@
 //! Why a text is refused by its tokens, and where.
 ghost use Rattle.std.specs.Prelude.{◌≡◌};
 ghost use Rattle.mls_tokens.specs.declared.fault.TokenCause.TheVariants.{Memory};
+ghost use Rattle.mls_tokens.specs.Scanning.{failed_cause_of};
 
+use mls_lattice::Failed;
 use std::alloc::{AllocError, AllocFailed};
 
 /// Why a text is refused by its tokens.
@@ -24,11 +26,22 @@ pub struct TokenFault {
     pub cause: TokenCause,
 }
 
-impl From<AllocError> for TokenCause {
-    ghost from_gives = { λ _ e. e ≡ Memory };
+/// Why no token stands at the front of bytes.
+#[derive(Clone, Copy)]
+pub(crate) enum ScanFault {
+    Token,
+    TooLong,
+}
 
-    fn from(_e: AllocError) -> TokenCause {
-        TokenCause::Memory
+impl From<Failed<ScanFault>> for TokenCause {
+    ghost from_gives = { λ failed cause. cause ≡ failed_cause_of failed };
+
+    fn from(failed: Failed<ScanFault>) -> TokenCause {
+        match failed {
+            Failed::Memory => TokenCause::Memory,
+            Failed::Fault(ScanFault::Token) => TokenCause::Token,
+            Failed::Fault(ScanFault::TooLong) => TokenCause::TooLong,
+        }
     }
 }
 
@@ -40,14 +53,6 @@ impl From<AllocError> for TokenFault {
             at: 0,
             cause: TokenCause::Memory,
         }
-    }
-}
-
-impl<T: Drop> From<AllocFailed<T>> for TokenCause {
-    ghost from_gives = { λ _ e. e ≡ Memory };
-
-    fn from(_e: AllocFailed<T>) -> TokenCause {
-        TokenCause::Memory
     }
 }
 

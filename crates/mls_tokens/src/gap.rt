@@ -2,7 +2,8 @@
 ghost use Rattle.std.specs.Prelude.{◌≡◌, ◌≤◌, length, false, IfOk, IfErr, IfSome};
 ghost use Rattle.std.specs.List.{prefix_len};
 ghost use Rattle.mls_tokens.specs.Text.{is_blank, is_no_feed};
-ghost use Rattle.mls_tokens.specs.Scanning.{Shows, comment_fault, after_gap};
+ghost use Rattle.mls_lattice.specs.Reading.{Shows};
+ghost use Rattle.mls_tokens.specs.Scanning.{comment_fault, after_gap};
 
 fn is_blank(byte: u8) -> bool
     ensures { result ≡ is_blank byte }

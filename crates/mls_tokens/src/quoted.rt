@@ -1,17 +1,18 @@
 //! Texts between quotes.
 ghost use Rattle.std.specs.Prelude.{◌≡◌, [], false};
-ghost use Rattle.mls_tokens.specs.Scanning.{Gives, text_at, utf8_of, leading_quoted};
+ghost use Rattle.mls_lattice.specs.Reading.{Shows, Gives};
+ghost use Rattle.mls_tokens.specs.Scanning.{text_at, utf8_of, leading_quoted};
 
-use crate::fault::TokenCause;
+use crate::fault::ScanFault;
 use crate::writing::{is_control, is_escaped};
-use mls_lattice::Str;
+use mls_lattice::{Failed, Str};
 use std::alloc::Global;
 
 /// The most bytes of a text, after its escapes.
 const MAX_TEXT: usize = 1024;
 
 /// What stands before the closing quote, with its escapes resolved, and what follows.
-fn text_of(alloc: Global, bytes: &[u8]) -> Result<(Vec<u8>, &[u8]), TokenCause>
+fn text_of(alloc: Global, bytes: &[u8]) -> Result<(Vec<u8>, &[u8]), Failed<ScanFault>>
     ensures { Gives (λ x. (x.0.items, x.1.now)) result (text_at false [] bytes.now) }
 {
     let mut text = Vec::new(alloc);
@@ -19,7 +20,7 @@ fn text_of(alloc: Global, bytes: &[u8]) -> Result<(Vec<u8>, &[u8]), TokenCause>
     for (i, byte) in bytes.iter().enumerate() {
         if escaped {
             if !is_escaped(*byte) {
-                return Err(TokenCause::Token);
+                return Err(Failed::Fault(ScanFault::Token));
             }
             text.push(*byte)?;
             escaped = false;
@@ -28,34 +29,34 @@ fn text_of(alloc: Global, bytes: &[u8]) -> Result<(Vec<u8>, &[u8]), TokenCause>
         } else if *byte == b'\\' {
             escaped = true;
         } else if is_control(*byte) {
-            return Err(TokenCause::Token);
+            return Err(Failed::Fault(ScanFault::Token));
         } else {
             text.push(*byte)?;
         }
     }
-    Err(TokenCause::Token)
+    Err(Failed::Fault(ScanFault::Token))
 }
 
 /// Bytes as a text.
 #[tactic(auto, using(crate::proofs::TextLemmas::utf8_steps))]
-fn utf8_of(bytes: &[u8]) -> Result<&str, TokenCause>
-    ensures { Gives (λ s. s.now) result (utf8_of bytes.now) }
+fn utf8_of(bytes: &[u8]) -> Result<&str, ScanFault>
+    ensures { Shows (λ s. s.now) result (utf8_of bytes.now) }
 {
     match std::str::from_utf8(bytes) {
         Ok(text) => Ok(text),
-        Err(_) => Err(TokenCause::Token),
+        Err(_) => Err(ScanFault::Token),
     }
 }
 
 /// The text up to its closing quote, and what follows it.
 #[tactic(auto, unfolding(crate::specs::Scanning::leading_quoted))]
-pub(crate) fn leading_quoted(alloc: Global, bytes: &[u8]) -> Result<(Str, &[u8]), TokenCause>
+pub(crate) fn leading_quoted(alloc: Global, bytes: &[u8]) -> Result<(Str, &[u8]), Failed<ScanFault>>
     ensures { Gives (λ x. (x.0, x.1.now)) result (leading_quoted bytes.now) }
 {
     let (text, rest) = text_of(alloc, bytes)?;
-    let text = utf8_of(&text)?;
+    let text = utf8_of(&text).map_err(Failed::Fault)?;
     if text.len() > MAX_TEXT {
-        return Err(TokenCause::TooLong);
+        return Err(Failed::Fault(ScanFault::TooLong));
     }
     Ok((Str::copy_of(alloc, text)?, rest))
 }

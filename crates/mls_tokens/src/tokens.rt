@@ -54,7 +54,10 @@ fn next_placed(alloc: Global, len: usize, bytes: &[u8]) -> Result<(Placed, &[u8]
     let at = len.saturating_sub(front.len()) + 1;
     match leading_token(alloc, front) {
         Ok((token, after)) => Ok((Placed { token, at }, after)),
-        Err(cause) => Err(TokenFault { at, cause }),
+        Err(failed) => Err(TokenFault {
+            at,
+            cause: TokenCause::from(failed),
+        }),
     }
 }
 

@@ -23,6 +23,13 @@ said : (v : Version) (p : Policy) (tx : Tx) (r : Result Certificate LabelFault) 
 said v p tx (Ok x) stmt rule h none = tt
 said v p tx (Err e) stmt rule h none = subst (HasNone v p tx) (sym h) none
 
+pub returns-clause-below : goal.returns-clause-below
+returns-clause-below c = λ other is rules.
+    let p = c.args.policy.now in
+    let tx = c.args.tx.now in
+    let least : IsLeast c.args.version p tx c.in_ok-cert.cert = subst (IsLeast c.args.version p tx) (sym c.in_ok-cert.ensures) c.in_ok-least.ensures in
+    least.least other is (rules_meet (claim p tx other) rules)
+
 pub returns-in_err-check-clause-none : goal.returns-in_err-check-clause-none
 returns-in_err-check-clause-none c =
     let v = c.args.version in

@@ -13,7 +13,7 @@ pub returns-in_err-label-clause-reads : goal.returns-in_err-label-clause-reads
 returns-in_err-label-clause-reads c =
     let p = err_from_is_err_and c.from_residual.result c.from_residual.ensures.1 in
     let refused = rw c.deref.ensures.value at c.in_err-label.ensures in
-    rw (p.1, p.2) (λ m. sym c.loop-value.invariant.0 ∙ rows_refused (label_at c.args.levels.now c.args.categories.now) _ _ _ _ _ c.loop-value-test.true c.value-item.is (refused m))
+    rw (p.1, p.2) (λ f m. sym c.loop-value.invariant.0 ∙ rows_refused (label_at c.args.levels.now c.args.categories.now) _ _ _ _ _ c.loop-value-test.true c.value-item.is (refused f m))
 
 pub loop-value-preserved : goal.loop-value-preserved
 loop-value-preserved c =

@@ -12,7 +12,7 @@ pub returns-in_err-right : goal.returns-in_err-right
 returns-in_err-right c =
     let p = err_from_is_err_and c.from_residual.result c.from_residual.ensures.1 in
     let refused = rw c.deref.ensures.value at c.in_err-right.ensures in
-    rw (p.1, p.2) (λ m. sym c.loop-value.invariant ∙ rows_refused (right_at c.args.users.now) _ _ _ _ _ c.loop-value-test.true c.value-item.is (refused m))
+    rw (p.1, p.2) (λ f m. sym c.loop-value.invariant ∙ rows_refused (right_at c.args.users.now) _ _ _ _ _ c.loop-value-test.true c.value-item.is (refused f m))
 
 pub loop-value-preserved : goal.loop-value-preserved
 loop-value-preserved c =

@@ -1,7 +1,5 @@
-use Rattle.std.proofs.Common.{ap}
-use Rattle.mls_scheme.specs.Reading.{lift}
 use Rattle.mls_scheme.proofs.SchemeLemmas.{schemes_valid}
 use Rattle.mls_scheme.proofs.reading.schemes_of.Goals as goal
 
 pub new-requires : goal.new-requires
-new-requires c = schemes_valid c.args.policy.now _ _ _ _ (ap lift c.in_ok-version.ensures) c.in_ok-items.ensures c.in_ok-relations.ensures
+new-requires c = schemes_valid c.args.policy.now _ _ _ _ c.in_ok-version.ensures c.in_ok-items.ensures c.in_ok-relations.ensures

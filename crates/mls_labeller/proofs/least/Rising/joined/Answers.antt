@@ -1,16 +1,16 @@
 use Rattle.std.proofs.Common.{◌≡◌, ◌+◌, ◌∷◌, [], ◌++◌, take, sym, ap, subst, ◌∙◌}
 use Rattle.std.proofs.lemmas.List.{take_more}
 use Rattle.mls_lattice.specs.Lattice.{pair_of}
-use Rattle.mls_labeller.specs.Rising.{claim_at, IsJoin}
+use Rattle.mls_labeller.specs.Rising.{rows_of, claim_at, IsJoin}
 use Rattle.mls_labeller.proofs.RiseLemmas.{join_none, join_more}
-use Rattle.mls_labeller.proofs.least.Labeller.joined.Goals as goal
+use Rattle.mls_labeller.proofs.least.Rising.joined.Goals as goal
 
 pub loop-source-init : goal.loop-source-init
-loop-source-init c = join_none (claim_at c.args.self.now c.args.labels.now) _ c.lowest-label.ensures
+loop-source-init c = join_none (claim_at c.args.self.now (rows_of c.args.labels.now)) _ c.lowest-label.ensures
 
 pub loop-source-preserved : goal.loop-source-preserved
 loop-source-preserved c =
-    let at = claim_at c.args.self.now c.args.labels.now in
+    let at = claim_at c.args.self.now (rows_of c.args.labels.now) in
     let ss = c.args.sources.now in
     let i = c.loop-source.source-index in
     let s = c.source-item.result in

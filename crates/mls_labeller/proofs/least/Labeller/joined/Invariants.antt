@@ -1,8 +1,0 @@
-use Rattle.std.proofs.Common.{take}
-use Rattle.mls_lattice.specs.Lattice.{pair_of}
-use Rattle.mls_labeller.specs.Rising.{claim_at, IsJoin}
-use Rattle.mls_labeller.proofs.least.Labeller.joined.Given as goal
-
--- the join of the sources so far
-abbrev pub invariant-loop-source : goal.invariant-loop-source
-invariant-loop-source l = IsJoin (claim_at l.self l.labels) (take l.source-index l.sources) (pair_of l.label)

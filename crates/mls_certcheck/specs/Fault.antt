@@ -1,7 +1,8 @@
 -- The numbers and names of the causes for which certificates are refused.
-use Rattle.std.specs.Prelude.{ℕ, List, codes}
+use Rattle.std.specs.Prelude.{ℕ, List, ◌-◌, [], map, get_or}
 use Rattle.mls_certcheck.specs.declared.fault.CertCause.{CertCause}
 use Rattle.mls_certcheck.specs.declared.fault.CertCause.TheVariants.{Line, Label, Version, Repeated, Memory}
+use Rattle.mls_certcheck.specs.declared.fault.TheConstants.{WORDS}
 
 abbrev pub code_of : CertCause → ℕ
 code_of Line = 51
@@ -11,8 +12,4 @@ code_of Repeated = 54
 code_of Memory = 55
 
 abbrev pub word_of : CertCause → List ℕ
-word_of Line = codes "Line"
-word_of Label = codes "Label"
-word_of Version = codes "Version"
-word_of Repeated = codes "Repeated"
-word_of Memory = codes "Memory"
+word_of c = get_or (map (λ w. w.now) WORDS) (code_of c - 51) []

@@ -3,6 +3,7 @@ ghost use Rattle.std.specs.Prelude.{◌≡◌};
 ghost use Rattle.mls_certcheck.specs.declared.fault.CertCause.TheVariants.{Memory};
 ghost use Rattle.mls_certcheck.specs.Fault.{code_of, word_of};
 
+use mls_lattice::words;
 use std::alloc::{AllocError, AllocFailed};
 use std::fmt;
 use thiserror::Error;
@@ -11,7 +12,7 @@ use thiserror::Error;
 #[derive(Clone, Copy, PartialEq, Eq, Debug, Error)]
 pub enum CertCause {
     /// The line has the wrong form, or is missing.
-    Line,
+    Line = 51,
     /// A label is none.
     Label,
     /// The version is another.
@@ -22,25 +23,24 @@ pub enum CertCause {
     Memory,
 }
 
+/// The names of the causes, in the order of their numbers.
+static WORDS: [&str; 5] = words! {
+    Line Label Version Repeated Memory
+};
+
 impl CertCause {
     /// The number of the cause.
     pub fn code(self) -> u8
         ensures { result ≡ code_of self }
     {
-        self as u8 + 51
+        self as u8
     }
 
     /// The name of the cause.
     pub fn word(self) -> &'static str
         ensures { result.now ≡ word_of self }
     {
-        match self {
-            CertCause::Line => "Line",
-            CertCause::Label => "Label",
-            CertCause::Version => "Version",
-            CertCause::Repeated => "Repeated",
-            CertCause::Memory => "Memory",
-        }
+        WORDS[self as usize - 51]
     }
 }
 

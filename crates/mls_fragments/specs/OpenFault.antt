@@ -1,5 +1,5 @@
 -- The numbers and names of the causes for which stores are not opened.
-use Rattle.std.specs.Prelude.{ℕ, List, codes}
+use Rattle.std.specs.Prelude.{ℕ, List, ◌-◌, [], map, get_or}
 use Rattle.mls_tables.specs.declared.store.StoreFault.{StoreFault}
 use Rattle.mls_tables.specs.declared.store.StoreFault.TheVariants as store
 use Rattle.mls_tables.specs.declared.adopting.AdoptFault.{AdoptFault}
@@ -8,6 +8,7 @@ use Rattle.mls_fragments.specs.declared.reading.RowFault.{RowFault}
 use Rattle.mls_fragments.specs.declared.reading.RowFault.TheVariants as row
 use Rattle.mls_fragments.specs.declared.open_fault.OpenFault.{OpenFault}
 use Rattle.mls_fragments.specs.declared.open_fault.OpenFault.TheVariants.{Store, OtherPolicy, BadRows, Memory}
+use Rattle.mls_fragments.specs.declared.open_fault.TheConstants.{WORDS}
 
 abbrev pub code_of : OpenFault → ℕ
 code_of Store = 1
@@ -16,10 +17,7 @@ code_of BadRows = 3
 code_of Memory = 4
 
 abbrev pub word_of : OpenFault → List ℕ
-word_of Store = codes "Store"
-word_of OtherPolicy = codes "OtherPolicy"
-word_of BadRows = codes "BadRows"
-word_of Memory = codes "Memory"
+word_of f = get_or (map (λ w. w.now) WORDS) (code_of f - 1) []
 
 -- a fault of the tables, at an opening
 abbrev pub opening_fault : StoreFault → OpenFault

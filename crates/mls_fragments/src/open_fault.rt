@@ -4,6 +4,7 @@ ghost use Rattle.mls_fragments.specs.OpenFault.{code_of, word_of};
 ghost use Rattle.mls_fragments.specs.declared.open_fault.OpenFault.TheVariants.{Memory};
 
 use crate::reading::RowFault;
+use mls_lattice::words;
 use mls_tables::{AdoptFault, StoreFault};
 use std::alloc::AllocError;
 use std::fmt;
@@ -13,7 +14,7 @@ use thiserror::Error;
 #[derive(Clone, Copy, Debug, Error)]
 pub enum OpenFault {
     /// The store failed.
-    Store,
+    Store = 1,
     /// The store is of another policy or other schemes; users and the matrix of rights are not compared.
     OtherPolicy,
     /// The rows are no content.
@@ -22,24 +23,24 @@ pub enum OpenFault {
     Memory,
 }
 
+/// The names of the faults, in the order of their numbers.
+static WORDS: [&str; 4] = words! {
+    Store OtherPolicy BadRows Memory
+};
+
 impl OpenFault {
     /// The number of the fault.
     pub fn code(self) -> u8
         ensures { result ≡ code_of self }
     {
-        self as u8 + 1
+        self as u8
     }
 
     /// The name of the fault.
     pub fn word(self) -> &'static str
         ensures { result.now ≡ word_of self }
     {
-        match self {
-            OpenFault::Store => "Store",
-            OpenFault::OtherPolicy => "OtherPolicy",
-            OpenFault::BadRows => "BadRows",
-            OpenFault::Memory => "Memory",
-        }
+        WORDS[self as usize - 1]
     }
 }
 

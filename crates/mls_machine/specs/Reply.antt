@@ -1,9 +1,10 @@
 -- The numbers and names of denials.
-use Rattle.std.specs.Prelude.{ℕ, List, codes}
+use Rattle.std.specs.Prelude.{ℕ, List, ◌-◌, [], map, get_or}
 use Rattle.mls_machine.specs.declared.reply.Denial.{Denial}
 use Rattle.mls_machine.specs.declared.reply.Denial.TheVariants.{NoSession, AlreadyOpen, UnknownUser}
 use Rattle.mls_machine.specs.declared.reply.Denial.TheVariants.{UnknownTransaction, NotCertified, Ds, Ss, Star}
 use Rattle.mls_machine.specs.declared.reply.Denial.TheVariants.{Trust, Arguments}
+use Rattle.mls_machine.specs.declared.reply.TheConstants.{WORDS}
 
 abbrev pub code_of : Denial → ℕ
 code_of NoSession = 31
@@ -18,13 +19,4 @@ code_of Trust = 39
 code_of Arguments = 40
 
 abbrev pub word_of : Denial → List ℕ
-word_of NoSession = codes "NoSession"
-word_of AlreadyOpen = codes "AlreadyOpen"
-word_of UnknownUser = codes "UnknownUser"
-word_of UnknownTransaction = codes "UnknownTransaction"
-word_of NotCertified = codes "NotCertified"
-word_of Ds = codes "Ds"
-word_of Ss = codes "Ss"
-word_of Star = codes "Star"
-word_of Trust = codes "Trust"
-word_of Arguments = codes "Arguments"
+word_of d = get_or (map (λ w. w.now) WORDS) (code_of d - 31) []

@@ -4,7 +4,7 @@ ghost use Rattle.mls_machine.specs.Reply.{code_of, word_of};
 
 use mls_audit::Entry;
 use mls_certcheck::Run;
-use mls_lattice::{Items, UserNo};
+use mls_lattice::{Items, UserNo, words};
 use mls_queries::Selection;
 use mls_scheme::Tuple;
 use mls_updates::Outcome;
@@ -13,7 +13,7 @@ use mls_updates::Outcome;
 #[derive(Clone, Copy, PartialEq, Eq, Debug)]
 pub enum Denial {
     /// No such session is open.
-    NoSession,
+    NoSession = 31,
     /// The session is open already.
     AlreadyOpen,
     /// The policy has no such user.
@@ -35,41 +35,24 @@ pub enum Denial {
     Arguments,
 }
 
+/// The names of the denials, in the order of their numbers.
+static WORDS: [&str; 10] = words! {
+    NoSession AlreadyOpen UnknownUser UnknownTransaction NotCertified Ds Ss Star Trust Arguments
+};
+
 impl Denial {
     /// The number of the denial.
     pub fn code(self) -> u8
         ensures { result ≡ code_of self }
     {
-        match self {
-            Denial::NoSession => 31,
-            Denial::AlreadyOpen => 32,
-            Denial::UnknownUser => 33,
-            Denial::UnknownTransaction => 34,
-            Denial::NotCertified => 35,
-            Denial::Ds => 36,
-            Denial::Ss => 37,
-            Denial::Star => 38,
-            Denial::Trust => 39,
-            Denial::Arguments => 40,
-        }
+        self as u8
     }
 
     /// The name of the denial.
     pub fn word(self) -> &'static str
         ensures { result.now ≡ word_of self }
     {
-        match self {
-            Denial::NoSession => "NoSession",
-            Denial::AlreadyOpen => "AlreadyOpen",
-            Denial::UnknownUser => "UnknownUser",
-            Denial::UnknownTransaction => "UnknownTransaction",
-            Denial::NotCertified => "NotCertified",
-            Denial::Ds => "Ds",
-            Denial::Ss => "Ss",
-            Denial::Star => "Star",
-            Denial::Trust => "Trust",
-            Denial::Arguments => "Arguments",
-        }
+        WORDS[self as usize - 31]
     }
 }
 

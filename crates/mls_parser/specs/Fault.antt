@@ -1,5 +1,5 @@
 -- The causes for which texts of transactions are refused, and which of several faults is answered.
-use Rattle.std.specs.Prelude.{◌≡◌, ℕ, ◌-◌, Bool, true, false, ◌==◌, ◌&&◌, ◌||◌, nat_lt, if◌then◌else◌, List, [], ◌∷◌, codes, Option, Some, None}
+use Rattle.std.specs.Prelude.{◌≡◌, ℕ, ◌-◌, Bool, true, false, ◌==◌, ◌&&◌, ◌||◌, nat_lt, if◌then◌else◌, List, [], ◌∷◌, Option, Some, None, map, get_or}
 use Rattle.std.specs.List.{Contains, AllByRecursion}
 use Rattle.mls_tokens.specs.Spot.{spot_at}
 use Rattle.mls_tokens.specs.declared.fault.TokenCause.{TokenCause}
@@ -9,6 +9,7 @@ use Rattle.mls_parser.specs.declared.fault.TextCause.{TextCause}
 use Rattle.mls_parser.specs.declared.fault.TextCause.TheVariants.{Token, Expected, UnknownName, Kind, Repeated, Depth, TooLong, LabelOrder, Memory}
 use Rattle.mls_parser.specs.declared.fault.PlacedFault.{PlacedFault}
 use Rattle.mls_parser.specs.declared.fault.TextFault.{TextFault}
+use Rattle.mls_parser.specs.declared.fault.TheConstants.{WORDS}
 
 abbrev pub code_of : TextCause → ℕ
 code_of Token = 21
@@ -22,15 +23,7 @@ code_of LabelOrder = 28
 code_of Memory = 29
 
 abbrev pub word_of : TextCause → List ℕ
-word_of Token = codes "Token"
-word_of Expected = codes "Expected"
-word_of UnknownName = codes "UnknownName"
-word_of Kind = codes "Kind"
-word_of Repeated = codes "Repeated"
-word_of Depth = codes "Depth"
-word_of TooLong = codes "TooLong"
-word_of LabelOrder = codes "LabelOrder"
-word_of Memory = codes "Memory"
+word_of c = get_or (map (λ w. w.now) WORDS) (code_of c - 21) []
 
 -- ---- faults of a text
 

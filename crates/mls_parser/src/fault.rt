@@ -2,6 +2,7 @@ ghost use Rattle.std.specs.Prelude.{◌≡◌, ◌++◌, OnOk};
 ghost use Rattle.mls_parser.specs.declared.fault.TextCause.TheVariants.{Memory};
 ghost use Rattle.mls_parser.specs.Fault.{fault, code_of, word_of, unless, is_before, sooner, least, in_text, lifted};
 
+use mls_lattice::words;
 use mls_tokens::{TokenCause, TokenFault, spot_at};
 use std::alloc::{AllocError, AllocFailed};
 use std::fmt;
@@ -11,7 +12,7 @@ use thiserror::Error;
 #[derive(Clone, Copy, PartialEq, Eq, Debug, Error)]
 pub enum TextCause {
     /// No token stands here.
-    Token,
+    Token = 21,
     /// No transaction goes on so.
     Expected,
     /// A name is unknown.
@@ -70,39 +71,24 @@ impl<T: Drop> From<AllocFailed<T>> for PlacedFault {
     }
 }
 
+/// The names of the causes, in the order of their numbers.
+static WORDS: [&str; 9] = words! {
+    Token Expected UnknownName Kind Repeated Depth TooLong LabelOrder Memory
+};
+
 impl TextCause {
     /// The number of the cause.
     pub fn code(self) -> u8
         ensures { result ≡ code_of self }
     {
-        match self {
-            TextCause::Token => 21,
-            TextCause::Expected => 22,
-            TextCause::UnknownName => 23,
-            TextCause::Kind => 24,
-            TextCause::Repeated => 25,
-            TextCause::Depth => 26,
-            TextCause::TooLong => 27,
-            TextCause::LabelOrder => 28,
-            TextCause::Memory => 29,
-        }
+        self as u8
     }
 
     /// The name of the cause.
     pub fn word(self) -> &'static str
         ensures { result.now ≡ word_of self }
     {
-        match self {
-            TextCause::Token => "Token",
-            TextCause::Expected => "Expected",
-            TextCause::UnknownName => "UnknownName",
-            TextCause::Kind => "Kind",
-            TextCause::Repeated => "Repeated",
-            TextCause::Depth => "Depth",
-            TextCause::TooLong => "TooLong",
-            TextCause::LabelOrder => "LabelOrder",
-            TextCause::Memory => "Memory",
-        }
+        WORDS[self as usize - 21]
     }
 }
 

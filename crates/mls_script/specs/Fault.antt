@@ -1,9 +1,10 @@
 -- The numbers and names of the causes for which scripts are refused.
-use Rattle.std.specs.Prelude.{ℕ, List, codes}
+use Rattle.std.specs.Prelude.{ℕ, List, ◌-◌, [], map, get_or}
 use Rattle.mls_script.specs.declared.fault.ScriptCause.{ScriptCause}
 use Rattle.mls_script.specs.declared.fault.ScriptCause.TheVariants.{Token, Expected, UnknownName, Kind, Repeated, Depth, TooLong, Memory, Unterminated}
 use Rattle.mls_script.specs.declared.fault.LineFault.{LineFault}
 use Rattle.mls_script.specs.declared.fault.ScriptFault.{ScriptFault}
+use Rattle.mls_script.specs.declared.fault.TheConstants.{WORDS}
 use Rattle.mls_tokens.specs.declared.fault.TokenCause.{TokenCause}
 use Rattle.mls_tokens.specs.declared.fault.TokenCause.TheVariants as tokens
 use Rattle.mls_tokens.specs.declared.fault.TokenFault.{TokenFault}
@@ -23,15 +24,7 @@ code_of Memory = 29
 code_of Unterminated = 30
 
 abbrev pub word_of : ScriptCause → List ℕ
-word_of Token = codes "Token"
-word_of Expected = codes "Expected"
-word_of UnknownName = codes "UnknownName"
-word_of Kind = codes "Kind"
-word_of Repeated = codes "Repeated"
-word_of Depth = codes "Depth"
-word_of TooLong = codes "TooLong"
-word_of Memory = codes "Memory"
-word_of Unterminated = codes "Unterminated"
+word_of c = get_or (map (λ w. w.now) WORDS) (code_of c - 21) []
 
 -- ---- places
 

@@ -2,6 +2,7 @@
 ghost use Rattle.std.specs.Prelude.{◌≡◌};
 ghost use Rattle.mls_script.specs.Fault.{code_of, word_of, lifted, of_condition, in_line};
 
+use mls_lattice::words;
 use mls_parser::{PlacedFault, TextCause};
 use mls_tokens::{TokenCause, TokenFault};
 use std::fmt;
@@ -11,7 +12,7 @@ use thiserror::Error;
 #[derive(Clone, Copy, PartialEq, Eq, Debug, Error)]
 pub enum ScriptCause {
     /// No token stands here.
-    Token,
+    Token = 21,
     /// No command goes on so.
     Expected,
     /// A name is unknown.
@@ -25,44 +26,29 @@ pub enum ScriptCause {
     /// A text is too long.
     TooLong,
     /// A growth was refused.
-    Memory,
+    Memory = 29,
     /// The last line has no end.
     Unterminated,
 }
+
+/// The names of the causes, in the order of their numbers; 28 is told of transactions alone.
+static WORDS: [&str; 10] = words! {
+    Token Expected UnknownName Kind Repeated Depth TooLong LabelOrder Memory Unterminated
+};
 
 impl ScriptCause {
     /// The number of the cause.
     pub fn code(self) -> u8
         ensures { result ≡ code_of self }
     {
-        match self {
-            ScriptCause::Token => 21,
-            ScriptCause::Expected => 22,
-            ScriptCause::UnknownName => 23,
-            ScriptCause::Kind => 24,
-            ScriptCause::Repeated => 25,
-            ScriptCause::Depth => 26,
-            ScriptCause::TooLong => 27,
-            ScriptCause::Memory => 29,
-            ScriptCause::Unterminated => 30,
-        }
+        self as u8
     }
 
     /// The name of the cause.
     pub fn word(self) -> &'static str
         ensures { result.now ≡ word_of self }
     {
-        match self {
-            ScriptCause::Token => "Token",
-            ScriptCause::Expected => "Expected",
-            ScriptCause::UnknownName => "UnknownName",
-            ScriptCause::Kind => "Kind",
-            ScriptCause::Repeated => "Repeated",
-            ScriptCause::Depth => "Depth",
-            ScriptCause::TooLong => "TooLong",
-            ScriptCause::Memory => "Memory",
-            ScriptCause::Unterminated => "Unterminated",
-        }
+        WORDS[self as usize - 21]
     }
 }
 

@@ -1,7 +1,8 @@
 -- The numbers and names of outcomes.
-use Rattle.std.specs.Prelude.{ℕ, Bool, true, false, List, codes}
+use Rattle.std.specs.Prelude.{ℕ, Bool, true, false, List, ◌-◌, [], map, get_or}
 use Rattle.mls_updates.specs.declared.outcome.Outcome.{Outcome}
 use Rattle.mls_updates.specs.declared.outcome.Outcome.TheVariants.{Done, KeyNull, Duplicate, NoTuple, NullAboveKey, Inherited, OutOfInterval, AlreadyDerived}
+use Rattle.mls_updates.specs.declared.outcome.TheConstants.{WORDS}
 
 abbrev pub is_done : Outcome → Bool
 is_done Done = true
@@ -18,11 +19,4 @@ code_of OutOfInterval = 16
 code_of AlreadyDerived = 17
 
 abbrev pub word_of : Outcome → List ℕ
-word_of Done = codes "Done"
-word_of KeyNull = codes "KeyNull"
-word_of Duplicate = codes "Duplicate"
-word_of NoTuple = codes "NoTuple"
-word_of NullAboveKey = codes "NullAboveKey"
-word_of Inherited = codes "Inherited"
-word_of OutOfInterval = codes "OutOfInterval"
-word_of AlreadyDerived = codes "AlreadyDerived"
+word_of o = get_or (map (λ w. w.now) WORDS) (code_of o - 10) []

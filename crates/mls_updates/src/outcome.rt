@@ -2,6 +2,8 @@
 ghost use Rattle.std.specs.Prelude.{◌≡◌};
 ghost use Rattle.mls_updates.specs.Outcome.{is_done, code_of, word_of};
 
+use mls_lattice::words;
+
 /// What became of a write. Every outcome but Done changes nothing.
 #[derive(Clone, Copy, PartialEq, Eq, Debug)]
 pub enum Outcome {
@@ -22,6 +24,11 @@ pub enum Outcome {
     AlreadyDerived,
 }
 
+/// The names of the outcomes, in the order of their numbers.
+static WORDS: [&str; 8] = words! {
+    Done KeyNull Duplicate NoTuple NullAboveKey Inherited OutOfInterval AlreadyDerived
+};
+
 impl Outcome {
     /// Whether the write was done.
     pub fn is_done(self) -> bool
@@ -39,13 +46,7 @@ impl Outcome {
     {
         match self {
             Outcome::Done => 0,
-            Outcome::KeyNull => 11,
-            Outcome::Duplicate => 12,
-            Outcome::NoTuple => 13,
-            Outcome::NullAboveKey => 14,
-            Outcome::Inherited => 15,
-            Outcome::OutOfInterval => 16,
-            Outcome::AlreadyDerived => 17,
+            _ => self as u8 + 10,
         }
     }
 
@@ -53,15 +54,6 @@ impl Outcome {
     pub fn word(self) -> &'static str
         ensures { result.now ≡ word_of self }
     {
-        match self {
-            Outcome::Done => "Done",
-            Outcome::KeyNull => "KeyNull",
-            Outcome::Duplicate => "Duplicate",
-            Outcome::NoTuple => "NoTuple",
-            Outcome::NullAboveKey => "NullAboveKey",
-            Outcome::Inherited => "Inherited",
-            Outcome::OutOfInterval => "OutOfInterval",
-            Outcome::AlreadyDerived => "AlreadyDerived",
-        }
+        WORDS[self as usize]
     }
 }

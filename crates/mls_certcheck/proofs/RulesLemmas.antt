@@ -83,10 +83,10 @@ then_ok (Ok u) s h = (refl, h)
 then_ok (Err e) s h = absurd cc
 
 module _ (c : Claim) where
-  over_to : (p : Pair) (ss : List Source) → is_over c p ss ≡ true → IsOver c p ss
+  pub over_to : (p : Pair) (ss : List Source) → is_over c p ss ≡ true → IsOver c p ss
   over_to p ss h = each_true (λ s. source_label c s ⊑ p) (λ s. Dominates p (source_label c s)) (λ s. ⊑-Dominates (source_label c s) p) ss h
 
-  to_over : (p : Pair) (ss : List Source) → IsOver c p ss → is_over c p ss ≡ true
+  pub to_over : (p : Pair) (ss : List Source) → IsOver c p ss → is_over c p ss ≡ true
   to_over p ss h = true_each (λ s. source_label c s ⊑ p) (λ s. Dominates p (source_label c s)) (λ s. Dominates-⊑ (source_label c s) p) ss h
 
   holds_to : (f : Flow) → holds c f ≡ true → Holds c f

@@ -1,40 +1,32 @@
 -- Labels that rise, one bound after another.
-use Rattle.std.proofs.Common.{◌≡◌, ◌<◌, ◌≤◌, ◌^◌, Bool, true, false, ◌||◌, List, [], ◌∷◌, ◌++◌, refl, sym, ap, ◌∙◌, subst, arith}
+use Rattle.std.proofs.Common.{◌≡◌, ◌<◌, ◌≤◌, ◌^◌, Bool, true, false, ◌||◌, List, refl, sym, ap, ◌∙◌, subst, arith}
 use Rattle.std.specs.List.{AllByRecursion}
 use Rattle.std.proofs.lemmas.Bool.{true≢false}
 use Rattle.mls_lattice.specs.declared.label.Label.{Label}
 use Rattle.mls_lattice.specs.Lattice.{Pair, Dominates, join, bottom, pair_of}
 use Rattle.mls_lattice.specs.Policy.{labels_of}
-use Rattle.mls_lattice.proofs.LatticeLemmas.{Dominates-trans, join-left, join-right, join-least}
-use Rattle.mls_certcheck.specs.Rules.{Claim, claim, slot_label, source_label, IsOver}
+use Rattle.mls_lattice.proofs.LatticeLemmas.{⊑-Dominates, Dominates-⊑, join-least}
+use Rattle.mls_certcheck.specs.Rules.{Claim, claim, slot_label, IsOver}
+use Rattle.mls_certcheck.specs.Walk.{IsJoin}
 use Rattle.mls_certcheck.specs.declared.flow.Slot.{Slot}
 use Rattle.mls_certcheck.specs.declared.flow.Source.{Source}
 use Rattle.mls_certcheck.specs.declared.flow.Flow.TheVariants.{Into}
-use Rattle.mls_certcheck.proofs.LabelLemmas.{above_bottom}
-use Rattle.mls_certcheck.proofs.EachLemmas.{all_both, all_front, all_back, all_map}
+use Rattle.mls_certcheck.proofs.EachLemmas.{all_map}
+use Rattle.mls_certcheck.proofs.RulesLemmas.{over_to, to_over}
 use Rattle.mls_labeller.specs.Flows.{IsBounded, body_lines}
 use Rattle.mls_labeller.specs.Least.{Meets, Below, IsLeast}
-use Rattle.mls_labeller.specs.Rising.{certificate, claim_at, cell, room, HasSlot, IsJoin, IsDue, Stands, Rises}
+use Rattle.mls_labeller.specs.Rising.{certificate, claim_at, cell, room, HasSlot, IsDue, Stands, Rises}
 use Rattle.mls_labeller.specs.declared.least.Rising.{Rising}
 use Rattle.mls_labeller.proofs.FlowLemmas.{all_bounded, over_falls}
 use Rattle.mls_labeller.proofs.RowLemmas.{is_of, has_rows, var_counts, stmt_counts, there, slot_own, put_counts, put_room, stays_below, lowest_below, low_labels, with_counts, rows_with, put, label_at}
 
--- ---- the join of sources
+-- ---- just the pairs over sources dominate their join
 
-pub join_none : (c : Claim) (p : Pair) → p ≡ bottom → IsJoin c [] p
-join_none c p e = record { flows = λ q. (λ h. tt, λ h. subst (Dominates q) (sym e) (above_bottom q)) }
+join_over : (c : Claim) (ss : List Source) (p q : Pair) → IsJoin c ss p → Dominates q p → IsOver c q ss
+join_over c ss p q j h = over_to c q ss (sym (j.flows q) ∙ Dominates-⊑ p q h)
 
-pub join_more : (c : Claim) (ss : List Source) (s : Source) (p q r : Pair) → IsJoin c ss p → q ≡ source_label c s → r ≡ join p q → IsJoin c (ss ++ s ∷ []) r
-join_more c ss s p q r j e f =
-    let l = source_label c s in
-    let whole : r ≡ join p l = f ∙ ap (join p) e in
-    let Over : Pair → Source → Type 0 = λ x t. Dominates x (source_label c t) in
-    subst (IsJoin c (ss ++ s ∷ [])) (sym whole) (record {
-      flows = λ x. (
-        λ h. all_both (Over x) ss (s ∷ []) ((j.flows x).0 (Dominates-trans x (join p l) p h (join-left p l))) (Dominates-trans x (join p l) l h (join-right p l), tt),
-        λ h. join-least p l x ((j.flows x).1 (all_front (Over x) ss (s ∷ []) h)) (all_back (Over x) ss (s ∷ []) h).0,
-      );
-    })
+over_join : (c : Claim) (ss : List Source) (p q : Pair) → IsJoin c ss p → IsOver c q ss → Dominates q p
+over_join c ss p q j h = ⊑-Dominates p q (j.flows q ∙ to_over c q ss h)
 
 -- ---- one step, and one more
 
@@ -82,12 +74,12 @@ module _ (k : Rising) where
   module _ (ss : List Source) (p : Pair) (x : List (List Label)) (j : IsJoin (at x) ss p) where
     -- where the sources flow to a slot, their join is due
     pub join_due : (t : Slot) → Stands k x → IsDue k (λ c. IsOver c (slot_label c t) ss) → IsDue k (λ c. Dominates (slot_label c t) p)
-    join_due t stands due other m = (j.flows (slot_label (at other) t)).1 (over_falls (labels_of k.labeller.policy.now) k.labeller.tx.now (certificate k.version x) (certificate k.version other) (stands.below other m) (slot_label (at other) t) ss (due other m))
+    join_due t stands due other m = over_join (at x) ss p (slot_label (at other) t) j (over_falls (labels_of k.labeller.policy.now) k.labeller.tx.now (certificate k.version x) (certificate k.version other) (stands.below other m) (slot_label (at other) t) ss (due other m))
 
     pub rises_pour : (ts : List Slot) (y : List (List Label)) (rose : Bool) → Rises k (λ c. AllByRecursion (λ t. Dominates (slot_label c t) p) ts) x y rose → Rises k (λ c. IsBounded c (Into ts ss)) x y rose
     rises_pour ts y rose h =
         let poured : List (List Label) → Type 0 = λ w. AllByRecursion (λ t. Dominates (slot_label (at w) t) p) ts in
-        let flows : poured x → IsBounded (at x) (Into ts ss) = all_map (λ t. Dominates (slot_label (at x) t) p) (λ t. IsOver (at x) (slot_label (at x) t) ss) (λ t. (j.flows (slot_label (at x) t)).0) ts in
+        let flows : poured x → IsBounded (at x) (Into ts ss) = all_map (λ t. Dominates (slot_label (at x) t) p) (λ t. IsOver (at x) (slot_label (at x) t) ss) (λ t. join_over (at x) ss p (slot_label (at x) t) j) ts in
         record { stands = h.stands; still = λ e. let same = (h.still e).0 in (same, subst (λ w. poured w → IsBounded (at w) (Into ts ss)) (sym same) flows (h.still e).1); falls = h.falls }
 
   -- ---- the lowest labels

@@ -1,7 +1,6 @@
 -- Inner: no public contract names these. Labels rise from the lowest until they meet the lower bounds.
-use Rattle.std.specs.Prelude.{◌≡◌, ℕ, ◌+◌, ◌-◌, ◌<◌, ◌≤◌, ◌^◌, ◌↔◌, Bool, true, false, List, [], ◌∷◌, map, length, drop, replicate, slice_index_or, sum_by}
+use Rattle.std.specs.Prelude.{◌≡◌, ℕ, ◌+◌, ◌-◌, ◌<◌, ◌≤◌, ◌^◌, Bool, true, false, List, [], ◌∷◌, map, length, drop, replicate, slice_index_or, sum_by}
 use Rattle.std.specs.List.{AllByRecursion}
-use Rattle.mls_lattice.specs.Lattice.{Pair, Dominates}
 use Rattle.mls_lattice.specs.declared.label.Label.{Label}
 use Rattle.mls_translang.specs.Tree.{statements}
 use Rattle.mls_translang.specs.Tx.{Tx}
@@ -11,10 +10,9 @@ use Rattle.mls_certcheck.specs.declared.cert.Version.{Version}
 use Rattle.mls_certcheck.specs.declared.cert.Version.TheVariants as version
 use Rattle.mls_certcheck.specs.declared.flow.Slot.{Slot}
 use Rattle.mls_certcheck.specs.declared.flow.Slot.TheVariants.{Variable, Statement}
-use Rattle.mls_certcheck.specs.declared.flow.Source.{Source}
 use Rattle.mls_certcheck.specs.declared.flow.Flow.{Flow}
 use Rattle.mls_certcheck.specs.declared.flow.Flow.TheVariants.{Into, Kept}
-use Rattle.mls_certcheck.specs.Rules.{Claim, claim, IsOver}
+use Rattle.mls_certcheck.specs.Rules.{Claim, claim}
 use Rattle.mls_labeller.specs.Least.{Meets, Below}
 use Rattle.mls_labeller.specs.declared.labels.Labels.{Labels}
 use Rattle.mls_labeller.specs.declared.least.Rising.{Rising}
@@ -63,10 +61,6 @@ abbrev pub HasTargets : Tx → Flow → Type 0
 HasTargets tx (Into targets sources) = AllByRecursion (HasSlot tx) targets
 HasTargets tx (Kept m n but) = HasStatement tx n
 HasTargets tx _ = Unit {0}
-
--- the join of the labels of sources: just the pairs over these dominate it
-pub record IsJoin (c : Claim) (sources : List Source) (p : Pair) : Type 0 where
-  pub flows : (q : Pair) → Dominates q p ↔ IsOver c q sources
 
 -- ---- labels that rise
 

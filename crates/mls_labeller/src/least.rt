@@ -6,9 +6,10 @@ ghost use Rattle.mls_lattice.specs.Labels.{label_of};
 ghost use Rattle.mls_lattice.specs.Policy.{labels_of};
 ghost use Rattle.mls_translang.specs.Tree.{statements};
 ghost use Rattle.mls_certcheck.specs.Rules.{slot_label, source_label};
+ghost use Rattle.mls_certcheck.specs.Walk.{IsJoin};
 ghost use Rattle.mls_labeller.specs.Flows.{IsBounded, body_lines};
 ghost use Rattle.mls_labeller.specs.Least.{IsLeast};
-ghost use Rattle.mls_labeller.specs.Rising.{rows_of, certificate, claim_at, HasStatement, HasSlot, HasTargets, IsJoin, IsDue, Stands, Rises};
+ghost use Rattle.mls_labeller.specs.Rising.{rows_of, certificate, claim_at, HasStatement, HasSlot, HasTargets, IsDue, Stands, Rises};
 ghost use Rattle.mls_certcheck.specs.declared.flow.Flow.TheVariants.{Into, Kept};
 
 use crate::labels::{Labels, cell};

@@ -1,6 +1,7 @@
 use Rattle.std.proofs.Common.{take}
 use Rattle.mls_lattice.specs.Lattice.{pair_of}
-use Rattle.mls_labeller.specs.Rising.{rows_of, claim_at, IsJoin}
+use Rattle.mls_certcheck.specs.Walk.{IsJoin}
+use Rattle.mls_labeller.specs.Rising.{rows_of, claim_at}
 use Rattle.mls_labeller.proofs.least.Rising.joined.Given as goal
 
 -- the join of the sources so far

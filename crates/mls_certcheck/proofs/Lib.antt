@@ -10,6 +10,7 @@ pub mod QuietLemmas
 pub mod ScopeLemmas
 pub mod FlowLemmas
 pub mod LawLemmas
+pub mod StoredLemmas
 pub mod LiftLemmas
 pub mod KeepingLemmas
 pub mod KindLemmas

@@ -9,6 +9,8 @@ pub mod Lent
 pub mod Walk
 pub mod Visited
 pub mod Certified
+pub mod Stored
+pub mod Site
 pub mod Laws
 pub mod Expressions
 pub mod Meaning

@@ -25,6 +25,7 @@ mod own;
 mod reading;
 mod refusal;
 mod run;
+mod stored;
 mod visit;
 mod walking;
 mod writing;
@@ -44,6 +45,7 @@ pub use meaning::{
 pub use reading::certs_read;
 pub use refusal::{Refusal, Rule};
 pub use run::Run;
+pub use stored::Stored;
 pub use visit::Visit;
 pub use walking::walk;
 pub use writing::block_print;

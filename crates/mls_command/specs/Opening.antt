@@ -4,11 +4,10 @@ use Rattle.std.specs.Fmt.{decimal}
 use Rattle.mls_lattice.specs.Policy.{Policy}
 use Rattle.mls_machine.specs.Denying.{cleared, user_named}
 use Rattle.mls_machine.specs.Reply.{code_of, word_of}
-use Rattle.mls_machine.specs.Site.{Site}
+use Rattle.mls_certcheck.specs.Site.{Site, site_of}
 use Rattle.mls_machine.specs.declared.reply.Denial.{Denial}
 use Rattle.mls_host.specs.declared.words.Task.{Task}
 use Rattle.mls_host.specs.declared.words.Task.TheVariants.{Shell}
-use Rattle.mls_host.specs.Running.{site_of}
 
 abbrev pub denial_of : Result ℕ Denial → Option Denial
 denial_of (Ok user) = None

@@ -1,5 +1,4 @@
 pub mod HostingLemmas
-pub mod RunningLemmas
 pub mod StoringLemmas
 pub mod CauseLemmas
 pub mod WholeLemmas

@@ -11,11 +11,11 @@ use Rattle.mls_certcheck.specs.Rules.{Claim, Rules}
 use Rattle.mls_certcheck.specs.Checks.{First}
 use Rattle.mls_certcheck.specs.declared.refusal.Refusal.{Refusal}
 use Rattle.mls_certcheck.proofs.RulesLemmas.{first_from_rules}
-use Rattle.mls_machine.specs.declared.stored.Stored.{Stored}
-use Rattle.mls_machine.specs.declared.stored.Stored.TheVariants.{Certified, Plain}
-use Rattle.mls_machine.specs.Stored.{tx_of, IsMadeUnder}
-use Rattle.mls_machine.specs.Observation.{AreRead, AreCertified}
-use Rattle.mls_machine.proofs.RunLemmas.{made_certified}
+use Rattle.mls_certcheck.specs.declared.stored.Stored.{Stored}
+use Rattle.mls_certcheck.specs.declared.stored.Stored.TheVariants.{Certified, Plain}
+use Rattle.mls_certcheck.specs.Stored.{tx_of, IsMadeUnder}
+use Rattle.mls_certcheck.specs.Site.{AreRead, AreCertified}
+use Rattle.mls_certcheck.proofs.StoredLemmas.{made_certified}
 use Rattle.mls_host.specs.Storing.{IsStoredWith, AreStoredWith, cert_named}
 
 -- what is refused breaks a rule

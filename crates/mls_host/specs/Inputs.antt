@@ -13,7 +13,7 @@ use Rattle.mls_translang.specs.Tx.{Tx}
 use Rattle.mls_translang.specs.Tells.{Tells}
 use Rattle.mls_certcheck.specs.Reading.{Block}
 use Rattle.mls_certcheck.specs.Spelling.{IsFile, file_text}
-use Rattle.mls_machine.specs.declared.stored.Stored.{Stored}
+use Rattle.mls_certcheck.specs.declared.stored.Stored.{Stored}
 use Rattle.mls_host.specs.declared.samples.TheConstants.{POLICY, SCHEMES}
 use Rattle.mls_host.specs.declared.words.Documents.{Documents}
 use Rattle.mls_host.specs.declared.words.Task.{Task}

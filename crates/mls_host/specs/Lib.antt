@@ -1,12 +1,11 @@
 -- The definitions of hosts and command lines: `Hosting` has what contracts see of a host, `Words` what words
--- ask for, `Running` what a run writes.
+-- ask for.
 pub mod Hosting
 pub mod Reason
 pub mod Stop
 pub mod Ending
 pub mod Inputs
 pub mod Storing
-pub mod Running
 pub mod Telling
 pub mod Causes
 pub mod Stopping

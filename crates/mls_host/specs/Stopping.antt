@@ -1,7 +1,7 @@
 -- Why a run or a shell is given up, and which stores it leaves then.
 use Rattle.std.specs.Prelude.{◌≡◌, ◌≢◌, ℕ, List, Option, Some, None, Result, Ok, Err, ⊤}
-use Rattle.mls_sessions.specs.declared.cause.RunCause.TheVariants.{Store}
-use Rattle.mls_sessions.specs.declared.cause.RunFault.{RunFault}
+use Rattle.mls_script.specs.declared.run_fault.RunCause.TheVariants.{Store}
+use Rattle.mls_script.specs.declared.run_fault.RunFault.{RunFault}
 use Rattle.mls_host.specs.declared.stop.Stop.{Stop}
 use Rattle.mls_host.specs.declared.stop.Stop.TheVariants.{Before, Run, NotClosed, Output, Served, Unread, Turned}
 use Rattle.mls_host.specs.Hosting.{Hosted, KeepsStores, LeavesStores}

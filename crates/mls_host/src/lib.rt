@@ -3,7 +3,6 @@
 
 mod ending;
 mod errors;
-mod form;
 mod host;
 mod inputs;
 mod job;
@@ -19,7 +18,6 @@ mod words;
 
 pub use crate::ending::{Ending, ending_if};
 pub use crate::errors::Errors;
-pub use crate::form::form_of;
 pub use crate::host::{CloseFault, Host, HostFault, StoreCause, StoreFiles, read_whole};
 pub use crate::inputs::{policy_or_sample, schemes_or_sample};
 pub use crate::job::{Inputs, Setting};

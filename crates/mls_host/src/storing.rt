@@ -1,16 +1,14 @@
 //! Transactions as they are stored: with the certificates that hold for them, or without.
 ghost use Rattle.std.specs.Prelude.{◌≡◌, IfOk, IfErr, option_map};
-ghost use Rattle.mls_machine.specs.Observation.{AreRead, AreCertified};
+ghost use Rattle.mls_certcheck.specs.Site.{AreRead, AreCertified, site_of};
 ghost use Rattle.mls_host.specs.Causes.{AreTextsRefused};
 ghost use Rattle.mls_host.specs.Inputs.{AreStoredOf};
-ghost use Rattle.mls_host.specs.Running.{site_of};
 ghost use Rattle.mls_host.specs.Storing.{cert_named, IsAccepted, IsStoredWith, AreStoredWith};
 
 use crate::readers::{read_certificates, read_transactions};
 use crate::reason::Reason;
-use mls_certcheck::{Certificate, Certified};
+use mls_certcheck::{Certificate, Certified, Stored};
 use mls_lattice::{Items, Policy, Str};
-use mls_machine::Stored;
 use mls_scheme::Schemes;
 use mls_translang::Tx;
 use std::alloc::{AllocError, Global};

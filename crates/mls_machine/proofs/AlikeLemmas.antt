@@ -14,14 +14,14 @@ use Rattle.mls_updates.specs.Writes.{Write, Written, write}
 use Rattle.mls_updates.proofs.LawLemmas.{low_use_low}
 use Rattle.mls_audit.specs.declared.entry.Entry.{Entry}
 use Rattle.mls_audit.specs.Entry.{label_of, visible}
-use Rattle.mls_queries.specs.declared.query.Query.{Query}
+use Rattle.mls_translang.specs.declared.query.Query.{Query}
 use Rattle.mls_queries.specs.Query.{found}
 use Rattle.mls_script.specs.declared.event.Event.{Event}
 use Rattle.mls_script.specs.declared.event.Command.{Command}
 use Rattle.mls_script.specs.declared.event.Command.TheVariants as commands
 use Rattle.mls_machine.specs.declared.reply.Denial.{Denial}
 use Rattle.mls_machine.specs.declared.reply.Reply.TheVariants.{Rows, Dumped, Wrote, Entries}
-use Rattle.mls_machine.specs.Site.{Site, site_labels, site_scheme}
+use Rattle.mls_certcheck.specs.Site.{Site, site_labels, site_scheme}
 use Rattle.mls_machine.specs.Denying.{first_denial, cleared, user_named, view_denials}
 use Rattle.mls_machine.specs.Machine.{World, Step, in_session, unless, denial_entry, denied, viewed, dumped, wrote, listed, step_inside, open_step, step_outside, step_at, step}
 use Rattle.mls_machine.proofs.DenyingLemmas.{view_below}

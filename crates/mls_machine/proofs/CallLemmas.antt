@@ -21,10 +21,10 @@ use Rattle.mls_script.specs.declared.event.Command.TheVariants as commands
 use Rattle.mls_machine.specs.declared.reply.Denial.{Denial}
 use Rattle.mls_machine.specs.declared.reply.Denial.TheVariants.{Ds, Ss, Star, Trust, Arguments}
 use Rattle.mls_machine.specs.declared.reply.Reply.TheVariants.{Ran}
-use Rattle.mls_machine.specs.declared.stored.Stored.{Stored}
-use Rattle.mls_machine.specs.declared.stored.Stored.TheVariants.{Certified, Plain}
-use Rattle.mls_machine.specs.Stored.{tx_of}
-use Rattle.mls_machine.specs.Site.{Site, site_labels}
+use Rattle.mls_certcheck.specs.declared.stored.Stored.{Stored}
+use Rattle.mls_certcheck.specs.declared.stored.Stored.TheVariants.{Certified, Plain}
+use Rattle.mls_certcheck.specs.Stored.{tx_of}
+use Rattle.mls_certcheck.specs.Site.{Site, site_labels}
 use Rattle.mls_machine.specs.Denying.{first_denial, clearance_of, trusted_of, exceed, execute_mode, lacks_rights_on, lie_outside, stored_named, are_wrong_at, fitted, call_denials}
 use Rattle.mls_machine.specs.Machine.{World, Step, unless, denial_entry, denied, call_entries, called, call_step, step_at, step}
 use Rattle.mls_machine.specs.Output.{line, call_texts, item_lines, reply_lines}

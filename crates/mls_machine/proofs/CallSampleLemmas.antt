@@ -23,13 +23,13 @@ use Rattle.mls_certcheck.specs.declared.certified.Certified.{Certified}
 use Rattle.mls_script.specs.declared.event.Event.{Event}
 use Rattle.mls_script.specs.declared.event.Command.{Command}
 use Rattle.mls_script.specs.declared.event.Command.TheVariants.{Open, Audit, Call}
-use Rattle.mls_machine.specs.declared.stored.Stored.TheVariants as stored
+use Rattle.mls_certcheck.specs.declared.stored.Stored.TheVariants as stored
 use Rattle.mls_machine.specs.declared.form.Form.TheVariants.{Lines}
 use Rattle.mls_machine.specs.declared.reply.Denial.{Denial}
 use Rattle.mls_machine.specs.declared.reply.Denial.TheVariants.{UnknownTransaction, NotCertified, Ds, Ss, Star, Trust, Arguments}
 use Rattle.mls_machine.specs.declared.reply.Reply.TheVariants.{Opened, Ran, Entries}
-use Rattle.mls_machine.specs.Site.{Site}
-use Rattle.mls_machine.specs.Stored.{tx_of}
+use Rattle.mls_certcheck.specs.Site.{Site}
+use Rattle.mls_certcheck.specs.Stored.{tx_of}
 use Rattle.mls_machine.specs.Denying.{first_denial, execute_mode, call_denials}
 use Rattle.mls_machine.specs.Machine.{World, Step, no_sessions, in_session, unless, denial_entry, denied, call_entries, called, call_step, open_step, step}
 use Rattle.mls_machine.specs.Output.{reply_lines, run_lines, printed}

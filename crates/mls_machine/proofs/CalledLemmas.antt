@@ -9,12 +9,12 @@ use Rattle.mls_translang.specs.Fits.{IsReadUnder}
 use Rattle.mls_certcheck.specs.Secure.{Secure}
 use Rattle.mls_script.specs.declared.event.Command.{Command}
 use Rattle.mls_script.specs.declared.event.Command.TheVariants as commands
-use Rattle.mls_machine.specs.declared.stored.Stored.{Stored}
-use Rattle.mls_machine.specs.declared.stored.Stored.TheVariants.{Certified, Plain}
-use Rattle.mls_machine.specs.Stored.{tx_of, WhereCertified}
-use Rattle.mls_machine.specs.Site.{Site}
+use Rattle.mls_certcheck.specs.declared.stored.Stored.{Stored}
+use Rattle.mls_certcheck.specs.declared.stored.Stored.TheVariants.{Certified, Plain}
+use Rattle.mls_certcheck.specs.Stored.{tx_of, WhereCertified}
+use Rattle.mls_certcheck.specs.Site.{Site, AreRead}
 use Rattle.mls_machine.specs.Denying.{stored_named}
-use Rattle.mls_machine.specs.Observation.{AreRead, AreSecure, IsCallSecure}
+use Rattle.mls_machine.specs.Observation.{AreSecure, IsCallSecure}
 
 -- the transaction that is stored with a certificate, if one is
 abbrev pub certified_of : Option Stored → Option Tx

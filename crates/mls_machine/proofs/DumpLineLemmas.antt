@@ -15,7 +15,7 @@ use Rattle.mls_script.specs.Event.{Sets}
 use Rattle.mls_script.specs.Tokens.{relation_name}
 use Rattle.mls_script.specs.Writing.{cell_text, behind_comma, listed, list_text, set_text, keyed, command_text, line_text, is_writable}
 use Rattle.mls_filterview.specs.Filtering.{class_number}
-use Rattle.mls_machine.specs.Site.{Site, site_labels, site_scheme}
+use Rattle.mls_certcheck.specs.Site.{Site, site_labels, site_scheme}
 use Rattle.mls_machine.specs.Dumping.{own_sets, class_below, dump_command, dump_event}
 use Rattle.mls_machine.specs.Output.{dump_heading, script_text}
 use Rattle.mls_machine.specs.Parting.{IsOneLine, HasPlainNames, IsPlain}

@@ -12,7 +12,7 @@ use Rattle.mls_machine.specs.declared.form.Form.{Form}
 use Rattle.mls_machine.specs.declared.form.Form.TheVariants.{Lines, Table}
 use Rattle.mls_machine.specs.declared.reply.Reply.{Reply}
 use Rattle.mls_machine.specs.declared.reply.Reply.TheVariants.{Rows, Dumped, Ran}
-use Rattle.mls_machine.specs.Site.{Site, site_labels}
+use Rattle.mls_certcheck.specs.Site.{Site, site_labels}
 use Rattle.mls_machine.specs.Output.{Line, line, item_lines, lines_with, escaped_line, view_texts, table_texts, dump_texts, call_texts, reply_texts, texts_in_table, reply_lines, reply_lines_in}
 use Rattle.mls_machine.specs.Observation.{out, shown, glimpse, reply_shown}
 use Rattle.mls_machine.proofs.ItemLemmas.{filter-map, lines_seen}

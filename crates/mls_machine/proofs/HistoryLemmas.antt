@@ -11,10 +11,10 @@ use Rattle.mls_scheme.specs.Scheme.{Schemes}
 use Rattle.mls_certcheck.specs.Secure as secure
 use Rattle.mls_script.specs.declared.event.Event.{Event}
 use Rattle.mls_machine.specs.declared.form.Form.{Form}
-use Rattle.mls_machine.specs.Site.{Site, site_labels}
+use Rattle.mls_certcheck.specs.Site.{Site, site_labels, AreCertified}
 use Rattle.mls_machine.specs.Machine.{World, end_of}
 use Rattle.mls_machine.specs.Output.{run_lines, printed}
-use Rattle.mls_machine.specs.Observation.{AreStored, EventsFit, AreSecure, AreCertified, HaveNoCall, AgreeAt, EndAlike, seen, released_to, AreBelowCeiling, out, replies_shown}
+use Rattle.mls_machine.specs.Observation.{AreStored, EventsFit, AreSecure, HaveNoCall, AgreeAt, EndAlike, seen, released_to, AreBelowCeiling, out, replies_shown}
 use Rattle.mls_machine.specs.Turning.{turn_line, turn_lines, turned, TurnedWorldsAreAlike, TurningsShowTheSame}
 use Rattle.mls_machine.specs.History.{RunAt, settled, run_start, run_end, turning_lines, history_end, history_lines, history_replies, KeepsIntegrityInHistory, LookAlike, ReleaseAlike, HistoriesEndAlike, HistoryFits, HistoryHasNoCall, IsSiteUnder, IsHistoryUnder, EachPassesOnlyReleasesDown, HistoriesKeepIntegrity, LowHistoriesAreAlike, SecureHistoriesAreAlike, AcceptedHistoriesAreAlike, HistoriesPassWhatRunsPass, HistoriesShowOnlyReleases}
 use Rattle.mls_machine.proofs.ItemLemmas.{filter-map}

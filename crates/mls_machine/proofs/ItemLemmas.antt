@@ -12,7 +12,7 @@ use Rattle.mls_certcheck.specs.Meaning.{Item}
 use Rattle.mls_certcheck.specs.Secure.{seen_items}
 use Rattle.mls_script.specs.declared.event.Event.{Event}
 use Rattle.mls_machine.specs.declared.reply.Reply.TheVariants.{Ran}
-use Rattle.mls_machine.specs.Site.{Site}
+use Rattle.mls_certcheck.specs.Site.{Site}
 use Rattle.mls_machine.specs.Machine.{release_entry, call_entries}
 use Rattle.mls_machine.specs.Output.{Line, item_line, item_lines}
 use Rattle.mls_machine.specs.Observation.{out}

@@ -24,13 +24,13 @@ use Rattle.mls_script.specs.declared.event.Command.{Command}
 use Rattle.mls_script.specs.declared.event.Command.TheVariants as commands
 use Rattle.mls_script.specs.Event.{IsWriteOf, CommandFits, EventFits}
 use Rattle.mls_machine.specs.declared.reply.Denial.{Denial}
-use Rattle.mls_machine.specs.declared.stored.Stored.{Stored}
-use Rattle.mls_machine.specs.declared.stored.Stored.TheVariants.{Certified, Plain}
-use Rattle.mls_machine.specs.Stored.{tx_of}
-use Rattle.mls_machine.specs.Site.{Site, site_labels, site_scheme}
+use Rattle.mls_certcheck.specs.declared.stored.Stored.{Stored}
+use Rattle.mls_certcheck.specs.declared.stored.Stored.TheVariants.{Certified, Plain}
+use Rattle.mls_certcheck.specs.Stored.{tx_of}
+use Rattle.mls_certcheck.specs.Site.{Site, site_labels, site_scheme, AreRead}
 use Rattle.mls_machine.specs.Denying.{first_denial, cleared, user_named, stored_named, fitted, call_denials}
 use Rattle.mls_machine.specs.Machine.{World, Step, unless, wrote, called, call_step, step_inside, open_step, step_outside, step_at, step, end_of}
-use Rattle.mls_machine.specs.Observation.{AreStored, EventsFit, AreRead}
+use Rattle.mls_machine.specs.Observation.{AreStored, EventsFit}
 use Rattle.mls_machine.specs.Laws.{AreWhole, KeepsIntegrity, RunsKeepIntegrity}
 use Rattle.mls_machine.proofs.DenyingLemmas.{may_run}
 use Rattle.mls_machine.proofs.CalledLemmas.{certified_of, CallsRead, found_holds, all_read}

@@ -5,7 +5,7 @@ use Rattle.mls_lattice.specs.Policy.{Name}
 use Rattle.mls_filterview.specs.View.{low}
 use Rattle.mls_filterview.proofs.LevelLemmas.{low_from_views, views_from_low}
 use Rattle.mls_audit.specs.Entry.{visible}
-use Rattle.mls_machine.specs.Site.{Site, site_labels}
+use Rattle.mls_certcheck.specs.Site.{Site, site_labels}
 use Rattle.mls_machine.specs.Machine.{World}
 use Rattle.mls_machine.specs.Observation.{AreStored, AgreeAt}
 

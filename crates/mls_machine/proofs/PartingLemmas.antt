@@ -26,7 +26,7 @@ use Rattle.mls_machine.specs.declared.reply.Denial.{Denial}
 use Rattle.mls_machine.specs.declared.reply.Denial.TheVariants as denials
 use Rattle.mls_machine.specs.declared.reply.Reply.{Reply}
 use Rattle.mls_machine.specs.declared.reply.Reply.TheVariants.{Opened, Closed, Rows, Dumped, Wrote, Ran, Entries, Denied}
-use Rattle.mls_machine.specs.Site.{Site, site_labels}
+use Rattle.mls_certcheck.specs.Site.{Site, site_labels}
 use Rattle.mls_machine.specs.Reply.{code_of, word_of}
 use Rattle.mls_machine.specs.Dumping.{dump_event}
 use Rattle.mls_machine.specs.Machine.{World, step}

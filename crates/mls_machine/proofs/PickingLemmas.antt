@@ -17,11 +17,11 @@ use Rattle.mls_script.specs.declared.event.Event.{Event}
 use Rattle.mls_machine.specs.declared.form.Form.TheVariants.{Lines}
 use Rattle.mls_machine.specs.declared.reply.Reply.{Reply}
 use Rattle.mls_machine.specs.declared.reply.Reply.TheVariants.{Opened, Closed, Rows, Dumped, Wrote, Ran, Entries, Denied}
-use Rattle.mls_machine.specs.Site.{Site, site_labels}
+use Rattle.mls_certcheck.specs.Site.{Site, site_labels, AreRead}
 use Rattle.mls_machine.specs.Machine.{World, step}
 use Rattle.mls_script.specs.Writing.{cell_text}
 use Rattle.mls_machine.specs.Output.{Line, reply_texts, front, line, item_line, item_lines, reply_lines, run_lines, EntriesAreKnown, ItemsAreKnown, ReplyIsKnown}
-use Rattle.mls_machine.specs.Observation.{AreStored, AreRead, EventsFit, everyone, out}
+use Rattle.mls_machine.specs.Observation.{AreStored, EventsFit, everyone, out}
 use Rattle.mls_machine.specs.Parting.{is_space, label_told, may_see, LinesArePicked}
 use Rattle.mls_machine.proofs.OneLineLemmas.{each, each_if, each-append, each-map}
 use Rattle.mls_machine.proofs.PartingLemmas.{policies_plain, runs_part}

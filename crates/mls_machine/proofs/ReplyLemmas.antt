@@ -25,7 +25,7 @@ use Rattle.mls_translang.specs.Fits.{IsReadUnder}
 use Rattle.mls_certcheck.specs.Meaning.{Item, run_tx}
 use Rattle.mls_certcheck.proofs.MeaningLemmas.{call_labelled}
 use Rattle.mls_updates.specs.Writes.{Write}
-use Rattle.mls_queries.specs.declared.query.Query.{Query}
+use Rattle.mls_translang.specs.declared.query.Query.{Query}
 use Rattle.mls_queries.specs.Query.{has_class, meets, is_above, highest_of, first_of, found}
 use Rattle.mls_queries.proofs.PlaceLemmas.{all_filter}
 use Rattle.mls_certcheck.proofs.EachLemmas.{all_take}
@@ -36,13 +36,13 @@ use Rattle.mls_script.specs.declared.event.Command.{Command}
 use Rattle.mls_script.specs.declared.event.Command.TheVariants as commands
 use Rattle.mls_machine.specs.declared.reply.Denial.{Denial}
 use Rattle.mls_machine.specs.declared.reply.Denial.TheVariants.{AlreadyOpen, UnknownTransaction, NotCertified}
-use Rattle.mls_machine.specs.declared.stored.Stored.{Stored}
-use Rattle.mls_machine.specs.declared.stored.Stored.TheVariants.{Certified, Plain}
-use Rattle.mls_machine.specs.Site.{Site, site_labels, site_scheme}
+use Rattle.mls_certcheck.specs.declared.stored.Stored.{Stored}
+use Rattle.mls_certcheck.specs.declared.stored.Stored.TheVariants.{Certified, Plain}
+use Rattle.mls_certcheck.specs.Site.{Site, site_labels, site_scheme, AreRead}
 use Rattle.mls_machine.specs.Denying.{first_denial, exceed, clearance_of, cleared, user_named, stored_named, fitted, call_denials}
 use Rattle.mls_machine.specs.Machine.{World, Step, unless, denial_entry, release_entry, call_entries, viewed, dumped, wrote, called, call_step, step_inside, open_step, step_outside, step_at, step}
 use Rattle.mls_machine.specs.Output.{EntriesAreKnown, ItemsAreKnown, ReplyIsKnown}
-use Rattle.mls_machine.specs.Observation.{AreStored, AreRead}
+use Rattle.mls_machine.specs.Observation.{AreStored}
 use Rattle.mls_machine.proofs.DenyingLemmas.{user_below}
 use Rattle.mls_machine.proofs.OneLineLemmas.{each-append}
 use Rattle.mls_machine.proofs.CalledLemmas.{certified_of, all_read}

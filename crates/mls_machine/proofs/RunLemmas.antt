@@ -7,7 +7,6 @@ use Rattle.std.proofs.lemmas.List.Elements.{filter-append}
 use Rattle.mls_lattice.specs.Labels.{below, AreDistinct}
 use Rattle.mls_certcheck.specs.Meaning.{Item}
 use Rattle.mls_certcheck.specs.Secure.{seen_items, Split, Secure}
-use Rattle.mls_certcheck.specs.Rules.{Rules, claim}
 use Rattle.mls_certcheck.proofs.FlowLemmas.{split_more}
 use Rattle.mls_certcheck.proofs.LawLemmas.{secure_rules}
 use Rattle.mls_script.specs.declared.event.Event.{Event}
@@ -16,13 +15,13 @@ use Rattle.mls_script.specs.declared.event.Command.TheVariants as commands
 use Rattle.mls_script.specs.Event.{EventFits}
 use Rattle.mls_machine.specs.declared.form.Form.{Form}
 use Rattle.mls_machine.specs.declared.reply.Reply.{Reply}
-use Rattle.mls_machine.specs.declared.stored.Stored.{Stored}
-use Rattle.mls_machine.specs.declared.stored.Stored.TheVariants.{Certified, Plain}
-use Rattle.mls_machine.specs.Stored.{WhereCertified, IsCertifiedUnder, IsMadeUnder}
-use Rattle.mls_machine.specs.Site.{Site, site_labels}
+use Rattle.mls_certcheck.specs.declared.stored.Stored.{Stored}
+use Rattle.mls_certcheck.specs.declared.stored.Stored.TheVariants.{Certified, Plain}
+use Rattle.mls_certcheck.specs.Stored.{WhereCertified, IsCertifiedUnder}
+use Rattle.mls_certcheck.specs.Site.{Site, site_labels, AreRead, AreCertified}
 use Rattle.mls_machine.specs.Machine.{World, step, end_of}
 use Rattle.mls_machine.specs.Output.{Line, reply_lines_in, run_lines, printed}
-use Rattle.mls_machine.specs.Observation.{AreStored, EventsFit, AreRead, AreSecure, AreCertified, IsNoCall, HaveNoCall, SeesNoCall, IsCallSecure, AreCallsSecure, shown, glimpse, seen, AgreeAt, EndAlike, IsBelowCeiling, AreBelowCeiling, out, released_in, run_released, released_to, reply_shown, replies_shown, PassesOnlyReleasesDown, ShowsOnlyReleases}
+use Rattle.mls_machine.specs.Observation.{AreStored, EventsFit, AreSecure, IsNoCall, HaveNoCall, SeesNoCall, IsCallSecure, AreCallsSecure, shown, glimpse, seen, AgreeAt, EndAlike, IsBelowCeiling, AreBelowCeiling, out, released_in, run_released, released_to, reply_shown, replies_shown, PassesOnlyReleasesDown, ShowsOnlyReleases}
 use Rattle.mls_machine.specs.Laws.{LowRunsAreAlike, SecureRunsAreAlike, AcceptedRunsAreAlike}
 use Rattle.mls_machine.proofs.CalledLemmas.{WhereCalled, CallsRead, IsSafe, all_safe, secure_call, weaker}
 use Rattle.mls_machine.proofs.KeepingLemmas.{step_stored, first_fit}
@@ -269,15 +268,6 @@ certified_secure site distinct = each site.stored
     each : (stored : List Stored) → AllByRecursion (IsCertifiedUnder site.policy) stored → AllByRecursion (WhereCertified (Secure site.policy)) stored
     each [] h = tt
     each (Certified k ∷ ss) h = (secure_rules site.policy distinct k.tx k.cert h.0, each ss h.1)
-    each (Plain tx ∷ ss) h = (tt, each ss h.1)
-
--- under the policy of its checking the rules hold for each certified transaction
-pub made_certified : (site : Site) → AllByRecursion (IsMadeUnder site.policy) site.stored → AreCertified site
-made_certified site = each site.stored
-  where
-    each : (stored : List Stored) → AllByRecursion (IsMadeUnder site.policy) stored → AllByRecursion (IsCertifiedUnder site.policy) stored
-    each [] h = tt
-    each (Certified k ∷ ss) h = (subst (λ p. Rules (claim p k.tx k.cert)) h.0 k.rules, each ss h.1)
     each (Plain tx ∷ ss) h = (tt, each ss h.1)
 
 pub accepted_alike : AcceptedRunsAreAlike

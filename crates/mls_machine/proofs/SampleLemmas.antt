@@ -15,7 +15,7 @@ use Rattle.mls_script.specs.Grammar.{no_query}
 use Rattle.mls_script.specs.declared.event.Event.{Event}
 use Rattle.mls_script.specs.declared.event.Command.{Command}
 use Rattle.mls_script.specs.declared.event.Command.TheVariants.{Open, Audit, View}
-use Rattle.mls_machine.specs.Site.{Site}
+use Rattle.mls_certcheck.specs.Site.{Site}
 use Rattle.mls_machine.specs.declared.form.Form.TheVariants.{Lines}
 use Rattle.mls_machine.specs.declared.reply.Denial.TheVariants.{Ds, Ss, Star}
 use Rattle.mls_machine.specs.declared.reply.Reply.TheVariants.{Opened, Entries}

@@ -8,7 +8,7 @@ use Rattle.mls_tokens.proofs.HarmlessLemmas.{escaped_harmless}
 use Rattle.mls_lattice.specs.Labels.{Labels, below}
 use Rattle.mls_script.specs.declared.event.Event.{Event}
 use Rattle.mls_machine.specs.declared.form.Form.TheVariants.{Table}
-use Rattle.mls_machine.specs.Site.{Site, site_labels}
+use Rattle.mls_certcheck.specs.Site.{Site, site_labels}
 use Rattle.mls_machine.specs.Machine.{World, step}
 use Rattle.mls_machine.specs.Output.{Line, lines_with, texts_in_table, escaped_line, run_lines, printed}
 use Rattle.mls_machine.specs.Observation.{heard}

@@ -6,7 +6,7 @@ use Rattle.mls_lattice.proofs.LatticeLemmas.{below-trans}
 use Rattle.mls_script.specs.declared.event.Event.{Event}
 use Rattle.mls_machine.specs.declared.form.Form.TheVariants.{Lines}
 use Rattle.mls_machine.specs.declared.reply.Reply.{Reply}
-use Rattle.mls_machine.specs.Site.{Site, site_labels}
+use Rattle.mls_certcheck.specs.Site.{Site, site_labels}
 use Rattle.mls_machine.specs.Machine.{World, step}
 use Rattle.mls_machine.specs.Output.{Line, reply_lines, printed}
 use Rattle.mls_machine.specs.Observation.{out, glimpse, seen, reply_shown, replies_shown}

@@ -7,7 +7,7 @@ use Rattle.mls_scheme.specs.declared.tuple.Tuple.{Tuple}
 use Rattle.mls_script.specs.declared.event.Event.{Event}
 use Rattle.mls_machine.specs.declared.reply.Reply.{Reply}
 use Rattle.mls_machine.specs.declared.reply.Reply.TheVariants.{Rows}
-use Rattle.mls_machine.specs.Site.{Site, site_labels}
+use Rattle.mls_certcheck.specs.Site.{Site, site_labels}
 use Rattle.mls_machine.specs.Output.{Line, front, line, lines_with, table_texts, texts_in_table, reply_lines, printed}
 use Rattle.mls_machine.specs.Observation.{heard}
 use Rattle.mls_machine.proofs.ScreenLemmas.{shown-escaped}

@@ -7,7 +7,7 @@ use Rattle.mls_certcheck.specs.Meaning.{Item}
 use Rattle.mls_script.specs.declared.event.Event.{Event}
 use Rattle.mls_machine.specs.declared.reply.Reply.{Reply}
 use Rattle.mls_machine.specs.declared.reply.Reply.TheVariants.{Opened, Closed, Rows, Dumped, Wrote, Ran, Entries, Denied}
-use Rattle.mls_machine.specs.Site.{Site, site_labels}
+use Rattle.mls_certcheck.specs.Site.{Site, site_labels}
 use Rattle.mls_machine.specs.Output.{Line, line, item_line, call_texts, reply_texts, reply_lines, printed}
 use Rattle.mls_machine.specs.Observation.{out}
 use Rattle.mls_machine.proofs.LineLemmas.{printed-append}

@@ -9,11 +9,11 @@ use Rattle.mls_lattice.specs.Policy.{Name, Policy}
 use Rattle.mls_scheme.specs.Scheme.{Attribute, Scheme}
 use Rattle.mls_scheme.specs.declared.tuple.Tuple.{Tuple}
 use Rattle.mls_filterview.specs.Rules.{no_tuple}
-use Rattle.mls_queries.specs.declared.query.Query.{Query}
+use Rattle.mls_translang.specs.declared.query.Query.{Query}
 use Rattle.mls_script.specs.declared.event.Event.{Event}
 use Rattle.mls_script.specs.declared.event.Command.TheVariants as commands
 use Rattle.mls_tokens.specs.Table.{wider, padded}
-use Rattle.mls_machine.specs.Site.{Site, site_scheme}
+use Rattle.mls_certcheck.specs.Site.{Site, site_scheme}
 use Rattle.mls_machine.specs.Output.{front, count_text, tuple_cells, name_cells, widths_with, table_widths, table_title, table_names, table_rule, table_row, table_of, table_texts}
 
 -- a cell more

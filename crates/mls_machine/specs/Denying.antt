@@ -15,10 +15,10 @@ use Rattle.mls_translang.specs.Tx.{Tx}
 use Rattle.mls_machine.specs.declared.reply.Denial.{Denial}
 use Rattle.mls_machine.specs.declared.reply.Denial.TheVariants.{UnknownUser, UnknownTransaction, NotCertified, Ds}
 use Rattle.mls_machine.specs.declared.reply.Denial.TheVariants.{Ss, Star, Trust, Arguments}
-use Rattle.mls_machine.specs.declared.stored.Stored.{Stored}
-use Rattle.mls_machine.specs.declared.stored.Stored.TheVariants.{Certified, Plain}
-use Rattle.mls_machine.specs.Stored.{tx_of}
-use Rattle.mls_machine.specs.Site.{Site, site_labels, site_scheme}
+use Rattle.mls_certcheck.specs.declared.stored.Stored.{Stored}
+use Rattle.mls_certcheck.specs.declared.stored.Stored.TheVariants.{Certified, Plain}
+use Rattle.mls_certcheck.specs.Stored.{tx_of}
+use Rattle.mls_certcheck.specs.Site.{Site, site_labels, site_scheme}
 
 -- the denial whose condition holds first, if one does
 unfoldable pub first_denial : List (Bool × Denial) → Option Denial

@@ -11,7 +11,7 @@ use Rattle.mls_script.specs.declared.event.Event.{Event}
 use Rattle.mls_script.specs.declared.event.Command.{Command}
 use Rattle.mls_script.specs.declared.event.Command.TheVariants.{Write}
 use Rattle.mls_script.specs.Event.{Sets}
-use Rattle.mls_machine.specs.Site.{Site, site_labels, site_scheme}
+use Rattle.mls_certcheck.specs.Site.{Site, site_labels, site_scheme}
 
 -- the values of class m, each with the number of its attribute, counted from k; there are n attributes
 abbrev pub own_sets : ℕ → ℕ → ℕ → List Element → Sets

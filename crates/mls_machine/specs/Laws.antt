@@ -15,13 +15,12 @@ use Rattle.mls_script.specs.declared.event.Command.TheVariants.{Call}
 use Rattle.mls_machine.specs.declared.form.Form.TheVariants.{Table}
 use Rattle.mls_machine.specs.declared.reply.Reply.{Reply}
 use Rattle.mls_machine.specs.declared.reply.Reply.TheVariants.{Opened, Closed, Rows, Dumped, Wrote, Ran, Entries, Denied}
-use Rattle.mls_machine.specs.declared.stored.Stored.{Stored}
-use Rattle.mls_machine.specs.Stored.{tx_of}
-use Rattle.mls_machine.specs.Site.{Site, site_labels}
+use Rattle.mls_certcheck.specs.declared.stored.Stored.{Stored}
+use Rattle.mls_certcheck.specs.Stored.{tx_of}
+use Rattle.mls_certcheck.specs.Site.{Site, site_labels, AreRead, AreCertified}
 use Rattle.mls_machine.specs.Denying.{stored_named, fitted}
 use Rattle.mls_machine.specs.Machine.{World, denial_entry, call_entries, step, end_of}
-use Rattle.mls_machine.specs.Observation.{AreStored, EventsFit, AreCallsSecure, AreRead, AreSecure, AreCertified}
-use Rattle.mls_machine.specs.Observation.{PassesNothingDown, PassesOnlyReleasesDown, run_shows}
+use Rattle.mls_machine.specs.Observation.{AreStored, EventsFit, AreCallsSecure, AreSecure, PassesNothingDown, PassesOnlyReleasesDown, run_shows}
 
 -- a denial, the rows of a view, the tuples of a dump, the entries of an audit, or a write that is refused
 abbrev pub ChangesNothing : Reply → Type 0

@@ -1,7 +1,5 @@
 -- The definitions of the machine: `Machine` says what events do, `Observation` what a level sees, and `Laws`
 -- what follows.
-pub mod Stored
-pub mod Site
 pub mod Reply
 pub mod Denying
 pub mod Machine

@@ -16,7 +16,7 @@ use Rattle.mls_audit.specs.declared.entry.Entry.TheVariants as entries
 use Rattle.mls_audit.specs.Entry.{visible}
 use Rattle.mls_translang.specs.Tx.{Tx}
 use Rattle.mls_certcheck.specs.Meaning.{Item, run_tx}
-use Rattle.mls_queries.specs.declared.query.Query.{Query}
+use Rattle.mls_translang.specs.declared.query.Query.{Query}
 use Rattle.mls_queries.specs.Query.{found}
 use Rattle.mls_script.specs.declared.event.Event.{Event}
 use Rattle.mls_script.specs.declared.event.Command.{Command}
@@ -26,9 +26,9 @@ use Rattle.mls_machine.specs.declared.reply.Denial.TheVariants.{NoSession, Alrea
 use Rattle.mls_machine.specs.declared.reply.Denial.TheVariants.{NotCertified}
 use Rattle.mls_machine.specs.declared.reply.Reply.{Reply}
 use Rattle.mls_machine.specs.declared.reply.Reply.TheVariants.{Opened, Closed, Rows, Dumped, Wrote, Ran, Entries, Denied}
-use Rattle.mls_machine.specs.declared.stored.Stored.{Stored}
-use Rattle.mls_machine.specs.declared.stored.Stored.TheVariants.{Certified, Plain}
-use Rattle.mls_machine.specs.Site.{Site, site_labels, site_scheme}
+use Rattle.mls_certcheck.specs.declared.stored.Stored.{Stored}
+use Rattle.mls_certcheck.specs.declared.stored.Stored.TheVariants.{Certified, Plain}
+use Rattle.mls_certcheck.specs.Site.{Site, site_labels, site_scheme}
 use Rattle.mls_machine.specs.Reply.{code_of}
 use Rattle.mls_machine.specs.Denying.{first_denial, user_named, stored_named, fitted, cleared, view_denials}
 use Rattle.mls_machine.specs.Denying.{write_denials, call_denials}

@@ -24,9 +24,9 @@ use Rattle.mls_machine.specs.declared.form.Form.TheVariants.{Lines}
 use Rattle.mls_machine.specs.declared.form.Audience.{Audience}
 use Rattle.mls_machine.specs.declared.reply.Reply.{Reply}
 use Rattle.mls_machine.specs.declared.reply.Reply.TheVariants.{Ran}
-use Rattle.mls_machine.specs.declared.stored.Stored.{Stored}
-use Rattle.mls_machine.specs.Stored.{tx_of, WhereCertified, IsCertifiedUnder}
-use Rattle.mls_machine.specs.Site.{Site, site_labels, site_scheme}
+use Rattle.mls_certcheck.specs.declared.stored.Stored.{Stored}
+use Rattle.mls_certcheck.specs.Stored.{tx_of, WhereCertified}
+use Rattle.mls_certcheck.specs.Site.{Site, site_labels, site_scheme}
 use Rattle.mls_machine.specs.Denying.{stored_named}
 use Rattle.mls_machine.specs.Machine.{World, step, end_of}
 use Rattle.mls_machine.specs.Output.{Line, reply_lines_in, run_lines, printed}
@@ -40,17 +40,9 @@ AreStored site db = (relation : ℕ) → IsStored (site_labels site) (length (si
 abbrev pub EventsFit : Site → List Event → Type 0
 EventsFit site = AllByRecursion (EventFits site.policy site.schemes)
 
--- the stored transactions were read under the policy and the schemes
-abbrev pub AreRead : Site → Type 0
-AreRead site = AllByRecursion (λ s. IsReadUnder site.policy site.schemes (tx_of s)) site.stored
-
 -- those with certificates are secure
 abbrev pub AreSecure : Site → Type 0
 AreSecure site = AllByRecursion (WhereCertified (Secure site.policy)) site.stored
-
--- under their certificates the rules hold
-abbrev pub AreCertified : Site → Type 0
-AreCertified site = AllByRecursion (IsCertifiedUnder site.policy) site.stored
 
 -- ---- events
 

@@ -3,7 +3,7 @@ use Rattle.std.specs.Prelude.{◌≡◌, ℕ, if◌then◌else◌, List, [], ◌
 use Rattle.mls_lattice.specs.Labels.{below}
 use Rattle.mls_script.specs.declared.event.Event.{Event}
 use Rattle.mls_machine.specs.declared.form.Form.TheVariants.{Lines}
-use Rattle.mls_machine.specs.Site.{Site, site_labels}
+use Rattle.mls_certcheck.specs.Site.{Site, site_labels}
 use Rattle.mls_machine.specs.Machine.{World, step}
 use Rattle.mls_machine.specs.Observation.{AreStored, EventsFit, AgreeAt, seen, released_to, AreBelowCeiling}
 use Rattle.mls_machine.specs.Observation.{reply_shows, reader_of, PassesOnlyReleasesDown}

@@ -3,9 +3,9 @@ ghost use Rattle.std.specs.Prelude.{◌≡◌, ◌<◌, ◌++◌, length, OnOk};
 ghost use Rattle.mls_machine.specs.Output.{word_if, query_words, asked};
 
 use mls_lattice::{LabelNo, Policy};
-use mls_queries::Query;
 use mls_scheme::Scheme;
 use mls_tokens::push_str;
+use mls_translang::Query;
 use std::alloc::AllocError;
 
 /// What is asked: a relation, a label and a query.

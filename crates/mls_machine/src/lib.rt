@@ -15,7 +15,6 @@ mod replies;
 mod reply;
 mod showing;
 mod shown;
-mod stored;
 mod table;
 mod turning;
 
@@ -32,5 +31,4 @@ pub use replies::reply_bytes;
 pub use reply::{Denial, Reply};
 pub use showing::shown_to;
 pub use shown::shown_bytes;
-pub use stored::Stored;
 pub use turning::turn_bytes;

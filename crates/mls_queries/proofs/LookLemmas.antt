@@ -16,7 +16,7 @@ use Rattle.mls_filterview.specs.Subsumption.{is_max_among}
 use Rattle.mls_filterview.proofs.AmongLemmas.{among_map, among_filter, each_among}
 use Rattle.mls_filterview.proofs.EntryLemmas.{Entry, among_entries}
 use Rattle.mls_filterview.proofs.LowLemmas.{from_low}
-use Rattle.mls_queries.specs.declared.query.Query.{Query}
+use Rattle.mls_translang.specs.declared.query.Query.{Query}
 use Rattle.mls_queries.specs.Query.{found}
 use Rattle.mls_queries.specs.Demanded.{demanded_by, of_key}
 use Rattle.mls_queries.proofs.QueryLemmas.{keys_are_looked_up}

@@ -8,7 +8,7 @@ use Rattle.mls_lattice.specs.Labels.{Labels}
 use Rattle.mls_scheme.specs.declared.tuple.Tuple.{Tuple}
 use Rattle.mls_filterview.specs.Rules.{no_tuple}
 use Rattle.mls_filterview.proofs.FilteredLemmas.{map_filter}
-use Rattle.mls_queries.specs.declared.query.Query.{Query}
+use Rattle.mls_translang.specs.declared.query.Query.{Query}
 use Rattle.mls_queries.specs.Query.{first_of, is_wanted, has_class, meets, highest_of, found}
 use Rattle.mls_queries.specs.Places.{rows_at, AreWithin, places_from, asks_nothing}
 

@@ -8,7 +8,7 @@ use Rattle.mls_scheme.specs.Table.{Table, IsIn}
 use Rattle.mls_translang.specs.Tree.{Expr}
 use Rattle.mls_filterview.specs.View.{View, rows, IsAmong}
 use Rattle.mls_filterview.specs.Stored.{IsStored}
-use Rattle.mls_queries.specs.declared.query.Query.{Query}
+use Rattle.mls_translang.specs.declared.query.Query.{Query}
 use Rattle.mls_queries.specs.Query.{is_above, has_class, meets, first_of, found}
 use Rattle.mls_queries.specs.Demanded.{demanded_from, of_key}
 

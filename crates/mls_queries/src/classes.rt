@@ -6,9 +6,9 @@ ghost use Rattle.mls_lattice.specs.Policy.{labels_of};
 ghost use Rattle.mls_scheme.specs.Tuple.{tuple_class};
 ghost use Rattle.mls_queries.specs.Query.{is_strictly_below, stands, has_class};
 
-use crate::query::{ClassTest, Comparison};
 use mls_lattice::{Label, LabelNo, Policy};
 use mls_scheme::Tuple;
+use mls_translang::{ClassTest, Comparison};
 
 /// What a number stands for. A store that is not clean may give any number: one of no label stands for the bottom.
 #[tactic(auto, using(crate::proofs::ClassLemmas::class_steps))]

@@ -10,8 +10,8 @@ use crate::operator::apply;
 use mls_scheme::Tuple;
 use mls_translang::{Expr, Term};
 
-/// An attribute of a row by number, the key first.
-fn cell(row: &Tuple, attribute: usize) -> Datum<'_>
+/// An attribute of a row by number, the key first; past the last one it is null.
+pub fn cell(row: &Tuple, attribute: usize) -> Datum<'_>
     ensures { datum_of result ≡ Plain (cell_of row.now attribute) }
 {
     let keys = row.key.len();

@@ -1,13 +1,15 @@
 //! What expressions give.
-ghost use Rattle.std.specs.Prelude.{◌≡◌};
+ghost use Rattle.std.specs.Prelude.{◌≡◌, IfOk};
+ghost use Rattle.mls_scheme.specs.Value.{fits_kind};
 ghost use Rattle.mls_certcheck.specs.Expressions.{Plain, value_of, is_true};
 ghost use Rattle.mls_queries.specs.Data.{datum_of, number_of, is_null, of_number};
 
-use mls_scheme::Value;
+use mls_scheme::{Kind, Value};
+use std::alloc::AllocError;
 
 /// What an expression gives: only arithmetic makes new values, and these are numbers.
 #[derive(Clone, Copy)]
-pub(crate) enum Datum<'a> {
+pub enum Datum<'a> {
     Null,
     /// A value that stands elsewhere.
     Lent(&'a Value),
@@ -65,6 +67,28 @@ impl<'a> Datum<'a> {
         match self {
             Datum::Truth(holds) => holds,
             _ => false,
+        }
+    }
+
+    /// Whether the value is of a kind: null is of every kind.
+    pub fn fits_kind(self, kind: Kind) -> bool
+        ensures { result ≡ fits_kind (value_of (datum_of self.entry)) kind }
+    {
+        match self {
+            Datum::Lent(value) => value.is_kind(kind),
+            Datum::Number(number) => Value::Int(number).is_kind(kind),
+            Datum::Null | Datum::Truth(_) => true,
+        }
+    }
+
+    /// The value, copied.
+    pub fn copied(self) -> Result<Option<Value>, AllocError>
+        ensures { IfOk result (λ v. v ≡ value_of (datum_of self.entry)) }
+    {
+        match self {
+            Datum::Lent(value) => Ok(Some(value.copy()?)),
+            Datum::Number(number) => Ok(Some(Value::Int(number))),
+            Datum::Null | Datum::Truth(_) => Ok(None),
         }
     }
 }

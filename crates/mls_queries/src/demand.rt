@@ -4,10 +4,9 @@ ghost use Rattle.std.specs.Option.{option_copied};
 ghost use Rattle.mls_scheme.specs.Spelling.{IsSpelledKey};
 ghost use Rattle.mls_queries.specs.Demanded.{either, is_field, value_known, equated, demanded, demanded_from, demanded_by};
 
-use crate::query::Query;
 use mls_lattice::Items;
 use mls_scheme::{Scheme, Value};
-use mls_translang::{Expr, Operator, Term};
+use mls_translang::{Expr, Operator, Query, Term};
 use std::alloc::{AllocError, Global};
 
 /// The first of the two, if it is a value, else the second.

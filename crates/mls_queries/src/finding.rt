@@ -13,12 +13,12 @@ ghost use Rattle.mls_queries.specs.Finding.{CanFind};
 use crate::Views;
 use crate::demand::demanded_key;
 use crate::looking::look_up;
-use crate::query::Query;
 use crate::selecting::select;
 use crate::selection::Selection;
 use mls_filterview::{Base, BaseFault, SharedView, settle};
 use mls_lattice::{Items, LabelNo, Policy};
 use mls_scheme::{RelNo, Scheme, Schemes, Value};
+use mls_translang::Query;
 use std::alloc::Global;
 
 /// What a query finds among the rows of a view. After a fault nothing is known of what is kept.

@@ -1,4 +1,4 @@
-//! Queries: what is found of a view.
+//! Queries: what is found of a view, and what the expressions of conditions give.
 #![tactic(auto)]
 
 mod classes;
@@ -12,17 +12,17 @@ mod looking;
 mod naming;
 mod operator;
 mod parts;
-mod query;
 mod seen;
 mod selecting;
 mod selection;
 mod views;
 mod wanted;
 
-pub use condition::holds;
+pub use condition::{cell, holds};
+pub use datum::Datum;
 pub use finding::find;
 pub use laws::{keys_are_looked_up, queries_use_the_view, rows_that_pass_are_of_the_view};
-pub use query::{ClassTest, Comparison, Query};
+pub use operator::apply;
 pub use selecting::select;
 pub use selection::Selection;
 pub use views::Views;

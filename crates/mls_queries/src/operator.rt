@@ -94,7 +94,7 @@ fn at_most(left: Datum<'_>, right: Datum<'_>) -> bool
 }
 
 /// What an operator gives of two operands.
-pub(crate) fn apply<'a>(operator: Operator, left: Datum<'_>, right: Datum<'_>) -> Datum<'a>
+pub fn apply<'a>(operator: Operator, left: Datum<'_>, right: Datum<'_>) -> Datum<'a>
     ensures { datum_of result ≡ apply operator (datum_of left.entry) (datum_of right.entry) }
 {
     match operator {

@@ -5,12 +5,12 @@ ghost use Rattle.mls_queries.specs.Query.{highest_of, first_of, found};
 ghost use Rattle.mls_queries.specs.Places.{rows_at, AreWithin, AreByKey, asks_nothing};
 
 use crate::highest::tops;
-use crate::query::Query;
 use crate::selection::Selection;
 use crate::wanted::wanted;
 use mls_filterview::SharedView;
 use mls_lattice::Policy;
 use mls_scheme::Tuple;
+use mls_translang::Query;
 use std::alloc::{AllocError, Global};
 
 /// The places of all rows.

@@ -8,10 +8,9 @@ ghost use Rattle.mls_queries.specs.Places.{AreWithin};
 
 use crate::classes::has_class;
 use crate::condition::holds;
-use crate::query::Query;
 use mls_lattice::Policy;
 use mls_scheme::Tuple;
-use mls_translang::Expr;
+use mls_translang::{Expr, Query};
 use std::alloc::{AllocError, Global};
 
 /// Whether a row passes the condition, if there is one.

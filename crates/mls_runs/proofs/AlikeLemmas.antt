@@ -3,7 +3,7 @@ use Rattle.std.proofs.Common.{ℕ, List, Option, length, Some, IfSome, sym, subs
 use Rattle.mls_machine.specs.Observation.{ShowsOnlyReleases}
 use Rattle.mls_host.specs.Hosting.{Hosted}
 use Rattle.mls_host.specs.declared.job.Setting.{Setting}
-use Rattle.mls_host.specs.Running.{first_world, form_of, output}
+use Rattle.mls_runs.specs.Running.{first_world, form_of, output}
 use Rattle.mls_runs.specs.ScriptRun.{audience_of, site_under}
 use Rattle.mls_runs.specs.Alike.{WriteTheSame}
 

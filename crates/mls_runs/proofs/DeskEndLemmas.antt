@@ -7,15 +7,15 @@ use Rattle.mls_filterview.specs.Content.{Content, no_content}
 use Rattle.mls_lattice.specs.Labels.{AreDistinct}
 use Rattle.mls_scheme.specs.declared.file.SchemesFile.{SchemesFile}
 use Rattle.mls_audit.specs.Sound.{IsSoundContent}
-use Rattle.mls_machine.specs.declared.stored.Stored.{Stored}
-use Rattle.mls_machine.specs.Site.{Site, site_labels}
+use Rattle.mls_certcheck.specs.declared.stored.Stored.{Stored}
+use Rattle.mls_certcheck.specs.Site.{Site, site_labels, AreRead, AreCertified, site_of}
 use Rattle.mls_machine.specs.Machine.{Sessions}
-use Rattle.mls_machine.specs.Observation.{AreStored, AreRead, AreCertified, PassesOnlyReleasesDown}
+use Rattle.mls_machine.specs.Observation.{AreStored, PassesOnlyReleasesDown}
 use Rattle.mls_machine.proofs.KeepingLemmas.{keep_integrity}
 use Rattle.mls_machine.proofs.RunLemmas.{first_accepted_alike}
 use Rattle.mls_machine.proofs.ServingLemmas.{served_alike}
 use Rattle.mls_sessions.specs.World.{world_at}
-use Rattle.mls_sessions.specs.declared.cause.RunFault.{RunFault}
+use Rattle.mls_script.specs.declared.run_fault.RunFault.{RunFault}
 use Rattle.mls_host.specs.declared.ending.Ending.{Ending}
 use Rattle.mls_host.specs.declared.reason.Reason.{Reason}
 use Rattle.mls_host.specs.declared.reason.Reason.TheVariants.{Memory}
@@ -26,8 +26,8 @@ use Rattle.mls_host.specs.Hosting.{Hosted}
 use Rattle.mls_host.specs.Storing.{AreStoredWith}
 use Rattle.mls_host.specs.Causes.{IsBarred, IsNotBegun, no_memory, no_store}
 use Rattle.mls_host.specs.Stop.{IsEnd}
-use Rattle.mls_host.specs.Running.{site_of, first_world}
-use Rattle.mls_host.proofs.RunningLemmas.{end_weaker}
+use Rattle.mls_runs.specs.Running.{first_world}
+use Rattle.mls_runs.proofs.RunningLemmas.{end_weaker}
 use Rattle.mls_host.specs.Words.{named}
 use Rattle.mls_runs.specs.Shell.{events_in}
 use Rattle.mls_runs.specs.Desk.{IsService, IsDesk}

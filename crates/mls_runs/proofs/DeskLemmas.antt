@@ -9,19 +9,19 @@ use Rattle.mls_lattice.specs.Policy.{Policy}
 use Rattle.mls_scheme.specs.Scheme.{Schemes}
 use Rattle.mls_filterview.specs.Content.{State}
 use Rattle.mls_script.specs.declared.event.Event.{Event}
-use Rattle.mls_machine.specs.Site.{Site}
+use Rattle.mls_certcheck.specs.Site.{Site}
 use Rattle.mls_machine.specs.Machine.{World, end_of}
 use Rattle.mls_machine.specs.Observation.{EventsFit}
 use Rattle.mls_machine.specs.Serving.{answers_to}
 use Rattle.mls_sessions.specs.Sessions.{site_of}
-use Rattle.mls_sessions.specs.declared.cause.RunCause.TheVariants.{Memory}
-use Rattle.mls_sessions.specs.declared.cause.RunFault.{RunFault}
+use Rattle.mls_script.specs.declared.run_fault.RunCause.TheVariants.{Memory}
+use Rattle.mls_script.specs.declared.run_fault.RunFault.{RunFault}
 use Rattle.mls_sessions.specs.declared.engine.Engine.{Engine}
 use Rattle.mls_sessions.specs.Engine.{site, world_of, IsEngineReady, IsKept}
 use Rattle.mls_sessions.specs.Run.{IsFaultOf}
 use Rattle.mls_host.specs.declared.ending.Ending.{Ending}
 use Rattle.mls_host.specs.Ending.{ending_if}
-use Rattle.mls_host.specs.Running.{standing}
+use Rattle.mls_runs.specs.Running.{standing}
 use Rattle.mls_runs.specs.declared.shell_session.Fate.{Fate}
 use Rattle.mls_runs.specs.Shell.{Turn, IsShellTurn, events_of, events_in, is_last, is_failed, is_lost, FateFits, IsRead}
 use Rattle.mls_runs.proofs.ShellLemmas.{end_of-append, all-append, events-snoc, any-snoc, none_failed, failed_there}

@@ -17,16 +17,16 @@ use Rattle.mls_fragments.proofs.HoldingsLemmas.{sound_is_taken}
 use Rattle.mls_translang.specs.Tx.{Tx}
 use Rattle.mls_translang.specs.Fits.{IsReadUnder}
 use Rattle.mls_script.specs.declared.event.Event.{Event}
-use Rattle.mls_machine.specs.declared.stored.Stored.{Stored}
-use Rattle.mls_machine.specs.Site.{Site}
+use Rattle.mls_certcheck.specs.declared.stored.Stored.{Stored}
+use Rattle.mls_certcheck.specs.Site.{Site, AreRead}
 use Rattle.mls_machine.specs.Machine.{World, no_sessions}
 use Rattle.mls_machine.specs.Output.{run_lines, printed}
-use Rattle.mls_machine.specs.Observation.{AreRead, PassesOnlyReleasesDown, heard}
+use Rattle.mls_machine.specs.Observation.{PassesOnlyReleasesDown, heard}
 use Rattle.mls_machine.specs.Laws.{KeepsIntegrity}
 use Rattle.mls_machine.specs.History.{settled, run_at, run_end, history_end, history_lines, IsHistoryUnder, EachPassesOnlyReleasesDown}
 use Rattle.mls_machine.proofs.KeepingLemmas.{first_integrity}
 use Rattle.mls_machine.proofs.HistoryLemmas.{histories_pass}
-use Rattle.mls_sessions.specs.declared.cause.RunFault.{RunFault}
+use Rattle.mls_script.specs.declared.run_fault.RunFault.{RunFault}
 use Rattle.mls_sessions.specs.World.{entries_in}
 use Rattle.mls_host.specs.declared.words.Documents.{Documents}
 use Rattle.mls_host.specs.declared.words.Job.{Job}
@@ -37,7 +37,7 @@ use Rattle.mls_host.specs.declared.job.Inputs.{Inputs}
 use Rattle.mls_host.specs.Reading.{AreInputs}
 use Rattle.mls_host.specs.Storing.{AreStoredWith}
 use Rattle.mls_runs.specs.ScriptRun.{site_under}
-use Rattle.mls_host.specs.Running.{first_world, output, standing, IsLeftBy}
+use Rattle.mls_runs.specs.Running.{first_world, output, standing, IsLeftBy}
 use Rattle.mls_runs.specs.InTurn.{setting, run, world_before, KeepsOne, RunsAreInTurn}
 use Rattle.mls_host.proofs.StoringLemmas.{stored_read}
 

@@ -4,11 +4,11 @@ use Rattle.std.specs.Str.{bytes_eq}
 use Rattle.std.specs.List.{list_all}
 use Rattle.mls_script.specs.declared.event.Event.{Event}
 use Rattle.mls_machine.specs.declared.form.Form.TheVariants.{Lines}
-use Rattle.mls_machine.specs.Site.{Site}
+use Rattle.mls_certcheck.specs.Site.{Site}
 use Rattle.mls_machine.specs.Machine.{World, step, end_of}
 use Rattle.mls_machine.specs.Observation.{run_shows, reader_of}
 use Rattle.mls_machine.specs.Serving.{answer_to, answers_to}
-use Rattle.mls_host.specs.Running.{form_of}
+use Rattle.mls_runs.specs.Running.{form_of}
 use Rattle.mls_runs.specs.declared.shell_session.ShellSession.{ShellSession}
 use Rattle.mls_runs.specs.Shell.{audience_at, is_own, answers}
 use Rattle.mls_runs.proofs.ShellLemmas.{prints-append, prints-none}

@@ -1,3 +1,4 @@
+pub mod RunningLemmas
 pub mod ScriptRunLemmas
 pub mod InTurnLemmas
 pub mod MemoryLemmas

@@ -5,10 +5,10 @@ use Rattle.std.specs.Result.{IsErrAnd}
 use Rattle.mls_filterview.specs.Content.{Content, no_content}
 use Rattle.mls_scheme.specs.declared.file.SchemesFile.{SchemesFile}
 use Rattle.mls_script.specs.declared.event.Event.{Event}
-use Rattle.mls_machine.specs.declared.stored.Stored.{Stored}
+use Rattle.mls_certcheck.specs.declared.stored.Stored.{Stored}
 use Rattle.mls_machine.specs.declared.form.Audience.{Audience}
-use Rattle.mls_machine.specs.Site.{Site}
-use Rattle.mls_sessions.specs.declared.cause.RunFault.{RunFault}
+use Rattle.mls_certcheck.specs.Site.{Site}
+use Rattle.mls_script.specs.declared.run_fault.RunFault.{RunFault}
 use Rattle.mls_host.specs.Words.{named}
 use Rattle.mls_host.specs.declared.reason.Reason.{Reason}
 use Rattle.mls_host.specs.declared.stop.Stop.{Stop}
@@ -19,8 +19,8 @@ use Rattle.mls_host.specs.declared.job.Inputs.{Inputs}
 use Rattle.mls_host.specs.Storing.{AreStoredWith}
 use Rattle.mls_host.specs.Causes.{IsBarred, IsNotBegun, no_memory, no_store}
 use Rattle.mls_host.specs.Stop.{IsEnd}
-use Rattle.mls_host.specs.Running.{IsRun}
-use Rattle.mls_host.proofs.RunningLemmas.{end_weaker}
+use Rattle.mls_runs.specs.Running.{IsRun}
+use Rattle.mls_runs.proofs.RunningLemmas.{end_weaker}
 use Rattle.mls_runs.specs.ScriptRun.{audience_of, site_under, IsRunFrom, IsScriptRun}
 
 -- ---- where runs begin

@@ -10,14 +10,14 @@ use Rattle.mls_lattice.specs.Labels.{AreDistinct}
 use Rattle.mls_script.specs.declared.event.Event.{Event}
 use Rattle.mls_scheme.specs.declared.file.SchemesFile.{SchemesFile}
 use Rattle.mls_audit.specs.Sound.{IsSoundContent}
-use Rattle.mls_machine.specs.declared.stored.Stored.{Stored}
-use Rattle.mls_machine.specs.Site.{Site, site_labels}
+use Rattle.mls_certcheck.specs.declared.stored.Stored.{Stored}
+use Rattle.mls_certcheck.specs.Site.{Site, site_labels, AreRead, AreCertified, site_of}
 use Rattle.mls_machine.specs.Machine.{World, Sessions}
-use Rattle.mls_machine.specs.Observation.{AreStored, EventsFit, AreRead, AreCertified}
+use Rattle.mls_machine.specs.Observation.{AreStored, EventsFit}
 use Rattle.mls_machine.proofs.KeepingLemmas.{keep_integrity}
 use Rattle.mls_machine.proofs.RunLemmas.{first_accepted_alike}
 use Rattle.mls_sessions.specs.World.{world_at}
-use Rattle.mls_sessions.specs.declared.cause.RunFault.{RunFault}
+use Rattle.mls_script.specs.declared.run_fault.RunFault.{RunFault}
 use Rattle.mls_host.specs.declared.ending.Ending.{Ending}
 use Rattle.mls_runs.specs.declared.shell_session.ShellSession.{ShellSession}
 use Rattle.mls_host.specs.declared.reason.Reason.{Reason}
@@ -30,10 +30,10 @@ use Rattle.mls_host.specs.Storing.{AreStoredWith}
 use Rattle.mls_host.specs.Words.{named}
 use Rattle.mls_host.specs.Causes.{IsBarred, no_memory, no_store}
 use Rattle.mls_host.specs.Stop.{IsEnd}
-use Rattle.mls_host.specs.Running.{site_of, first_world}
+use Rattle.mls_runs.specs.Running.{first_world}
 use Rattle.mls_runs.specs.Shell.{audience_at, opening, events_in, IsConversation, IsShell}
 use Rattle.mls_runs.specs.ShellRun.{shell_session_of, IsShellFrom, IsShellRun, IsShellRefused, not_begun}
-use Rattle.mls_host.proofs.RunningLemmas.{run_at, end_weaker}
+use Rattle.mls_runs.proofs.RunningLemmas.{run_at, end_weaker}
 
 pub opening_fits : (site : Site) (session : ShellSession) → session.level < length site.policy.labels → is_name session.user ≡ true → EventsFit site (opening session ∷ [])
 opening_fits site session level name = (record { level = level; session = name; command = name }, tt)

@@ -11,12 +11,12 @@ use Rattle.std.proofs.Math.Seq.{take-append-add, take-append_seam}
 use Rattle.mls_script.specs.declared.event.Event.{Event}
 use Rattle.mls_machine.specs.declared.form.Form.{Form}
 use Rattle.mls_machine.specs.declared.form.Audience.{Audience}
-use Rattle.mls_machine.specs.Site.{Site, site_labels}
+use Rattle.mls_certcheck.specs.Site.{Site, site_labels}
 use Rattle.mls_machine.specs.Machine.{World, step, end_of}
 use Rattle.mls_machine.specs.Output.{reply_lines_in, run_lines, printed}
 use Rattle.mls_machine.specs.Observation.{heard, run_shows}
 use Rattle.mls_machine.proofs.LineLemmas.{printed-append, nothing_heard}
-use Rattle.mls_sessions.specs.declared.cause.RunFault.{RunFault}
+use Rattle.mls_script.specs.declared.run_fault.RunFault.{RunFault}
 use Rattle.mls_sessions.specs.Run.{are_done, IsWhole, IsStopped, IsFaultOf, printed_to, world_after}
 use Rattle.mls_host.specs.Telling.{IsMore}
 use Rattle.mls_host.specs.declared.errors.Errors.{Errors}

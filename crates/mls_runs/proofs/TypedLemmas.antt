@@ -12,8 +12,8 @@ use Rattle.mls_script.specs.Reading.{script_at}
 use Rattle.mls_script.specs.Script.{ReadsScript}
 use Rattle.mls_script.proofs.LawLemmas.{script_found}
 use Rattle.mls_script.proofs.TellingLemmas.{script_again}
-use Rattle.mls_sessions.specs.declared.cause.RunCause.{RunCause}
-use Rattle.mls_sessions.specs.declared.cause.RunCause.TheVariants.{Memory}
+use Rattle.mls_script.specs.declared.run_fault.RunCause.{RunCause}
+use Rattle.mls_script.specs.declared.run_fault.RunCause.TheVariants.{Memory}
 use Rattle.mls_tokens.specs.Typing.{IsNext, IsLong, IsLost}
 use Rattle.mls_runs.specs.declared.shell_session.ShellSession.{ShellSession}
 use Rattle.mls_runs.specs.declared.shell_session.Fate.{Fate}

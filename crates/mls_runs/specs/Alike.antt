@@ -2,11 +2,11 @@
 use Rattle.std.specs.Prelude.{◌≡◌, ◌⊎◌, ℕ, Bool, List, Option, Some, Ok}
 use Rattle.mls_filterview.specs.Content.{Content}
 use Rattle.mls_script.specs.declared.event.Event.{Event}
-use Rattle.mls_machine.specs.Site.{Site, site_labels}
+use Rattle.mls_certcheck.specs.Site.{Site, site_labels}
 use Rattle.mls_machine.specs.Observation.{AreStored, EventsFit, AgreeAt, seen, released_to, AreBelowCeiling}
 use Rattle.mls_host.specs.Hosting.{Hosted, IsClean}
 use Rattle.mls_host.specs.declared.job.Inputs.{Inputs}
-use Rattle.mls_host.specs.Running.{first_world}
+use Rattle.mls_runs.specs.Running.{first_world}
 use Rattle.mls_runs.specs.ScriptRun.{site_under, IsScriptRun}
 
 -- a second run, from its content over its events, looks alike to c: what both begin with, what c sees of the events,

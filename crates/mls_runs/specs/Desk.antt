@@ -17,17 +17,17 @@ use Rattle.mls_script.specs.declared.fault.ScriptFault.{ScriptFault}
 use Rattle.mls_script.specs.declared.fault.ScriptCause.TheVariants.{Expected}
 use Rattle.mls_script.specs.Reading.{script_at}
 use Rattle.mls_script.specs.Script.{ReadsScript}
-use Rattle.mls_machine.specs.Site.{Site}
+use Rattle.mls_certcheck.specs.Site.{Site, AreRead, AreCertified}
 use Rattle.mls_machine.specs.Machine.{World, end_of}
-use Rattle.mls_machine.specs.Observation.{EventsFit, AreRead, AreCertified, PassesOnlyReleasesDown}
+use Rattle.mls_machine.specs.Observation.{EventsFit, PassesOnlyReleasesDown}
 use Rattle.mls_machine.specs.Laws.{KeepsIntegrity}
 use Rattle.mls_machine.specs.Serving.{answers_to, ServesOnlyReleases}
-use Rattle.mls_sessions.specs.declared.cause.RunCause.TheVariants.{Memory, Write}
-use Rattle.mls_sessions.specs.declared.cause.RunFault.{RunFault}
+use Rattle.mls_script.specs.declared.run_fault.RunCause.TheVariants.{Memory, Write}
+use Rattle.mls_script.specs.declared.run_fault.RunFault.{RunFault}
 use Rattle.mls_sessions.specs.Run.{IsFaultOf}
 use Rattle.mls_host.specs.declared.ending.Ending.{Ending}
 use Rattle.mls_host.specs.Ending.{ending_if}
-use Rattle.mls_host.specs.Running.{first_world, standing, IsLeftBy}
+use Rattle.mls_runs.specs.Running.{first_world, standing, IsLeftBy}
 use Rattle.mls_runs.specs.declared.shell_session.Fate.{Fate}
 use Rattle.mls_runs.specs.declared.shell_session.Fate.TheVariants.{Over, Said, Refused}
 use Rattle.mls_runs.specs.Shell.{Turn, IsShellTurn, FateFits, events_of, events_in, is_last, is_failed, is_lost}

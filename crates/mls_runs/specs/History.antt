@@ -16,16 +16,17 @@ use Rattle.mls_fragments.specs.Holdings.{holdings_of, IsTakenOf}
 use Rattle.mls_fragments.specs.declared.open_fault.OpenFault.{OpenFault}
 use Rattle.mls_machine.specs.declared.form.Audience.{Audience}
 use Rattle.mls_machine.specs.Machine.{World, no_sessions}
-use Rattle.mls_machine.specs.Observation.{AreRead, AreCertified, EventsFit}
+use Rattle.mls_machine.specs.Observation.{EventsFit}
+use Rattle.mls_certcheck.specs.Site.{AreRead, AreCertified, site_of}
 use Rattle.mls_machine.specs.History.{RunAt, run_at, history_bytes, ShowsOnlyReleasesInHistory}
 use Rattle.mls_sessions.specs.World.{entries_in}
-use Rattle.mls_sessions.specs.declared.cause.RunFault.{RunFault}
+use Rattle.mls_script.specs.declared.run_fault.RunFault.{RunFault}
 use Rattle.mls_runs.specs.declared.history.Run.{Run}
 use Rattle.mls_runs.specs.declared.history.HistoryCause.{HistoryCause}
 use Rattle.mls_runs.specs.declared.history.HistoryCause.TheVariants.{Unopened, Stopped, NotClosed}
 use Rattle.mls_runs.specs.declared.history.HistoryFault.{HistoryFault}
 use Rattle.mls_runs.specs.InTurn.{run_to, IsHistory}
-use Rattle.mls_host.specs.Running.{site_of, IsRun}
+use Rattle.mls_runs.specs.Running.{IsRun}
 
 -- ---- runs of a history
 

@@ -10,10 +10,10 @@ use Rattle.mls_machine.specs.declared.form.Audience.{Audience}
 use Rattle.mls_machine.specs.Machine.{World}
 use Rattle.mls_machine.specs.History.{RunAt, run_at, history_end, history_bytes, KeepsIntegrityInHistory}
 use Rattle.mls_machine.specs.History.{PassesOnlyReleasesDownInHistory}
-use Rattle.mls_sessions.specs.declared.cause.RunFault.{RunFault}
+use Rattle.mls_script.specs.declared.run_fault.RunFault.{RunFault}
 use Rattle.mls_fragments.specs.Holdings.{Holdings}
 use Rattle.mls_host.specs.Hosting.{Hosted, IsClean}
-use Rattle.mls_host.specs.Running.{first_world, output, standing}
+use Rattle.mls_runs.specs.Running.{first_world, output, standing}
 use Rattle.mls_host.specs.declared.job.Inputs.{Inputs}
 use Rattle.mls_host.specs.declared.job.Setting.{Setting}
 use Rattle.mls_host.specs.Reading.{AreInputs}

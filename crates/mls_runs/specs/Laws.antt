@@ -2,7 +2,7 @@
 use Rattle.std.specs.Prelude.{◌≡◌, true, false, List}
 use Rattle.std.specs.List.{list_all}
 use Rattle.mls_script.specs.declared.event.Event.{Event}
-use Rattle.mls_machine.specs.Site.{Site}
+use Rattle.mls_certcheck.specs.Site.{Site}
 use Rattle.mls_machine.specs.Machine.{World}
 use Rattle.mls_machine.specs.Serving.{answers_to}
 use Rattle.mls_runs.specs.declared.shell_session.ShellSession.{ShellSession}

@@ -1,5 +1,6 @@
--- The definitions of runs over a host: `ScriptRun`, `DeskRun` and `TurnRun` say what each does, `History`
--- what several leave.
+-- The definitions of runs over a host: `Running` says what a run writes, `ScriptRun`, `DeskRun` and `TurnRun` what each does,
+-- and `History` what several leave.
+pub mod Running
 pub mod ScriptRun
 pub mod InTurn
 pub mod Memory

@@ -4,8 +4,8 @@ use Rattle.std.specs.Fmt.{decimal}
 use Rattle.std.specs.Io.KnownBytes.{Appends}
 use Rattle.mls_script.specs.declared.fault.ScriptFault.{ScriptFault}
 use Rattle.mls_script.specs.Fault.{code_of, word_of}
-use Rattle.mls_sessions.specs.declared.cause.RunCause.{RunCause}
-use Rattle.mls_sessions.specs.declared.cause.RunCause.TheVariants.{Store, Write}
+use Rattle.mls_script.specs.declared.run_fault.RunCause.{RunCause}
+use Rattle.mls_script.specs.declared.run_fault.RunCause.TheVariants.{Store, Write}
 use Rattle.mls_sessions.specs.Run.{IsPart}
 use Rattle.mls_runs.specs.declared.shell_session.Fate.{Fate}
 use Rattle.mls_runs.specs.declared.shell_session.Fate.TheVariants.{Over, Blank, Help, Asked, Said, Refused, TooLong, Unreadable, Lost}

@@ -3,16 +3,16 @@ use Rattle.std.specs.Prelude.{◌<◌, ℕ, Bool, List, length, Option, IfSome, 
 use Rattle.mls_scheme.specs.Scheme.{AreUnder}
 use Rattle.mls_scheme.specs.declared.file.SchemesFile.{SchemesFile}
 use Rattle.mls_script.specs.declared.event.Event.{Event}
-use Rattle.mls_machine.specs.declared.stored.Stored.{Stored}
+use Rattle.mls_certcheck.specs.declared.stored.Stored.{Stored}
 use Rattle.mls_machine.specs.declared.form.Audience.{Audience}
-use Rattle.mls_machine.specs.Site.{Site}
-use Rattle.mls_machine.specs.Observation.{AreRead, AreCertified, EventsFit}
-use Rattle.mls_sessions.specs.declared.cause.RunFault.{RunFault}
+use Rattle.mls_certcheck.specs.Site.{Site, AreRead, AreCertified, site_of}
+use Rattle.mls_machine.specs.Observation.{EventsFit}
+use Rattle.mls_script.specs.declared.run_fault.RunFault.{RunFault}
 use Rattle.mls_host.specs.Hosting.{Hosted, IsClean, IsOver}
 use Rattle.mls_host.specs.declared.job.Setting.{Setting}
 use Rattle.mls_host.specs.declared.job.Inputs.{Inputs}
 use Rattle.mls_host.specs.Storing.{AreStoredWith}
-use Rattle.mls_host.specs.Running.{IsRun, form_of, site_of}
+use Rattle.mls_runs.specs.Running.{IsRun, form_of}
 
 -- events may be run for an audience: the schemes have the policy's labels, what is stored was read and checked, the
 -- events fit, and the reader, if there is one, is a label

@@ -17,11 +17,11 @@ use Rattle.mls_script.specs.Event.{EventFits}
 use Rattle.mls_script.specs.Reading.{script_at}
 use Rattle.mls_script.specs.Script.{ReadsScript}
 use Rattle.mls_machine.specs.declared.form.Audience.{Audience}
-use Rattle.mls_machine.specs.Site.{Site}
+use Rattle.mls_certcheck.specs.Site.{Site, AreRead, AreCertified}
 use Rattle.mls_machine.specs.Machine.{World, end_of}
-use Rattle.mls_machine.specs.Observation.{EventsFit, AreRead, AreCertified, run_shows, reader_of}
-use Rattle.mls_sessions.specs.declared.cause.RunCause.TheVariants.{Store}
-use Rattle.mls_sessions.specs.declared.cause.RunFault.{RunFault}
+use Rattle.mls_machine.specs.Observation.{EventsFit, run_shows, reader_of}
+use Rattle.mls_script.specs.declared.run_fault.RunCause.TheVariants.{Store}
+use Rattle.mls_script.specs.declared.run_fault.RunFault.{RunFault}
 use Rattle.mls_sessions.specs.Run.{are_done, IsWhole, IsStopped, IsFaultOf}
 use Rattle.mls_tokens.specs.Typing.{IsNext, IsLong}
 use Rattle.mls_host.specs.declared.ending.Ending.{Ending}
@@ -34,7 +34,7 @@ use Rattle.mls_runs.specs.declared.shell_session.Fate.TheVariants.{Unreadable, L
 use Rattle.mls_runs.specs.declared.tally.Verdict.{Verdict}
 use Rattle.mls_runs.specs.declared.tally.Verdict.TheVariants as verdicts
 use Rattle.mls_host.specs.Ending.{ending_if}
-use Rattle.mls_host.specs.Running.{first_world, form_of, IsRun}
+use Rattle.mls_runs.specs.Running.{first_world, form_of, IsRun}
 use Rattle.mls_host.specs.Telling.{IsMore, prompt_text, line_told, fault_told, tally_told}
 
 -- ---- who sits there

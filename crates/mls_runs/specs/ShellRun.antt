@@ -1,9 +1,9 @@
 -- A shell that the words of a command line ask for, over a store or over nothing.
 use Rattle.std.specs.Prelude.{◌≡◌, ℕ, Bool, List, Option, Some, None, Result}
 use Rattle.mls_scheme.specs.declared.file.SchemesFile.{SchemesFile}
-use Rattle.mls_machine.specs.declared.stored.Stored.{Stored}
-use Rattle.mls_machine.specs.Site.{Site}
-use Rattle.mls_sessions.specs.declared.cause.RunFault.{RunFault}
+use Rattle.mls_certcheck.specs.declared.stored.Stored.{Stored}
+use Rattle.mls_certcheck.specs.Site.{Site, site_of}
+use Rattle.mls_script.specs.declared.run_fault.RunFault.{RunFault}
 use Rattle.mls_host.specs.declared.ending.Ending.{Ending}
 use Rattle.mls_runs.specs.declared.shell_session.ShellSession.{ShellSession}
 use Rattle.mls_host.specs.declared.reason.Reason.{Reason}
@@ -13,7 +13,6 @@ use Rattle.mls_host.specs.declared.job.Inputs.{Inputs}
 use Rattle.mls_host.specs.Causes.{IsNotBegun}
 use Rattle.mls_host.specs.Hosting.{Hosting, Hosted, IsClean, IsOver}
 use Rattle.mls_host.specs.Storing.{AreStoredWith}
-use Rattle.mls_host.specs.Running.{site_of}
 use Rattle.mls_runs.specs.Shell.{IsShell}
 
 -- who sits at a shell, by its words

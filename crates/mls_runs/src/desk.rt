@@ -6,7 +6,7 @@ ghost use Rattle.mls_audit.specs.Sound.{IsSoundContent};
 ghost use Rattle.mls_machine.specs.Observation.{EventsFit};
 ghost use Rattle.mls_sessions.specs.Engine.{site, world_of, IsEngineReady, Continues, Leaves};
 ghost use Rattle.mls_host.specs.Hosting.{IsAppended};
-ghost use Rattle.mls_host.specs.Running.{site_of};
+ghost use Rattle.mls_certcheck.specs.Site.{site_of};
 ghost use Rattle.mls_runs.specs.Shell.{events_of, is_failed, is_lost};
 ghost use Rattle.mls_runs.specs.Desk.{MayServe, TellsOne, IsDone, IsFollowed, IsService, IsDesk};
 

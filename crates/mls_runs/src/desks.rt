@@ -6,7 +6,7 @@ ghost use Rattle.mls_host.specs.Causes.{IsBarred, IsNotBegun};
 ghost use Rattle.mls_host.specs.Hosting.{hosted, IsAppended};
 ghost use Rattle.mls_host.specs.Reading.{AreReady};
 ghost use Rattle.mls_host.specs.Stop.{IsEnd};
-ghost use Rattle.mls_host.specs.Running.{site_of};
+ghost use Rattle.mls_certcheck.specs.Site.{site_of};
 ghost use Rattle.mls_host.specs.Stopping.{IsCaused, IsCausedInMemory};
 ghost use Rattle.mls_runs.specs.Desk.{MayServe, IsDesk};
 ghost use Rattle.mls_runs.specs.DeskRun.{IsDeskFrom, IsDeskRun};

@@ -10,6 +10,7 @@ mod describing;
 mod desk;
 mod desks;
 mod explaining;
+mod form;
 mod help;
 mod history;
 mod marks;

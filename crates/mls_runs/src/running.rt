@@ -9,12 +9,14 @@ ghost use Rattle.mls_host.specs.Causes.{IsBarred, IsNotBegun};
 ghost use Rattle.mls_host.specs.Reading.{AreReady};
 ghost use Rattle.mls_host.specs.Words.{named};
 ghost use Rattle.mls_host.specs.Stop.{IsEnd};
-ghost use Rattle.mls_host.specs.Running.{site_of, IsRun};
+ghost use Rattle.mls_runs.specs.Running.{IsRun};
+ghost use Rattle.mls_certcheck.specs.Site.{site_of};
 ghost use Rattle.mls_runs.specs.ScriptRun.{MayRun, IsRunFrom, IsScriptRun};
 
+use crate::form::form_of;
 use mls_filterview::Base;
 use mls_fragments::OpenFault;
-use mls_host::{Host, Inputs, Reason, Stop, ended, form_of, stored_of};
+use mls_host::{Host, Inputs, Reason, Stop, ended, stored_of};
 use mls_lattice::{Items, Policy};
 use mls_machine::Audience;
 use mls_memory::MemoryBase;

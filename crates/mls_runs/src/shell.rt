@@ -6,16 +6,17 @@ ghost use Rattle.mls_sessions.specs.Engine.{site, world_of, IsEngineReady, Conti
 ghost use Rattle.mls_sessions.specs.Run.{are_done};
 ghost use Rattle.mls_host.specs.Ending.{ending_if};
 ghost use Rattle.mls_host.specs.Hosting.{IsAppended, IsTold};
-ghost use Rattle.mls_host.specs.Running.{site_of};
+ghost use Rattle.mls_certcheck.specs.Site.{site_of};
 ghost use Rattle.mls_runs.specs.Shell.{opening, audience_at, told_of, events_of, verdict_of, is_short, end_told, is_last, is_lost, FateFits, MayTalk, IsFollowed, IsConversation, IsShell};
 
 use crate::explaining::Listener;
+use crate::form::form_of;
 use crate::shell_session::{Fate, ShellSession};
 use crate::tally::{is_short, tally_with};
 use crate::telling::{ask, tell_end, tell_fate, tell_more};
 use crate::typed::next_fate;
 use mls_filterview::Base;
-use mls_host::{Ending, Errors, Tally, ending_if, form_of};
+use mls_host::{Ending, Errors, Tally, ending_if};
 use mls_lattice::{Items, Policy};
 use mls_machine::Audience;
 use mls_scheme::Schemes;

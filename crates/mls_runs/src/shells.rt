@@ -8,7 +8,7 @@ ghost use Rattle.mls_host.specs.Words.{named};
 ghost use Rattle.mls_host.specs.Causes.{IsBarred};
 ghost use Rattle.mls_host.specs.Stop.{IsEnd};
 ghost use Rattle.mls_host.specs.Reading.{AreReady};
-ghost use Rattle.mls_host.specs.Running.{site_of};
+ghost use Rattle.mls_certcheck.specs.Site.{site_of};
 ghost use Rattle.mls_runs.specs.Shell.{opening, MayTalk, IsShell};
 ghost use Rattle.mls_runs.specs.ShellRun.{shell_session_of, IsShellFrom, IsShellRun, IsShellRefused};
 

@@ -17,7 +17,7 @@ use Rattle.mls_tokens.specs.Scanning.{Left, without_places, tokens_at}
 use Rattle.mls_tokens.specs.Passing.{is_word, taken, has_ended, pass_end}
 use Rattle.mls_tokens.proofs.TokensLemmas.{tokens_exact}
 use Rattle.mls_tokens.proofs.PassedLemmas.{Passed, passed_none, passed_more, word_taken, over_is}
-use Rattle.mls_queries.specs.declared.query.Query.{Query}
+use Rattle.mls_translang.specs.declared.query.Query.{Query}
 use Rattle.mls_script.specs.declared.event.Event.{Event}
 use Rattle.mls_script.specs.declared.event.Command.TheVariants as commands
 use Rattle.mls_script.specs.declared.fault.ScriptCause.TheVariants.{Unterminated}

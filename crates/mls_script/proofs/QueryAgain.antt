@@ -21,10 +21,10 @@ use Rattle.mls_tokens.specs.Passing.{left, is_word, is_sign, taken, PlacedName, 
 use Rattle.mls_tokens.proofs.NextLemmas.{Gets, gets_more, done, gets_done, gets_is, next_is, took, took_word, NotNext, not_taken, name_gets}
 use Rattle.mls_translang.specs.Tree as core
 use Rattle.mls_parser.proofs.ConditionAgain.{conditions_are_read}
-use Rattle.mls_queries.specs.declared.query.Comparison.{Comparison}
-use Rattle.mls_queries.specs.declared.query.Comparison.TheVariants as compared
-use Rattle.mls_queries.specs.declared.query.ClassTest.{ClassTest}
-use Rattle.mls_queries.specs.declared.query.Query.{Query}
+use Rattle.mls_translang.specs.declared.query.Comparison.{Comparison}
+use Rattle.mls_translang.specs.declared.query.Comparison.TheVariants as compared
+use Rattle.mls_translang.specs.declared.query.ClassTest.{ClassTest}
+use Rattle.mls_translang.specs.declared.query.Query.{Query}
 use Rattle.mls_script.specs.declared.fault.LineFault.{LineFault}
 use Rattle.mls_script.specs.declared.query.Asked.{Asked}
 use Rattle.mls_script.specs.declared.query.PlacedClass.{PlacedClass}

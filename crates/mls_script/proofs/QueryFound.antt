@@ -20,9 +20,9 @@ use Rattle.mls_parser.specs.ReadCondition.{condition_at}
 use Rattle.mls_parser.proofs.ConditionFound.{condition_found}
 use Rattle.mls_parser.proofs.ConditionLemmas.{told_of_row}
 use Rattle.mls_parser.proofs.PassedLemmas.{split}
-use Rattle.mls_queries.specs.declared.query.Comparison.{Comparison}
-use Rattle.mls_queries.specs.declared.query.ClassTest.{ClassTest}
-use Rattle.mls_queries.specs.declared.query.Query.{Query}
+use Rattle.mls_translang.specs.declared.query.Comparison.{Comparison}
+use Rattle.mls_translang.specs.declared.query.ClassTest.{ClassTest}
+use Rattle.mls_translang.specs.declared.query.Query.{Query}
 use Rattle.mls_script.specs.declared.fault.LineFault.{LineFault}
 use Rattle.mls_script.specs.declared.query.Asked.{Asked}
 use Rattle.mls_script.specs.declared.query.PlacedClass.{PlacedClass}

@@ -11,7 +11,7 @@ use Rattle.mls_scheme.specs.declared.write.Write.TheVariants.{Insert, Update, De
 use Rattle.mls_scheme.specs.Scheme.{Scheme, Schemes, scheme_of, other_of}
 use Rattle.mls_scheme.specs.Fits.{HaveKinds}
 use Rattle.mls_parser.specs.Condition.{IsConditionOf}
-use Rattle.mls_queries.specs.declared.query.Query.{Query}
+use Rattle.mls_translang.specs.declared.query.Query.{Query}
 use Rattle.mls_script.specs.declared.event.Event.{Event}
 use Rattle.mls_script.specs.declared.event.Command.{Command}
 use Rattle.mls_script.specs.declared.event.Command.TheVariants.{Open, Close, Audit, View, Dump, Write, Call}

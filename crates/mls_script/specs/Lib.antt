@@ -2,6 +2,7 @@
 -- events a text tells.
 pub mod Event
 pub mod Fault
+pub mod RunFault
 pub mod Grammar
 pub mod Tokens
 pub mod QueryTokens

@@ -9,10 +9,10 @@ use Rattle.mls_tokens.specs.declared.sign.Sign.{Sign}
 use Rattle.mls_tokens.specs.declared.sign.Sign.TheVariants as signs
 use Rattle.mls_translang.specs.Tree as core
 use Rattle.mls_parser.specs.Condition.{TellsCondition}
-use Rattle.mls_queries.specs.declared.query.Comparison.{Comparison}
-use Rattle.mls_queries.specs.declared.query.Comparison.TheVariants as compared
-use Rattle.mls_queries.specs.declared.query.ClassTest.{ClassTest}
-use Rattle.mls_queries.specs.declared.query.Query.{Query}
+use Rattle.mls_translang.specs.declared.query.Comparison.{Comparison}
+use Rattle.mls_translang.specs.declared.query.Comparison.TheVariants as compared
+use Rattle.mls_translang.specs.declared.query.ClassTest.{ClassTest}
+use Rattle.mls_translang.specs.declared.query.Query.{Query}
 use Rattle.mls_script.specs.declared.event.Command.{Command}
 use Rattle.mls_script.specs.declared.event.Command.TheVariants as commands
 

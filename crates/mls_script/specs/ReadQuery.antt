@@ -16,10 +16,10 @@ use Rattle.mls_tokens.specs.Passing.{left, refuse, refused, is_word, is_sign, ta
 use Rattle.mls_translang.specs.Tree as core
 use Rattle.mls_parser.specs.declared.fault.PlacedFault.{PlacedFault}
 use Rattle.mls_parser.specs.ReadCondition.{condition_at}
-use Rattle.mls_queries.specs.declared.query.Comparison.{Comparison}
-use Rattle.mls_queries.specs.declared.query.Comparison.TheVariants.{Equal, Unequal, Less, AtMost, Greater, AtLeast}
-use Rattle.mls_queries.specs.declared.query.ClassTest.{ClassTest}
-use Rattle.mls_queries.specs.declared.query.Query.{Query}
+use Rattle.mls_translang.specs.declared.query.Comparison.{Comparison}
+use Rattle.mls_translang.specs.declared.query.Comparison.TheVariants.{Equal, Unequal, Less, AtMost, Greater, AtLeast}
+use Rattle.mls_translang.specs.declared.query.ClassTest.{ClassTest}
+use Rattle.mls_translang.specs.declared.query.Query.{Query}
 use Rattle.mls_script.specs.declared.fault.ScriptCause.TheVariants.{UnknownName, Kind, Memory}
 use Rattle.mls_script.specs.declared.fault.LineFault.{LineFault}
 use Rattle.mls_script.specs.declared.query.Asked.{Asked}

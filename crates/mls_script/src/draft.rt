@@ -5,8 +5,8 @@ ghost use Rattle.mls_script.specs.Grammar.{blank, command_of, event_of};
 use crate::event::{Command, Event};
 use crate::grammar::Verb;
 use mls_lattice::{Items, LabelNo, Str};
-use mls_queries::Query;
 use mls_scheme::{RelNo, Value};
+use mls_translang::Query;
 use std::alloc::Global;
 
 /// What the parts of a line say; what no part says is blank. It is set part by part, in its place: one that

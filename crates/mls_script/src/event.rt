@@ -4,8 +4,8 @@ ghost use Rattle.mls_script.specs.declared.event.Command.TheVariants as commands
 ghost use Rattle.mls_scheme.specs.declared.write.Write.TheVariants as writes;
 
 use mls_lattice::{Items, LabelNo, Str};
-use mls_queries::Query;
 use mls_scheme::{RelNo, Value, Write};
+use mls_translang::Query;
 
 /// A command of a session, which is named by its level and its name.
 #[derive(Drop)]

@@ -1,4 +1,4 @@
-//! Scripts: the events that a text tells.
+//! Scripts: the events that a text tells, and why their runs stop.
 #![tactic(auto)]
 
 ghost use Rattle.mls_script.specs.Script.{ScriptsAreOnce};
@@ -12,12 +12,14 @@ mod lists;
 mod lookup;
 mod query;
 mod reading;
+mod run_fault;
 mod sentence;
 mod writing;
 
 pub use event::{Command, Event};
 pub use fault::{ScriptCause, ScriptFault};
 pub use reading::script;
+pub use run_fault::{RunCause, RunFault};
 pub use writing::{is_writable, push_cell, push_event, push_value};
 
 /// A text tells the events of one list at most.

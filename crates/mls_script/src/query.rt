@@ -11,10 +11,9 @@ use crate::grammar::Verb;
 use crate::lookup::label_named;
 use mls_lattice::{Policy, Str};
 use mls_parser::PlacedFault;
-use mls_queries::{ClassTest, Comparison, Query};
 use mls_scheme::{RelNo, Schemes};
 use mls_tokens::{Sign, Token, TokenCause, TokenFault, Tokens};
-use mls_translang::Expr;
+use mls_translang::{ClassTest, Comparison, Expr, Query};
 use std::alloc::Global;
 
 /// The comparison and the label of a test of classes, as they stand.

@@ -12,15 +12,15 @@ use Rattle.mls_script.specs.declared.event.Event.{Event}
 use Rattle.mls_script.specs.Event.{EventFits}
 use Rattle.mls_machine.specs.declared.form.Audience.{Audience}
 use Rattle.mls_machine.specs.declared.reply.Reply.{Reply}
-use Rattle.mls_machine.specs.Site.{Site, site_labels}
+use Rattle.mls_certcheck.specs.Site.{Site, site_labels}
 use Rattle.mls_machine.specs.Machine.{World, step, end_of}
 use Rattle.mls_machine.specs.Output.{run_lines, ReplyIsKnown}
 use Rattle.mls_machine.specs.Observation.{AreStored, reply_shows}
 use Rattle.mls_machine.proofs.LineLemmas.{nothing_heard, end_more, printed_more}
 use Rattle.mls_machine.proofs.ReplyLemmas.{step_known}
-use Rattle.mls_sessions.specs.declared.cause.RunCause.{RunCause}
-use Rattle.mls_sessions.specs.declared.cause.RunFault.{RunFault}
-use Rattle.mls_sessions.specs.declared.cause.RunCause.TheVariants.{Store, Memory, Write}
+use Rattle.mls_script.specs.declared.run_fault.RunCause.{RunCause}
+use Rattle.mls_script.specs.declared.run_fault.RunFault.{RunFault}
+use Rattle.mls_script.specs.declared.run_fault.RunCause.TheVariants.{Store, Memory, Write}
 use Rattle.mls_sessions.specs.declared.engine.Engine.{Engine}
 use Rattle.mls_sessions.specs.declared.notice.Notice.{Notice}
 use Rattle.mls_sessions.specs.Cause.{cause_of}

@@ -22,9 +22,9 @@ use Rattle.mls_script.specs.declared.event.Event.{Event}
 use Rattle.mls_script.specs.declared.event.Command.TheVariants as commands
 use Rattle.mls_machine.specs.declared.reply.Denial.TheVariants.{UnknownTransaction, NotCertified}
 use Rattle.mls_machine.specs.declared.reply.Reply.TheVariants.{Ran}
-use Rattle.mls_machine.specs.declared.stored.Stored.{Stored}
-use Rattle.mls_machine.specs.declared.stored.Stored.TheVariants.{Certified, Plain}
-use Rattle.mls_machine.specs.Site.{Site, site_labels}
+use Rattle.mls_certcheck.specs.declared.stored.Stored.{Stored}
+use Rattle.mls_certcheck.specs.declared.stored.Stored.TheVariants.{Certified, Plain}
+use Rattle.mls_certcheck.specs.Site.{Site, site_labels}
 use Rattle.mls_machine.specs.Denying.{first_denial, stored_named, fitted, call_denials, call_denial}
 use Rattle.mls_machine.specs.Machine.{unless, release_entry, call_entries, called, call_step, step_inside}
 use Rattle.mls_machine.specs.Output.{ItemsAreKnown}

@@ -2,8 +2,8 @@
 use Rattle.std.proofs.Common.{◌≡◌, ℕ, ◌<◌, ◌≤◌, Result, Ok, Err, IfErr, refl, sym, ◌∙◌, subst, arith}
 use Rattle.std.specs.Prelude.{IsErrAnd}
 use Rattle.mls_filterview.specs.Content.{State}
-use Rattle.mls_sessions.specs.declared.cause.RunCause.TheVariants.{Store, Memory}
-use Rattle.mls_sessions.specs.declared.cause.RunFault.{RunFault}
+use Rattle.mls_script.specs.declared.run_fault.RunCause.TheVariants.{Store, Memory}
+use Rattle.mls_script.specs.declared.run_fault.RunFault.{RunFault}
 use Rattle.mls_sessions.specs.declared.engine.Engine.{Engine}
 use Rattle.mls_sessions.specs.Engine.{IsEngineReady, Continues, Leaves}
 

@@ -15,7 +15,7 @@ use Rattle.mls_script.specs.declared.event.Command.TheVariants as commands
 use Rattle.mls_machine.specs.declared.reply.Denial.{Denial}
 use Rattle.mls_machine.specs.declared.reply.Denial.TheVariants.{NoSession, UnknownUser, Ss}
 use Rattle.mls_machine.specs.declared.reply.Reply.TheVariants.{Opened, Denied}
-use Rattle.mls_machine.specs.Site.{Site, site_labels}
+use Rattle.mls_certcheck.specs.Site.{Site, site_labels}
 use Rattle.mls_machine.specs.Denying.{user_named, clearance_of, cleared}
 use Rattle.mls_machine.specs.Machine.{World, Step, with_session, turned_away, opened, open_step, step_outside}
 use Rattle.mls_sessions.specs.declared.session.Session.{Session}

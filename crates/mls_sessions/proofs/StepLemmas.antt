@@ -16,7 +16,7 @@ use Rattle.mls_audit.proofs.EntryLemmas.{entry_again}
 use Rattle.mls_script.specs.declared.event.Event.{Event}
 use Rattle.mls_machine.specs.declared.reply.Denial.{Denial}
 use Rattle.mls_machine.specs.declared.reply.Reply.TheVariants.{Denied}
-use Rattle.mls_machine.specs.Site.{Site}
+use Rattle.mls_certcheck.specs.Site.{Site}
 use Rattle.mls_machine.specs.Machine.{denial_entry, denied}
 use Rattle.mls_sessions.specs.World.{declared, entries_in, world_at}
 use Rattle.mls_sessions.specs.Turns.{IsStepOver}

@@ -6,11 +6,10 @@ use Rattle.std.proofs.lemmas.Option.{slice_get-get_or}
 use Rattle.mls_lattice.specs.declared.tables.User.{User}
 use Rattle.mls_lattice.specs.Policy.{Name, Policy}
 use Rattle.mls_translang.specs.Fits.{IsReadUnder}
-use Rattle.mls_machine.specs.declared.stored.Stored.{Stored}
-use Rattle.mls_machine.specs.Stored.{tx_of}
-use Rattle.mls_machine.specs.Site.{Site}
+use Rattle.mls_certcheck.specs.declared.stored.Stored.{Stored}
+use Rattle.mls_certcheck.specs.Stored.{tx_of}
+use Rattle.mls_certcheck.specs.Site.{Site, AreRead}
 use Rattle.mls_machine.specs.Denying.{no_user, trusted_of, stored_named}
-use Rattle.mls_machine.specs.Observation.{AreRead}
 use Rattle.mls_machine.proofs.CalledLemmas.{found_holds}
 
 trusted_is : (a b : Option (ℕ × ℕ)) → Some a ≡ Some b → a ≡ b

@@ -1,14 +1,8 @@
--- The names of the causes for which runs stop, and faults as causes.
-use Rattle.std.specs.Prelude.{ℕ, List, codes}
+-- Faults of a base as causes for which runs stop.
 use Rattle.mls_filterview.specs.declared.base.BaseFault.{BaseFault}
 use Rattle.mls_filterview.specs.declared.base.BaseFault.TheVariants as faults
-use Rattle.mls_sessions.specs.declared.cause.RunCause.{RunCause}
-use Rattle.mls_sessions.specs.declared.cause.RunCause.TheVariants.{Store, Memory, Write}
-
-abbrev pub cause_word : RunCause → List ℕ
-cause_word Store = codes "Store"
-cause_word Memory = codes "Memory"
-cause_word Write = codes "Write"
+use Rattle.mls_script.specs.declared.run_fault.RunCause.{RunCause}
+use Rattle.mls_script.specs.declared.run_fault.RunCause.TheVariants.{Store, Memory}
 
 -- a wrong use of a base would be a fault of the store
 abbrev pub cause_of : BaseFault → RunCause

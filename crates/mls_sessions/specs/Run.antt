@@ -7,12 +7,12 @@ use Rattle.mls_updates.specs.Outcome.{is_done as is_write_done}
 use Rattle.mls_machine.specs.declared.form.Audience.{Audience}
 use Rattle.mls_machine.specs.declared.reply.Reply.{Reply}
 use Rattle.mls_machine.specs.declared.reply.Reply.TheVariants.{Denied, Wrote}
-use Rattle.mls_machine.specs.Site.{Site}
+use Rattle.mls_certcheck.specs.Site.{Site}
 use Rattle.mls_machine.specs.Machine.{World, step, end_of}
 use Rattle.mls_machine.specs.Observation.{reply_shows, run_shows}
-use Rattle.mls_sessions.specs.declared.cause.RunCause.{RunCause}
-use Rattle.mls_sessions.specs.declared.cause.RunCause.TheVariants.{Write}
-use Rattle.mls_sessions.specs.declared.cause.RunFault.{RunFault}
+use Rattle.mls_script.specs.declared.run_fault.RunCause.{RunCause}
+use Rattle.mls_script.specs.declared.run_fault.RunCause.TheVariants.{Write}
+use Rattle.mls_script.specs.declared.run_fault.RunFault.{RunFault}
 
 -- the world after the first n events of a run from w
 abbrev pub world_after : Site → World → List Event → ℕ → World

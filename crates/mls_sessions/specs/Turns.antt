@@ -12,9 +12,8 @@ use Rattle.mls_script.specs.declared.event.Command.{Command}
 use Rattle.mls_script.specs.declared.event.Command.TheVariants as commands
 use Rattle.mls_script.specs.Event.{EventFits}
 use Rattle.mls_machine.specs.declared.reply.Reply.{Reply}
-use Rattle.mls_machine.specs.Site.{Site}
+use Rattle.mls_certcheck.specs.Site.{Site, AreRead}
 use Rattle.mls_machine.specs.Machine.{Sessions, World, Step, denied, step_inside}
-use Rattle.mls_machine.specs.Observation.{AreRead}
 use Rattle.mls_machine.specs.Known.{HasKnownNumbers}
 use Rattle.mls_sessions.specs.declared.change.Effect.{Effect}
 use Rattle.mls_sessions.specs.declared.change.Effect.TheVariants.{Deny, Write, Call}

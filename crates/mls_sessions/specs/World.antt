@@ -6,7 +6,7 @@ use Rattle.mls_audit.specs.declared.entry.Entry.{Entry}
 use Rattle.mls_scheme.specs.declared.key_fault.KeyFault.{KeyFault}
 use Rattle.mls_audit.specs.Entry.{label_of}
 use Rattle.mls_audit.specs.Reading.{entry_at}
-use Rattle.mls_machine.specs.Site.{Site}
+use Rattle.mls_certcheck.specs.Site.{Site}
 use Rattle.mls_machine.specs.Machine.{Sessions, World}
 
 -- ---- the audit list

@@ -1,43 +1,10 @@
 //! Why runs stop.
-ghost use Rattle.std.specs.Prelude.{◌≡◌, ◌≢◌};
+ghost use Rattle.std.specs.Prelude.{◌≡◌};
 ghost use Rattle.mls_filterview.specs.Calls.{IsServed};
-ghost use Rattle.mls_sessions.specs.Cause.{cause_word, cause_of};
+ghost use Rattle.mls_sessions.specs.Cause.{cause_of};
 
 use mls_filterview::BaseFault;
-
-/// Why a run stops.
-#[derive(Clone, Copy, PartialEq, Eq, Debug)]
-pub enum RunCause {
-    /// The store failed.
-    Store,
-    /// A growth was refused.
-    Memory,
-    /// The writer refused.
-    Write,
-}
-
-impl RunCause {
-    /// The name of the cause.
-    pub fn word(self) -> &'static str
-        ensures { result.now ≡ cause_word self }
-    {
-        match self {
-            RunCause::Store => "Store",
-            RunCause::Memory => "Memory",
-            RunCause::Write => "Write",
-        }
-    }
-}
-
-/// Where a run stops.
-#[derive(Clone, Copy, PartialEq, Eq, Debug)]
-pub struct RunFault {
-    /// The number of the event, from 1.
-    pub event: usize,
-    pub cause: RunCause,
-    /// Whether the change of this event stands.
-    pub done: bool,
-}
+use mls_script::{RunCause, RunFault};
 
 /// The fault of an event.
 pub(crate) fn fault_at(event: usize, cause: RunCause, done: bool) -> RunFault

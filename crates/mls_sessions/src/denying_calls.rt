@@ -2,17 +2,17 @@
 ghost use Rattle.std.specs.Prelude.{◌≡◌, ◌<◌, ◌&&◌, not, nat_eq, length, IfSome, Some, [], ◌∷◌};
 ghost use Rattle.std.specs.List.{AllByRecursion};
 ghost use Rattle.mls_lattice.specs.Labels.{below};
-ghost use Rattle.mls_machine.specs.Site.{site_labels};
+ghost use Rattle.mls_certcheck.specs.Site.{site_labels, AreRead};
 ghost use Rattle.mls_machine.specs.Denying.{first_denial, trusted_of, lie_outside, stored_named, call_denials, call_denial};
-ghost use Rattle.mls_machine.specs.Observation.{AreRead};
 ghost use Rattle.mls_sessions.specs.Sessions.{site_of};
 
 use crate::arguments::are_wrong;
 use crate::denying::{clearance, exceed, lacks_rights_on};
 use crate::finding::stored_named;
 use crate::site::RunSite;
+use mls_certcheck::Stored;
 use mls_lattice::{LabelNo, Modes, Policy, UserNo};
-use mls_machine::{Denial, Stored};
+use mls_machine::Denial;
 use mls_scheme::Value;
 use mls_translang::Tx;
 

@@ -1,11 +1,10 @@
 //! Which transaction a call names.
 ghost use Rattle.std.specs.Prelude.{◌≡◌, option_map, Some};
 ghost use Rattle.mls_certcheck.specs.declared.certified.Certified.{Certified as Checked};
-ghost use Rattle.mls_machine.specs.declared.stored.Stored.TheVariants as variants;
+ghost use Rattle.mls_certcheck.specs.declared.stored.Stored.TheVariants as variants;
 ghost use Rattle.mls_machine.specs.Denying.{stored_named};
 
-use mls_certcheck::Certified;
-use mls_machine::Stored;
+use mls_certcheck::{Certified, Stored};
 
 /// The first of some transactions that has a name.
 pub(crate) fn stored_named<'a>(stored: &'a [Stored], name: &str) -> Option<&'a Stored>

@@ -16,8 +16,9 @@ use mls_audit::{Entry, EntryFault, entry_of, visible};
 use mls_filterview::{Base, BaseFault, low_tuples, settle};
 use mls_lattice::{Items, LabelNo, Policy};
 use mls_machine::Reply;
-use mls_queries::{Query, Views, find};
+use mls_queries::{Views, find};
 use mls_scheme::RelNo;
+use mls_translang::Query;
 use std::alloc::{AllocError, Global};
 
 /// Answers a view by what its query finds.

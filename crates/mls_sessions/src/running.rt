@@ -12,13 +12,13 @@ ghost use Rattle.mls_sessions.specs.Engine.{site, world_of, IsEngineReady, Conti
 ghost use Rattle.mls_sessions.specs.Run.{is_done, are_done, IsWhole, IsStopped, IsFaultOf, IsAnswered, IsHalted};
 
 use crate::RunSite;
-use crate::cause::{RunCause, RunFault, cause_of, fault_at};
+use crate::cause::{cause_of, fault_at};
 use crate::engine::Engine;
 use crate::notice::next_notice;
 use crate::writing::write_whole;
 use mls_filterview::Base;
 use mls_machine::{Audience, Form, Reply, is_known, shown_to};
-use mls_script::Event;
+use mls_script::{Event, RunCause, RunFault};
 use std::io::Write;
 
 /// The lines of the reply to an event that the audience is shown. `Store` is the cause where a class is not declared, as

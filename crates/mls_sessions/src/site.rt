@@ -1,6 +1,6 @@
 //! What sessions run under.
+use mls_certcheck::Stored;
 use mls_lattice::{Items, Policy};
-use mls_machine::Stored;
 use mls_scheme::Schemes;
 use std::alloc::Global;
 

@@ -5,12 +5,13 @@ ghost use Rattle.std.specs.Io.KnownBytes.{Appends};
 ghost use Rattle.mls_sessions.specs.Turning.{turned_text, list_text, HasTurned, IsListed, IsEmptied};
 ghost use Rattle.mls_sessions.specs.World.{entries_in};
 
-use crate::cause::{RunCause, RunFault, cause_of, fault_at};
+use crate::cause::{cause_of, fault_at};
 use crate::looking::{entries_of, seen_of};
 use crate::writing::write_whole;
 use mls_filterview::{Base, BaseFault, abandon, settle};
 use mls_lattice::{Items, LabelNo, Policy};
 use mls_machine::turn_bytes;
+use mls_script::{RunCause, RunFault};
 use std::alloc::{AllocError, Global};
 use std::io::Write;
 

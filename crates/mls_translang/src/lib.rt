@@ -1,4 +1,4 @@
-//! Transactions as trees.
+//! Transactions and queries as trees.
 #![tactic(auto)]
 
 ghost use Rattle.mls_translang.specs.ReadsBack.{LayoutsAreTokens, PrintsAreTokens};
@@ -14,6 +14,7 @@ mod print_expr;
 mod print_parts;
 mod print_tx;
 mod print_write;
+mod query;
 mod row;
 mod tx;
 
@@ -21,6 +22,7 @@ pub use block::{Block, Stmt};
 pub use expr::{Expr, Term};
 pub use operator::Operator;
 pub use print_tx::print;
+pub use query::{ClassTest, Comparison, Query};
 pub use row::LoopRow;
 pub use tx::{Parameter, Tx, statements};
 

@@ -1,4 +1,3 @@
-pub mod DataLemmas
 pub mod EvaluationLemmas
 pub mod FrameLemmas
 pub mod PlainLemmas

@@ -1,4 +1,4 @@
 -- The definitions of calls that run over a base.
-pub mod Data
+pub mod Environment
 pub mod Frames
 pub mod Runs

@@ -1,13 +1,13 @@
-//! What expressions read, and what they give.
+//! What the expressions of a transaction read, and what they give.
 ghost use Rattle.std.specs.Prelude.{◌≡◌, None, reverse, slice_index_or};
 ghost use Rattle.mls_filterview.specs.Rules.{no_tuple};
 ghost use Rattle.mls_certcheck.specs.Expressions.{Plain, cell_of, eval};
-ghost use Rattle.mls_trusted.specs.Data.{datum_of, env_of};
+ghost use Rattle.mls_queries.specs.Data.{datum_of};
+ghost use Rattle.mls_trusted.specs.Environment.{env_of};
 
-use crate::datum::Datum;
-use crate::operator::apply;
 use mls_filterview::SharedTuple;
-use mls_scheme::{Tuple, Value};
+use mls_queries::{Datum, apply, cell};
+use mls_scheme::Value;
 use mls_translang::{Expr, Term};
 
 /// Arguments and variables by number, and the rows of the loops around, the outermost first.
@@ -24,20 +24,6 @@ fn value_at(values: &[Option<Value>], number: u8) -> Datum<'_>
 {
     match values.get(usize::from(number)) {
         Some(value) => Datum::lent(value),
-        None => Datum::Null,
-    }
-}
-
-/// An attribute of a row by number, the key first.
-pub(crate) fn cell(row: &Tuple, attribute: usize) -> Datum<'_>
-    ensures { datum_of result ≡ Plain (cell_of row.now attribute) }
-{
-    let keys = row.key.len();
-    if attribute < keys {
-        return Datum::Lent(&row.key[attribute]);
-    }
-    match row.elements.get(attribute - keys) {
-        Some(element) => Datum::lent(&element.value),
         None => Datum::Null,
     }
 }

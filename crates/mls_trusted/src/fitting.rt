@@ -8,15 +8,14 @@ ghost use Rattle.mls_filterview.specs.View.{rows};
 ghost use Rattle.mls_translang.specs.Kinds.{field_of};
 ghost use Rattle.mls_certcheck.specs.Expressions.{value_of};
 ghost use Rattle.mls_certcheck.specs.Kinds.{RowKinds};
+ghost use Rattle.mls_queries.specs.Data.{datum_of};
 ghost use Rattle.mls_queries.specs.Views.{AreViews};
-ghost use Rattle.mls_trusted.specs.Data.{datum_of};
 ghost use Rattle.mls_trusted.specs.Frames.{MayLook};
 
 use crate::call::Call;
-use crate::environment::cell;
 use mls_filterview::{Base, BaseFault, SharedView};
 use mls_lattice::LabelNo;
-use mls_queries::Views;
+use mls_queries::{Views, cell};
 use mls_scheme::{Kind, RelNo, Scheme, Tuple};
 
 /// The kind of an attribute by number, the key first; past the last one it is that of numbers.

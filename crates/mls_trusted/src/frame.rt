@@ -7,7 +7,7 @@ ghost use Rattle.mls_scheme.specs.Writes.{key_class_of};
 ghost use Rattle.mls_certcheck.specs.Meaning.{set_outcome, set_var, start};
 ghost use Rattle.mls_updates.specs.Writes.{named};
 ghost use Rattle.mls_queries.specs.Views.{AreDeclared, AreLeftBy};
-ghost use Rattle.mls_trusted.specs.Data.{env_of};
+ghost use Rattle.mls_trusted.specs.Environment.{env_of};
 ghost use Rattle.mls_trusted.specs.Frames.{vars_of, progress_of, env_in, IsFrame, HasVars};
 
 use crate::call::Call;

@@ -3,13 +3,11 @@
 
 mod block;
 mod call;
-mod datum;
 mod environment;
 mod evaluation;
 mod fitting;
 mod frame;
 mod operand;
-mod operator;
 mod plain;
 mod write;
 

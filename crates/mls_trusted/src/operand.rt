@@ -2,7 +2,7 @@
 ghost use Rattle.std.specs.Prelude.{◌≡◌, map, IfOk};
 ghost use Rattle.mls_certcheck.specs.Expressions.{value_in};
 ghost use Rattle.mls_certcheck.specs.Meaning.{values_set, write_in};
-ghost use Rattle.mls_trusted.specs.Data.{env_of};
+ghost use Rattle.mls_trusted.specs.Environment.{env_of};
 
 use crate::environment::Environment;
 use mls_lattice::Items;

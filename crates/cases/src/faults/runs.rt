@@ -5,7 +5,7 @@ ghost use Rattle.mls_scheme.specs.Scheme.{AreUnder};
 ghost use Rattle.mls_script.specs.Event.{EventFits};
 ghost use Rattle.mls_filterview.specs.Content.{no_content};
 ghost use Rattle.mls_audit.specs.Sound.{IsSoundContent};
-ghost use Rattle.mls_machine.specs.Observation.{AreRead, AreCertified};
+ghost use Rattle.mls_certcheck.specs.Site.{AreRead, AreCertified};
 
 use super::faulty::{Fault, Faulty};
 use super::narrow::Narrow;

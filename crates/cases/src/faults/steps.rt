@@ -4,7 +4,8 @@ ghost use Rattle.std.specs.List.{AllByRecursion};
 ghost use Rattle.mls_scheme.specs.Scheme.{AreUnder};
 ghost use Rattle.mls_audit.specs.Sound.{IsSoundContent};
 ghost use Rattle.mls_script.specs.Event.{EventFits};
-ghost use Rattle.mls_machine.specs.Observation.{EventsFit, AreRead, AreCertified};
+ghost use Rattle.mls_machine.specs.Observation.{EventsFit};
+ghost use Rattle.mls_certcheck.specs.Site.{AreRead, AreCertified};
 ghost use Rattle.mls_sessions.specs.Engine.{site, IsEngineReady, IsKept};
 
 use super::narrow::Narrow;

@@ -2,8 +2,8 @@
 ghost use Rattle.std.specs.Prelude.{IfSome};
 ghost use Rattle.std.specs.List.{AllByRecursion};
 ghost use Rattle.mls_translang.specs.Fits.{IsReadUnder};
-ghost use Rattle.mls_machine.specs.Stored.{tx_of, IsCertifiedUnder};
-ghost use Rattle.mls_machine.specs.Observation.{AreRead, AreCertified};
+ghost use Rattle.mls_certcheck.specs.Stored.{tx_of, IsCertifiedUnder};
+ghost use Rattle.mls_certcheck.specs.Site.{AreRead, AreCertified};
 
 use mls_certcheck::{Certificate, Certified};
 use mls_labeller::label_tx;

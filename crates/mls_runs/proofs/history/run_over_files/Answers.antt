@@ -6,7 +6,8 @@ use Rattle.mls_fragments.specs.Again.{FindsHoldings}
 use Rattle.mls_fragments.specs.Based.{state_of}
 use Rattle.mls_fragments.proofs.HoldingsLemmas.{base_is_taken}
 use Rattle.mls_host.specs.Hosting.{IsAppended}
-use Rattle.mls_host.specs.Running.{site_of, IsRun}
+use Rattle.mls_runs.specs.Running.{IsRun}
+use Rattle.mls_certcheck.specs.Site.{site_of}
 use Rattle.mls_runs.specs.History.{BeginsIn}
 use Rattle.mls_runs.proofs.HistoryLemmas.{ready_run, run_alone, closed_whole, closed_broken}
 use Rattle.mls_runs.proofs.history.run_over_files.Goals as goal

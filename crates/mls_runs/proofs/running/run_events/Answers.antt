@@ -1,7 +1,7 @@
 use Rattle.std.proofs.Common.{[], Some}
 use Rattle.mls_host.specs.Hosting.{hosted, IsAppended}
 use Rattle.mls_host.specs.Causes.{IsBarred}
-use Rattle.mls_host.specs.Running.{site_of}
+use Rattle.mls_certcheck.specs.Site.{site_of}
 use Rattle.mls_runs.proofs.ScriptRunLemmas.{from_memory, from_store}
 use Rattle.mls_host.proofs.StoppingLemmas.{untouched, caused_at, caused_from_memory}
 use Rattle.mls_runs.proofs.running.run_events.Goals as goal

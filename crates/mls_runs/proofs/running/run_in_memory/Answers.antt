@@ -3,15 +3,16 @@ use Rattle.std.proofs.KnownBytes.{Appends-nil}
 use Rattle.std.specs.Io.KnownBytes.{Appends}
 use Rattle.mls_filterview.specs.Content.{State, Content, no_content}
 use Rattle.mls_fragments.specs.Based.{state_of}
-use Rattle.mls_sessions.specs.declared.cause.RunFault.{RunFault}
+use Rattle.mls_script.specs.declared.run_fault.RunFault.{RunFault}
 use Rattle.mls_fragments.specs.declared.open_fault.OpenFault.TheVariants as stores
 use Rattle.mls_host.specs.declared.reason.Reason.{Reason}
 use Rattle.mls_host.specs.declared.reason.Reason.TheVariants.{Store}
 use Rattle.mls_host.specs.declared.stop.Stop.{Stop}
 use Rattle.mls_host.specs.Stop.{IsEnd}
-use Rattle.mls_host.specs.Running.{site_of, IsRun}
+use Rattle.mls_runs.specs.Running.{IsRun}
+use Rattle.mls_certcheck.specs.Site.{site_of}
 use Rattle.mls_audit.proofs.SoundLemmas.{none_sound}
-use Rattle.mls_host.proofs.RunningLemmas.{ended_so}
+use Rattle.mls_runs.proofs.RunningLemmas.{ended_so}
 use Rattle.mls_host.specs.Stopping.{IsCausedInMemory}
 use Rattle.mls_host.proofs.StoppingLemmas.{ended_in_memory}
 use Rattle.mls_runs.proofs.running.run_in_memory.Goals as goal

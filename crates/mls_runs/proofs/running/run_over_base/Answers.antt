@@ -1,12 +1,12 @@
 use Rattle.std.proofs.Common.{◌≡◌, sym, ap, subst, ◌∙◌}
 use Rattle.mls_audit.specs.Sound.{IsSoundContent}
-use Rattle.mls_machine.specs.Site.{Site}
+use Rattle.mls_certcheck.specs.Site.{Site, site_of as site_for}
 use Rattle.mls_machine.specs.Observation.{EventsFit}
 use Rattle.mls_sessions.specs.World.{world_at}
 use Rattle.mls_sessions.specs.Engine.{world_of}
 use Rattle.mls_sessions.specs.Sessions.{site_of, sessions_of}
-use Rattle.mls_host.specs.Running.{first_world, site_of as site_for}
-use Rattle.mls_host.proofs.RunningLemmas.{IsEngineRun, run_at}
+use Rattle.mls_runs.specs.Running.{first_world}
+use Rattle.mls_runs.proofs.RunningLemmas.{IsEngineRun, run_at}
 use Rattle.mls_sessions.proofs.FrameLemmas.{left_behind}
 use Rattle.mls_runs.proofs.running.run_over_base.Goals as goal
 

@@ -1,12 +1,12 @@
 use Rattle.std.proofs.Common.{◌≡◌, ◌∷◌, [], sym, ap, subst, ◌∙◌}
 use Rattle.mls_lattice.specs.Labels.{AreDistinct}
 use Rattle.mls_audit.specs.Sound.{IsSoundContent}
-use Rattle.mls_machine.specs.Site.{Site, site_labels}
+use Rattle.mls_certcheck.specs.Site.{Site, site_labels, site_of as site_for}
 use Rattle.mls_machine.specs.Observation.{EventsFit}
 use Rattle.mls_sessions.specs.World.{world_at}
 use Rattle.mls_sessions.specs.Sessions.{site_of, sessions_of}
 use Rattle.mls_host.specs.Hosting.{IsTold}
-use Rattle.mls_host.specs.Running.{first_world, site_of as site_for}
+use Rattle.mls_runs.specs.Running.{first_world}
 use Rattle.mls_runs.specs.Shell.{opening}
 use Rattle.mls_runs.proofs.ShellEndLemmas.{opening_fits, conversation_at, shell_at}
 use Rattle.mls_sessions.proofs.FrameLemmas.{left_behind}

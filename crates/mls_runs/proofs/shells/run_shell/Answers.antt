@@ -3,7 +3,7 @@ use Rattle.mls_lattice.specs.Name.{is_name}
 use Rattle.mls_runs.specs.declared.shell_session.ShellSession.{ShellSession}
 use Rattle.std.proofs.KnownBytes.{Appends-nil}
 use Rattle.mls_host.specs.declared.reason.Reason.TheVariants.{Memory}
-use Rattle.mls_host.specs.Running.{site_of}
+use Rattle.mls_certcheck.specs.Site.{site_of}
 use Rattle.mls_host.specs.Words.{named}
 use Rattle.mls_host.specs.Causes.{IsBarred}
 use Rattle.mls_host.specs.Storing.{AreStoredWith}

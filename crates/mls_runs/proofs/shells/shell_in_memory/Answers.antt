@@ -2,18 +2,18 @@ use Rattle.std.proofs.Common.{◌≡◌, [], Result, Ok, sym, subst, ap}
 use Rattle.std.proofs.KnownBytes.{Appends-nil}
 use Rattle.mls_filterview.specs.Content.{State, Content, no_content}
 use Rattle.mls_fragments.specs.Based.{state_of}
-use Rattle.mls_sessions.specs.declared.cause.RunFault.{RunFault}
+use Rattle.mls_script.specs.declared.run_fault.RunFault.{RunFault}
 use Rattle.mls_host.specs.declared.ending.Ending.{Ending}
 use Rattle.mls_fragments.specs.declared.open_fault.OpenFault.TheVariants as stores
 use Rattle.mls_host.specs.declared.reason.Reason.{Reason}
 use Rattle.mls_host.specs.declared.reason.Reason.TheVariants.{Store}
 use Rattle.mls_host.specs.declared.stop.Stop.{Stop}
 use Rattle.mls_host.specs.Hosting.{IsAppended, IsTold}
-use Rattle.mls_host.specs.Running.{site_of}
+use Rattle.mls_certcheck.specs.Site.{site_of}
 use Rattle.mls_runs.specs.Shell.{IsShell}
 use Rattle.mls_host.specs.Stop.{IsEnd}
 use Rattle.mls_audit.proofs.SoundLemmas.{none_sound}
-use Rattle.mls_host.proofs.RunningLemmas.{ended_so}
+use Rattle.mls_runs.proofs.RunningLemmas.{ended_so}
 use Rattle.mls_host.proofs.HostingLemmas.{told_nothing}
 use Rattle.mls_host.specs.Stopping.{IsCausedInMemory}
 use Rattle.mls_host.proofs.StoppingLemmas.{ended_in_memory}

@@ -1,12 +1,12 @@
 use Rattle.std.proofs.Common.{[], Result, Some, refl, sym, subst}
 use Rattle.std.proofs.KnownBytes.{Appends-nil}
-use Rattle.mls_sessions.specs.declared.cause.RunFault.{RunFault}
+use Rattle.mls_script.specs.declared.run_fault.RunFault.{RunFault}
 use Rattle.mls_host.specs.declared.stop.Stop.{Stop}
 use Rattle.mls_host.specs.Hosting.{hosted, IsAppended}
 use Rattle.mls_host.specs.Causes.{IsBarred}
 use Rattle.mls_host.specs.Stop.{IsEnd}
 use Rattle.mls_host.specs.Stopping.{IsCaused}
-use Rattle.mls_host.proofs.RunningLemmas.{ended_so}
+use Rattle.mls_runs.proofs.RunningLemmas.{ended_so}
 use Rattle.mls_host.proofs.StoppingLemmas.{caused_in_store}
 use Rattle.mls_runs.specs.TurnRun.{IsTurnRun}
 use Rattle.mls_runs.proofs.TurningLemmas.{turning}

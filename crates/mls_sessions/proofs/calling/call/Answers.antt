@@ -3,8 +3,8 @@ use Rattle.std.specs.List.{AllByRecursion}
 use Rattle.mls_audit.specs.Spelling.{HasSpelling}
 use Rattle.mls_scheme.specs.declared.value.Value.{Value}
 use Rattle.mls_certcheck.specs.Meaning.{run_tx}
-use Rattle.mls_machine.specs.declared.stored.Stored.TheVariants.{Certified}
-use Rattle.mls_machine.specs.Site.{site_labels}
+use Rattle.mls_certcheck.specs.declared.stored.Stored.TheVariants.{Certified}
+use Rattle.mls_certcheck.specs.Site.{site_labels}
 use Rattle.mls_machine.specs.Denying.{stored_named, fitted}
 use Rattle.mls_machine.specs.Machine.{call_entries}
 use Rattle.mls_trusted.specs.Runs.{with_database, IsEvaluated}

@@ -1,7 +1,7 @@
 use Rattle.std.proofs.Common.{◌≡◌, ◌<◌, length, Some, rules, sym, subst}
 use Rattle.mls_translang.specs.Tx.{Tx}
 use Rattle.mls_translang.specs.Fits.{IsReadUnder}
-use Rattle.mls_machine.specs.declared.stored.Stored.TheVariants.{Certified}
+use Rattle.mls_certcheck.specs.declared.stored.Stored.TheVariants.{Certified}
 use Rattle.mls_machine.specs.Denying.{stored_named}
 use Rattle.mls_sessions.specs.Sessions.{site_of}
 use Rattle.mls_sessions.proofs.StoredLemmas.{found_read}

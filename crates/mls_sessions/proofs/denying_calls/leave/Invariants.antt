@@ -1,5 +1,5 @@
 use Rattle.std.proofs.Common.{◌≡◌, drop, Some}
-use Rattle.mls_machine.specs.Site.{site_labels}
+use Rattle.mls_certcheck.specs.Site.{site_labels}
 use Rattle.mls_machine.specs.Denying.{lie_outside}
 use Rattle.mls_sessions.specs.Sessions.{site_of}
 use Rattle.mls_sessions.proofs.denying_calls.leave.Given as goal

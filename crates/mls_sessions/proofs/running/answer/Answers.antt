@@ -1,6 +1,6 @@
 use Rattle.std.proofs.Common.{◌||◌, not, sym, ap, ◌∙◌, subst}
 use Rattle.std.specs.Prelude.{is_some}
-use Rattle.mls_sessions.specs.declared.cause.RunFault.{RunFault}
+use Rattle.mls_script.specs.declared.run_fault.RunFault.{RunFault}
 use Rattle.mls_sessions.specs.Engine.{site, world_of}
 use Rattle.mls_sessions.specs.Run.{is_done, IsHalted}
 use Rattle.mls_sessions.proofs.AnswerLemmas.{halted_before, halted_unprinted, reply_known, not_store, only_store, noted}

@@ -1,5 +1,5 @@
 use Rattle.std.proofs.Common.{ap, ◌∙◌}
-use Rattle.mls_machine.specs.Site.{site_labels}
+use Rattle.mls_certcheck.specs.Site.{site_labels}
 use Rattle.mls_machine.specs.Output.{printed}
 use Rattle.mls_machine.specs.Observation.{heard}
 use Rattle.mls_sessions.specs.Sessions.{site_of}

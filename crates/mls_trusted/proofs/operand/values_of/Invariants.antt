@@ -1,6 +1,6 @@
 use Rattle.std.proofs.Common.{◌≡◌, map, take}
 use Rattle.mls_certcheck.specs.Expressions.{value_in}
-use Rattle.mls_trusted.specs.Data.{env_of}
+use Rattle.mls_trusted.specs.Environment.{env_of}
 use Rattle.mls_trusted.proofs.operand.values_of.Given as goal
 
 abbrev pub invariant-loop-expr : goal.invariant-loop-expr

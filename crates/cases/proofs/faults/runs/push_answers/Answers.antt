@@ -1,5 +1,5 @@
 use Rattle.std.proofs.Common.{sym, subst}
-use Rattle.mls_machine.specs.Observation.{AreRead, AreCertified}
+use Rattle.mls_certcheck.specs.Site.{AreRead, AreCertified}
 use Rattle.cases.proofs.faults.runs.push_answers.Goals as goal
 
 pub run_over-requires-clause-read : goal.run_over-requires-clause-read

@@ -1,6 +1,6 @@
 use Rattle.std.proofs.Common.{sym, ap, ◌∙◌, subst}
 use Rattle.mls_audit.specs.Sound.{IsSoundContent}
-use Rattle.mls_machine.specs.Site.{Site}
+use Rattle.mls_certcheck.specs.Site.{Site}
 use Rattle.mls_sessions.specs.Engine.{site}
 use Rattle.cases.proofs.faults.runs.run_over.Goals as goal
 

@@ -1,7 +1,7 @@
 use Rattle.std.proofs.Common.{◌≡◌, rules, ◌++◌, ◌∷◌, [], sym, subst}
 use Rattle.std.specs.List.{AllByRecursion}
 use Rattle.mls_translang.specs.Fits.{IsReadUnder}
-use Rattle.mls_machine.specs.Stored.{tx_of, IsCertifiedUnder}
+use Rattle.mls_certcheck.specs.Stored.{tx_of, IsCertifiedUnder}
 use Rattle.cases.proofs.StartLemmas.{all_more}
 use Rattle.cases.proofs.faults.stored.all_certified.Goals as goal
 

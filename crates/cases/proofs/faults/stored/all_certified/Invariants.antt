@@ -1,6 +1,6 @@
 use Rattle.std.specs.List.{AllByRecursion}
 use Rattle.mls_translang.specs.Fits.{IsReadUnder}
-use Rattle.mls_machine.specs.Stored.{tx_of, IsCertifiedUnder}
+use Rattle.mls_certcheck.specs.Stored.{tx_of, IsCertifiedUnder}
 use Rattle.cases.proofs.faults.stored.all_certified.Given as goal
 
 abbrev pub invariant-loop-tx : goal.invariant-loop-tx

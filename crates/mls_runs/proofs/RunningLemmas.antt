@@ -5,12 +5,12 @@ use Rattle.mls_filterview.specs.Content.{Content}
 use Rattle.mls_audit.specs.Sound.{IsSoundContent}
 use Rattle.mls_script.specs.declared.event.Event.{Event}
 use Rattle.mls_machine.specs.declared.form.Audience.{Audience}
-use Rattle.mls_machine.specs.Site.{Site}
+use Rattle.mls_certcheck.specs.Site.{Site}
 use Rattle.mls_machine.specs.Machine.{World, Sessions}
 use Rattle.mls_machine.specs.Observation.{PassesOnlyReleasesDown, ShowsOnlyReleases}
 use Rattle.mls_machine.specs.Laws.{KeepsIntegrity}
 use Rattle.mls_machine.proofs.RunLemmas.{shows_only_releases}
-use Rattle.mls_sessions.specs.declared.cause.RunFault.{RunFault}
+use Rattle.mls_script.specs.declared.run_fault.RunFault.{RunFault}
 use Rattle.mls_sessions.specs.World.{world_at}
 use Rattle.mls_sessions.specs.Run.{IsWhole, IsStopped as IsHalted, IsFaultOf}
 use Rattle.mls_host.specs.declared.host.CloseFault.{CloseFault}
@@ -18,7 +18,7 @@ use Rattle.mls_host.specs.declared.stop.Stop.{Stop}
 use Rattle.mls_host.specs.declared.reason.Reason.{Reason}
 use Rattle.mls_host.specs.declared.stop.Stop.TheVariants.{Before, Run, NotClosed, Output, Served, Unread, Turned}
 use Rattle.mls_host.specs.Stop.{ended, IsEnd}
-use Rattle.mls_host.specs.Running.{first_world, IsRun}
+use Rattle.mls_runs.specs.Running.{first_world, IsRun}
 
 -- what an engine's run comes to: its lines, its last world, and what is proved of it
 pub record IsEngineRun (site : Site) (audience : Audience) (v : World) (es : List Event) (before after : Option (List ℕ)) (new : World) (r : Result (Unit {0}) RunFault) : Type 0 where

@@ -1,29 +1,23 @@
 -- What a run of the program writes, what it begins with and what it leaves.
 use Rattle.std.specs.Prelude.{◌≡◌, ◌≢◌, ℕ, ◌-◌, if◌then◌else◌, Bool, List, [], ◌++◌, take, IfSome, Result, Ok, Err}
-use Rattle.mls_lattice.specs.Policy.{Policy}
-use Rattle.mls_scheme.specs.Scheme.{Schemes}
 use Rattle.mls_filterview.specs.Content.{Content}
 use Rattle.mls_audit.specs.Sound.{IsSoundContent}
-use Rattle.mls_machine.specs.declared.stored.Stored.{Stored}
 use Rattle.mls_script.specs.declared.event.Event.{Event}
 use Rattle.mls_machine.specs.declared.form.Form.{Form}
 use Rattle.mls_machine.specs.declared.form.Form.TheVariants.{Lines, Table}
 use Rattle.mls_machine.specs.declared.form.Audience.{Audience}
-use Rattle.mls_machine.specs.Site.{Site}
+use Rattle.mls_certcheck.specs.Site.{Site}
 use Rattle.mls_machine.specs.Machine.{World, Sessions, no_sessions, end_of}
 use Rattle.mls_machine.specs.Observation.{run_shows, PassesOnlyReleasesDown, ShowsOnlyReleases}
 use Rattle.mls_machine.specs.Laws.{KeepsIntegrity}
-use Rattle.mls_sessions.specs.declared.cause.RunCause.TheVariants.{Write}
-use Rattle.mls_sessions.specs.declared.cause.RunFault.{RunFault}
+use Rattle.mls_script.specs.declared.run_fault.RunCause.TheVariants.{Write}
+use Rattle.mls_script.specs.declared.run_fault.RunFault.{RunFault}
 use Rattle.mls_sessions.specs.Run.{IsFaultOf}
 use Rattle.mls_sessions.specs.World.{world_at}
 
 -- a table, where it is asked for
 abbrev pub form_of : Bool → Form
 form_of is_table = if is_table then Table else Lines
-
-abbrev pub site_of : Policy → Schemes → List Stored → Site
-site_of policy schemes stored = record { policy = policy; schemes = schemes; stored = stored }
 
 -- the tuples and the entries of the content, and no session
 abbrev pub first_world : Site → Content → World

@@ -1,7 +1,7 @@
 //! Stored transactions, with a certificate or without.
 ghost use Rattle.std.specs.Prelude.{◌≡◌};
 
-use mls_certcheck::Certified;
+use crate::certified::Certified;
 use mls_translang::Tx;
 
 /// A stored transaction.
@@ -14,7 +14,7 @@ pub enum Stored {
 }
 
 impl Stored {
-    ghost use Rattle.mls_machine.specs.Stored.{tx_of};
+    ghost use Rattle.mls_certcheck.specs.Stored.{tx_of};
 
     /// The transaction.
     pub fn tx(&self) -> &Tx

@@ -1,6 +1,6 @@
 //! What is asked of a view.
+use crate::expr::Expr;
 use mls_lattice::LabelNo;
-use mls_translang::Expr;
 
 /// How a class is to stand to a label, by dominance. Of two labels of which none dominates the other, only `Unequal`
 /// holds.

@@ -1,0 +1,37 @@
+//! Why and where runs of scripts stop.
+ghost use Rattle.std.specs.Prelude.{◌≡◌};
+ghost use Rattle.mls_script.specs.RunFault.{cause_word};
+
+/// Why a run stops.
+#[derive(Clone, Copy, PartialEq, Eq, Debug)]
+pub enum RunCause {
+    /// The store failed.
+    Store,
+    /// A growth was refused.
+    Memory,
+    /// The writer refused.
+    Write,
+}
+
+impl RunCause {
+    /// The name of the cause.
+    pub fn word(self) -> &'static str
+        ensures { result.now ≡ cause_word self }
+    {
+        match self {
+            RunCause::Store => "Store",
+            RunCause::Memory => "Memory",
+            RunCause::Write => "Write",
+        }
+    }
+}
+
+/// Where a run stops.
+#[derive(Clone, Copy, PartialEq, Eq, Debug)]
+pub struct RunFault {
+    /// The number of the event, from 1.
+    pub event: usize,
+    pub cause: RunCause,
+    /// Whether the change of this event stands.
+    pub done: bool,
+}

@@ -7,9 +7,8 @@ ghost use Rattle.mls_scheme.specs.Scheme.{AreUnder};
 ghost use Rattle.mls_fragments.specs.Opening.{IsFoundIn, IsOfOthers, IsBad};
 ghost use Rattle.mls_explain.specs.Diagnosis.{image, IsTakenOver, IsSoundIn, IsOthersIn, IsBadIn};
 
-use mls_fragments::{OpenFault, SqlBase, connected};
+use mls_fragments::{MemoryFile, OpenFault, SqlBase, connected};
 use mls_lattice::Policy;
-use mls_memory::MemoryFile;
 use mls_scheme::SchemesFile;
 use sqlite::{Alter, Connection, FileStore, Files, Options};
 use std::alloc::{AllocError, Global};

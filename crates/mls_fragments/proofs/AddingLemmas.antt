@@ -31,8 +31,8 @@ use Rattle.mls_filterview.proofs.FragmentLemmas.{cell_among}
 use Rattle.mls_tables.specs.declared.rows.AuditRow.{AuditRow}
 use Rattle.mls_tables.specs.Rows.{Tables, described, numbered}
 use Rattle.mls_tables.specs.Statements.{AddsEntry, ClearsEntries}
-use Rattle.mls_fragments.specs.Holding.{Holds, HoldsTable, IsSharedTuple, AddsTuple, node_row, cell_row, nodes_in, cells_in}
-use Rattle.mls_fragments.proofs.WrittenLemmas.{holds_same, holds_with}
+use Rattle.mls_rows.specs.Holding.{Holds, HoldsTable, IsSharedTuple, AddsTuple, node_row, cell_row, nodes_in, cells_in}
+use Rattle.mls_rows.proofs.WrittenLemmas.{holds_same, holds_with}
 
 -- ---- nothing
 

@@ -12,7 +12,7 @@ use Rattle.std.proofs.lemmas.List.Sorted.{ranks_by, sorted_far, IsPermutation-re
 use Rattle.mls_tables.specs.declared.rows.NodeRow.{NodeRow}
 use Rattle.mls_tables.specs.declared.rows.CellRow.{CellRow}
 use Rattle.mls_fragments.specs.Parts.{before, AreNodesInOrder, AreCellsInOrder, IsCut}
-use Rattle.mls_fragments.proofs.RowOrderLemmas.{node_cmp, node_total, cell_cmp, cell_total}
+use Rattle.mls_rows.proofs.RowOrderLemmas.{node_cmp, node_total, cell_cmp, cell_total}
 
 -- ---- where a test turns, it cuts
 

@@ -25,7 +25,7 @@ use Rattle.mls_tables.specs.Adopting.{IsDescribed, IsVersion}
 use Rattle.mls_tables.specs.Rows.{Tables, described, tables_of}
 use Rattle.mls_tables.specs.Schema.{HasTables, no_schema}
 use Rattle.mls_fragments.specs.Based.{BaseState, state_of, HasRow, IsBaseOf}
-use Rattle.mls_fragments.specs.Holding.{Holds}
+use Rattle.mls_rows.specs.Holding.{Holds}
 use Rattle.mls_fragments.specs.Holdings.{Holdings, no_holdings, holdings_of, HaveOneMeta, HaveHoldings, HasHoldings, no_tables, four_tables, DatabaseHasOneHoldings, row_of, Takes, made, as_it_was, widened, IsTakenOf, GivenBackIsTaken, SoundIsTakenAsItWas}
 use Rattle.mls_fragments.specs.Migrating.{HasTexts, IsExtended, more, IsSoundBefore, IsWidenedContent}
 use Rattle.mls_fragments.proofs.AddingLemmas.{holds_none}

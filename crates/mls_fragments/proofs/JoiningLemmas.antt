@@ -28,9 +28,9 @@ use Rattle.mls_filterview.specs.View.{IsAmong}
 use Rattle.mls_filterview.proofs.AmongLemmas.{all_at, among_filter, map_among, among_permutation}
 use Rattle.mls_filterview.proofs.EntryLemmas.{Entry, among_entries, entries_among, so_true}
 use Rattle.mls_tables.specs.Rows.{Tables}
-use Rattle.mls_fragments.specs.Changes.{Entries, with_entries}
-use Rattle.mls_fragments.specs.Finding.{AreWithin}
-use Rattle.mls_fragments.specs.Holding.{HoldsTable, IsSharedTuple, node_row, cell_row, nodes_in}
+use Rattle.mls_rows.specs.Changes.{Entries, with_entries}
+use Rattle.mls_rows.specs.Finding.{AreWithin}
+use Rattle.mls_rows.specs.Holding.{HoldsTable, IsSharedTuple, node_row, cell_row, nodes_in}
 use Rattle.mls_fragments.specs.Parts.{Part}
 use Rattle.mls_fragments.proofs.AddingLemmas.{entries_new, get_new, get_old}
 

@@ -18,16 +18,16 @@ use Rattle.mls_tables.specs.declared.rows.CellRow.{CellRow}
 use Rattle.mls_tables.specs.declared.adopting.AllRows.{AllRows}
 use Rattle.mls_tables.specs.Adopting.{AreAll}
 use Rattle.mls_tables.specs.Rows.{Tables, numbered}
-use Rattle.mls_fragments.specs.Changes.{Entries, table_in, found, with_tables}
-use Rattle.mls_fragments.specs.Finding.{IsSoundWithin}
-use Rattle.mls_fragments.specs.Holding.{Holds, HoldsTable, node_row, cell_row}
+use Rattle.mls_rows.specs.Changes.{Entries, table_in, found, with_tables}
+use Rattle.mls_rows.specs.Finding.{IsSoundWithin}
+use Rattle.mls_rows.specs.Holding.{Holds, HoldsTable, node_row, cell_row}
 use Rattle.mls_fragments.specs.Parts as parts
 use Rattle.mls_fragments.specs.Parts.{Part, outside, both, other, nodes_of, rows_of, rows_in, AreNodesInOrder, AreCellsInOrder, IsTakenOff, IsJudged}
 use Rattle.mls_fragments.proofs.CutLemmas.{filter_both, taken_off}
-use Rattle.mls_fragments.proofs.FindingLemmas.{are_content, nothing}
+use Rattle.mls_rows.proofs.FindingLemmas.{are_content, nothing}
 use Rattle.mls_fragments.proofs.JoiningLemmas.{joined_content, joined_within, joined_table}
 use Rattle.mls_fragments.proofs.PartLemmas.{part_holds, part_sound}
-use Rattle.mls_fragments.proofs.WrittenLemmas.{holds_same}
+use Rattle.mls_rows.proofs.WrittenLemmas.{holds_same}
 
 -- ---- rows that are left, and a part of them
 

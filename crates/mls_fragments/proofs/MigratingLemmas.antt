@@ -16,8 +16,8 @@ use Rattle.mls_filterview.specs.Stored.{IsContent}
 use Rattle.mls_filterview.specs.Widen.{nulls, widened_entry, IsWidened}
 use Rattle.mls_filterview.proofs.WideningLemmas.{widening_keeps_content}
 use Rattle.mls_filterview.proofs.WidenedRowLemmas.{table_widened}
-use Rattle.mls_fragments.specs.Changes.{Entries, table_in}
-use Rattle.mls_fragments.specs.Finding.{IsSpelledEntry}
+use Rattle.mls_rows.specs.Changes.{Entries, table_in}
+use Rattle.mls_rows.specs.Finding.{IsSpelledEntry}
 use Rattle.mls_fragments.specs.Migrating.{more, wide_tables}
 
 -- ---- items by their numbers

@@ -19,17 +19,17 @@ use Rattle.mls_tables.specs.Rows.{Tables, described}
 use Rattle.mls_tables.specs.Statements.{SetsCell, AddsEntry, ClearsEntries}
 use Rattle.mls_tables.specs.Store.{TableState, IsClean}
 use Rattle.mls_fragments.specs.declared.noted.Noted.{Noted}
-use Rattle.mls_fragments.specs.Changes.{Change, Entries, found, content_of}
-use Rattle.mls_fragments.specs.Changes.Change.{Finds, Adds, Sets, Drops, Appends, Clears}
+use Rattle.mls_rows.specs.Changes.{Change, Entries, found, content_of}
+use Rattle.mls_rows.specs.Changes.Change.{Finds, Adds, Sets, Drops, Appends, Clears}
 use Rattle.mls_fragments.specs.Based.{IsNoted, IsBased, base_state, state_with, state_of}
-use Rattle.mls_fragments.specs.Finding.{HasByteClasses, AreReadable}
+use Rattle.mls_rows.specs.Finding.{HasByteClasses, AreReadable}
 use Rattle.mls_fragments.specs.Holdings.{HaveOneMeta}
 use Rattle.mls_fragments.proofs.HoldingsLemmas.{meta_made}
-use Rattle.mls_fragments.specs.Holding.{Holds, AddsTuple, DropsTuple, node_row, cell_row, value_row}
+use Rattle.mls_rows.specs.Holding.{Holds, AddsTuple, DropsTuple, node_row, cell_row, value_row}
 use Rattle.mls_fragments.proofs.AddingLemmas.{holds_none, holds_tuple, holds_entry, holds_no_entries}
-use Rattle.mls_fragments.proofs.ByteLemmas.{none_bytes, tuple_bytes, value_bytes, rest_bytes}
+use Rattle.mls_rows.proofs.ByteLemmas.{none_bytes, tuple_bytes, value_bytes, rest_bytes}
 use Rattle.mls_fragments.proofs.SettingLemmas.{holds_value}
-use Rattle.mls_fragments.proofs.DroppingLemmas.{holds_rest}
+use Rattle.mls_rows.proofs.DroppingLemmas.{holds_rest}
 
 -- rows that are written in a change
 pub based_on : (t u : TableState) (here new last : Noted) → IsBased t here last → (IsClean u → IsClean t) → u.begun ≡ true → (IsClean u → u.kept ≡ t.kept)

@@ -22,11 +22,11 @@ use Rattle.mls_filterview.proofs.EntryLemmas.{among_entries, entries_among, entr
 use Rattle.mls_filterview.proofs.FragmentLemmas.{cell_found, cell_among}
 use Rattle.mls_tables.specs.Rows.{Tables, numbered}
 use Rattle.mls_tables.proofs.NumberedLemmas.{in_order, rising}
-use Rattle.mls_fragments.proofs.RowLemmas.{texts_of}
-use Rattle.mls_fragments.specs.Holding.{Holds, HoldsTable, IsSpelledNode, IsSpelledCell, node_row, cell_row, nodes_in, cells_in}
+use Rattle.mls_rows.proofs.RowLemmas.{texts_of}
+use Rattle.mls_rows.specs.Holding.{Holds, HoldsTable, IsSpelledNode, IsSpelledCell, node_row, cell_row, nodes_in, cells_in}
 use Rattle.mls_fragments.specs.OneContent.{RowsHoldOneContent}
-use Rattle.mls_fragments.proofs.ShownLemmas.{same_node, same_cell, reflects}
-use Rattle.mls_fragments.proofs.WrittenLemmas.{spelled_keys}
+use Rattle.mls_rows.proofs.ShownLemmas.{same_node, same_cell, reflects}
+use Rattle.mls_rows.proofs.WrittenLemmas.{spelled_keys}
 
 -- ---- the cells of one table
 

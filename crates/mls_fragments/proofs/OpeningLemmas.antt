@@ -15,8 +15,8 @@ use Rattle.mls_tables.specs.Adopting.{Blames, HasDescription, HasReadRows, IsAdo
 use Rattle.mls_tables.specs.Store.{HasEnded}
 use Rattle.mls_fragments.specs.declared.open_fault.OpenFault.{OpenFault}
 use Rattle.mls_fragments.specs.declared.open_fault.OpenFault.TheVariants.{OtherPolicy, BadRows}
-use Rattle.mls_fragments.specs.declared.reading.RowFault.{RowFault}
-use Rattle.mls_fragments.specs.declared.reading.RowFault.TheVariants as row
+use Rattle.mls_rows.specs.declared.reading.RowFault.{RowFault}
+use Rattle.mls_rows.specs.declared.reading.RowFault.TheVariants as row
 use Rattle.mls_fragments.specs.Creating.{IsBlankImage}
 use Rattle.mls_fragments.specs.OpenFault.{adopting_fault, finding_fault}
 use Rattle.mls_fragments.specs.Opening.{HoldsSound, IsFoundIn, IsRefused, IsStoreOrMemory, IsUnopened, IsUntaken, not_described}

@@ -23,10 +23,10 @@ use Rattle.mls_filterview.proofs.AmongLemmas.{among_filter, filter_among}
 use Rattle.mls_filterview.proofs.EntryLemmas.{Entry, among_entries, entries_among, sorted_filter, so_true, so_from}
 use Rattle.mls_filterview.proofs.FragmentLemmas.{cell_found}
 use Rattle.mls_tables.specs.Rows.{Tables}
-use Rattle.mls_fragments.specs.Finding.{IsSoundWithin}
-use Rattle.mls_fragments.specs.Holding.{Holds, HoldsTable, IsSharedTuple, node_row, cell_row, nodes_in, cells_in}
+use Rattle.mls_rows.specs.Finding.{IsSoundWithin}
+use Rattle.mls_rows.specs.Holding.{Holds, HoldsTable, IsSharedTuple, node_row, cell_row, nodes_in, cells_in}
 use Rattle.mls_fragments.specs.Parts.{Part, rows_of, content_of}
-use Rattle.mls_fragments.proofs.WrittenLemmas.{filter_each}
+use Rattle.mls_rows.proofs.WrittenLemmas.{filter_each}
 
 -- ---- one relation
 

@@ -32,8 +32,8 @@ use Rattle.mls_filterview.proofs.EntryLemmas.{Entry, among_entries, entries_amon
 use Rattle.mls_tables.specs.declared.rows.CellRow.{CellRow}
 use Rattle.mls_tables.specs.Rows.{Tables, is_cell_in}
 use Rattle.mls_tables.specs.Statements.{SetsCell, IsOne, has_key_of}
-use Rattle.mls_fragments.specs.Holding.{Holds, HoldsTable, IsSharedTuple, cell_row, nodes_in, cells_in, tuple_key}
-use Rattle.mls_fragments.proofs.WrittenLemmas.{entity_test, cells_where, spelled_keys, others_stay, holds_same, holds_with}
+use Rattle.mls_rows.specs.Holding.{Holds, HoldsTable, IsSharedTuple, cell_row, nodes_in, cells_in, tuple_key}
+use Rattle.mls_rows.proofs.WrittenLemmas.{entity_test, cells_where, spelled_keys, others_stay, holds_same, holds_with}
 
 -- ---- lists
 

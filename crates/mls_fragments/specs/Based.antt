@@ -12,9 +12,9 @@ use Rattle.mls_tables.specs.declared.rows.MetaRow.{MetaRow}
 use Rattle.mls_tables.specs.Rows.{Tables}
 use Rattle.mls_tables.specs.Store.{TableState, IsClean}
 use Rattle.mls_fragments.specs.declared.noted.Noted.{Noted}
-use Rattle.mls_fragments.specs.Changes.{Change, content_of}
-use Rattle.mls_fragments.specs.Finding.{HasByteClasses}
-use Rattle.mls_fragments.specs.Holding.{Holds}
+use Rattle.mls_rows.specs.Changes.{Change, content_of}
+use Rattle.mls_rows.specs.Finding.{HasByteClasses}
+use Rattle.mls_rows.specs.Holding.{Holds}
 use Rattle.mls_fragments.specs.Holdings.{HaveOneMeta, HaveHoldings, Holdings, Takes, holdings_of}
 
 -- what a base shows: the changes that made its content now and that of the last commit, and the tables below

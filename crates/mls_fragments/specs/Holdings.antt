@@ -13,7 +13,7 @@ use Rattle.mls_tables.specs.Adopting.{IsVersion}
 use Rattle.mls_tables.specs.Rows.{Tables, first_meta, is_meta_row, tables_of}
 use Rattle.mls_tables.specs.Schema.{HasTables, no_schema}
 use Rattle.mls_tables.specs.Statements.{AreRows}
-use Rattle.mls_fragments.specs.Holding.{Holds}
+use Rattle.mls_rows.specs.Holding.{Holds}
 use Rattle.mls_fragments.specs.Migrating.{HasTexts, IsExtended, IsSoundBefore, IsWidenedContent}
 
 -- the row that describes a store, if one does, and its content

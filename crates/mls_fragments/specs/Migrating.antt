@@ -18,10 +18,10 @@ use Rattle.mls_tables.specs.Adopting.{AreAll}
 use Rattle.mls_tables.specs.Rows.{Tables, numbered}
 use Rattle.mls_fragments.specs.declared.migrating.Lineage.{Lineage}
 use Rattle.mls_fragments.specs.declared.migrating.Lineage.TheVariants.{Same, Older}
-use Rattle.mls_fragments.specs.Changes.{Entries}
-use Rattle.mls_fragments.specs.declared.finding.Found.{Found}
-use Rattle.mls_fragments.specs.Finding.{HasByteClasses, IsSoundWithin, IsSpelledEntry, content_found, node_rows, cell_rows}
-use Rattle.mls_fragments.specs.Holding.{Holds}
+use Rattle.mls_rows.specs.Changes.{Entries}
+use Rattle.mls_rows.specs.declared.finding.Found.{Found}
+use Rattle.mls_rows.specs.Finding.{HasByteClasses, IsSoundWithin, IsSpelledEntry, content_found, node_rows, cell_rows}
+use Rattle.mls_rows.specs.Holding.{Holds}
 
 -- ---- what the description of a store says to a policy and schemes
 

@@ -4,8 +4,8 @@ use Rattle.mls_tables.specs.declared.store.StoreFault.{StoreFault}
 use Rattle.mls_tables.specs.declared.store.StoreFault.TheVariants as store
 use Rattle.mls_tables.specs.declared.adopting.AdoptFault.{AdoptFault}
 use Rattle.mls_tables.specs.declared.adopting.AdoptFault.TheVariants as adopt
-use Rattle.mls_fragments.specs.declared.reading.RowFault.{RowFault}
-use Rattle.mls_fragments.specs.declared.reading.RowFault.TheVariants as row
+use Rattle.mls_rows.specs.declared.reading.RowFault.{RowFault}
+use Rattle.mls_rows.specs.declared.reading.RowFault.TheVariants as row
 use Rattle.mls_fragments.specs.declared.open_fault.OpenFault.{OpenFault}
 use Rattle.mls_fragments.specs.declared.open_fault.OpenFault.TheVariants.{Store, OtherPolicy, BadRows, Memory}
 use Rattle.mls_fragments.specs.declared.open_fault.TheConstants.{WORDS}

@@ -14,8 +14,8 @@ use Rattle.mls_tables.specs.declared.rows.NodeRow.{NodeRow}
 use Rattle.mls_tables.specs.declared.rows.CellRow.{CellRow}
 use Rattle.mls_tables.specs.declared.adopting.AllRows.{AllRows}
 use Rattle.mls_tables.specs.Rows.{Tables}
-use Rattle.mls_fragments.specs.Finding.{IsSoundWithin}
-use Rattle.mls_fragments.specs.Holding.{HoldsTable}
+use Rattle.mls_rows.specs.Finding.{IsSoundWithin}
+use Rattle.mls_rows.specs.Holding.{HoldsTable}
 
 -- whether a part has the entities of a relation with a key, which is given as bytes
 abbrev pub Part : Type 0

@@ -10,16 +10,17 @@ ghost use Rattle.mls_tables.specs.Rows.{described, tables_of};
 ghost use Rattle.mls_tables.specs.Statements.{IsSchemaReady};
 ghost use Rattle.mls_tables.specs.Store.{IsClean};
 ghost use Rattle.mls_fragments.specs.Based.{HasRow, IsNoted, state_of};
-ghost use Rattle.mls_fragments.specs.Changes.{content_of};
-ghost use Rattle.mls_fragments.specs.Holding.{Holds};
+ghost use Rattle.mls_rows.specs.Changes.{content_of};
+ghost use Rattle.mls_rows.specs.Holding.{Holds};
 ghost use Rattle.mls_fragments.specs.Holdings.{HasHoldings, HaveOneMeta, holdings_of};
 
-use crate::entity::{read_entity, read_pattern};
 use crate::noted::{Noted, abandon_changes};
-use crate::reading::{read_entries, read_fragment, read_fragments};
-use crate::writing::{add_entry, add_tuple, drop_tuple, set_value};
 use mls_filterview::{Base, BaseFault, Cell, Fragment, Node};
 use mls_lattice::{Items, LabelNo};
+use mls_rows::{
+    add_entry, add_tuple, drop_tuple, read_entity, read_entries, read_fragment, read_fragments,
+    read_pattern, set_value,
+};
 use mls_scheme::{Place, RelNo, Value};
 use mls_tables::TableStore;
 use sqlite::{Alter, Connection};

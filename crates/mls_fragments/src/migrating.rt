@@ -13,15 +13,13 @@ ghost use Rattle.mls_scheme.specs.Extending as older_schemes;
 ghost use Rattle.mls_filterview.specs.Content.{Content};
 ghost use Rattle.mls_tables.specs.Adopting.{AreAll};
 ghost use Rattle.mls_tables.specs.Rows.{Tables};
-ghost use Rattle.mls_fragments.specs.Finding.{IsMemory};
-ghost use Rattle.mls_fragments.specs.Holding.{Holds};
+ghost use Rattle.mls_rows.specs.Finding.{IsMemory};
+ghost use Rattle.mls_rows.specs.Holding.{Holds};
 ghost use Rattle.mls_fragments.specs.Migrating.{IsLineage, IsOther, IsBefore, wide_tables, IsSoundBefore, HasWidened};
 
-use crate::finding::{Found, find};
-use crate::place::Where;
-use crate::reading::RowFault;
 use mls_filterview::{TupleMap, widened};
 use mls_lattice::{Policy, Version};
+use mls_rows::{Found, RowFault, Where, find};
 use mls_scheme::{RelNo, Schemes, SchemesFile};
 use mls_tables::{AllRows, MetaRow};
 use std::alloc::{AllocError, Global};

@@ -1,11 +1,11 @@
 //! What the rows hold: the changes that made it, which only clauses read, and the number of its last entry.
 ghost use Rattle.std.specs.Prelude.{◌≡◌, pos, [], ◌∷◌, map};
 ghost use Rattle.mls_fragments.specs.Based.{fault_of};
-ghost use Rattle.mls_fragments.specs.Changes.Change.{Finds, Appends, Clears};
+ghost use Rattle.mls_rows.specs.Changes.Change.{Finds, Appends, Clears};
 
-use crate::finding::Found;
 use crate::recalled::GhostContent;
 use mls_filterview::BaseFault;
+use mls_rows::Found;
 use mls_tables::StoreFault;
 
 #[derive(Drop)]

@@ -3,8 +3,8 @@ ghost use Rattle.std.specs.Prelude.{◌≡◌};
 ghost use Rattle.mls_fragments.specs.OpenFault.{code_of, word_of};
 ghost use Rattle.mls_fragments.specs.declared.open_fault.OpenFault.TheVariants.{Memory};
 
-use crate::reading::RowFault;
 use mls_lattice::words;
+use mls_rows::RowFault;
 use mls_tables::{AdoptFault, StoreFault};
 use std::alloc::AllocError;
 use std::fmt;

@@ -1,8 +1,8 @@
 //! Changes that only clauses read.
 ghost use Rattle.std.specs.Prelude.{◌≡◌, List, [], ◌∷◌, map};
 ghost use Rattle.std.specs.Borrow.{ftrue};
-ghost use Rattle.mls_fragments.specs.Changes.{Change};
-ghost use Rattle.mls_fragments.specs.Changes.Change.{Finds, Joins, Adds, Sets, Drops};
+ghost use Rattle.mls_rows.specs.Changes.{Change};
+ghost use Rattle.mls_rows.specs.Changes.Change.{Finds, Joins, Adds, Sets, Drops};
 
 use mls_filterview::{Cell, Node, TupleMap};
 use mls_lattice::Items;

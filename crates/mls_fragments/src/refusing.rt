@@ -7,13 +7,11 @@ ghost use Rattle.mls_tables.specs.Rows.{is_meta_row};
 ghost use Rattle.mls_tables.specs.Statements.{AreRows};
 ghost use Rattle.mls_fragments.specs.Opening.{IsRefused};
 
-use crate::finding::find;
 use crate::migrating::{Lineage, find_widened, lineage_of};
 use crate::open_fault::OpenFault;
 use crate::opening::texts_of;
-use crate::place::Where;
-use crate::reading::RowFault;
 use mls_lattice::Policy;
+use mls_rows::{RowFault, Where, find};
 use mls_scheme::SchemesFile;
 use mls_tables::{AllRows, MetaRow, read_store};
 use sqlite::{Alter, Connection};

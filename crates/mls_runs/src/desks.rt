@@ -12,10 +12,9 @@ ghost use Rattle.mls_runs.specs.Desk.{MayServe, IsDesk};
 ghost use Rattle.mls_runs.specs.DeskRun.{IsDeskFrom, IsDeskRun};
 
 use crate::desk::desk_over_base;
-use mls_fragments::OpenFault;
+use mls_fragments::{MemoryBase, OpenFault};
 use mls_host::{Ending, Host, Inputs, Reason, Stop, ended, stored_of};
 use mls_lattice::{Items, Policy};
-use mls_memory::MemoryBase;
 use mls_scheme::SchemesFile;
 use mls_sessions::Stored;
 use mls_tokens::TypedLines;

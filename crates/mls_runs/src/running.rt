@@ -15,11 +15,10 @@ ghost use Rattle.mls_runs.specs.ScriptRun.{MayRun, IsRunFrom, IsScriptRun};
 
 use crate::form::form_of;
 use mls_filterview::Base;
-use mls_fragments::OpenFault;
+use mls_fragments::{MemoryBase, OpenFault};
 use mls_host::{Host, Inputs, Reason, Stop, ended, stored_of};
 use mls_lattice::{Items, Policy};
 use mls_machine::Audience;
-use mls_memory::MemoryBase;
 use mls_scheme::{Schemes, SchemesFile};
 use mls_script::Event;
 use mls_sessions::{Engine, RunFault, Stored, run_to};

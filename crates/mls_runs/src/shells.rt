@@ -15,10 +15,9 @@ ghost use Rattle.mls_runs.specs.ShellRun.{shell_session_of, IsShellFrom, IsShell
 use crate::shell::shell_over_base;
 use crate::shell_session::ShellSession;
 use crate::typed::opening;
-use mls_fragments::OpenFault;
+use mls_fragments::{MemoryBase, OpenFault};
 use mls_host::{Ending, Errors, Host, Inputs, Reason, Stop, ended, stored_of};
 use mls_lattice::{Items, LabelNo, Policy, Str};
-use mls_memory::MemoryBase;
 use mls_scheme::SchemesFile;
 use mls_script::Event;
 use mls_sessions::Stored;

@@ -1,7 +1,7 @@
 use Rattle.std.proofs.Common.{List, ℕ, subst₂, ◌∙◌}
 use Rattle.sqlite.specs.Files.{file_state}
 use Rattle.mls_fragments.specs.Opening.{IsFoundIn}
-use Rattle.mls_memory.proofs.MemoryLemmas.{memory_files_are_clean}
+use Rattle.mls_fragments.proofs.MemoryLemmas.{memory_files_are_clean}
 use Rattle.mls_explain.specs.Diagnosis.{image}
 use Rattle.mls_explain.proofs.copies.connection.Goals as goal
 

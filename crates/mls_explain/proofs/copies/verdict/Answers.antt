@@ -4,7 +4,7 @@ use Rattle.sqlite.specs.Files.{file_state}
 use Rattle.mls_fragments.specs.declared.open_fault.OpenFault.{OpenFault}
 use Rattle.mls_fragments.specs.declared.open_fault.OpenFault.TheVariants.{OtherPolicy, BadRows, Memory}
 use Rattle.mls_fragments.specs.Opening.{IsOfOthers, IsBad}
-use Rattle.mls_memory.proofs.MemoryLemmas.{memory_files_are_clean}
+use Rattle.mls_fragments.proofs.MemoryLemmas.{memory_files_are_clean}
 use Rattle.mls_explain.specs.Diagnosis.{IsTakenOver}
 use Rattle.mls_explain.proofs.copies.verdict.Goals as goal
 

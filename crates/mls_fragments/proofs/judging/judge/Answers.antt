@@ -1,9 +1,9 @@
 use Rattle.std.proofs.Common.{subst, rules}
 use Rattle.std.proofs.lemmas.List.Sorted.{IsPermutation-trans}
 use Rattle.mls_lattice.specs.Policy.{labels_of}
-use Rattle.mls_fragments.specs.Changes.{content_of}
+use Rattle.mls_rows.specs.Changes.{content_of}
 use Rattle.mls_fragments.specs.Parts.{IsJudged, rows_in}
-use Rattle.mls_fragments.proofs.ByteLemmas.{content_bytes, few_labels}
+use Rattle.mls_rows.proofs.ByteLemmas.{content_bytes, few_labels}
 use Rattle.mls_fragments.proofs.CutLemmas.{nodes_in_order, cells_in_order}
 use Rattle.mls_fragments.proofs.JudgingLemmas.{judged_holds}
 use Rattle.mls_fragments.proofs.judging.judge.Goals as goal

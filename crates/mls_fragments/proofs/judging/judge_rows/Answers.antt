@@ -1,7 +1,7 @@
 use Rattle.std.proofs.Common.{◌≡◌, ◌∷◌, map, sym, subst, rules}
 use Rattle.mls_tables.specs.declared.adopting.AllRows.{AllRows}
-use Rattle.mls_fragments.specs.Changes.{content_of}
-use Rattle.mls_fragments.specs.Changes.Change.{Joins}
+use Rattle.mls_rows.specs.Changes.{content_of}
+use Rattle.mls_rows.specs.Changes.Change.{Joins}
 use Rattle.mls_fragments.specs.Parts.{IsJudged, rows_in}
 use Rattle.mls_fragments.proofs.JudgingLemmas.{IsUnderWay, begins, goes_on, refused, ends, refused_last}
 use Rattle.mls_fragments.proofs.judging.judge_rows.Goals as goal

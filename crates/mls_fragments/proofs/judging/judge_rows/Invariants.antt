@@ -1,4 +1,4 @@
-use Rattle.mls_fragments.specs.Changes.{content_of}
+use Rattle.mls_rows.specs.Changes.{content_of}
 use Rattle.mls_fragments.proofs.JudgingLemmas.{IsUnderWay}
 use Rattle.mls_fragments.proofs.judging.judge_rows.Given as goal
 

@@ -11,12 +11,12 @@ use Rattle.mls_scheme.specs.Table.{place_cmp}
 use Rattle.mls_scheme.specs.Extending.{scheme_before, schemes_before}
 use Rattle.mls_scheme.proofs.OlderLemmas.{before_under, before_at, before_long, extends_long, extends_few, extends_at}
 use Rattle.mls_filterview.specs.Stored.{IsContent}
-use Rattle.mls_fragments.specs.Changes.{table_in, found}
-use Rattle.mls_fragments.specs.Finding.{IsSpelledEntry, IsSoundWithin}
+use Rattle.mls_rows.specs.Changes.{table_in, found}
+use Rattle.mls_rows.specs.Finding.{IsSpelledEntry, IsSoundWithin}
 use Rattle.mls_fragments.specs.Migrating.{wide_tables}
-use Rattle.mls_fragments.proofs.ByteLemmas.{content_bytes, few_labels}
+use Rattle.mls_rows.proofs.ByteLemmas.{content_bytes, few_labels}
 use Rattle.mls_filterview.proofs.MapLemmas.{none_sorted}
-use Rattle.mls_fragments.proofs.FindingLemmas.{tables_each, are_content, holds_found}
+use Rattle.mls_rows.proofs.FindingLemmas.{tables_each, are_content, holds_found}
 use Rattle.mls_fragments.proofs.MigratingLemmas.{each_table, scheme_each, wide_length, sorted_wide, tables_wide, content_wide, spelled_wide, entries_more}
 use Rattle.mls_fragments.proofs.migrating.find_widened.Goals as goal
 

@@ -5,9 +5,9 @@ use Rattle.mls_filterview.specs.Content.{State}
 use Rattle.mls_tables.specs.Rows.{Tables, numbered, tables_of}
 use Rattle.mls_tables.specs.Store.{TableState, IsClean}
 use Rattle.mls_fragments.specs.Based.{state_with}
-use Rattle.mls_fragments.specs.Changes.{content_of}
-use Rattle.mls_fragments.specs.Finding.{content_found}
-use Rattle.mls_fragments.specs.Holding.{Holds}
+use Rattle.mls_rows.specs.Changes.{content_of}
+use Rattle.mls_rows.specs.Finding.{content_found}
+use Rattle.mls_rows.specs.Holding.{Holds}
 use Rattle.mls_fragments.specs.Holdings.{HaveOneMeta}
 use Rattle.mls_fragments.specs.Migrating.{IsSoundBefore, IsWidenedContent}
 use Rattle.mls_fragments.proofs.NotedLemmas.{noted_found}

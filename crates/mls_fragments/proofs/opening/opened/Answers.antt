@@ -5,7 +5,7 @@ use Rattle.sqlite.specs.Effect.{Database}
 use Rattle.sqlite.specs.Held.{state}
 use Rattle.mls_tables.specs.Rows.{first_meta, is_meta_row, tables_of}
 use Rattle.mls_tables.specs.Statements.{AreRows}
-use Rattle.mls_fragments.specs.Holding.{Holds}
+use Rattle.mls_rows.specs.Holding.{Holds}
 use Rattle.mls_fragments.specs.Holdings.{HaveOneMeta}
 use Rattle.mls_fragments.specs.Migrating.{IsLineage, IsSoundBefore}
 use Rattle.mls_fragments.specs.Opening.{HoldsContent, HoldsSound, IsMigrated, IsUntaken, not_sound, not_sound_before}

@@ -5,12 +5,12 @@ use Rattle.mls_filterview.specs.Content.{State}
 use Rattle.mls_audit.specs.Sound.{IsSoundContent}
 use Rattle.mls_tables.specs.Rows.{tables_of}
 use Rattle.mls_tables.specs.Store.{TableState, IsClean}
-use Rattle.mls_fragments.specs.Changes.{content_of}
-use Rattle.mls_fragments.specs.Finding.{IsSoundWithin}
-use Rattle.mls_fragments.specs.Holding.{Holds}
+use Rattle.mls_rows.specs.Changes.{content_of}
+use Rattle.mls_rows.specs.Finding.{IsSoundWithin}
+use Rattle.mls_rows.specs.Holding.{Holds}
 use Rattle.mls_fragments.specs.Holdings.{HaveOneMeta}
 use Rattle.mls_fragments.proofs.OpeningLemmas.{unread, unfound}
-use Rattle.mls_fragments.proofs.WithinLemmas.{within_whole, sound_whole}
+use Rattle.mls_rows.proofs.WithinLemmas.{within_whole, sound_whole}
 use Rattle.mls_fragments.proofs.opening.taken.Goals as goal
 
 pub returns-in-Err-judge-clause-untaken : goal.returns-in-Err-judge-clause-untaken

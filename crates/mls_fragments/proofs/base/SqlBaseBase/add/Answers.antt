@@ -4,7 +4,7 @@ use Rattle.mls_scheme.specs.declared.tuple.Element.{Element}
 use Rattle.mls_filterview.specs.Content.{with_relation}
 use Rattle.mls_filterview.specs.Fragment.{place_of_node, IsMadeOf}
 use Rattle.mls_tables.specs.Store.{IsClean}
-use Rattle.mls_fragments.specs.Changes.{content_of}
+use Rattle.mls_rows.specs.Changes.{content_of}
 use Rattle.mls_fragments.specs.Based.{BaseState, base_state, state_of}
 use Rattle.mls_fragments.proofs.NotedLemmas.{based_on, noted_tuple, state_added}
 use Rattle.mls_fragments.proofs.base.SqlBaseBase.add.Goals as goal

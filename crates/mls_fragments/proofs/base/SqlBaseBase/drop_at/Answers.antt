@@ -3,7 +3,7 @@ use Rattle.std.specs.Prelude.{◌≢◌}
 use Rattle.std.specs.FinMap.{get}
 use Rattle.mls_filterview.specs.Fragment.{IsAlone}
 use Rattle.mls_tables.specs.Store.{IsClean}
-use Rattle.mls_fragments.specs.Changes.{content_of}
+use Rattle.mls_rows.specs.Changes.{content_of}
 use Rattle.mls_fragments.specs.Based.{BaseState}
 use Rattle.mls_fragments.proofs.NotedLemmas.{based_on, noted_rest}
 use Rattle.mls_fragments.proofs.base.SqlBaseBase.drop_at.Goals as goal

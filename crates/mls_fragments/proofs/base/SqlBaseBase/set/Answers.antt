@@ -1,7 +1,7 @@
 use Rattle.std.proofs.Common.{refl, sym, subst}
 use Rattle.mls_filterview.specs.Fragment.{HasCell}
 use Rattle.mls_tables.specs.Store.{IsClean}
-use Rattle.mls_fragments.specs.Changes.{content_of}
+use Rattle.mls_rows.specs.Changes.{content_of}
 use Rattle.mls_fragments.specs.Based.{BaseState}
 use Rattle.mls_fragments.proofs.SettingLemmas.{is_one}
 use Rattle.mls_fragments.proofs.NotedLemmas.{based_on, noted_value}

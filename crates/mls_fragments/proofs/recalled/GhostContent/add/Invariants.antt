@@ -1,5 +1,5 @@
 use Rattle.std.proofs.Common.{◌∷◌}
-use Rattle.mls_fragments.specs.Changes.Change.{Adds}
+use Rattle.mls_rows.specs.Changes.Change.{Adds}
 use Rattle.mls_fragments.proofs.recalled.GhostContent.add.Given as goal
 
 abbrev pub ghost-note : goal.ghost-note

@@ -1,5 +1,5 @@
 use Rattle.std.proofs.Common.{◌∷◌}
-use Rattle.mls_fragments.specs.Changes.Change.{Drops}
+use Rattle.mls_rows.specs.Changes.Change.{Drops}
 use Rattle.mls_fragments.proofs.recalled.GhostContent.drop_at.Given as goal
 
 abbrev pub ghost-note : goal.ghost-note

@@ -1,5 +1,5 @@
 use Rattle.std.proofs.Common.{[], ◌∷◌, map}
-use Rattle.mls_fragments.specs.Changes.Change.{Finds}
+use Rattle.mls_rows.specs.Changes.Change.{Finds}
 use Rattle.mls_fragments.proofs.recalled.GhostContent.find.Given as goal
 
 abbrev pub ghost-note : goal.ghost-note

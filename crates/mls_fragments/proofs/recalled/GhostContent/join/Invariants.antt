@@ -1,5 +1,5 @@
 use Rattle.std.proofs.Common.{◌∷◌, map}
-use Rattle.mls_fragments.specs.Changes.Change.{Joins}
+use Rattle.mls_rows.specs.Changes.Change.{Joins}
 use Rattle.mls_fragments.proofs.recalled.GhostContent.join.Given as goal
 
 abbrev pub ghost-note : goal.ghost-note

@@ -12,7 +12,7 @@ use denote.Ref.{MutRef, mut_vals, mut_Tells}
 use denote.Signature.{plain}
 use denote.Steps.{nothing, opens, closes}
 use denote.Triple.Walked.{says, Stays, stay_ref, Goes-ref, ends_at}
-use Rattle.mls_fragments.specs.Changes.{Change}
+use Rattle.mls_rows.specs.Changes.{Change}
 use Rattle.mls_fragments.specs.declared.recalled.GhostContent.{GhostContent}
 use Rattle.mls_fragments.specs.contracts.recalled.GhostContent as T
 use Rattle.mls_fragments.specs.contracts.recalled.GhostContent.keep as f

@@ -1,5 +1,5 @@
 use Rattle.std.proofs.Common.{◌∷◌}
-use Rattle.mls_fragments.specs.Changes.Change.{Sets}
+use Rattle.mls_rows.specs.Changes.Change.{Sets}
 use Rattle.mls_fragments.proofs.recalled.GhostContent.set.Given as goal
 
 abbrev pub ghost-note : goal.ghost-note

@@ -1,7 +1,0 @@
-use Rattle.std.proofs.Common.{take}
-use Rattle.std.specs.List.{AllByRecursion}
-use Rattle.mls_audit.specs.Spelling.{IsEntryOf}
-use Rattle.mls_fragments.proofs.finding.check_entries.Given as goal
-
-abbrev pub invariant-loop-row : goal.invariant-loop-row
-invariant-loop-row l = AllByRecursion (λ r. IsEntryOf l.labels r.bytes) (take l.row-index l.rows)

@@ -1,6 +1,0 @@
-use Rattle.std.proofs.Common.{◌≡◌, map, take}
-use Rattle.mls_fragments.specs.Holding.{own_cell}
-use Rattle.mls_fragments.proofs.writing.own_cells.Given as goal
-
-abbrev pub invariant-loop-cell : goal.invariant-loop-cell
-invariant-loop-cell l = l.own.items ≡ map own_cell (take l.cell-index l.cells)

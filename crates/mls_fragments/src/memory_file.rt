@@ -1,0 +1,147 @@
+//! A file in memory.
+ghost use Rattle.std.specs.Prelude.{◌≡◌, nat_lt, length, true, false, [], refl, is_ok, IsTrue, OnOk};
+ghost use Rattle.sqlite_disk.specs.Disk.{Holds, Torn, Cut, CountsFault};
+ghost use Rattle.sqlite_disk.specs.Refusal.{finds_no_room};
+
+use sqlite_disk::{Disk, Tally};
+use std::alloc::{AllocError, Global};
+use std::io;
+
+/// A file in memory, which keeps each write at once and has nothing for a crash. It fails where it cannot grow.
+#[derive(Drop)]
+pub struct MemoryFile {
+    bytes: Vec<u8>,
+    faults: u64,
+}
+
+impl MemoryFile {
+    ghost use Rattle.mls_fragments.specs.MemoryFile.{bytes_of};
+
+    /// An empty file.
+    pub fn new(alloc: Global) -> MemoryFile
+        ensures { bytes_of result ≡ [] }
+    {
+        MemoryFile {
+            bytes: Vec::new(alloc),
+            faults: 0,
+        }
+    }
+
+    /// A file with these bytes.
+    pub fn holding(bytes: Vec<u8>) -> MemoryFile
+        ensures { bytes_of result ≡ bytes.items }
+    {
+        MemoryFile { bytes, faults: 0 }
+    }
+
+    /// Whether a growth of it was refused.
+    pub fn has_failed(&self) -> bool
+        ensures { result ≡ nat_lt 0 self.now.faults }
+    {
+        self.faults > 0
+    }
+}
+
+impl Disk for MemoryFile {
+    ghost seen = { λ m. m.bytes.items };
+
+    ghost may_leave = { λ m c. c ≡ m.bytes.items };
+
+    ghost is_usable = { λ _. true };
+
+    ghost faults = { λ m. m.faults };
+
+    ghost is_clean = { λ _. true };
+
+    ghost tally_of = { λ _. record { caught = 0; refused = 0 } };
+
+    ghost key_of = { λ _. 0 };
+
+    ghost is_fair = { λ _ _. true };
+
+    ghost fair_if_clean = { λ _ _ _. refl };
+
+    ghost seen_may_stay = { λ _. refl };
+
+    fn mixes(&self) -> bool {
+        false
+    }
+
+    fn key(&self) -> u64 {
+        0
+    }
+
+    fn tally(&self) -> Tally {
+        Tally {
+            caught: 0,
+            refused: 0,
+        }
+    }
+
+    fn may_be_used(&self) -> bool {
+        true
+    }
+
+    fn len(&mut self) -> io::Result<usize> {
+        Ok(self.bytes.len())
+    }
+
+    fn read_at(&mut self, at: usize, buf: &mut [u8]) -> io::Result<()> {
+        if at > self.bytes.len() || buf.len() > self.bytes.len() - at {
+            return Err(io::ErrorKind::UnexpectedEof.into());
+        }
+        buf.copy_from_slice(&self.bytes[at..at + buf.len()]);
+        Ok(())
+    }
+
+    // The file has what was written, so the bytes have their digest.
+    fn read_checked(&mut self, _key: u64, _want: u64, at: usize, buf: &mut [u8]) -> io::Result<()> {
+        self.read_at(at, buf)
+    }
+
+    fn write_at(&mut self, at: usize, bytes: &[u8]) -> io::Result<()> {
+        counted(overwrite(&mut self.bytes, at, bytes), &mut self.faults)
+    }
+
+    fn set_len(&mut self, len: usize) -> io::Result<()> {
+        counted(resize(&mut self.bytes, len), &mut self.faults)
+    }
+
+    fn sync(&mut self) -> io::Result<()> {
+        Ok(())
+    }
+}
+
+/// What a call answers, with each failure counted.
+fn counted(outcome: Result<(), AllocError>, faults: &mut u64) -> io::Result<()>
+    ensures variant { is_ok result ≡ is_ok outcome }
+    ensures kind { finds_no_room result ≡ false }
+    ensures faults { CountsFault result faults.old faults.new }
+{
+    if outcome.is_err() {
+        *faults = faults.saturating_add(1);
+        return Err(io::Error::from(io::ErrorKind::OutOfMemory));
+    }
+    Ok(())
+}
+
+/// Gives a file this length.
+fn resize(file: &mut Vec<u8>, len: usize) -> Result<(), AllocError>
+    ensures len { OnOk result (length file.new.items ≡ len) }
+    ensures others { Cut len file.old.items file.new.items }
+{
+    file.resize(len, 0)
+}
+
+/// Writes bytes into a file, which grows where they end past its end.
+fn overwrite(file: &mut Vec<u8>, at: usize, bytes: &[u8]) -> Result<(), AllocError>
+    ensures written { OnOk result (Holds file.new.items at bytes.now) }
+    ensures others { Torn at (length bytes.now) file.old.items file.new.items }
+{
+    let end = at.checked_add(bytes.len()).ok_or(AllocError)?;
+    if end > file.len() {
+        resize(file, end)?;
+    }
+    file[at..end].copy_from_slice(bytes);
+    Ok(())
+}

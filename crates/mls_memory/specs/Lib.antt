@@ -1,2 +1,0 @@
--- The definition of a file in memory.
-pub mod MemoryFile

@@ -1,0 +1,13 @@
+pub mod BitLemmas
+pub mod ByteLemmas
+pub mod CallLemmas
+pub mod DroppingLemmas
+pub mod FindingLemmas
+pub mod KnownLemmas
+pub mod ReadingLemmas
+pub mod RowLemmas
+pub mod RowOrderLemmas
+pub mod ShownLemmas
+pub mod SortedLemmas
+pub mod WithinLemmas
+pub mod WrittenLemmas

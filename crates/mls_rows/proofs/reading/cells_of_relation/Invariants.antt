@@ -1,0 +1,11 @@
+use Rattle.std.proofs.Common.{◌≡◌, map, filter, take}
+use Rattle.std.specs.Prelude.{nat_eq}
+use Rattle.std.specs.List.{AllByRecursion}
+use Rattle.mls_rows.specs.Holding.{cell_row, IsSpelledCell}
+use Rattle.mls_rows.proofs.reading.cells_of_relation.Given as goal
+
+abbrev pub invariant-loop-row : goal.invariant-loop-row
+invariant-loop-row l = record {
+  shown : map (cell_row l.rel) l.cells.items ≡ filter (λ r. nat_eq r.rel l.rel) (take l.row-index l.rows);
+  spelled : AllByRecursion IsSpelledCell l.cells.items;
+}

@@ -1,0 +1,11 @@
+use Rattle.std.proofs.Common.{◌≡◌, map, filter, take}
+use Rattle.std.specs.Prelude.{nat_eq}
+use Rattle.std.specs.List.{AllByRecursion}
+use Rattle.mls_rows.specs.Holding.{node_row, IsSpelledNode}
+use Rattle.mls_rows.proofs.reading.nodes_of_relation.Given as goal
+
+abbrev pub invariant-loop-row : goal.invariant-loop-row
+invariant-loop-row l = record {
+  shown : map (node_row l.rel) l.nodes.items ≡ filter (λ r. nat_eq r.rel l.rel) (take l.row-index l.rows);
+  spelled : AllByRecursion IsSpelledNode l.nodes.items;
+}

@@ -1,5 +1,5 @@
 -- No line feed stands in the lines of a dump, where none stands in a name.
-use Rattle.std.proofs.Common.{ℕ, zero, suc, Bool, true, false, cond, List, [], ◌∷◌, ◌++◌, map, Option, Some, None, refl}
+use Rattle.std.proofs.Common.{ℕ, zero, suc, Bool, true, false, cond, List, [], ◌∷◌, ◌++◌, map, Option, Some, refl}
 use Rattle.std.specs.Prelude.{codes, nat_eq, length, slice_index_or}
 use Rattle.std.specs.List.{flat_map, AllByRecursion}
 use Rattle.mls_lattice.specs.Policy.{Name}
@@ -7,8 +7,6 @@ use Rattle.mls_lattice.specs.Canon.{label_name}
 use Rattle.mls_scheme.specs.declared.value.Value.{Value}
 use Rattle.mls_scheme.specs.declared.tuple.Tuple.{Tuple}
 use Rattle.mls_scheme.specs.Scheme.{Attribute, Scheme, no_attribute, scheme_of, other_of}
-use Rattle.mls_script.specs.declared.event.Event.{Event}
-use Rattle.mls_script.specs.declared.event.Command.{Command}
 use Rattle.mls_scheme.specs.declared.write.Write.TheVariants.{Insert, Update}
 use Rattle.mls_script.specs.declared.event.Command.TheVariants.{Write}
 use Rattle.mls_script.specs.Event.{Sets}

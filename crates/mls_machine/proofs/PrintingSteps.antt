@@ -30,7 +30,7 @@ use Rattle.mls_certcheck.specs.declared.stored.Stored.{Stored}
 use Rattle.mls_certcheck.specs.Site.{Site, site_scheme}
 use Rattle.mls_machine.specs.Dumping.{dump_event}
 use Rattle.mls_script.specs.Writing.{cell_text}
-use Rattle.mls_machine.specs.Output.{Line, name_of, front, line, item_line, heading, count_text, row_text, entry_text, view_texts, dump_heading, script_text, dump_texts, call_texts, reply_texts, reply_lines, reply_lines_in, lines_with, escaped_line, table_texts, texts_in_table, printed}
+use Rattle.mls_machine.specs.Output.{Line, name_of, front, line, item_line, heading, count_text, row_text, entry_text, view_texts, rows_texts, dump_heading, script_text, dump_texts, call_texts, reply_texts, reply_lines, reply_lines_in, lines_with, escaped_line, table_texts, texts_in_table, printed}
 use Rattle.mls_machine.specs.Under.{site_under}
 use Rattle.mls_machine.proofs.DumpLemmas.{printable_name}
 
@@ -99,25 +99,31 @@ module _ (site : Site) (e : Event) where
 
   module _ (relation label : ℕ) (query : Query) (counts : Bool) (tuples : List Tuple) (is : e.command ≡ commands.View relation label query counts)
       (scheme : Scheme) (same : scheme ≡ site_scheme site relation) (old new : List ℕ) where
-    answered : (b : Bool) → counts ≡ b → flat_map on_line (view_texts site (commands.View relation label query b) tuples) ≡ flat_map on_line (view_texts site e.command tuples)
-    answered b h = sym (ap (λ x. flat_map on_line (view_texts site x tuples)) (is ∙ ap (λ c. commands.View relation label query c) h))
+    pub answered : (form : Form) (b : Bool) → counts ≡ b → flat_map on_line (rows_texts form site (commands.View relation label query b) tuples) ≡ flat_map on_line (rows_texts form site e.command tuples)
+    answered form b h = sym (ap (λ x. flat_map on_line (rows_texts form site x tuples)) (is ∙ ap (λ c. commands.View relation label query c) h))
+
+    counted : (form : Form) → rows_texts form site (commands.View relation label query true) tuples ≡ count_text site.policy (site_scheme site relation) label query (length tuples) ∷ []
+    counted Lines = refl
+    counted Table = refl
 
     -- after a heading of the scheme of the relation
-    pub rows_more : counts ≡ false → {A F : Type 0} (r : Result A F)
+    pub rows_more : (form : Form) → form ≡ Lines → counts ≡ false → {A F : Type 0} (r : Result A F)
         → OnOk r (new ≡ old ++ (on_line (heading site.policy scheme label query) ++ flat_map (λ t. on_line (row_text site.policy t)) tuples))
-        → OnOk r (new ≡ old ++ flat_map on_line (view_texts site e.command tuples))
-    rows_more not_counted (Ok x) h =
+        → OnOk r (new ≡ old ++ flat_map on_line (rows_texts form site e.command tuples))
+    rows_more form in_lines not_counted (Ok x) h =
         h ∙ ap (λ s. old ++ (on_line (heading site.policy s label query) ++ flat_map (λ t. on_line (row_text site.policy t)) tuples)) same
-        ∙ ap (λ l. old ++ l) (rows_lines relation label query tuples ∙ answered false not_counted)
-    rows_more not_counted (Err f) h = h
+        ∙ ap (λ l. old ++ l) (rows_lines relation label query tuples ∙ answered Lines false not_counted
+        ∙ ap (λ f. flat_map on_line (rows_texts f site e.command tuples)) (sym in_lines))
+    rows_more form in_lines not_counted (Err f) h = h
 
     -- their number alone
-    pub count_more : counts ≡ true → (n : ℕ) → n ≡ length tuples → {A F : Type 0} (r : Result A F)
-        → OnOk r (new ≡ old ++ on_line (count_text site.policy scheme label query n)) → OnOk r (new ≡ old ++ flat_map on_line (view_texts site e.command tuples))
-    count_more counted n all (Ok x) h =
+    pub count_more : (form : Form) → counts ≡ true → (n : ℕ) → n ≡ length tuples → {A F : Type 0} (r : Result A F)
+        → OnOk r (new ≡ old ++ on_line (count_text site.policy scheme label query n)) → OnOk r (new ≡ old ++ flat_map on_line (rows_texts form site e.command tuples))
+    count_more form counts_them n all (Ok x) h =
         h ∙ (λ i. old ++ on_line (count_text site.policy (same i) label query (all i)))
-        ∙ ap (λ l. old ++ l) (sym (append-nil (on_line (count_text site.policy (site_scheme site relation) label query (length tuples)))) ∙ answered true counted)
-    count_more counted n all (Err f) h = h
+        ∙ ap (λ l. old ++ l) (sym (append-nil (on_line (count_text site.policy (site_scheme site relation) label query (length tuples))))
+        ∙ ap (flat_map on_line) (sym (counted form)) ∙ answered form true counts_them)
+    count_more form counts_them n all (Err f) h = h
 
   printed_lines : (texts : List (List ℕ)) → printed (map (line site.policy e e.level) texts) ≡ flat_map on_line texts
   printed_lines texts = flat_map-map (λ (l : Line). l.text ++ codes "\n") (line site.policy e e.level) texts

@@ -1,5 +1,5 @@
 -- Tables: cells, widths and lines, one after another.
-use Rattle.std.proofs.Common.{◌≡◌, ℕ, ◌+◌, ◌<◌, ◌≤◌, Bool, true, false, List, [], ◌∷◌, ◌++◌, length, take, drop, get_or, map, Some, None, refl, sym, ap, ◌∙◌, append-nil, append_assoc, codes}
+use Rattle.std.proofs.Common.{◌≡◌, ℕ, ◌+◌, ◌<◌, ◌≤◌, Bool, false, List, [], ◌∷◌, ◌++◌, length, take, drop, get_or, map, Some, None, refl, sym, ap, ◌∙◌, append_assoc, codes}
 use Rattle.std.specs.Prelude.{slice_get, slice_index_or, option_map, Result, Ok, Err, OnOk}
 use Rattle.std.specs.List.{flat_map}
 use Rattle.std.proofs.lemmas.List.{map-append, take_more, drop_more, drop_all}
@@ -14,7 +14,10 @@ use Rattle.mls_script.specs.declared.event.Event.{Event}
 use Rattle.mls_script.specs.declared.event.Command.TheVariants as commands
 use Rattle.mls_tokens.specs.Table.{wider, padded}
 use Rattle.mls_certcheck.specs.Site.{Site, site_scheme}
-use Rattle.mls_machine.specs.Output.{front, count_text, tuple_cells, name_cells, widths_with, table_widths, table_title, table_names, table_rule, table_row, table_of, table_texts}
+use Rattle.mls_machine.proofs.PrintingSteps.{answered}
+use Rattle.mls_machine.specs.declared.form.Form.{Form}
+use Rattle.mls_machine.specs.declared.form.Form.TheVariants.{Table}
+use Rattle.mls_machine.specs.Output.{front, tuple_cells, name_cells, widths_with, table_widths, table_title, table_names, table_rule, table_row, table_of, rows_texts}
 
 -- a cell more
 pub cells_more : {X : Type 0} (f : X → List ℕ) (xs : List X) (k : ℕ) (x : X) (start old new : List (List ℕ)) → k < length xs → x ≡ get_or xs k x
@@ -55,54 +58,39 @@ module _ (p : Policy) (e : Event) where
   on_line t = front p e e.level ++ t ++ codes "\n"
 
   -- the lines of a table, one part after another
-  abbrev lines_at : Scheme → ℕ → Query → List (List ℕ) → List ℕ → List Tuple → List ℕ
-  lines_at s label query names widths tuples =
-      on_line (table_title p s label query) ++ (on_line (padded widths 0 names ++ codes "class") ++ (on_line (table_rule widths) ++ flat_map (λ t. on_line (table_row p widths t)) tuples))
+  abbrev lines_at : List ℕ → List (List ℕ) → List ℕ → List Tuple → List ℕ
+  lines_at title names widths tuples =
+      on_line title ++ (on_line (padded widths 0 names ++ codes "class") ++ (on_line (table_rule widths) ++ flat_map (λ t. on_line (table_row p widths t)) tuples))
 
-  abbrev lines_of : Scheme → ℕ → Query → List Tuple → List ℕ
-  lines_of s label query tuples = lines_at s label query (name_cells s) (table_widths p s tuples) tuples
+  abbrev lines_of : List ℕ → Scheme → List Tuple → List ℕ
+  lines_of title s tuples = lines_at title (name_cells s) (table_widths p s tuples) tuples
 
   parts : (old x y z w : List ℕ) → (((old ++ x) ++ y) ++ z) ++ w ≡ old ++ (x ++ (y ++ (z ++ w)))
   parts old x y z w = simp append_assoc
 
-  pub table_parts : (s : Scheme) (label : ℕ) (query : Query) (tuples : List Tuple) (names : List (List ℕ)) (widths : List ℕ) → names ≡ name_cells s → widths ≡ widths_with p (wider [] 0 names) tuples
-      → (old a b c new : List ℕ) → a ≡ old ++ on_line (table_title p s label query) → b ≡ a ++ on_line (padded widths 0 names ++ codes "class") → c ≡ b ++ on_line (table_rule widths)
-      → {A F : Type 0} (r : Result A F) → OnOk r (new ≡ c ++ flat_map (λ t. on_line (table_row p widths t)) tuples) → OnOk r (new ≡ old ++ lines_of s label query tuples)
-  table_parts s label query tuples names widths are wide old a b c new first second third (Ok x) h =
+  pub table_parts : (title : List ℕ) (s : Scheme) (tuples : List Tuple) (names : List (List ℕ)) (widths : List ℕ) → names ≡ name_cells s → widths ≡ widths_with p (wider [] 0 names) tuples
+      → (old a b c new : List ℕ) → a ≡ old ++ on_line title → b ≡ a ++ on_line (padded widths 0 names ++ codes "class") → c ≡ b ++ on_line (table_rule widths)
+      → {A F : Type 0} (r : Result A F) → OnOk r (new ≡ c ++ flat_map (λ t. on_line (table_row p widths t)) tuples) → OnOk r (new ≡ old ++ lines_of title s tuples)
+  table_parts title s tuples names widths are wide old a b c new first second third (Ok x) h =
       let all = wide ∙ ap (λ n. widths_with p (wider [] 0 n) tuples) are in
       h ∙ ap (λ t. t ++ flat_map (λ t. on_line (table_row p widths t)) tuples)
       (third ∙ ap (λ t. t ++ on_line (table_rule widths)) (second ∙ ap (λ t. t ++ on_line (padded widths 0 names ++ codes "class")) first))
-      ∙ parts old _ _ _ _ ∙ (λ i. old ++ lines_at s label query (are i) (all i) tuples)
-  table_parts s label query tuples names widths are wide old a b c new first second third (Err f) h = h
+      ∙ parts old _ _ _ _ ∙ (λ i. old ++ lines_at title (are i) (all i) tuples)
+  table_parts title s tuples names widths are wide old a b c new first second third (Err f) h = h
 
-  pub same_lines : (s : Scheme) (label : ℕ) (query : Query) (tuples : List Tuple) → lines_of s label query tuples ≡ flat_map on_line (table_of p s label query (table_widths p s tuples) tuples)
+  pub same_lines : (s : Scheme) (label : ℕ) (query : Query) (tuples : List Tuple) → lines_of (table_title p s label query) s tuples ≡ flat_map on_line (table_of p s label query (table_widths p s tuples) tuples)
   same_lines s label query tuples =
       let widths = table_widths p s tuples in
       ap (λ l. on_line (table_title p s label query) ++ (on_line (table_names s widths) ++ (on_line (table_rule widths) ++ l))) (sym (flat_map-map on_line (table_row p widths) tuples))
 
-module _ (site : Site) (e : Event) where
-  module _ (relation label : ℕ) (query : Query) (counts : Bool) (tuples : List Tuple) (is : e.command ≡ commands.View relation label query counts)
-      (s : Scheme) (same : s ≡ site_scheme site relation) (old new : List ℕ) where
-    abbrev so : Bool → List ℕ
-    so b = flat_map (on_line site.policy e) (table_texts site (commands.View relation label query b) tuples)
-
-    answered : (b : Bool) → counts ≡ b → so b ≡ flat_map (on_line site.policy e) (table_texts site e.command tuples)
-    answered b h = sym (ap (λ x. flat_map (on_line site.policy e) (table_texts site x tuples)) (is ∙ ap (λ c. commands.View relation label query c) h))
-
-    -- of the scheme of the relation
-    pub table_more : counts ≡ false → {A F : Type 0} (r : Result A F) → OnOk r (new ≡ old ++ lines_of site.policy e s label query tuples)
-        → OnOk r (new ≡ old ++ flat_map (on_line site.policy e) (table_texts site e.command tuples))
-    table_more not_counted (Ok x) h =
-        h ∙ ap (λ l. old ++ l) (same_lines site.policy e s label query tuples
-        ∙ ap (λ x. flat_map (on_line site.policy e) (table_of site.policy x label query (table_widths site.policy x tuples) tuples)) same
-        ∙ answered false not_counted)
-    table_more not_counted (Err f) h = h
-
-    -- a number is told as without a table
-    pub number_more : counts ≡ true → (n : ℕ) → n ≡ length tuples → {A F : Type 0} (r : Result A F)
-        → OnOk r (new ≡ old ++ on_line site.policy e (count_text site.policy s label query n))
-        → OnOk r (new ≡ old ++ flat_map (on_line site.policy e) (table_texts site e.command tuples))
-    number_more counted n all (Ok x) h =
-        h ∙ (λ i. old ++ on_line site.policy e (count_text site.policy (same i) label query (all i)))
-        ∙ ap (λ l. old ++ l) (sym (append-nil (on_line site.policy e (count_text site.policy (site_scheme site relation) label query (length tuples)))) ∙ answered true counted)
-    number_more counted n all (Err f) h = h
+module _ (site : Site) (e : Event) (relation label : ℕ) (query : Query) (counts : Bool) (tuples : List Tuple) (is : e.command ≡ commands.View relation label query counts)
+    (s : Scheme) (same : s ≡ site_scheme site relation) (old new : List ℕ) where
+  -- of the scheme of the relation
+  pub table_more : (form : Form) → form ≡ Table → counts ≡ false → {A F : Type 0} (r : Result A F) → OnOk r (new ≡ old ++ lines_of site.policy e (table_title site.policy s label query) s tuples)
+      → OnOk r (new ≡ old ++ flat_map (on_line site.policy e) (rows_texts form site e.command tuples))
+  table_more form in_table not_counted (Ok x) h =
+      h ∙ ap (λ l. old ++ l) (same_lines site.policy e s label query tuples
+      ∙ ap (λ x. flat_map (on_line site.policy e) (table_of site.policy x label query (table_widths site.policy x tuples) tuples)) same
+      ∙ answered site e relation label query counts tuples is s same old new Table false not_counted
+      ∙ ap (λ f. flat_map (on_line site.policy e) (rows_texts f site e.command tuples)) (sym in_table))
+  table_more form in_table not_counted (Err f) h = h

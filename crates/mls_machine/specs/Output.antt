@@ -1,5 +1,5 @@
 -- The printed output: the lines of the replies, in order, with a line feed after each.
-use Rattle.std.specs.Prelude.{◌≡◌, ℕ, Bool, true, if◌then◌else◌, is_some, List, [], ◌∷◌, ◌++◌, map, Option, Some, None, codes, length, ◌<◌, ⊤}
+use Rattle.std.specs.Prelude.{◌≡◌, ℕ, Bool, true, if◌then◌else◌, is_some, List, [], ◌∷◌, ◌++◌, map, Option, Some, codes, length, ◌<◌, ⊤}
 use Rattle.std.specs.List.{flat_map, AllByRecursion}
 use Rattle.std.specs.Fmt.{decimal}
 use Rattle.mls_tokens.specs.Writing.{printable}
@@ -130,6 +130,10 @@ table_texts site (commands.View relation label query counts) tuples =
     (table_widths site.policy (scheme_of site.schemes relation) tuples) tuples
 table_texts site command tuples = []
 
+abbrev pub rows_texts : Form → Site → Command → List Tuple → List (List ℕ)
+rows_texts Lines = view_texts
+rows_texts Table = table_texts
+
 -- ---- dumps
 
 abbrev pub dump_heading : Scheme → List ℕ
@@ -205,6 +209,10 @@ abbrev pub front : Policy → Event → ℕ → List ℕ
 front p e label =
     label_name p.labels label ++ codes " " ++ label_name p.labels e.level ++ codes "/" ++ printable e.session
     ++ codes " "
+
+-- a text in a line at the level of the session, with its end
+abbrev pub on_line : Policy → Event → List ℕ → List ℕ
+on_line p e text = front p e e.level ++ text ++ codes "\n"
 
 abbrev pub line : Policy → Event → ℕ → List ℕ → Line
 line p e label text = record { label = label; text = front p e label ++ text }

@@ -8,12 +8,14 @@ use mls_tokens::push_str;
 use mls_translang::Query;
 use std::alloc::AllocError;
 
-/// What is asked: a relation, a label and a query.
-#[derive(Drop)]
+/// What is asked: a relation, a label that the policy declares, and a query.
+#[derive(Clone, Copy)]
 pub(crate) struct Asked<'a> {
+    pub policy: &'a Policy,
     pub scheme: &'a Scheme,
     pub label: LabelNo,
     pub query: &'a Query,
+    ghost declared: { label < length policy.now.labels },
 }
 
 /// Appends a word behind a space, where a query has that part.
@@ -38,21 +40,15 @@ fn push_query_words(text: &mut Vec<u8>, query: &Query) -> Result<(), AllocError>
 }
 
 /// Appends what was asked, under a verb.
-pub(crate) fn push_asked(
-    text: &mut Vec<u8>,
-    policy: &Policy,
-    verb: &str,
-    what: &Asked,
-) -> Result<(), AllocError>
-    requires { what.now.label < length policy.now.labels }
+pub(crate) fn push_asked(text: &mut Vec<u8>, verb: &str, what: &Asked) -> Result<(), AllocError>
     ensures { OnOk result (text.new.items ≡ text.old.items
-        ++ asked policy.now verb.now what.now.scheme.now what.now.label what.now.query.now) }
+        ++ asked what.now.policy.now verb.now what.now.scheme.now what.now.label what.now.query.now) }
 {
     push_str(text, verb)?;
     push_str(text, " ")?;
     push_str(text, what.scheme.name())?;
     push_str(text, " at ")?;
-    push_str(text, policy.name(what.label))?;
+    push_str(text, what.policy.name(what.label))?;
     push_query_words(text, what.query)?;
     push_str(text, ":")
 }

@@ -1,5 +1,5 @@
 //! Whether what a store gave can be printed.
-ghost use Rattle.std.specs.Prelude.{◌≡◌, length, IsTrue};
+ghost use Rattle.std.specs.Prelude.{◌≡◌, IsTrue};
 ghost use Rattle.mls_machine.specs.Output.{ReplyIsKnown};
 ghost use Rattle.mls_machine.specs.Known.{elements_known, tuple_known, tuples_known, HasKnownNumbers};
 

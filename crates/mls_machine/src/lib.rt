@@ -2,6 +2,7 @@
 //! view as a table.
 #![tactic(auto)]
 
+mod answered;
 mod asked;
 mod dumped;
 mod dumping;

@@ -1,31 +1,30 @@
 //! Names and values, as replies print them, and what each line begins with.
-ghost use Rattle.std.specs.Prelude.{◌≡◌, ◌<◌, ◌++◌, length, codes, OnOk};
+ghost use Rattle.std.specs.Prelude.{◌≡◌, ◌<◌, ◌++◌, length, OnOk};
 ghost use Rattle.std.specs.Fmt.{decimal};
 ghost use Rattle.mls_audit.specs.Entry.{label_of};
 ghost use Rattle.mls_machine.specs.Output.{front, entry_front, entry_text};
 
+use crate::answered::Answered;
 use mls_audit::Entry;
 use mls_lattice::{LabelNo, Policy};
-use mls_script::{Event, push_cell};
+use mls_script::push_cell;
 use mls_tokens::{push_printable, push_str};
 use std::alloc::{AllocError, Global};
 
 /// Appends what stands before the text of a line that a label may see.
 pub(crate) fn push_front(
     text: &mut Vec<u8>,
-    policy: &Policy,
-    event: &Event,
+    to: &Answered,
     label: LabelNo,
 ) -> Result<(), AllocError>
-    requires level { event.now.level < length policy.now.labels }
-    requires label { label < length policy.now.labels }
-    ensures { OnOk result (text.new.items ≡ text.old.items ++ front policy.now event.now label) }
+    requires { label < length to.now.policy.now.labels }
+    ensures { OnOk result (text.new.items ≡ text.old.items ++ front to.now.policy.now to.now.event.now label) }
 {
-    push_str(text, policy.name(label))?;
+    push_str(text, to.policy.name(label))?;
     push_str(text, " ")?;
-    push_str(text, policy.name(event.level))?;
+    push_str(text, to.policy.name(to.event.level))?;
     push_str(text, "/")?;
-    push_printable(text, &event.session)?;
+    push_printable(text, &to.event.session)?;
     push_str(text, " ")
 }
 

@@ -3,71 +3,61 @@ ghost use Rattle.std.specs.Prelude.{◌≡◌, ◌<◌, ◌++◌, length, codes,
 ghost use Rattle.std.specs.List.{flat_map};
 ghost use Rattle.mls_tokens.specs.Writing.{printable};
 ghost use Rattle.mls_script.specs.Writing.{cell_text};
-ghost use Rattle.mls_machine.specs.Output.{front, call_texts, ItemsAreKnown};
+ghost use Rattle.mls_machine.specs.Output.{front, on_line, call_texts, ItemsAreKnown};
 
+use crate::answered::Answered;
 use crate::printing::push_front;
 use mls_certcheck::Run;
-use mls_lattice::{LabelNo, Policy};
+use mls_lattice::LabelNo;
 use mls_scheme::Value;
-use mls_script::{Command, Event, push_cell};
+use mls_script::{Command, push_cell};
 use mls_tokens::{push_printable, push_str};
-use std::alloc::{AllocError, Global};
+use std::alloc::AllocError;
 
 /// Appends the line of an item, which its label may see.
 pub(crate) fn push_item(
-    alloc: Global,
     text: &mut Vec<u8>,
-    policy: &Policy,
-    event: &Event,
+    to: &Answered,
     deed: &str,
     label: LabelNo,
     value: &Option<Value>,
 ) -> Result<(), AllocError>
-    requires level { event.now.level < length policy.now.labels }
-    requires label { label < length policy.now.labels }
+    requires { label < length to.now.policy.now.labels }
     ensures { OnOk result (text.new.items ≡ text.old.items
-        ++ (front policy.now event.now label ++ (deed.now ++ cell_text value.now) ++ codes "\n")) }
+        ++ (front to.now.policy.now to.now.event.now label ++ (deed.now ++ cell_text value.now) ++ codes "\n")) }
 {
-    push_front(text, policy, event, label)?;
+    push_front(text, to, label)?;
     push_str(text, deed)?;
-    push_cell(alloc, text, value)?;
+    push_cell(to.alloc, text, value)?;
     push_str(text, "\n")?;
     Ok(())
 }
 
 /// Appends the lines of items.
 fn push_items(
-    alloc: Global,
     text: &mut Vec<u8>,
-    policy: &Policy,
-    event: &Event,
+    to: &Answered,
     deed: &str,
     items: &[(LabelNo, Option<Value>)],
 ) -> Result<(), AllocError>
-    requires level { event.now.level < length policy.now.labels }
-    requires known { ItemsAreKnown policy.now items.now }
+    requires { ItemsAreKnown to.now.policy.now items.now }
     ensures { OnOk result (text.new.items ≡ text.old.items
-        ++ flat_map (λ i. front policy.now event.now i.0 ++ (deed.now ++ cell_text i.1) ++ codes "\n") items.now) }
+        ++ flat_map (λ i. front to.now.policy.now to.now.event.now i.0 ++ (deed.now ++ cell_text i.1) ++ codes "\n")
+        items.now) }
 {
     for item in items {
-        push_item(alloc, text, policy, event, deed, item.0, &item.1)?;
+        push_item(text, to, deed, item.0, &item.1)?;
     }
     Ok(())
 }
 
 /// The line of a call.
-fn call_bytes(
-    alloc: Global,
-    policy: &Policy,
-    event: &Event,
-    tx: &str,
-) -> Result<Vec<u8>, AllocError>
-    requires { event.now.level < length policy.now.labels }
-    ensures { IfOk result (λ text. text.items ≡ front policy.now event.now event.now.level
-        ++ (codes "called " ++ printable tx.now) ++ codes "\n") }
+fn call_bytes(to: &Answered, tx: &str) -> Result<Vec<u8>, AllocError>
+    ensures { IfOk result (λ text. text.items
+        ≡ on_line to.now.policy.now to.now.event.now (codes "called " ++ printable tx.now)) }
 {
-    let mut text = Vec::new(alloc);
-    push_front(&mut text, policy, event, event.level)?;
+    let mut text = Vec::new(to.alloc);
+    push_front(&mut text, to, to.event.level)?;
     push_str(&mut text, "called ")?;
     push_printable(&mut text, tx)?;
     push_str(&mut text, "\n")?;
@@ -75,40 +65,28 @@ fn call_bytes(
 }
 
 /// The line that says what was called, which answers a call and nothing else.
-pub(crate) fn called_bytes(
-    alloc: Global,
-    policy: &Policy,
-    event: &Event,
-) -> Result<Vec<u8>, AllocError>
-    requires { event.now.level < length policy.now.labels }
+pub(crate) fn called_bytes(to: &Answered) -> Result<Vec<u8>, AllocError>
     ensures { IfOk result (λ text. text.items
-        ≡ flat_map (λ t. front policy.now event.now event.now.level ++ t
-        ++ codes "\n") (call_texts event.now.command)) }
+        ≡ flat_map (on_line to.now.policy.now to.now.event.now) (call_texts to.now.event.now.command)) }
 {
-    match &event.command {
-        Command::Call { tx, .. } => call_bytes(alloc, policy, event, tx),
-        _ => Ok(Vec::new(alloc)),
+    match &to.event.command {
+        Command::Call { tx, .. } => call_bytes(to, tx),
+        _ => Ok(Vec::new(to.alloc)),
     }
 }
 
 /// The lines of a transaction that was run: the call, what it emitted, and what it released.
-pub(crate) fn ran_bytes(
-    alloc: Global,
-    policy: &Policy,
-    event: &Event,
-    run: &Run,
-) -> Result<Vec<u8>, AllocError>
-    requires level { event.now.level < length policy.now.labels }
-    requires emitted { ItemsAreKnown policy.now run.now.emitted }
-    requires released { ItemsAreKnown policy.now run.now.released }
+pub(crate) fn ran_bytes(to: &Answered, run: &Run) -> Result<Vec<u8>, AllocError>
+    requires emitted { ItemsAreKnown to.now.policy.now run.now.emitted }
+    requires released { ItemsAreKnown to.now.policy.now run.now.released }
     ensures { IfOk result (λ text. text.items
-        ≡ flat_map (λ t. front policy.now event.now event.now.level ++ t ++ codes "\n") (call_texts event.now.command)
-        ++ flat_map (λ i. front policy.now event.now i.0 ++ (codes "emit " ++ cell_text i.1)
-        ++ codes "\n") run.now.emitted ++ flat_map (λ i. front policy.now event.now i.0
+        ≡ flat_map (on_line to.now.policy.now to.now.event.now) (call_texts to.now.event.now.command)
+        ++ flat_map (λ i. front to.now.policy.now to.now.event.now i.0 ++ (codes "emit " ++ cell_text i.1)
+        ++ codes "\n") run.now.emitted ++ flat_map (λ i. front to.now.policy.now to.now.event.now i.0
         ++ (codes "release " ++ cell_text i.1) ++ codes "\n") run.now.released) }
 {
-    let mut text = called_bytes(alloc, policy, event)?;
-    push_items(alloc, &mut text, policy, event, "emit ", &run.emitted)?;
-    push_items(alloc, &mut text, policy, event, "release ", &run.released)?;
+    let mut text = called_bytes(to)?;
+    push_items(&mut text, to, "emit ", &run.emitted)?;
+    push_items(&mut text, to, "release ", &run.released)?;
     Ok(text)
 }

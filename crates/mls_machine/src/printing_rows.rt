@@ -3,7 +3,6 @@ ghost use Rattle.std.specs.Prelude.{◌≡◌, ◌<◌, ◌++◌, length, codes,
 ghost use Rattle.std.specs.List.{flat_map, AllByRecursion};
 ghost use Rattle.mls_lattice.specs.Lattice.{pair_of};
 ghost use Rattle.mls_lattice.specs.Canon.{label_name};
-ghost use Rattle.mls_lattice.specs.Policy.{labels_of};
 ghost use Rattle.mls_scheme.specs.Tuple.{tuple_class, HasClassesBelow};
 ghost use Rattle.mls_machine.specs.Output.{cell_entry, name_of, row_text};
 

@@ -6,14 +6,16 @@ ghost use Rattle.mls_lattice.specs.Canon.{user_name};
 ghost use Rattle.mls_scheme.specs.Tuple.{HasClassesBelow};
 ghost use Rattle.mls_updates.specs.Outcome.{is_done};
 ghost use Rattle.mls_machine.specs.Under.{site_under};
-ghost use Rattle.mls_machine.specs.Output.{front, heading, count_text, outcome_text, denial_text, row_text, entry_text, view_texts, reply_lines, printed, CommandIsKnown, EntriesAreKnown, CanBePrinted};
+ghost use Rattle.mls_machine.specs.Output.{on_line, heading, count_text, outcome_text, denial_text, row_text, entry_text, rows_texts, reply_lines, printed, CommandIsKnown, EntriesAreKnown, CanBePrinted};
 
+use crate::answered::Answered;
 use crate::asked::{Asked, push_asked};
 use crate::dumping::dump_bytes;
 use crate::printing::{push_entry, push_front, push_number};
 use crate::printing_items::ran_bytes;
 use crate::printing_rows::push_row;
-use crate::{Denial, Reply};
+use crate::table::push_table;
+use crate::{Denial, Form, Reply};
 use mls_audit::Entry;
 use mls_lattice::{Policy, UserNo};
 use mls_queries::Selection;
@@ -69,70 +71,54 @@ fn push_attributes(text: &mut Vec<u8>, attributes: &Attributes) -> Result<(), Al
     Ok(())
 }
 
-fn push_heading(text: &mut Vec<u8>, policy: &Policy, what: &Asked) -> Result<(), AllocError>
-    requires { what.now.label < length policy.now.labels }
+fn push_heading(text: &mut Vec<u8>, what: &Asked) -> Result<(), AllocError>
     ensures { OnOk result (text.new.items ≡ text.old.items
-        ++ heading policy.now what.now.scheme.now what.now.label what.now.query.now) }
+        ++ heading what.now.policy.now what.now.scheme.now what.now.label what.now.query.now) }
 {
-    push_asked(text, policy, "view", what)?;
+    push_asked(text, "view", what)?;
     push_attributes(text, what.scheme.keys())?;
     push_attributes(text, what.scheme.others())
 }
 
 /// Appends how many rows were found.
 fn push_count(
-    alloc: Global,
     text: &mut Vec<u8>,
-    policy: &Policy,
+    to: &Answered,
     what: &Asked,
     count: usize,
 ) -> Result<(), AllocError>
-    requires { what.now.label < length policy.now.labels }
     ensures { OnOk result (text.new.items ≡ text.old.items
-        ++ count_text policy.now what.now.scheme.now what.now.label what.now.query.now count) }
+        ++ count_text what.now.policy.now what.now.scheme.now what.now.label what.now.query.now count) }
 {
-    push_asked(text, policy, "count", what)?;
+    push_asked(text, "count", what)?;
     push_str(text, " ")?;
-    push_number(alloc, text, count)
+    push_number(to.alloc, text, count)
 }
 
-fn push_rows(
-    alloc: Global,
+/// Appends the line that says how many rows were found.
+fn push_count_line(
     text: &mut Vec<u8>,
-    policy: &Policy,
-    event: &Event,
-    rows: &Selection,
+    to: &Answered,
+    what: &Asked,
+    count: usize,
 ) -> Result<(), AllocError>
-    requires level { event.now.level < length policy.now.labels }
-    requires classes { AllByRecursion (HasClassesBelow (length policy.now.labels)) rows.now }
     ensures { OnOk result (text.new.items ≡ text.old.items
-        ++ flat_map (λ t. front policy.now event.now event.now.level ++ row_text policy.now t
-        ++ codes "\n") rows.now) }
+        ++ on_line to.now.policy.now to.now.event.now
+        (count_text what.now.policy.now what.now.scheme.now what.now.label what.now.query.now count)) }
+{
+    push_front(text, to, to.event.level)?;
+    push_count(text, to, what, count)?;
+    push_str(text, "\n")
+}
+
+fn push_rows(text: &mut Vec<u8>, to: &Answered, rows: &Selection) -> Result<(), AllocError>
+    requires { AllByRecursion (HasClassesBelow (length to.now.policy.now.labels)) rows.now }
+    ensures { OnOk result (text.new.items ≡ text.old.items
+        ++ flat_map (λ t. on_line to.now.policy.now to.now.event.now (row_text to.now.policy.now t)) rows.now) }
 {
     for place in 0..rows.len() {
-        push_front(text, policy, event, event.level)?;
-        push_row(alloc, text, policy, rows.get(place))?;
-        push_str(text, "\n")?;
-    }
-    Ok(())
-}
-
-fn push_entries(
-    alloc: Global,
-    text: &mut Vec<u8>,
-    policy: &Policy,
-    event: &Event,
-    entries: &[Entry],
-) -> Result<(), AllocError>
-    requires level { event.now.level < length policy.now.labels }
-    requires known { EntriesAreKnown policy.now entries.now }
-    ensures { OnOk result (text.new.items ≡ text.old.items
-        ++ flat_map (λ e. front policy.now event.now event.now.level ++ entry_text policy.now e
-        ++ codes "\n") entries.now) }
-{
-    for entry in entries {
-        push_front(text, policy, event, event.level)?;
-        push_entry(alloc, text, policy, entry)?;
+        push_front(text, to, to.event.level)?;
+        push_row(to.alloc, text, to.policy, rows.get(place))?;
         push_str(text, "\n")?;
     }
     Ok(())
@@ -140,65 +126,35 @@ fn push_entries(
 
 /// Appends the lines of a view.
 fn push_view(
-    alloc: Global,
     text: &mut Vec<u8>,
-    policy: &Policy,
-    event: &Event,
+    to: &Answered,
     what: &Asked,
     rows: &Selection,
 ) -> Result<(), AllocError>
-    requires level { event.now.level < length policy.now.labels }
-    requires label { what.now.label < length policy.now.labels }
-    requires classes { AllByRecursion (HasClassesBelow (length policy.now.labels)) rows.now }
-    ensures { OnOk result (text.new.items ≡ text.old.items
-        ++ ((front policy.now event.now event.now.level
-        ++ heading policy.now what.now.scheme.now what.now.label what.now.query.now ++ codes "\n")
-        ++ flat_map (λ t. front policy.now event.now event.now.level ++ row_text policy.now t
-        ++ codes "\n") rows.now)) }
+    requires { AllByRecursion (HasClassesBelow (length to.now.policy.now.labels)) rows.now }
+    ensures { OnOk result (text.new.items ≡ text.old.items ++ (on_line to.now.policy.now to.now.event.now
+        (heading what.now.policy.now what.now.scheme.now what.now.label what.now.query.now)
+        ++ flat_map (λ t. on_line to.now.policy.now to.now.event.now (row_text to.now.policy.now t)) rows.now)) }
 {
-    push_front(text, policy, event, event.level)?;
-    push_heading(text, policy, what)?;
+    push_front(text, to, to.event.level)?;
+    push_heading(text, what)?;
     push_str(text, "\n")?;
-    push_rows(alloc, text, policy, event, rows)
-}
-
-/// Appends the line that says how many rows were found.
-pub(crate) fn push_count_line(
-    alloc: Global,
-    text: &mut Vec<u8>,
-    policy: &Policy,
-    event: &Event,
-    what: &Asked,
-    count: usize,
-) -> Result<(), AllocError>
-    requires level { event.now.level < length policy.now.labels }
-    requires label { what.now.label < length policy.now.labels }
-    ensures { OnOk result (text.new.items ≡ text.old.items
-        ++ (front policy.now event.now event.now.level
-        ++ count_text policy.now what.now.scheme.now what.now.label what.now.query.now count ++ codes "\n")) }
-{
-    push_front(text, policy, event, event.level)?;
-    push_count(alloc, text, policy, what, count)?;
-    push_str(text, "\n")
+    push_rows(text, to, rows)
 }
 
 /// Appends the lines of rows, or of their number alone, which answer a view and nothing else.
 fn push_answer(
-    alloc: Global,
     text: &mut Vec<u8>,
-    policy: &Policy,
-    schemes: &Schemes,
-    event: &Event,
+    to: &Answered,
     rows: &Selection,
+    form: Form,
 ) -> Result<(), AllocError>
-    requires level { event.now.level < length policy.now.labels }
-    requires command { CommandIsKnown (site_under policy.now schemes.now) event.now.command }
-    requires classes { AllByRecursion (HasClassesBelow (length policy.now.labels)) rows.now }
-    ensures { OnOk result (text.new.items ≡ text.old.items
-        ++ flat_map (λ t. front policy.now event.now event.now.level ++ t
-        ++ codes "\n") (view_texts (site_under policy.now schemes.now) event.now.command rows.now)) }
+    requires command { CommandIsKnown (site_under to.now.policy.now to.now.schemes.now) to.now.event.now.command }
+    requires classes { AllByRecursion (HasClassesBelow (length to.now.policy.now.labels)) rows.now }
+    ensures { OnOk result (text.new.items ≡ text.old.items ++ flat_map (on_line to.now.policy.now to.now.event.now)
+        (rows_texts form (site_under to.now.policy.now to.now.schemes.now) to.now.event.now.command rows.now)) }
 {
-    match &event.command {
+    match &to.event.command {
         Command::View {
             relation,
             label,
@@ -206,91 +162,79 @@ fn push_answer(
             counts,
         } => {
             let what = Asked {
-                scheme: schemes.scheme(*relation),
+                policy: to.policy,
+                scheme: to.schemes.scheme(*relation),
                 label: *label,
                 query,
             };
             if *counts {
-                push_count_line(alloc, text, policy, event, &what, rows.len())
-            } else {
-                push_view(alloc, text, policy, event, &what, rows)
+                return push_count_line(text, to, &what, rows.len());
+            }
+            match form {
+                Form::Lines => push_view(text, to, &what, rows),
+                Form::Table => push_table(text, to, &what, rows),
             }
         }
         _ => Ok(()),
     }
 }
 
-/// The lines of a view.
-fn view_bytes(
-    alloc: Global,
-    policy: &Policy,
-    schemes: &Schemes,
-    event: &Event,
-    rows: &Selection,
-) -> Result<Vec<u8>, AllocError>
-    requires level { event.now.level < length policy.now.labels }
-    requires command { CommandIsKnown (site_under policy.now schemes.now) event.now.command }
-    requires classes { AllByRecursion (HasClassesBelow (length policy.now.labels)) rows.now }
-    ensures { IfOk result (λ text. text.items
-        ≡ flat_map (λ t. front policy.now event.now event.now.level ++ t
-        ++ codes "\n") (view_texts (site_under policy.now schemes.now) event.now.command rows.now)) }
+/// The lines of a view, or the table with them.
+pub(crate) fn view_bytes(to: &Answered, rows: &Selection, form: Form) -> Result<Vec<u8>, AllocError>
+    requires command { CommandIsKnown (site_under to.now.policy.now to.now.schemes.now) to.now.event.now.command }
+    requires classes { AllByRecursion (HasClassesBelow (length to.now.policy.now.labels)) rows.now }
+    ensures { IfOk result (λ text. text.items ≡ flat_map (on_line to.now.policy.now to.now.event.now)
+        (rows_texts form (site_under to.now.policy.now to.now.schemes.now) to.now.event.now.command rows.now)) }
 {
-    let mut text = Vec::new(alloc);
-    push_answer(alloc, &mut text, policy, schemes, event, rows)?;
+    let mut text = Vec::new(to.alloc);
+    push_answer(&mut text, to, rows, form)?;
     Ok(text)
 }
 
-/// The lines of an audit.
-fn audit_bytes(
-    alloc: Global,
-    policy: &Policy,
-    event: &Event,
-    entries: &[Entry],
-) -> Result<Vec<u8>, AllocError>
-    requires level { event.now.level < length policy.now.labels }
-    requires known { EntriesAreKnown policy.now entries.now }
-    ensures { IfOk result (λ text. text.items
-        ≡ (front policy.now event.now event.now.level ++ codes "audit" ++ codes "\n")
-        ++ flat_map (λ e. front policy.now event.now event.now.level ++ entry_text policy.now e
-        ++ codes "\n") entries.now) }
+fn push_entries(text: &mut Vec<u8>, to: &Answered, entries: &[Entry]) -> Result<(), AllocError>
+    requires { EntriesAreKnown to.now.policy.now entries.now }
+    ensures { OnOk result (text.new.items ≡ text.old.items
+        ++ flat_map (λ e. on_line to.now.policy.now to.now.event.now (entry_text to.now.policy.now e)) entries.now) }
 {
-    let mut text = line_bytes(alloc, policy, event, "audit")?;
-    push_entries(alloc, &mut text, policy, event, entries)?;
+    for entry in entries {
+        push_front(text, to, to.event.level)?;
+        push_entry(to.alloc, text, to.policy, entry)?;
+        push_str(text, "\n")?;
+    }
+    Ok(())
+}
+
+/// The lines of an audit.
+fn audit_bytes(to: &Answered, entries: &[Entry]) -> Result<Vec<u8>, AllocError>
+    requires { EntriesAreKnown to.now.policy.now entries.now }
+    ensures { IfOk result (λ text. text.items ≡ on_line to.now.policy.now to.now.event.now (codes "audit")
+        ++ flat_map (λ e. on_line to.now.policy.now to.now.event.now (entry_text to.now.policy.now e)) entries.now) }
+{
+    let mut text = line_bytes(to, "audit")?;
+    push_entries(&mut text, to, entries)?;
     Ok(text)
 }
 
 /// A text on a line of its own.
-fn line_bytes(
-    alloc: Global,
-    policy: &Policy,
-    event: &Event,
-    line: &str,
-) -> Result<Vec<u8>, AllocError>
-    requires { event.now.level < length policy.now.labels }
-    ensures { IfOk result (λ text. text.items ≡ front policy.now event.now event.now.level ++ line.now ++ codes "\n") }
+fn line_bytes(to: &Answered, line: &str) -> Result<Vec<u8>, AllocError>
+    ensures { IfOk result (λ text. text.items ≡ on_line to.now.policy.now to.now.event.now line.now) }
 {
-    let mut text = Vec::new(alloc);
-    push_front(&mut text, policy, event, event.level)?;
+    let mut text = Vec::new(to.alloc);
+    push_front(&mut text, to, to.event.level)?;
     push_str(&mut text, line)?;
     push_str(&mut text, "\n")?;
     Ok(text)
 }
 
 /// The line of the user that a session is opened for.
-fn opened_bytes(
-    alloc: Global,
-    policy: &Policy,
-    event: &Event,
-    user: UserNo,
-) -> Result<Vec<u8>, AllocError>
-    requires level { event.now.level < length policy.now.labels }
-    requires user { user < length policy.now.users }
-    ensures { IfOk result (λ text. text.items ≡ front policy.now event.now event.now.level
-        ++ (codes "opened " ++ user_name policy.now.users user) ++ codes "\n") }
+fn opened_bytes(to: &Answered, user: UserNo) -> Result<Vec<u8>, AllocError>
+    requires { user < length to.now.policy.now.users }
+    ensures { IfOk result (λ text. text.items
+        ≡ on_line to.now.policy.now to.now.event.now (codes "opened " ++ user_name to.now.policy.now.users user)) }
 {
-    let name = policy.user_name(user);
-    let line = format!(in alloc; "opened {name}")?;
-    line_bytes(alloc, policy, event, &line)
+    let name = to.policy.user_name(user);
+    let line = format!(in to.alloc; "opened {name}")?;
+    line_bytes(to, &line)
 }
 
 /// The lines of a reply, each with its line feed.
@@ -305,16 +249,20 @@ pub fn reply_bytes(
     ensures { IfOk result (λ text. text.items
         ≡ printed (reply_lines (site_under policy.now schemes.now) event.now reply.now)) }
 {
+    let to = Answered {
+        alloc,
+        policy,
+        schemes,
+        event,
+    };
     match reply {
-        Reply::Opened(user) => opened_bytes(alloc, policy, event, *user),
-        Reply::Closed => line_bytes(alloc, policy, event, "closed"),
-        Reply::Rows(rows) => view_bytes(alloc, policy, schemes, event, rows),
-        Reply::Dumped(tuples) => dump_bytes(alloc, policy, schemes, event, tuples),
-        Reply::Wrote(outcome) => {
-            line_bytes(alloc, policy, event, &outcome_text(alloc, *outcome)?)
-        }
-        Reply::Ran(run) => ran_bytes(alloc, policy, event, run),
-        Reply::Entries(entries) => audit_bytes(alloc, policy, event, entries),
-        Reply::Denied(denial) => line_bytes(alloc, policy, event, &denial_text(alloc, *denial)?),
+        Reply::Opened(user) => opened_bytes(&to, *user),
+        Reply::Closed => line_bytes(&to, "closed"),
+        Reply::Rows(rows) => view_bytes(&to, rows, Form::Lines),
+        Reply::Dumped(tuples) => dump_bytes(&to, tuples),
+        Reply::Wrote(outcome) => line_bytes(&to, &outcome_text(alloc, *outcome)?),
+        Reply::Ran(run) => ran_bytes(&to, run),
+        Reply::Entries(entries) => audit_bytes(&to, entries),
+        Reply::Denied(denial) => line_bytes(&to, &denial_text(alloc, *denial)?),
     }
 }

@@ -9,9 +9,9 @@ ghost use Rattle.mls_machine.specs.Seen.{hears};
 ghost use Rattle.mls_machine.specs.Output.{line, lines_with, table_texts, texts_in_table, reply_lines, printed, CommandIsKnown, CanBePrinted};
 ghost use Rattle.mls_machine.specs.Observation.{heard, reply_shows};
 
-use crate::replies::reply_bytes;
+use crate::answered::Answered;
+use crate::replies::{reply_bytes, view_bytes};
 use crate::shown::shown_bytes;
-use crate::table::table_bytes;
 use crate::{Audience, Form, Reply};
 use mls_lattice::{LabelNo, Policy};
 use mls_queries::Selection;
@@ -55,26 +55,21 @@ fn is_shown(policy: &Policy, level: LabelNo, reader: Option<LabelNo>) -> bool
 
 /// The lines of a view as a table, if the reader dominates the level of its session.
 fn heard_table(
-    alloc: Global,
-    policy: &Policy,
-    schemes: &Schemes,
-    event: &Event,
+    to: &Answered,
     rows: &Selection,
     reader: Option<LabelNo>,
 ) -> Result<Vec<u8>, AllocError>
-    requires level { event.now.level < length policy.now.labels }
-    requires command { CommandIsKnown (site_under policy.now schemes.now) event.now.command }
-    requires classes { AllByRecursion (HasClassesBelow (length policy.now.labels)) rows.now }
-    requires reader { IfSome reader (λ c. c < length policy.now.labels) }
-    ensures { IfOk result (λ text. text.items
-        ≡ printed (heard (labels_of policy.now) reader
-        (map (line policy.now event.now event.now.level)
-        (table_texts (site_under policy.now schemes.now) event.now.command rows.now)))) }
+    requires command { CommandIsKnown (site_under to.now.policy.now to.now.schemes.now) to.now.event.now.command }
+    requires classes { AllByRecursion (HasClassesBelow (length to.now.policy.now.labels)) rows.now }
+    requires reader { IfSome reader (λ c. c < length to.now.policy.now.labels) }
+    ensures { IfOk result (λ text. text.items ≡ printed (heard (labels_of to.now.policy.now) reader
+        (map (line to.now.policy.now to.now.event.now to.now.event.now.level)
+        (table_texts (site_under to.now.policy.now to.now.schemes.now) to.now.event.now.command rows.now)))) }
 {
-    if is_shown(policy, event.level, reader) {
-        table_bytes(alloc, policy, schemes, event, rows)
+    if is_shown(to.policy, to.event.level, reader) {
+        view_bytes(to, rows, Form::Table)
     } else {
-        Ok(Vec::new(alloc))
+        Ok(Vec::new(to.alloc))
     }
 }
 
@@ -96,7 +91,15 @@ fn bare_bytes(
         reply.now))) }
 {
     match reply {
-        Reply::Rows(rows) => heard_table(alloc, policy, schemes, event, rows, reader),
+        Reply::Rows(rows) => {
+            let to = Answered {
+                alloc,
+                policy,
+                schemes,
+                event,
+            };
+            heard_table(&to, rows, reader)
+        }
         _ => heard_bytes(alloc, policy, schemes, event, reply, reader),
     }
 }

@@ -6,17 +6,16 @@ ghost use Rattle.mls_lattice.specs.Canon.{label_name};
 ghost use Rattle.mls_scheme.specs.Tuple.{HasClassesBelow};
 ghost use Rattle.mls_tokens.specs.Screen.{escaped};
 ghost use Rattle.mls_tokens.specs.Table.{wider, padded};
-ghost use Rattle.mls_machine.specs.Under.{site_under};
-ghost use Rattle.mls_machine.specs.Output.{front, table_cell, tuple_cells, name_cells, widths_with, table_title, table_names, table_rule, table_row, table_widths, table_texts, CommandIsKnown};
+ghost use Rattle.mls_machine.specs.Output.{on_line, table_cell, tuple_cells, name_cells, widths_with, table_title, table_names, table_rule, table_row, table_widths};
 
+use crate::answered::Answered;
 use crate::asked::{Asked, push_asked};
 use crate::printing::push_front;
 use crate::printing_rows::name_of;
-use crate::replies::push_count_line;
 use mls_lattice::{Items, LabelNo, Policy};
 use mls_queries::Selection;
-use mls_scheme::{Attributes, Element, Scheme, Schemes, Tuple, Value, tuple_class};
-use mls_script::{Command, Event, push_cell, push_value};
+use mls_scheme::{Attributes, Element, Scheme, Tuple, Value, tuple_class};
+use mls_script::{push_cell, push_value};
 use mls_tokens::{escape, push_row, push_rule, push_str, wider};
 use std::alloc::{AllocError, Global};
 
@@ -175,54 +174,37 @@ fn widths_of(
 
 // ---- lines
 
-fn push_title_line(
-    text: &mut Vec<u8>,
-    policy: &Policy,
-    event: &Event,
-    what: &Asked,
-) -> Result<(), AllocError>
-    requires level { event.now.level < length policy.now.labels }
-    requires label { what.now.label < length policy.now.labels }
-    ensures { OnOk result (text.new.items ≡ text.old.items
-        ++ (front policy.now event.now event.now.level
-        ++ table_title policy.now what.now.scheme.now what.now.label what.now.query.now ++ codes "\n")) }
+fn push_title_line(text: &mut Vec<u8>, to: &Answered, what: &Asked) -> Result<(), AllocError>
+    ensures { OnOk result (text.new.items ≡ text.old.items ++ on_line to.now.policy.now to.now.event.now
+        (table_title what.now.policy.now what.now.scheme.now what.now.label what.now.query.now)) }
 {
-    push_front(text, policy, event, event.level)?;
-    push_asked(text, policy, "view", what)?;
+    push_front(text, to, to.event.level)?;
+    push_asked(text, "view", what)?;
     push_str(text, "\n")?;
     Ok(())
 }
 
 fn push_names_line(
     text: &mut Vec<u8>,
-    policy: &Policy,
-    event: &Event,
+    to: &Answered,
     names: &[Items<u8>],
     widths: &[usize],
 ) -> Result<(), AllocError>
-    requires { event.now.level < length policy.now.labels }
     ensures { OnOk result (text.new.items ≡ text.old.items
-        ++ (front policy.now event.now event.now.level ++ (padded widths.now 0 names.now ++ codes "class")
-        ++ codes "\n")) }
+        ++ on_line to.now.policy.now to.now.event.now (padded widths.now 0 names.now ++ codes "class")) }
 {
-    push_front(text, policy, event, event.level)?;
+    push_front(text, to, to.event.level)?;
     push_row(text, widths, names)?;
     push_str(text, "class")?;
     push_str(text, "\n")?;
     Ok(())
 }
 
-fn push_rule_line(
-    text: &mut Vec<u8>,
-    policy: &Policy,
-    event: &Event,
-    widths: &[usize],
-) -> Result<(), AllocError>
-    requires { event.now.level < length policy.now.labels }
+fn push_rule_line(text: &mut Vec<u8>, to: &Answered, widths: &[usize]) -> Result<(), AllocError>
     ensures { OnOk result (text.new.items ≡ text.old.items
-        ++ (front policy.now event.now event.now.level ++ table_rule widths.now ++ codes "\n")) }
+        ++ on_line to.now.policy.now to.now.event.now (table_rule widths.now)) }
 {
-    push_front(text, policy, event, event.level)?;
+    push_front(text, to, to.event.level)?;
     push_rule(text, widths)?;
     push_str(text, "-----")?;
     push_str(text, "\n")?;
@@ -246,111 +228,42 @@ fn push_tuple(
 }
 
 fn push_tuples(
-    alloc: Global,
     text: &mut Vec<u8>,
-    policy: &Policy,
-    event: &Event,
+    to: &Answered,
     widths: &[usize],
     rows: &Selection,
 ) -> Result<(), AllocError>
-    requires level { event.now.level < length policy.now.labels }
-    requires classes { AllByRecursion (HasClassesBelow (length policy.now.labels)) rows.now }
-    ensures { OnOk result (text.new.items ≡ text.old.items
-        ++ flat_map (λ t. front policy.now event.now event.now.level ++ table_row policy.now widths.now t
-        ++ codes "\n") rows.now) }
+    requires { AllByRecursion (HasClassesBelow (length to.now.policy.now.labels)) rows.now }
+    ensures { OnOk result (text.new.items ≡ text.old.items ++ flat_map
+        (λ t. on_line to.now.policy.now to.now.event.now (table_row to.now.policy.now widths.now t)) rows.now) }
 {
     for place in 0..rows.len() {
-        push_front(text, policy, event, event.level)?;
-        push_tuple(alloc, text, policy, widths, rows.get(place))?;
+        push_front(text, to, to.event.level)?;
+        push_tuple(to.alloc, text, to.policy, widths, rows.get(place))?;
         push_str(text, "\n")?;
     }
     Ok(())
 }
 
 /// Appends the lines of a view as a table.
-fn push_table(
-    alloc: Global,
+pub(crate) fn push_table(
     text: &mut Vec<u8>,
-    policy: &Policy,
-    event: &Event,
+    to: &Answered,
     what: &Asked,
     rows: &Selection,
 ) -> Result<(), AllocError>
-    requires level { event.now.level < length policy.now.labels }
-    requires label { what.now.label < length policy.now.labels }
-    requires classes { AllByRecursion (HasClassesBelow (length policy.now.labels)) rows.now }
-    ensures { OnOk result (text.new.items ≡ text.old.items
-        ++ ((front policy.now event.now event.now.level
-        ++ table_title policy.now what.now.scheme.now what.now.label what.now.query.now ++ codes "\n")
-        ++ ((front policy.now event.now event.now.level
-        ++ table_names what.now.scheme.now (table_widths policy.now what.now.scheme.now rows.now)
-        ++ codes "\n") ++ ((front policy.now event.now event.now.level
-        ++ table_rule (table_widths policy.now what.now.scheme.now rows.now)
-        ++ codes "\n") ++ flat_map (λ t. front policy.now event.now event.now.level
-        ++ table_row policy.now (table_widths policy.now what.now.scheme.now rows.now) t ++ codes "\n") rows.now)))) }
+    requires { AllByRecursion (HasClassesBelow (length to.now.policy.now.labels)) rows.now }
+    ensures { let row = on_line to.now.policy.now to.now.event.now in
+        let widths = table_widths to.now.policy.now what.now.scheme.now rows.now in
+        OnOk result (text.new.items ≡ text.old.items
+        ++ (row (table_title what.now.policy.now what.now.scheme.now what.now.label what.now.query.now)
+        ++ (row (table_names what.now.scheme.now widths) ++ (row (table_rule widths)
+        ++ flat_map (λ t. row (table_row to.now.policy.now widths t)) rows.now)))) }
 {
-    let names = name_cells(alloc, what.scheme)?;
-    let widths = widths_of(alloc, policy, &names, rows)?;
-    push_title_line(text, policy, event, what)?;
-    push_names_line(text, policy, event, &names, &widths)?;
-    push_rule_line(text, policy, event, &widths)?;
-    push_tuples(alloc, text, policy, event, &widths, rows)
-}
-
-/// Appends the lines of rows, or of their number alone, which answer a view and nothing else.
-fn push_answer(
-    alloc: Global,
-    text: &mut Vec<u8>,
-    policy: &Policy,
-    schemes: &Schemes,
-    event: &Event,
-    rows: &Selection,
-) -> Result<(), AllocError>
-    requires level { event.now.level < length policy.now.labels }
-    requires command { CommandIsKnown (site_under policy.now schemes.now) event.now.command }
-    requires classes { AllByRecursion (HasClassesBelow (length policy.now.labels)) rows.now }
-    ensures { OnOk result (text.new.items ≡ text.old.items
-        ++ flat_map (λ t. front policy.now event.now event.now.level ++ t
-        ++ codes "\n") (table_texts (site_under policy.now schemes.now) event.now.command rows.now)) }
-{
-    match &event.command {
-        Command::View {
-            relation,
-            label,
-            query,
-            counts,
-        } => {
-            let what = Asked {
-                scheme: schemes.scheme(*relation),
-                label: *label,
-                query,
-            };
-            if *counts {
-                push_count_line(alloc, text, policy, event, &what, rows.len())
-            } else {
-                push_table(alloc, text, policy, event, &what, rows)
-            }
-        }
-        _ => Ok(()),
-    }
-}
-
-/// The lines of a view as a table.
-pub(crate) fn table_bytes(
-    alloc: Global,
-    policy: &Policy,
-    schemes: &Schemes,
-    event: &Event,
-    rows: &Selection,
-) -> Result<Vec<u8>, AllocError>
-    requires level { event.now.level < length policy.now.labels }
-    requires command { CommandIsKnown (site_under policy.now schemes.now) event.now.command }
-    requires classes { AllByRecursion (HasClassesBelow (length policy.now.labels)) rows.now }
-    ensures { IfOk result (λ text. text.items
-        ≡ flat_map (λ t. front policy.now event.now event.now.level ++ t
-        ++ codes "\n") (table_texts (site_under policy.now schemes.now) event.now.command rows.now)) }
-{
-    let mut text = Vec::new(alloc);
-    push_answer(alloc, &mut text, policy, schemes, event, rows)?;
-    Ok(text)
+    let names = name_cells(to.alloc, what.scheme)?;
+    let widths = widths_of(to.alloc, to.policy, &names, rows)?;
+    push_title_line(text, to, what)?;
+    push_names_line(text, to, &names, &widths)?;
+    push_rule_line(text, to, &widths)?;
+    push_tuples(text, to, &widths, rows)
 }

@@ -1,5 +1,5 @@
 //! An audit list that is turned: its entries are written, and then it is empty.
-ghost use Rattle.std.specs.Prelude.{◌≡◌, ◌<◌, true, false, length, IfOk, OnOk};
+ghost use Rattle.std.specs.Prelude.{◌≡◌, ◌<◌, true, false, length, IfOk};
 ghost use Rattle.std.specs.Option.{IfSome};
 ghost use Rattle.std.specs.Io.KnownBytes.{Appends};
 ghost use Rattle.mls_sessions.specs.Turning.{turned_text, list_text, HasTurned, IsListed, IsEmptied};

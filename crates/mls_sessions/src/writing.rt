@@ -1,5 +1,5 @@
 //! Bytes written whole.
-ghost use Rattle.std.specs.Prelude.{◌≡◌, IfOk, OnOk, OnErr, take};
+ghost use Rattle.std.specs.Prelude.{IfOk, OnOk, OnErr, take};
 ghost use Rattle.std.specs.Io.{WritesAtMost};
 ghost use Rattle.std.specs.Io.KnownBytes.{Keeps, Appends};
 ghost use Rattle.mls_sessions.specs.Run.{IsPart};

@@ -6,5 +6,5 @@ use Rattle.mls_machine.proofs.dumping.push_tuple.Goals as goal
 
 pub push_event_line-requires : goal.push_event_line-requires
 push_event_line-requires c =
-    subst (IsKnown c.args.policy.now c.args.schemes.now) (sym c.in_ok-made.ensures)
-    (made_known (site_under c.args.policy.now c.args.schemes.now) c.args.relation c.args.tuple.now c.requires.relation c.requires.classes c.args.session.now)
+    subst (IsKnown c.args.to.now.policy.now c.args.to.now.schemes.now) (sym c.in_ok-made.ensures)
+    (made_known (site_under c.args.to.now.policy.now c.args.to.now.schemes.now) c.args.relation c.args.tuple.now c.requires.relation c.requires.classes c.deref.result.now)

@@ -10,4 +10,4 @@ returns c =
     c.in_ok-push_str-2.ensures
     ∙ ap (λ (x : List ℕ). x ++ codes "\n")
     (c.in_ok-push_cell.ensures ∙ ap (λ (x : List ℕ). x ++ cell) (c.in_ok-push_str.ensures ∙ ap (λ (x : List ℕ). x ++ c.args.deed.now) c.in_ok-push_front.ensures))
-    ∙ item_parts c.args.text.now.items (front c.args.policy.now c.args.event.now c.args.label) c.args.deed.now cell (codes "\n")
+    ∙ item_parts c.args.text.now.items (front c.args.to.now.policy.now c.args.to.now.event.now c.args.label) c.args.deed.now cell (codes "\n")

@@ -7,11 +7,11 @@ use Rattle.mls_machine.proofs.showing.heard_table.Goals as goal
 
 pub returns-then-is_shown : goal.returns-then-is_shown
 returns-then-is_shown c =
-    let site = site_under c.args.policy.now c.args.schemes.now in
-    IfOk-weaker c.table_bytes.result _ _
-    (λ v h. h ∙ all_heard site c.args.event.now c.args.reader (sym c.is_shown.ensures ∙ c.if-is_shown.true) (table_texts site c.args.event.now.command c.args.rows.now)) c.table_bytes.ensures
+    let site = site_under c.args.to.now.policy.now c.args.to.now.schemes.now in
+    IfOk-weaker c.view_bytes.result _ _
+    (λ v h. h ∙ all_heard site c.args.to.now.event.now c.args.reader (sym c.is_shown.ensures ∙ c.if-is_shown.true) (table_texts site c.args.to.now.event.now.command c.args.rows.now)) c.view_bytes.ensures
 
 pub returns-else-is_shown : goal.returns-else-is_shown
 returns-else-is_shown c =
-    let site = site_under c.args.policy.now c.args.schemes.now in
-    c.new.ensures.items ∙ none_heard site c.args.event.now c.args.reader (sym c.is_shown.ensures ∙ c.if-is_shown.false) (table_texts site c.args.event.now.command c.args.rows.now)
+    let site = site_under c.args.to.now.policy.now c.args.to.now.schemes.now in
+    c.new.ensures.items ∙ none_heard site c.args.to.now.event.now c.args.reader (sym c.is_shown.ensures ∙ c.if-is_shown.false) (table_texts site c.args.to.now.event.now.command c.args.rows.now)

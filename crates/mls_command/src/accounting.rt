@@ -2,7 +2,7 @@
 ghost use Rattle.std.specs.Prelude.{◌≡◌, ◌⊎◌, [], string_bytes, IfOk, IfErr};
 ghost use Rattle.mls_host.specs.Deed.{deed};
 ghost use Rattle.mls_host.specs.Hosting.{IsAppended, IsTold};
-ghost use Rattle.mls_host.specs.Reading.{IsConsistent, AreInputs};
+ghost use Rattle.mls_host.specs.Reading.{AreInputs};
 ghost use Rattle.mls_host.specs.declared.reason.Reason.TheVariants.{Memory};
 ghost use Rattle.mls_host.specs.Reason.{reason_status};
 ghost use Rattle.mls_command.specs.Accounting.{IsRefusalTold, Accounts, IsUnread, IsAccountOf};
@@ -38,8 +38,7 @@ fn accepted_listing<H: Host>(
     job: Job,
     inputs: &Inputs,
 ) -> Result<Listing, AllocError>
-    requires read { AreInputs (H.hosting host.now) job inputs.now }
-    requires consistent { IsConsistent inputs.now.setting }
+    requires { AreInputs (H.hosting host.now) job inputs.now }
     ensures { IfOk result (λ l. Accounts (H.hosting host.now) job.entry l.text.items (string_bytes l.told) l.ending) }
 {
     let setting = &inputs.setting;

@@ -1,7 +1,7 @@
 //! What the program does with its words.
 ghost use Rattle.mls_host.specs.Deed.{deed};
 ghost use Rattle.mls_host.specs.Hosting.{hosted, IsAppended, IsTold};
-ghost use Rattle.mls_host.specs.Reading.{AreReady, HasUser};
+ghost use Rattle.mls_host.specs.Reading.{FitSetting, HasUser};
 ghost use Rattle.mls_host.specs.Words.{named, texts_of};
 ghost use Rattle.mls_command.specs.Acting.{IsTaskDeed, IsDeedOf};
 ghost use Rattle.mls_command.specs.Accounting.{IsAccountOf};
@@ -36,7 +36,7 @@ fn perform_task<H: Host, W: Write, E: Write>(
     out: &mut W,
     err: &mut Errors<E>,
 ) -> Result<Ending, Stop>
-    requires ready { AreReady inputs }
+    requires fit { FitSetting inputs.setting inputs.transactions inputs.events }
     requires user { HasUser job.task }
     ensures { IsTaskDeed (hosted H.hosting H.Lines.echo host.old host.new) inputs (named job.entry.files.store) job.entry.task
         (deed W.contents out.old out.new E.contents err.old err.new result) }

@@ -1,6 +1,5 @@
 //! The fields of the policy and the schemes of a job that nobody reads, and what is drawn of these.
 ghost use Rattle.std.specs.Prelude.{◌≡◌, ℕ, List, [], string_bytes, IfOk};
-ghost use Rattle.mls_host.specs.Reading.{IsConsistent};
 ghost use Rattle.mls_command.specs.Showing.{IsPictured};
 
 use crate::listing::Listing;
@@ -35,7 +34,6 @@ pub(crate) fn picture_of<H: Host>(
     setting: &Setting,
     documents: Option<Documents>,
 ) -> Result<Listing, AllocError>
-    requires { IsConsistent setting.now }
     ensures text { IfOk result (λ l. (ignored : List ℕ) × IsPictured ignored l.text.items l.ending) }
     ensures told { IfOk result (λ l. string_bytes l.told ≡ []) }
 {

@@ -1,7 +1,6 @@
 //! The store that a command names, which is looked at and not opened.
 ghost use Rattle.std.specs.Prelude.{◌≡◌, ◌≢◌, Some, string_bytes, IfOk};
 ghost use Rattle.std.specs.Option.{IfSome};
-ghost use Rattle.mls_host.specs.Reading.{IsConsistent};
 ghost use Rattle.mls_host.specs.Words.{named};
 ghost use Rattle.mls_host.specs.declared.host.StoreCause.TheVariants as causes;
 ghost use Rattle.mls_advice.specs.Excerpt.{Begins};
@@ -68,7 +67,6 @@ fn sight_of<H: Host>(
     setting: &Setting,
     path: &str,
 ) -> Result<Diagnosis, AllocError>
-    requires { IsConsistent setting.now }
     ensures { IfOk result (λ d. IsSight (H.hosting host.now) setting.now path.now d.fault) }
 {
     match host.store_files(alloc, path) {
@@ -84,7 +82,6 @@ fn found_of<H: Host>(
     setting: &Setting,
     store: Option<&str>,
 ) -> Result<Diagnosis, AllocError>
-    requires { IsConsistent setting.now }
     ensures { IfOk result (λ d. IsFound (H.hosting host.now) setting.now (named store.entry) d.fault) }
 {
     match store {
@@ -140,7 +137,6 @@ pub(crate) fn store_account<H: Host>(
     store: Option<&str>,
     lines: &str,
 ) -> Result<Listing, AllocError>
-    requires { IsConsistent setting.now }
     ensures { IfOk result (λ l. IsStoreAccount (H.hosting host.now) setting.now (named store.entry) l.text.items
         (string_bytes l.told) l.ending) }
 {

@@ -1,10 +1,8 @@
 -- What a job reads before it does anything, and why an input of it is refused.
-use Rattle.std.specs.Prelude.{◌≡◌, ◌<◌, ℕ, List, Option, length, true, false, ⊤}
-use Rattle.std.specs.Option.{IfSome}
+use Rattle.std.specs.Prelude.{◌≡◌, ℕ, List, Option, true, false, ⊤}
 use Rattle.std.specs.List.{AllByRecursion}
 use Rattle.mls_lattice.specs.Name.{is_name}
 use Rattle.mls_lattice.specs.Policy.{Policy}
-use Rattle.mls_scheme.specs.Scheme.{AreUnder}
 use Rattle.mls_script.specs.declared.event.Event.{Event}
 use Rattle.mls_script.specs.Event.{EventFits}
 use Rattle.mls_translang.specs.Tx.{Tx}
@@ -53,18 +51,10 @@ module _ (h : Hosting) (job : Job) where
 
 -- ---- what is known of it
 
--- the schemes have the policy's labels, and the reader, if there is one, is one of these
-pub record IsConsistent (s : Setting) : Type 0 where
-  pub under : AreUnder (length s.policy.labels) s.file.schemes
-  pub declared : IfSome s.reader (λ c. c < length s.policy.labels)
-
 -- transactions and events fit the policy and the schemes
 pub record FitSetting (s : Setting) (txs : List Tx) (events : List Event) : Type 0 where
   pub read : AllByRecursion (IsReadUnder s.policy s.file.schemes) txs
   pub fits : AllByRecursion (EventFits s.policy s.file.schemes) events
-
-abbrev pub AreReady : Inputs → Type 0
-AreReady i = IsConsistent i.setting × FitSetting i.setting i.transactions i.events
 
 -- ---- what is refused
 

@@ -1,7 +1,7 @@
 //! A job's inputs, read in their order, for who does the job and for who explains it.
 ghost use Rattle.std.specs.Prelude.{IfOk, IfErr, OnOk};
 ghost use Rattle.mls_host.specs.Reading.{HasUser, IsUserRefused, IsSetting, IsSettingRefused, AreContents, AreContentsRefused, AreInputs, AreInputsRefused};
-ghost use Rattle.mls_host.specs.Reading.{IsConsistent, FitSetting, AreReady};
+ghost use Rattle.mls_host.specs.Reading.{FitSetting};
 
 use crate::host::Host;
 use crate::inputs::{
@@ -23,7 +23,6 @@ type Contents = (Items<Tx>, Items<(Str, Certificate)>, Items<Event>);
 /// The policy, the reader and the schemes of a job. No other file is read.
 pub fn setting_of<H: Host>(alloc: Global, host: &H, job: Job) -> Result<Setting, Reason>
     ensures read { IfOk result (IsSetting (H.hosting host.now) job.entry) }
-    ensures consistent { IfOk result IsConsistent }
     ensures refused { IfErr result (IsSettingRefused (H.hosting host.now) job.entry) }
 {
     let policy = policy_or_sample(alloc, host, job.documents)?;
@@ -70,7 +69,7 @@ fn contents_of<H: Host>(
 /// The label of `--at` is looked up right after the policy, long before a store is made.
 pub fn inputs_of<H: Host>(alloc: Global, host: &H, job: Job) -> Result<Inputs, Reason>
     ensures read { IfOk result (AreInputs (H.hosting host.now) job.entry) }
-    ensures ready { IfOk result AreReady }
+    ensures fit { IfOk result (λ i. FitSetting i.setting i.transactions i.events) }
     ensures refused { IfErr result (AreInputsRefused (H.hosting host.now) job.entry) }
 {
     let setting = setting_of(alloc, host, job)?;

@@ -4,7 +4,7 @@ ghost use Rattle.mls_filterview.specs.Content.{Content, no_content};
 ghost use Rattle.mls_host.specs.Words.{named};
 ghost use Rattle.mls_host.specs.Causes.{IsBarred, IsNotBegun};
 ghost use Rattle.mls_host.specs.Hosting.{hosted, IsAppended};
-ghost use Rattle.mls_host.specs.Reading.{AreReady};
+ghost use Rattle.mls_host.specs.Reading.{FitSetting};
 ghost use Rattle.mls_host.specs.Stop.{IsEnd};
 ghost use Rattle.mls_certcheck.specs.Site.{site_of};
 ghost use Rattle.mls_host.specs.Stopping.{IsCaused, IsCausedInMemory};
@@ -107,7 +107,7 @@ pub fn run_desk<H: Host, W: Write>(
     inputs: Inputs,
     out: &mut W,
 ) -> Result<Ending, Stop>
-    requires ready { AreReady inputs }
+    requires { FitSetting inputs.setting inputs.transactions inputs.events }
     ensures desk { IsEnd (IsDeskRun (hosted H.hosting H.Lines.echo host.old host.new) inputs (named store.entry)
         (IsAppended W.contents out.old out.new))
         (λ reason. IsNotBegun (H.hosting host.old) inputs.setting.policy inputs.setting.file (named store.entry) reason

@@ -6,7 +6,7 @@ ghost use Rattle.mls_sessions.specs.Engine.{Leaves};
 ghost use Rattle.mls_host.specs.Hosting.{hosted, IsAppended};
 ghost use Rattle.mls_host.specs.Stopping.{IsCaused, IsCausedInMemory};
 ghost use Rattle.mls_host.specs.Causes.{IsBarred, IsNotBegun};
-ghost use Rattle.mls_host.specs.Reading.{AreReady};
+ghost use Rattle.mls_host.specs.Reading.{FitSetting};
 ghost use Rattle.mls_host.specs.Words.{named};
 ghost use Rattle.mls_host.specs.Stop.{IsEnd};
 ghost use Rattle.mls_runs.specs.Running.{IsRun};
@@ -157,7 +157,7 @@ pub fn run_script<H: Host, W: Write>(
     is_table: bool,
     out: &mut W,
 ) -> Result<(), Stop>
-    requires ready { AreReady inputs }
+    requires { FitSetting inputs.setting inputs.transactions inputs.events }
     ensures run { IsEnd (IsScriptRun (hosted H.hosting H.Lines.echo host.old host.new) inputs (named store.entry) is_table
         (IsAppended W.contents out.old out.new))
         (λ reason. IsNotBegun (H.hosting host.old) inputs.setting.policy inputs.setting.file (named store.entry) reason

@@ -7,7 +7,7 @@ ghost use Rattle.mls_host.specs.Stopping.{IsCaused, IsCausedInMemory};
 ghost use Rattle.mls_host.specs.Words.{named};
 ghost use Rattle.mls_host.specs.Causes.{IsBarred};
 ghost use Rattle.mls_host.specs.Stop.{IsEnd};
-ghost use Rattle.mls_host.specs.Reading.{AreReady};
+ghost use Rattle.mls_host.specs.Reading.{FitSetting};
 ghost use Rattle.mls_certcheck.specs.Site.{site_of};
 ghost use Rattle.mls_runs.specs.Shell.{opening, MayTalk, IsShell};
 ghost use Rattle.mls_runs.specs.ShellRun.{shell_session_of, IsShellFrom, IsShellRun, IsShellRefused};
@@ -160,7 +160,7 @@ pub fn run_shell<H: Host, W: Write, E: Write>(
     out: &mut W,
     err: &mut Errors<E>,
 ) -> Result<Ending, Stop>
-    requires ready { AreReady inputs }
+    requires fit { FitSetting inputs.setting inputs.transactions inputs.events }
     requires user { is_name user.now ≡ true }
     ensures shell { IsEnd (IsShellRun (hosted H.hosting H.Lines.echo host.old host.new) inputs (named store.entry) label.now
         user.now (IsAppended W.contents out.old out.new) (IsTold E.contents err.old err.new))

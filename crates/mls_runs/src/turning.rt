@@ -2,7 +2,6 @@
 ghost use Rattle.std.specs.Prelude.{[], Some};
 ghost use Rattle.mls_host.specs.Causes.{IsBarred};
 ghost use Rattle.mls_host.specs.Hosting.{hosted, IsAppended};
-ghost use Rattle.mls_host.specs.Reading.{IsConsistent};
 ghost use Rattle.mls_host.specs.Stop.{IsEnd};
 ghost use Rattle.mls_host.specs.Stopping.{IsCaused};
 ghost use Rattle.mls_host.specs.Words.{named};
@@ -21,7 +20,6 @@ fn turn_in_store<H: Host, W: Write>(
     setting: &Setting,
     out: &mut W,
 ) -> Result<(), Stop>
-    requires { IsConsistent setting.now }
     ensures ends { IsEnd (λ end. IsTurnRun setting.now (IsAppended W.contents out.old out.new) end
         (hosted H.hosting H.Lines.echo host.old host.new) (Some path.now))
         (λ reason. IsBarred (H.hosting host.old) setting.now.policy setting.now.file (Some path.now) reason
@@ -45,7 +43,6 @@ pub fn turn_store<H: Host, W: Write>(
     setting: &Setting,
     out: &mut W,
 ) -> Result<(), Stop>
-    requires { IsConsistent setting.now }
     ensures ends { IsEnd (λ end. IsTurnRun setting.now (IsAppended W.contents out.old out.new) end
         (hosted H.hosting H.Lines.echo host.old host.new) (named store.entry))
         (λ reason. IsBarred (H.hosting host.old) setting.now.policy setting.now.file (named store.entry) reason

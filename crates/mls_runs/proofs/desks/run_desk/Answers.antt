@@ -15,8 +15,8 @@ desk_over_store-requires g c =
     let stored_are = subst (λ blocks. AreStoredWith i.setting.policy blocks i.transactions c.in_ok-stored.stored) c.deref.ensures c.in_ok-stored.ensures in
     record {
       may = record {
-        under = c.requires.ready.0.under;
-        read = stored_read i.setting.policy i.setting.file.schemes i.certificates i.transactions c.in_ok-stored.stored c.requires.ready.1.read stored_are;
+        under = i.setting.under;
+        read = stored_read i.setting.policy i.setting.file.schemes i.certificates i.transactions c.in_ok-stored.stored c.requires.read stored_are;
         certified = stored_certified i.setting.policy i.setting.file.schemes i.certificates i.transactions c.in_ok-stored.stored stored_are;
       };
     }

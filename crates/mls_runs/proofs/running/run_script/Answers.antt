@@ -20,11 +20,11 @@ run_events-requires g c =
     = subst (λ blocks. AreStoredWith i.setting.policy blocks i.transactions c.in_ok-stored.stored) c.deref.ensures c.in_ok-stored.ensures in
     record {
       may = record {
-        under = c.requires.ready.0.under;
-        read = stored_read i.setting.policy i.setting.file.schemes i.certificates i.transactions c.in_ok-stored.stored c.requires.ready.1.read each;
+        under = i.setting.under;
+        read = stored_read i.setting.policy i.setting.file.schemes i.certificates i.transactions c.in_ok-stored.stored c.requires.read each;
         certified = stored_certified i.setting.policy i.setting.file.schemes i.certificates i.transactions c.in_ok-stored.stored each;
-        fits = rw c.deref-2.ensures c.requires.ready.1.fits;
-        declared = c.requires.ready.0.declared;
+        fits = rw c.deref-2.ensures c.requires.fits;
+        declared = i.setting.declared;
       };
     }
 

@@ -23,10 +23,10 @@ shell_over_store-requires g c =
     = subst (λ blocks. AreStoredWith i.setting.policy blocks i.transactions c.in_ok-stored.stored) c.deref.ensures c.in_ok-stored.ensures in
     record {
       may = record {
-        under = c.requires.ready.0.under;
-        read = stored_read i.setting.policy i.setting.file.schemes i.certificates i.transactions c.in_ok-stored.stored c.requires.ready.1.read each;
+        under = i.setting.under;
+        read = stored_read i.setting.policy i.setting.file.schemes i.certificates i.transactions c.in_ok-stored.stored c.requires.fit.read each;
         certified = stored_certified i.setting.policy i.setting.file.schemes i.certificates i.transactions c.in_ok-stored.stored each;
-        level = subst (λ (s : ShellSession). s.level < length i.setting.policy.labels) (sym c.in_ok-session.ensures.session) (subst (λ (o : Option ℕ). IfSome o (λ l. l < length i.setting.policy.labels)) c.in-Some.is c.requires.ready.0.declared);
+        level = subst (λ (s : ShellSession). s.level < length i.setting.policy.labels) (sym c.in_ok-session.ensures.session) (subst (λ (o : Option ℕ). IfSome o (λ l. l < length i.setting.policy.labels)) c.in-Some.is i.setting.declared);
         user = subst (λ (s : ShellSession). is_name s.user ≡ true) (sym c.in_ok-session.ensures.session) c.requires.user;
         first = rw c.deref-2.ensures.value c.in_ok-session.ensures.first;
       };

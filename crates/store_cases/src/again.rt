@@ -49,6 +49,22 @@ fn tell_script(
     Ok(())
 }
 
+/// The same of a case under a site, whose files may be new.
+fn tell_run(
+    alloc: Global,
+    site: &Site<'_>,
+    head: Head<'_>,
+    body: &[&str],
+    files: &mut Copies,
+    out: &mut Told,
+) -> io::Result<()> {
+    if head.first == "new" {
+        *files = Copies::none(alloc);
+    }
+    let script = joined(alloc, body)?;
+    tell_script(alloc, site, &script, head.last == "closed", files, out)
+}
+
 fn tell_case(
     alloc: Global,
     texts: &Texts,
@@ -60,15 +76,13 @@ fn tell_case(
     let Some(head) = head_of(case.head) else {
         return Ok(());
     };
-    let Some(site) = Site::of(alloc, texts, Names::of(head.policy)) else {
-        out.push_line("  no site");
-        return Ok(());
-    };
-    if head.first == "new" {
-        *files = Copies::none(alloc);
+    match Site::of(alloc, texts, Names::of(head.policy)) {
+        Some(site) => tell_run(alloc, &site, head, case.body, files, out),
+        None => {
+            out.push_line("  no site");
+            Ok(())
+        }
     }
-    let script = joined(alloc, case.body)?;
-    tell_script(alloc, &site, &script, head.last == "closed", files, out)
 }
 
 /// Tells what scripts print over the store in files, each over what the one before left: a case is `FIRST LAST POLICY` or

@@ -79,7 +79,38 @@ fn site_of<'a>(alloc: Global, texts: &'a Texts, head: &str) -> Option<Site<'a>> 
     Site::of(alloc, texts, Names::of(names))
 }
 
-/// Tells how the store of a case is refused, and what is found of it: the statements that damage it stand below its head.
+/// Tells how the store in damaged files is refused, and what is found of it.
+fn tell_refusal(
+    alloc: Global,
+    site: &Site<'_>,
+    files: &mut Copies,
+    head: &str,
+    out: &mut Told,
+) -> io::Result<()> {
+    tell_openings(alloc, site, files, out)?;
+    out.push_line(head);
+    tell_diagnosis(alloc, site, files, out)
+}
+
+/// Damages the store of a case by the statements below its head, and tells how it is refused.
+fn tell_damage(
+    alloc: Global,
+    site: &Site<'_>,
+    files: &Copies,
+    case: &Case<'_>,
+    out: &mut Told,
+) -> io::Result<()> {
+    match damaged(alloc, files, case.body)? {
+        Some(mut files) => tell_refusal(alloc, site, &mut files, case.head, out),
+        None => {
+            out.push("not made: ");
+            out.push_line(case.head);
+            Ok(())
+        }
+    }
+}
+
+/// Tells how the store of a case is refused, under the site that its head names.
 fn tell_case(
     alloc: Global,
     texts: &Texts,
@@ -87,19 +118,10 @@ fn tell_case(
     case: &Case<'_>,
     out: &mut Told,
 ) -> io::Result<()> {
-    let Some(site) = site_of(alloc, texts, case.head) else {
-        out.push_line("no site");
-        return Ok(());
-    };
-    match damaged(alloc, files, case.body)? {
-        Some(mut files) => {
-            tell_openings(alloc, &site, &mut files, out)?;
-            out.push_line(case.head);
-            tell_diagnosis(alloc, &site, &files, out)
-        }
+    match site_of(alloc, texts, case.head) {
+        Some(site) => tell_damage(alloc, &site, files, case, out),
         None => {
-            out.push("not made: ");
-            out.push_line(case.head);
+            out.push_line("no site");
             Ok(())
         }
     }

@@ -78,26 +78,50 @@ fn tell_migration(
     tell_series(alloc, migration, &start, lines, out)
 }
 
-/// Tells the stops of a migration.
-pub fn tell_lines(alloc: Global, texts: &Texts, lines: &[&str], out: &mut Told) -> io::Result<()> {
-    let Some(earlier) = Site::of(alloc, texts, Names::of("policy.toml")) else {
-        out.push_line("no site");
-        return Ok(());
-    };
-    let Some(site) = Site::of(
-        alloc,
-        texts,
-        Names::of("wide.policy.toml wide.schemes.toml"),
-    ) else {
-        out.push_line("no site");
-        return Ok(());
-    };
+/// The same, from an earlier site to a wider one.
+fn tell_between(
+    alloc: Global,
+    texts: &Texts,
+    earlier: &Site<'_>,
+    site: &Site<'_>,
+    lines: &[&str],
+    out: &mut Told,
+) -> io::Result<()> {
     let migration = Migration {
-        earlier: &earlier,
-        site: &site,
+        earlier,
+        site,
         script: texts.named("migration.script"),
         widened: texts.named("widened.script"),
         probe: texts.named("probe.script"),
     };
     tell_migration(alloc, &migration, lines, out)
+}
+
+/// The same, from an earlier site.
+fn tell_from(
+    alloc: Global,
+    texts: &Texts,
+    earlier: &Site<'_>,
+    lines: &[&str],
+    out: &mut Told,
+) -> io::Result<()> {
+    let names = Names::of("wide.policy.toml wide.schemes.toml");
+    match Site::of(alloc, texts, names) {
+        Some(site) => tell_between(alloc, texts, earlier, &site, lines, out),
+        None => {
+            out.push_line("no site");
+            Ok(())
+        }
+    }
+}
+
+/// Tells the stops of a migration.
+pub fn tell_lines(alloc: Global, texts: &Texts, lines: &[&str], out: &mut Told) -> io::Result<()> {
+    match Site::of(alloc, texts, Names::of("policy.toml")) {
+        Some(earlier) => tell_from(alloc, texts, &earlier, lines, out),
+        None => {
+            out.push_line("no site");
+            Ok(())
+        }
+    }
 }

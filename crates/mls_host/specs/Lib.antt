@@ -11,4 +11,5 @@ pub mod Causes
 pub mod Stopping
 pub mod Deed
 pub mod Reading
+pub mod Building
 pub mod Words

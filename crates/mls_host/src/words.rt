@@ -1,12 +1,13 @@
 //! The words of a command line, and what they ask for.
 ghost use Rattle.std.specs.Prelude.{◌≡◌, ◌⊎◌, ◌≤◌, false, [], length, Some, None, codes, option_map, IfOk, IfErr};
 ghost use Rattle.std.specs.Option.{IfSome};
-ghost use Rattle.clap.specs.Words.{app_of, fault_of, first_of, found_of, kind_of, new_app, new_rule, rows_of, subcommand_of, subcommand_rows_of, with_rule};
+ghost use Rattle.clap.specs.Words.{App, app_of, fault_of, first_of, found_of, kind_of, new_app, new_rule, rows_of, rule_of, subcommand_of, subcommand_rows_of, with_rule, with_subcommand};
 ghost use Rattle.clap.specs.declared.builder.command.Command.TheViews.{out-Command as fields_of};
 ghost use Rattle.mls_host.specs.declared.words.Task.{Task as SpecTask};
 ghost use Rattle.mls_host.specs.declared.words.Job.{Job as SpecJob};
 ghost use Rattle.mls_host.specs.declared.usage.Usage.TheVariants.{Memory};
-ghost use Rattle.mls_host.specs.Words.{at_of, texts_of, place, option, flag, is_flag_set, AreFilesOf, with_stored, needed, run, shell, serve, turn, show_policy, certify, check, explain, program, command_line, IsTask, IsCommand, IsCommandOf, Asks, AskNothing};
+ghost use Rattle.mls_host.specs.Building.{IsBuilt};
+ghost use Rattle.mls_host.specs.Words.{at_of, texts_of, place, option, flag, is_flag_set, AreFilesOf, with_documents, with_stored, needed, run, shell, serve, turn, show_policy, certify, check, explain, program, command_line, IsTask, IsCommand, IsCommandOf, Asks, AskNothing};
 
 use crate::usage::Usage;
 use clap::error::ErrorKind;
@@ -223,238 +224,193 @@ const SAMPLES: Job<'static> = Job {
     },
 };
 
+/// A command that is built step by step, or want of memory.
+/// Each step takes what the last one made: a command that is held through a `?` at each step cost two minutes of proof.
+type Building<'a> = Result<Command<'a>, AllocError>;
+
 /// A command without arguments, and what help says of it: a line, and notes below its arguments.
-fn bare<'a>(alloc: Global, name: &'a str, about: &'a str, notes: &'a str) -> Command<'a>
-    ensures app { app_of result ≡ new_app name.entry.now }
-    ensures local { (fields_of result).has_globals ≡ false }
+fn bare<'a>(alloc: Global, name: &'a str, about: &'a str, notes: &'a str) -> Building<'a>
+    ensures { IsBuilt result (new_app name.entry.now) }
 {
-    Command::new(alloc, name).about(about).after_help(notes)
+    Ok(Command::new(alloc, name).about(about).after_help(notes))
+}
+
+fn with_argument<'a>(command: Building<'a>, argument: Arg<'a>) -> Building<'a>
+    requires local { argument.global ≡ false }
+    ensures { (app : App) → IsBuilt command.entry app → IsBuilt result (with_rule app (rule_of argument.entry)) }
+{
+    match command {
+        Ok(command) => command.arg(argument),
+        Err(error) => Err(error),
+    }
 }
 
 /// With an argument that stands in its place.
 fn with_place<'a>(
     alloc: Global,
-    command: Command<'a>,
+    command: Building<'a>,
     name: &'a str,
     help: &'a str,
-) -> Result<Command<'a>, AllocError>
-    ensures app { IfOk result (λ c. app_of c ≡ with_rule (app_of command.entry) (place name.entry.now)) }
-    ensures local { (fields_of command.entry).has_globals ≡ false
-        → IfOk result (λ c. (fields_of c).has_globals ≡ false) }
+) -> Building<'a>
+    ensures { (app : App) → IsBuilt command.entry app → IsBuilt result (with_rule app (place name.entry.now)) }
 {
-    command.arg(Arg::new(alloc, name).help(help).required(true))
+    with_argument(command, Arg::new(alloc, name).help(help).required(true))
 }
 
 /// With an argument that stands in its place, and may be left out.
 fn with_last_place<'a>(
     alloc: Global,
-    command: Command<'a>,
+    command: Building<'a>,
     name: &'a str,
     help: &'a str,
-) -> Result<Command<'a>, AllocError>
-    ensures app { IfOk result (λ c. app_of c ≡ with_rule (app_of command.entry) (new_rule name.entry.now)) }
-    ensures local { (fields_of command.entry).has_globals ≡ false
-        → IfOk result (λ c. (fields_of c).has_globals ≡ false) }
+) -> Building<'a>
+    ensures { (app : App) → IsBuilt command.entry app → IsBuilt result (with_rule app (new_rule name.entry.now)) }
 {
-    command.arg(Arg::new(alloc, name).help(help))
+    with_argument(command, Arg::new(alloc, name).help(help))
 }
 
 /// With an option that has a value.
 fn with_option<'a>(
     alloc: Global,
-    command: Command<'a>,
+    command: Building<'a>,
     name: &'a str,
     value: &'a str,
     help: &'a str,
-) -> Result<Command<'a>, AllocError>
-    ensures app { IfOk result (λ c. app_of c ≡ with_rule (app_of command.entry) (option name.entry.now)) }
-    ensures local { (fields_of command.entry).has_globals ≡ false
-        → IfOk result (λ c. (fields_of c).has_globals ≡ false) }
+) -> Building<'a>
+    ensures { (app : App) → IsBuilt command.entry app → IsBuilt result (with_rule app (option name.entry.now)) }
 {
-    command.arg(
-        Arg::new(alloc, name)
-            .help(help)
-            .long(name)
-            .value_name(value),
-    )
+    let option = Arg::new(alloc, name)
+        .help(help)
+        .long(name)
+        .value_name(value);
+    with_argument(command, option)
 }
 
 /// With an option that has a value, and must not be left out.
 fn with_needed<'a>(
     alloc: Global,
-    command: Command<'a>,
+    command: Building<'a>,
     name: &'a str,
     value: &'a str,
     help: &'a str,
-) -> Result<Command<'a>, AllocError>
-    ensures app { IfOk result (λ c. app_of c ≡ with_rule (app_of command.entry) (needed name.entry.now)) }
-    ensures local { (fields_of command.entry).has_globals ≡ false
-        → IfOk result (λ c. (fields_of c).has_globals ≡ false) }
+) -> Building<'a>
+    ensures { (app : App) → IsBuilt command.entry app → IsBuilt result (with_rule app (needed name.entry.now)) }
 {
-    command.arg(
-        Arg::new(alloc, name)
-            .help(help)
-            .long(name)
-            .value_name(value)
-            .required(true),
-    )
+    let option = Arg::new(alloc, name)
+        .help(help)
+        .long(name)
+        .value_name(value)
+        .required(true);
+    with_argument(command, option)
 }
 
 /// With an option that has no value.
-fn with_flag<'a>(
-    alloc: Global,
-    command: Command<'a>,
-    name: &'a str,
-    help: &'a str,
-) -> Result<Command<'a>, AllocError>
-    ensures app { IfOk result (λ c. app_of c ≡ with_rule (app_of command.entry) (flag name.entry.now)) }
-    ensures local { (fields_of command.entry).has_globals ≡ false
-        → IfOk result (λ c. (fields_of c).has_globals ≡ false) }
+fn with_flag<'a>(alloc: Global, command: Building<'a>, name: &'a str, help: &'a str) -> Building<'a>
+    ensures { (app : App) → IsBuilt command.entry app → IsBuilt result (with_rule app (flag name.entry.now)) }
 {
-    command.arg(
-        Arg::new(alloc, name)
-            .help(help)
-            .long(name)
-            .action(ArgAction::SetTrue),
-    )
+    let flag = Arg::new(alloc, name)
+        .help(help)
+        .long(name)
+        .action(ArgAction::SetTrue);
+    with_argument(command, flag)
 }
 
 /// With the files of the policy and the schemes.
-fn with_documents<'a>(alloc: Global, command: Command<'a>) -> Result<Command<'a>, AllocError>
-    ensures app { IfOk result (λ c. app_of c
-        ≡ with_rule (with_rule (app_of command.entry) (place (codes "POLICY"))) (place (codes "SCHEMES"))) }
-    ensures local { (fields_of command.entry).has_globals ≡ false
-        → IfOk result (λ c. (fields_of c).has_globals ≡ false) }
+fn with_documents<'a>(alloc: Global, command: Building<'a>) -> Building<'a>
+    ensures { (app : App) → IsBuilt command.entry app → IsBuilt result (with_documents app) }
 {
-    let command = with_place(alloc, command, "POLICY", POLICY)?;
+    let command = with_place(alloc, command, "POLICY", POLICY);
     with_place(alloc, command, "SCHEMES", SCHEMES)
 }
 
 /// With the files of what is stored, as options.
-fn with_stored<'a>(alloc: Global, run: Command<'a>) -> Result<Command<'a>, AllocError>
-    ensures app { IfOk result (λ c. app_of c ≡ with_stored (app_of run.entry)) }
-    ensures local { (fields_of run.entry).has_globals ≡ false → IfOk result (λ c. (fields_of c).has_globals ≡ false) }
+fn with_stored<'a>(alloc: Global, command: Building<'a>) -> Building<'a>
+    ensures { (app : App) → IsBuilt command.entry app → IsBuilt result (with_stored app) }
 {
-    let run = with_option(alloc, run, "transactions", "FILE", STORED_TRANSACTIONS)?;
-    with_option(alloc, run, "certificates", "FILE", STORED_CERTIFICATES)
+    let command = with_option(alloc, command, "transactions", "FILE", STORED_TRANSACTIONS);
+    with_option(alloc, command, "certificates", "FILE", STORED_CERTIFICATES)
 }
 
-/// With the options of a run.
-fn with_options<'a>(alloc: Global, run: Command<'a>) -> Result<Command<'a>, AllocError>
-    ensures app { IfOk result (λ c. app_of c
-        ≡ with_stored (with_rule (with_rule (with_rule (app_of run.entry) (flag (codes "table")))
-        (option (codes "at"))) (option (codes "store")))) }
-    ensures local { (fields_of run.entry).has_globals ≡ false → IfOk result (λ c. (fields_of c).has_globals ≡ false) }
+fn run_command<'a>(alloc: Global) -> Building<'a>
+    ensures { IsBuilt result run }
 {
-    let run = with_flag(alloc, run, "table", TABLE)?;
-    let run = with_option(alloc, run, "at", "LABEL", AT)?;
-    let run = with_option(alloc, run, "store", "FILE", STORE)?;
-    with_stored(alloc, run)
-}
-
-fn run_command<'a>(alloc: Global) -> Result<Command<'a>, AllocError>
-    ensures app { IfOk result (λ c. app_of c ≡ run) }
-    ensures local { IfOk result (λ c. (fields_of c).has_globals ≡ false) }
-{
-    let run = bare(
-        alloc,
-        "run",
-        "Runs a script, and prints a line for each reply",
-        RUN_NOTES,
-    );
-    let run = with_documents(alloc, with_options(alloc, run)?)?;
+    let about = "Runs a script, and prints a line for each reply";
+    let run = bare(alloc, "run", about, RUN_NOTES);
+    let run = with_flag(alloc, run, "table", TABLE);
+    let run = with_option(alloc, run, "at", "LABEL", AT);
+    let run = with_option(alloc, run, "store", "FILE", STORE);
+    let run = with_documents(alloc, with_stored(alloc, run));
     with_place(alloc, run, "SCRIPT", SCRIPT)
 }
 
-fn shell_command<'a>(alloc: Global) -> Result<Command<'a>, AllocError>
-    ensures app { IfOk result (λ c. app_of c ≡ shell) }
-    ensures local { IfOk result (λ c. (fields_of c).has_globals ≡ false) }
+fn shell_command<'a>(alloc: Global) -> Building<'a>
+    ensures { IsBuilt result shell }
 {
     let about = "Answers commands as they are typed";
-    let shell = with_option(
-        alloc,
-        bare(alloc, "shell", about, SHELL_NOTES),
-        "store",
-        "FILE",
-        STORE,
-    )?;
-    let shell = with_documents(alloc, with_stored(alloc, shell)?)?;
-    let shell = with_place(alloc, shell, "LABEL", LABEL)?;
+    let shell = bare(alloc, "shell", about, SHELL_NOTES);
+    let shell = with_option(alloc, shell, "store", "FILE", STORE);
+    let shell = with_documents(alloc, with_stored(alloc, shell));
+    let shell = with_place(alloc, shell, "LABEL", LABEL);
     with_place(alloc, shell, "USER", USER)
 }
 
-fn serve_command<'a>(alloc: Global) -> Result<Command<'a>, AllocError>
-    ensures app { IfOk result (λ c. app_of c ≡ serve) }
-    ensures local { IfOk result (λ c. (fields_of c).has_globals ≡ false) }
+fn serve_command<'a>(alloc: Global) -> Building<'a>
+    ensures { IsBuilt result serve }
 {
     let about = "Answers the lines of many sessions, each for its own label";
-    let serve = with_option(
-        alloc,
-        bare(alloc, "serve", about, SERVE_NOTES),
-        "store",
-        "FILE",
-        STORE,
-    )?;
-    with_documents(alloc, with_stored(alloc, serve)?)
+    let serve = bare(alloc, "serve", about, SERVE_NOTES);
+    let serve = with_option(alloc, serve, "store", "FILE", STORE);
+    with_documents(alloc, with_stored(alloc, serve))
 }
 
-fn turn_command<'a>(alloc: Global) -> Result<Command<'a>, AllocError>
-    ensures app { IfOk result (λ c. app_of c ≡ turn) }
-    ensures local { IfOk result (λ c. (fields_of c).has_globals ≡ false) }
+fn turn_command<'a>(alloc: Global) -> Building<'a>
+    ensures { IsBuilt result turn }
 {
     let about = "Prints the audit list of a store, and empties it";
-    let turn = with_option(
-        alloc,
-        bare(alloc, "turn", about, TURN_NOTES),
-        "at",
-        "LABEL",
-        AT,
-    )?;
-    let turn = with_needed(alloc, turn, "store", "FILE", TURNED_STORE)?;
+    let turn = bare(alloc, "turn", about, TURN_NOTES);
+    let turn = with_option(alloc, turn, "at", "LABEL", AT);
+    let turn = with_needed(alloc, turn, "store", "FILE", TURNED_STORE);
     with_documents(alloc, turn)
 }
 
-fn show_command<'a>(alloc: Global) -> Result<Command<'a>, AllocError>
-    ensures app { IfOk result (λ c. app_of c ≡ show_policy) }
-    ensures local { IfOk result (λ c. (fields_of c).has_globals ≡ false) }
+fn show_command<'a>(alloc: Global) -> Building<'a>
+    ensures { IsBuilt result show_policy }
 {
     let about = "Prints the canonical texts of a policy and its schemes";
     with_documents(alloc, bare(alloc, "show-policy", about, SHOW_NOTES))
 }
 
-fn certify_command<'a>(alloc: Global) -> Result<Command<'a>, AllocError>
-    ensures app { IfOk result (λ c. app_of c ≡ certify) }
-    ensures local { IfOk result (λ c. (fields_of c).has_globals ≡ false) }
+fn certify_command<'a>(alloc: Global) -> Building<'a>
+    ensures { IsBuilt result certify }
 {
     let about = "Prints the least certificate of each transaction that has one";
-    let certify = with_documents(alloc, bare(alloc, "certify", about, CERTIFY_NOTES))?;
+    let certify = with_documents(alloc, bare(alloc, "certify", about, CERTIFY_NOTES));
     with_place(alloc, certify, "TRANSACTIONS", TRANSACTIONS)
 }
 
-fn check_command<'a>(alloc: Global) -> Result<Command<'a>, AllocError>
-    ensures app { IfOk result (λ c. app_of c ≡ check) }
-    ensures local { IfOk result (λ c. (fields_of c).has_globals ≡ false) }
+fn check_command<'a>(alloc: Global) -> Building<'a>
+    ensures { IsBuilt result check }
 {
     let about = "Says of each transaction whether its certificate holds";
-    let check = with_documents(alloc, bare(alloc, "check", about, CHECK_NOTES))?;
-    let check = with_place(alloc, check, "TRANSACTIONS", TRANSACTIONS)?;
+    let check = with_documents(alloc, bare(alloc, "check", about, CHECK_NOTES));
+    let check = with_place(alloc, check, "TRANSACTIONS", TRANSACTIONS);
     with_place(alloc, check, "CERTIFICATES", CERTIFICATES)
 }
 
-fn explain_command<'a>(alloc: Global) -> Result<Command<'a>, AllocError>
-    ensures app { IfOk result (λ c. app_of c ≡ explain) }
-    ensures local { IfOk result (λ c. (fields_of c).has_globals ≡ false) }
+fn explain_command<'a>(alloc: Global) -> Building<'a>
+    ensures { IsBuilt result explain }
 {
     let about =
         "Says what a policy and schemes are, why a transaction has its labels or none, or why an input is refused";
-    let explain = with_documents(alloc, bare(alloc, "explain", about, EXPLAIN_NOTES))?;
-    let explain = with_last_place(alloc, explain, "TRANSACTIONS", TRANSACTIONS)?;
+    let explain = with_documents(alloc, bare(alloc, "explain", about, EXPLAIN_NOTES));
+    let explain = with_last_place(alloc, explain, "TRANSACTIONS", TRANSACTIONS);
     with_last_place(alloc, explain, "NAME", NAME)
 }
 
 /// The program without its commands.
 fn program<'a>(alloc: Global) -> Command<'a>
-    ensures { app_of result ≡ program }
+    ensures app { app_of result ≡ program }
+    ensures local { (fields_of result).has_globals ≡ false }
 {
     Command::new(alloc, "mldb")
         .version(VERSION)
@@ -463,19 +419,30 @@ fn program<'a>(alloc: Global) -> Command<'a>
         .subcommand_required(true)
 }
 
+/// With a command of its own.
+fn with_command<'a>(line: Building<'a>, command: Building<'a>) -> Building<'a>
+    ensures { (app sub : App) → IsBuilt line.entry app → IsBuilt command.entry sub
+        → IsBuilt result (with_subcommand app sub.top) }
+{
+    match (line, command) {
+        (Ok(line), Ok(command)) => line.subcommand(command),
+        _ => Err(AllocError),
+    }
+}
+
 /// The commands and their words. They are built by calls and not from a table: the checker sees no table of structs
 /// that hold slices.
-fn command_line<'a>(alloc: Global) -> Result<Command<'a>, AllocError>
-    ensures { IfOk result (λ c. app_of c ≡ command_line) }
+fn command_line<'a>(alloc: Global) -> Building<'a>
+    ensures { IsBuilt result command_line }
 {
-    let line = program(alloc).subcommand(run_command(alloc)?)?;
-    let line = line.subcommand(shell_command(alloc)?)?;
-    let line = line.subcommand(serve_command(alloc)?)?;
-    let line = line.subcommand(turn_command(alloc)?)?;
-    let line = line.subcommand(show_command(alloc)?)?;
-    let line = line.subcommand(certify_command(alloc)?)?;
-    let line = line.subcommand(check_command(alloc)?)?;
-    line.subcommand(explain_command(alloc)?)
+    let line = with_command(Ok(program(alloc)), run_command(alloc));
+    let line = with_command(line, shell_command(alloc));
+    let line = with_command(line, serve_command(alloc));
+    let line = with_command(line, turn_command(alloc));
+    let line = with_command(line, show_command(alloc));
+    let line = with_command(line, certify_command(alloc));
+    let line = with_command(line, check_command(alloc));
+    with_command(line, explain_command(alloc))
 }
 
 /// What the parser says of words that it refuses.

@@ -1,25 +1,28 @@
-use Rattle.std.proofs.Common.{ap, ap₂, ◌∙◌}
-use Rattle.std.proofs.lemmas.Result.{IfOk-weaker}
-use Rattle.clap.specs.Words.{App, with_subcommand}
+use Rattle.clap.specs.Words.{with_subcommand}
+use Rattle.mls_host.specs.Words.{run, shell, serve, turn, show_policy, certify, check, explain, program}
 use Rattle.mls_host.proofs.words.command_line.Goals as goal
 
 pub returns : goal.returns
 returns c =
-    IfOk-weaker c.subcommand-8.result _ _
-    (λ r h. h.shape c.in_ok-explain_command.ensures.local
-    ∙ ap₂ with_subcommand (c.in_ok-line-7.ensures.shape c.in_ok-check_command.ensures.local
-    ∙ ap₂ with_subcommand (c.in_ok-line-6.ensures.shape c.in_ok-certify_command.ensures.local
-    ∙ ap₂ with_subcommand (c.in_ok-line-5.ensures.shape c.in_ok-show_command.ensures.local
-    ∙ ap₂ with_subcommand (c.in_ok-line-4.ensures.shape c.in_ok-turn_command.ensures.local
-    ∙ ap₂ with_subcommand (c.in_ok-line-3.ensures.shape c.in_ok-serve_command.ensures.local
-    ∙ ap₂ with_subcommand (c.in_ok-line-2.ensures.shape c.in_ok-shell_command.ensures.local
-    ∙ ap₂ with_subcommand (c.in_ok-line.ensures.shape c.in_ok-run_command.ensures.local
-    ∙ ap₂ with_subcommand c.program.ensures (ap (λ (a : App). a.top) c.in_ok-run_command.ensures.app))
-    (ap (λ (a : App). a.top) c.in_ok-shell_command.ensures.app))
-    (ap (λ (a : App). a.top) c.in_ok-serve_command.ensures.app))
-    (ap (λ (a : App). a.top) c.in_ok-turn_command.ensures.app))
-    (ap (λ (a : App). a.top) c.in_ok-show_command.ensures.app))
-    (ap (λ (a : App). a.top) c.in_ok-certify_command.ensures.app))
-    (ap (λ (a : App). a.top) c.in_ok-check_command.ensures.app))
-    (ap (λ (a : App). a.top) c.in_ok-explain_command.ensures.app))
-    c.subcommand-8.ensures
+    let with_run = with_subcommand program run.top in
+    let with_shell = with_subcommand with_run shell.top in
+    let with_serve = with_subcommand with_shell serve.top in
+    let with_turn = with_subcommand with_serve turn.top in
+    let with_show = with_subcommand with_turn show_policy.top in
+    let with_certify = with_subcommand with_show certify.top in
+    let with_check = with_subcommand with_certify check.top in
+    c.with_command.ensures with_check explain
+    (c.with_command-line-7.ensures with_certify check
+    (c.with_command-line-6.ensures with_show certify
+    (c.with_command-line-5.ensures with_turn show_policy
+    (c.with_command-line-4.ensures with_serve turn
+    (c.with_command-line-3.ensures with_shell serve
+    (c.with_command-line-2.ensures with_run shell
+    (c.with_command-line.ensures program run (c.program.ensures.app, c.program.ensures.local) c.run_command.ensures)
+    c.shell_command.ensures)
+    c.serve_command.ensures)
+    c.turn_command.ensures)
+    c.show_command.ensures)
+    c.certify_command.ensures)
+    c.check_command.ensures)
+    c.explain_command.ensures

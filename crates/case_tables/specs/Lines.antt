@@ -1,7 +1,8 @@
 -- Tables of cases: their lines, and texts that are made of lines.
-use Rattle.std.specs.Prelude.{◌≡◌, ℕ, IsTrue, ◌==◌, Bool, true, not, ◌&&◌, List, [], ◌∷◌, ◌++◌, drop, length, eqb, codes, if◌then◌else◌}
+use Rattle.std.specs.Prelude.{◌≡◌, ℕ, IsTrue, ◌==◌, Bool, true, not, ◌&&◌, List, [], ◌∷◌, ◌++◌, drop, length, eqb}
+use Rattle.std.specs.Prelude.{codes, if◌then◌else◌, take_while}
 use Rattle.std.specs.Borrow.{Bor}
-use Rattle.std.specs.List.{starts_with, take_while}
+use Rattle.std.specs.List.{starts_with}
 
 -- a line that two blanks begin belongs to the case above it
 abbrev pub is_inner : List ℕ → Bool

@@ -1,9 +1,9 @@
 //! How a table stands in its file.
-ghost use Rattle.std.specs.Prelude.{◌≡◌, ◌↔◌, List, ◌∷◌, ◌++◌, map, string_bytes, true, false, codes, IfOk, IfSome, IsSome, OnOk, IsUtf8};
-ghost use Rattle.std.specs.List.{flat_map, take_while};
+ghost use Rattle.std.specs.Prelude.{◌≡◌, ◌↔◌, ◌++◌, map, string_bytes, codes, IfOk, IfSome, IsSome, OnOk, IsUtf8};
+ghost use Rattle.std.specs.Prelude.{flat_map, take_while};
 ghost use Rattle.std.specs.Str.Lines.{lines as lines_of};
 ghost use Rattle.percent_encoding.specs.Percent.{percent_decode as decoded};
-ghost use Rattle.case_tables.specs.Lines.{is_inner, inner_of, begins_case, ended, indented_line, unbarred, IsCase, BeginsCase};
+ghost use Rattle.case_tables.specs.Lines.{is_inner, inner_of, ended, indented_line, unbarred, IsCase, BeginsCase};
 
 use percent_encoding::percent_decode;
 use std::alloc::{AllocError, Global};

@@ -1,6 +1,5 @@
 //! What is told of cases.
-ghost use Rattle.std.specs.Prelude.{◌≡◌, true, false, [], string_bytes, IsOk, IfOk};
-ghost use Rattle.std.specs.List.{flat_map};
+ghost use Rattle.std.specs.Prelude.{◌≡◌, true, false, [], string_bytes, IsOk, IfOk, flat_map};
 ghost use Rattle.std.specs.Str.Lines.{lines as lines_of};
 ghost use Rattle.case_tables.specs.Lines.{ended, indented_line};
 ghost use Rattle.case_tables.specs.Told.{IsAdded};

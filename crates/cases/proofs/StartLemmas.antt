@@ -1,6 +1,5 @@
 -- What evaluations begin with: an empty database, and no arguments.
-use Rattle.std.proofs.Common.{◌≡◌, ℕ, suc, true, false, List, [], ◌∷◌, ◌++◌, length, Option, Some, None, sym, subst, arith}
-use Rattle.std.specs.Option.{IfSome, option_to_list}
+use Rattle.std.proofs.Common.{◌≡◌, ℕ, suc, true, false, List, [], ◌∷◌, ◌++◌, length, Option, Some, None, sym, subst, arith, IfSome, option_to_list}
 use Rattle.std.specs.List.{AllByRecursion, AllZip}
 use Rattle.mls_lattice.specs.Labels.{Labels}
 use Rattle.mls_scheme.specs.Scheme.{Schemes}

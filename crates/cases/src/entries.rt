@@ -1,6 +1,5 @@
 //! Entries of the audit list in hexadecimal, and what a level sees of them.
-ghost use Rattle.std.specs.Prelude.{◌<◌, length};
-ghost use Rattle.std.specs.Option.{IfSome};
+ghost use Rattle.std.specs.Prelude.{◌<◌, length, IfSome};
 ghost use Rattle.std.specs.List.{AllByRecursion};
 ghost use Rattle.mls_audit.specs.Entry.{label_of as label_in};
 ghost use Rattle.mls_audit.specs.Spelling.{HasSpelling};

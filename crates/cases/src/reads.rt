@@ -63,8 +63,8 @@ impl Broken {
 }
 
 impl Base for Broken {
-    ghost use Rattle.std.specs.Prelude.{ℕ, false};
-    ghost use Rattle.mls_filterview.specs.Content.{State, no_content};
+    ghost use Rattle.std.specs.Prelude.{false};
+    ghost use Rattle.mls_filterview.specs.Content.{no_content};
 
     ghost state = { λ _. record { now = no_content; kept = no_content; begun = false } };
 

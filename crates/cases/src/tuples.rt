@@ -1,6 +1,5 @@
 //! Tuples in one line each, as `Enterprise U | Spying S | - U`: the key, its class, and elements with their classes.
-ghost use Rattle.std.specs.Prelude.{◌<◌, length};
-ghost use Rattle.std.specs.Option.{IfSome};
+ghost use Rattle.std.specs.Prelude.{◌<◌, length, IfSome};
 ghost use Rattle.std.specs.List.{AllByRecursion};
 ghost use Rattle.mls_scheme.specs.Tuple.{HasClassesBelow};
 

@@ -1,8 +1,6 @@
 -- What is written of control characters.
-use Rattle.std.proofs.Common.{◌≡◌, ℕ, List, ◌<◌, ◌-◌, ◌^◌, ◌∙◌, true, false, [], ◌++◌, ap, length, arith}
-use Rattle.std.specs.Prelude.{codes, chars, IsUtf8}
-use Rattle.std.specs.List.{flat_map}
-use Rattle.std.specs.Char.{is_control, encode_utf8}
+use Rattle.std.proofs.Common.{◌≡◌, ℕ, List, ◌<◌, ◌-◌, ◌^◌, ◌∙◌, true, false, [], ◌++◌, ap, length, arith, codes, chars, IsUtf8, flat_map, encode_utf8}
+use Rattle.std.specs.Char.{is_control}
 use Rattle.std.specs.Fmt.{digits, padded_integral, format_spec}
 use Rattle.std.proofs.lemmas.Fmt.{hex_byte}
 use Rattle.std.proofs.lemmas.Str.{chars_past_char, chars-nil}

@@ -1,8 +1,7 @@
 -- The line with which what is told of a place in a file begins.
-use Rattle.std.specs.Prelude.{◌≡◌, ℕ, Bool, if◌then◌else◌, List, ◌++◌, codes, chars, Option, Some, None}
-use Rattle.std.specs.List.{flat_map}
-use Rattle.std.specs.Char.{is_control, encode_utf8}
-use Rattle.std.specs.Fmt.{decimal}
+use Rattle.std.specs.Prelude.{◌≡◌, ℕ, if◌then◌else◌, List, ◌++◌, codes, chars, Option, Some, None, flat_map}
+use Rattle.std.specs.Prelude.{encode_utf8, decimal}
+use Rattle.std.specs.Char.{is_control}
 use Rattle.mls_tokens.specs.Screen.{hex_escape}
 
 -- a character as a screen is given it

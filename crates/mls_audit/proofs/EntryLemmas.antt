@@ -1,10 +1,7 @@
 -- An entry that is read is spelled so, and what is spelled so is read again.
-use Rattle.std.proofs.Common.{◌≡◌, ℕ, zero, suc, ◌+◌, ◌<◌, ◌≤◌, false, cond, nat_lt, ◌==◌, List, [], ◌∷◌, ◌++◌, length, take, drop, Option, None, Some, Result, Ok, Err, refl, sym, ap, subst, ◌∙◌, append_assoc, arith}
-use Rattle.std.specs.Prelude.{IfOk, IsUtf8}
-use Rattle.std.specs.Option.{IfSome}
+use Rattle.std.proofs.Common.{◌≡◌, ℕ, zero, suc, ◌+◌, ◌<◌, ◌≤◌, false, cond, nat_lt, ◌==◌, List, [], ◌∷◌, ◌++◌, length, take, drop, Option, None, Some, Result, Ok, Err, refl, sym, ap, subst, ◌∙◌, append_assoc, arith, IfOk, IsUtf8, IfSome, ltb-false, le-ltb, eqb-true, take_at, drop_at, take-append-drop, length-append, length-take, get_or-drop, append-nil}
 use Rattle.std.specs.Str.{is_utf8}
-use Rattle.std.proofs.lemmas.Bool.{ltb-false, le-ltb, eqb-true}
-use Rattle.std.proofs.lemmas.List.{take_at, drop_at, take-append-drop, length-append, length-take, get_or-drop, append-nil, nil_from_length}
+use Rattle.std.proofs.lemmas.List.{nil_from_length}
 use Rattle.std.proofs.lemmas.Str.{IsUtf8-from_is_utf8}
 use Rattle.mls_scheme.specs.declared.value.Value.{Value}
 use Rattle.mls_scheme.specs.declared.value.Value.TheVariants.{Int, Text}
@@ -164,12 +161,10 @@ released_takes bytes x fits e =
 
 front_takes : (bytes : List ℕ) (x : Entry × List ℕ) → IsBytes bytes → front_at bytes ≡ Ok x → TakesEntry bytes x.0 x.1
 unfolding front_at
-front_takes [] x fits e = absurd cc
-front_takes (zero ∷ bytes) x fits e = absurd cc
 front_takes (suc zero ∷ bytes) x fits e = called_takes bytes x (λ i. fits (suc i)) e
 front_takes (suc (suc zero) ∷ bytes) x fits e = denied_takes bytes x (λ i. fits (suc i)) e
 front_takes (suc (suc (suc zero)) ∷ bytes) x fits e = released_takes bytes x (λ i. fits (suc i)) e
-front_takes (suc (suc (suc (suc tag))) ∷ bytes) x fits e = absurd cc
+front_takes _ x fits e = absurd cc
 
 -- the head that is read again, before what follows it
 again : {A : Type 0} (h : Head) (text rest : List ℕ) (next : Head × List ℕ → Result A KeyFault) → IsHead h.label h.user h.session → (head_at (h.label ∷ ((names h ++ text) ++ rest)) >>= next) ≡ next (h, text ++ rest)

@@ -1,6 +1,5 @@
 -- Entries of the audit list, and which of them a level sees.
-use Rattle.std.specs.Prelude.{ℕ, List}
-use Rattle.std.specs.List.{filter}
+use Rattle.std.specs.Prelude.{ℕ, List, filter}
 use Rattle.mls_lattice.specs.Labels.{Labels, below}
 use Rattle.mls_audit.specs.declared.entry.Entry.{Entry}
 use Rattle.mls_audit.specs.declared.entry.Entry.TheVariants.{Called, Denied, Released}

@@ -3,7 +3,8 @@ ghost use Rattle.std.specs.Prelude.{◌≡◌, IfOk, Ok};
 ghost use Rattle.mls_scheme.specs.KeyReading.{Gives, utf8_at, value_at};
 ghost use Rattle.mls_audit.specs.declared.entry.Entry.{Entry as SpecEntry};
 ghost use Rattle.mls_audit.specs.Spelling.{entry_spelling, HasSpelling};
-ghost use Rattle.mls_audit.specs.Reading.{byte_at, name_at, head_at, nullable_at, called_at, denied_at, released_at, front_at, entry_at};
+ghost use Rattle.mls_audit.specs.Reading.{byte_at, name_at, head_at, nullable_at, called_at, denied_at, released_at};
+ghost use Rattle.mls_audit.specs.Reading.{front_at, entry_at};
 
 use crate::entry::Entry;
 use mls_lattice::{LabelNo, Str};

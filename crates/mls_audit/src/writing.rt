@@ -1,8 +1,8 @@
 //! An entry is a tag, what every entry has, and what it tells: a name, a code or a value.
-ghost use Rattle.std.specs.Prelude.{◌≡◌, ◌++◌, OnOk, IfOk, IsUtf8};
-ghost use Rattle.std.specs.Option.{IfSome};
+ghost use Rattle.std.specs.Prelude.{◌≡◌, ◌++◌, OnOk, IfOk, IsUtf8, IfSome};
 ghost use Rattle.mls_scheme.specs.Spelling.{IsValue, IsShort as IsShortValue};
-ghost use Rattle.mls_audit.specs.Spelling.{name_spelling, head_spelling, nullable_spelling, entry_spelling, IsShortName, IsHead, IsEntry, IsShort};
+ghost use Rattle.mls_audit.specs.Spelling.{name_spelling, head_spelling, nullable_spelling, entry_spelling};
+ghost use Rattle.mls_audit.specs.Spelling.{IsShortName, IsHead, IsEntry, IsShort};
 
 use crate::entry::Entry;
 use mls_lattice::{LabelNo, Str};

@@ -1,10 +1,8 @@
 -- The numbers in a label.
-use Rattle.std.proofs.Common.{◌≡◌, ℕ, ◌<◌, true, not, ◌==◌, nat_lt, List, [], ◌∷◌, length, Result, Ok, Err, refl, sym, ap, rules, arith}
-use Rattle.std.specs.Prelude.{MatchResult}
-use Rattle.std.specs.Str.{IsAscii}
+use Rattle.std.proofs.Common.{◌≡◌, ℕ, ◌<◌, true, not, ◌==◌, nat_lt, List, [], ◌∷◌, length, Result, Ok, Err, refl, sym, ap, rules, arith, MatchResult, IsAscii, lt-ltb, ltb-true}
 use Rattle.std.specs.Str.Parse.{digits_value, ParsesUnsigned}
 use Rattle.std.specs.Char.{is_ascii_digit}
-use Rattle.std.proofs.lemmas.Bool.{and_parts, lt-ltb, ltb-true, false_from_ne_true}
+use Rattle.std.proofs.lemmas.Bool.{and_parts, false_from_ne_true}
 use Rattle.std.proofs.lemmas.Str.Parse.{IsNumeralModel, IsDigitsTest, numerals_by_value, parse_digits}
 use Rattle.mls_lattice.proofs.AsciiLemmas.{digit_small, all_ascii}
 use Rattle.mls_certcheck.specs.declared.fault.CertCause.TheVariants.{Label as BadLabel}

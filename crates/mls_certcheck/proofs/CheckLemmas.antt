@@ -1,7 +1,6 @@
 -- What the checker's answer says.
-use Rattle.std.proofs.Common.{◌≡◌, ℕ, zero, suc, ◌+◌, ◌<◌, Bool, true, false, cond, ◌&&◌, List, [], ◌∷◌, drop, Some, Result, Ok, Err, refl, sym, ap, ◌∙◌, arith}
-use Rattle.std.specs.Prelude.{◌↔◌, IfOk, option_map, slice_get}
-use Rattle.std.specs.List.{flat_map, list_all}
+use Rattle.std.proofs.Common.{◌≡◌, ℕ, zero, suc, ◌+◌, ◌<◌, Bool, true, false, cond, ◌&&◌, List, [], ◌∷◌, drop, Some, Result, Ok, Err, refl, sym, ap, ◌∙◌, arith, ◌↔◌, IfOk, option_map, slice_get, flat_map}
+use Rattle.std.specs.List.{list_all}
 use Rattle.mls_lattice.specs.Labels.{AreDistinct}
 use Rattle.mls_lattice.specs.Policy.{Name, Policy, labels_of}
 use Rattle.mls_translang.specs.declared.tx.Parameter.{Parameter}

@@ -1,6 +1,6 @@
 -- What holds of each element of a list.
-use Rattle.std.proofs.Common.{◌≡◌, ℕ, zero, suc, ◌+◌, ◌<◌, refl, List, [], ◌∷◌, ◌++◌, length, take, get_or, set, arith}
-use Rattle.std.specs.List.{flat_map, AllByRecursion}
+use Rattle.std.proofs.Common.{◌≡◌, ℕ, zero, suc, ◌+◌, ◌<◌, refl, List, [], ◌∷◌, ◌++◌, length, take, get_or, arith, flat_map}
+use Rattle.std.specs.List.{AllByRecursion}
 
 pub all_both : {A : Type 0} (P : A → Type 0) (xs ys : List A) → AllByRecursion P xs → AllByRecursion P ys → AllByRecursion P (xs ++ ys)
 all_both P [] ys h k = k
@@ -41,11 +41,6 @@ pub all_take : {A : Type 0} (P : A → Type 0) (xs : List A) (i : ℕ) → AllBy
 all_take P xs zero h = tt
 all_take P [] (suc i) h = tt
 all_take P (x ∷ xs) (suc i) h = (h.0, all_take P xs i h.1)
-
-pub all_set : {A : Type 0} (P : A → Type 0) (xs : List A) (i : ℕ) (y : A) → AllByRecursion P xs → P y → AllByRecursion P (set xs i y)
-all_set P [] i y h k = h
-all_set P (x ∷ xs) zero y h k = (k, h.1)
-all_set P (x ∷ xs) (suc i) y h k = (h.0, all_set P xs i y h.1 k)
 
 pub length_more : {A : Type 0} (xs : List A) (x : A) → length (xs ++ x ∷ []) ≡ length xs + 1
 length_more [] x = refl

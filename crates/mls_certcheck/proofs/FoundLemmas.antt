@@ -1,17 +1,13 @@
 -- What is read of a line is labels, and the text is their own.
-use Rattle.std.proofs.Common.{◌≡◌, ℕ, zero, suc, ◌+◌, ◌-◌, ◌*◌, ◌/◌, ◌%◌, ◌<◌, ◌≤◌, ◌^◌, Bool, true, false, cond, not, ◌||◌, ◌&&◌, ◌==◌, nat_lt, nat_le, List, [], ◌∷◌, ◌++◌, length, map, take, drop, get_or, codes, Ok, refl, sym, ap, subst, ◌∙◌, append_assoc, arith, eq-eqb, eqb-true, ltb-true, ltb-false}
-use Rattle.std.specs.Prelude.{slice_index}
+use Rattle.std.proofs.Common.{◌≡◌, ℕ, zero, suc, ◌+◌, ◌-◌, ◌*◌, ◌/◌, ◌%◌, ◌<◌, ◌≤◌, ◌^◌, Bool, true, false, cond, not, ◌||◌, ◌&&◌, ◌==◌, nat_lt, nat_le, List, [], ◌∷◌, ◌++◌, length, map, take, drop, get_or, codes, Ok, refl, sym, ap, subst, ◌∙◌, append_assoc, arith, eq-eqb, eqb-true, ltb-true, ltb-false, slice_index, decimal, w32, flat_map, bytes_eq, le-ltb, lt-ltb, append-nil}
 use Rattle.std.specs.Char.{is_ascii_digit, digit_char}
 use Rattle.std.specs.Cmp.Lexicographic.{bytes_decides}
-use Rattle.std.specs.Fmt.{decimal}
-use Rattle.std.specs.Int.{w32, to_be_bytes, from_be_bytes}
-use Rattle.std.specs.List.{AllByRecursion, flat_map, join_with_byte}
-use Rattle.std.specs.Str.{bytes_eq}
+use Rattle.std.specs.Int.{to_be_bytes, from_be_bytes}
+use Rattle.std.specs.List.{AllByRecursion, join_with_byte}
 use Rattle.std.specs.Str.Parse.{digits_value}
-use Rattle.std.proofs.lemmas.Bool.{and_parts, le-ltb, lt-ltb}
+use Rattle.std.proofs.lemmas.Bool.{and_parts}
 use Rattle.std.proofs.lemmas.Bool.Decides.{nat_tests}
 use Rattle.std.proofs.lemmas.Fmt.{decimal-digits_value}
-use Rattle.std.proofs.lemmas.List.{append-nil}
 use Rattle.std.proofs.lemmas.List.Splits.{join_with_byte-slice_split}
 use Rattle.std.proofs.lemmas.Nat.{be_bytes_4}
 use Rattle.mls_lattice.specs.declared.label.Label.{Label}
@@ -99,14 +95,6 @@ small_4 a b c d a' b' c' d' (suc (suc (suc (suc i)))) = omega arith
 
 bytes_found : (line : ℕ) (text bs : List ℕ) → length text ≡ 8 → bytes_in line text ≡ Ok bs → BytesFound text bs
 unfolding bytes_in
-bytes_found line [] bs l e = absurd (omega arith)
-bytes_found line (p ∷ []) bs l e = absurd (omega arith)
-bytes_found line (p ∷ q ∷ []) bs l e = absurd (omega arith)
-bytes_found line (p ∷ q ∷ r ∷ []) bs l e = absurd (omega arith)
-bytes_found line (p ∷ q ∷ r ∷ s ∷ []) bs l e = absurd (omega arith)
-bytes_found line (p ∷ q ∷ r ∷ s ∷ t ∷ []) bs l e = absurd (omega arith)
-bytes_found line (p ∷ q ∷ r ∷ s ∷ t ∷ u ∷ []) bs l e = absurd (omega arith)
-bytes_found line (p ∷ q ∷ r ∷ s ∷ t ∷ u ∷ v ∷ []) bs l e = absurd (omega arith)
 bytes_found line (p ∷ q ∷ r ∷ s ∷ t ∷ u ∷ v ∷ w ∷ []) bs l e =
     let a = bind_ok (byte_in line p q) _ bs e in
     let b = bind_ok (byte_in line r s) _ bs a.2 in
@@ -121,7 +109,7 @@ bytes_found line (p ∷ q ∷ r ∷ s ∷ t ∷ u ∷ v ∷ w ∷ []) bs l e =
       small = small_4 a.0 b.0 c.0 d.0 af.small bf.small cf.small df.small;
       spelled = λ i. af.text i ++ bf.text i ++ cf.text i ++ df.text i;
     })
-bytes_found line (p ∷ q ∷ r ∷ s ∷ t ∷ u ∷ v ∷ w ∷ x ∷ more) bs l e = absurd (omega arith)
+bytes_found line _ bs l e = absurd (omega arith)
 
 below_32 : (bs : List ℕ) → length bs ≡ 4 → ((i : ℕ) → get_or bs i 0 < 256) → from_be_bytes w32 bs < 2 ^ 32
 below_32 bs four small = omega (arith, small 0, small 1, small 2, small 3)

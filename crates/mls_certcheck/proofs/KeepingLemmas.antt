@@ -1,10 +1,8 @@
 -- One run of a block: it keeps the stored form, and releases are added at the end.
-use Rattle.std.proofs.Common.{◌≡◌, ℕ, ◌<◌, Bool, true, false, cond, List, [], ◌∷◌, ◌++◌, length, Option, refl, sym, ap, ◌∙◌, subst, append_assoc}
+use Rattle.std.proofs.Common.{◌≡◌, ℕ, ◌<◌, Bool, true, false, cond, List, [], ◌∷◌, ◌++◌, length, Option, refl, sym, ap, ◌∙◌, subst, append_assoc, nat_eq, eqb-true, append-nil}
 use Rattle.std.proofs.SliceLists.{all_by_recursion_push}
-use Rattle.std.specs.Prelude.{nat_eq}
 use Rattle.std.specs.List.{AllByRecursion}
-use Rattle.std.proofs.lemmas.Bool.{eqb-true}
-use Rattle.std.proofs.lemmas.List.{append-nil, length-map}
+use Rattle.std.proofs.lemmas.List.{length-map}
 use Rattle.mls_lattice.specs.Labels.{Labels, AreDistinct}
 use Rattle.mls_lattice.specs.Policy.{Policy, labels_of}
 use Rattle.mls_scheme.specs.declared.value.Value.{Value}
@@ -89,10 +87,8 @@ extends_not s = record { more = []; is = sym (append-nil s.released) }
 module _ (ls : Labels) (schemes : Schemes) (args : List (Option Value)) where
   pub perform_extends : (around : List Tuple) (stmt : Stmt) (s : Progress) → Extends s (perform ls schemes args around stmt s)
   unfolding perform
-  perform_extends around (Assign x e) s = record { more = []; is = sym (append-nil s.released) }
-  perform_extends around (Write_at relation w writing outcome) s = record { more = []; is = sym (append-nil s.released) }
   perform_extends around (Release e to into) s = record { more = _; is = refl }
-  perform_extends around (Emit e label) s = record { more = []; is = sym (append-nil s.released) }
+  perform_extends around _ s = record { more = []; is = sym (append-nil s.released) }
 
   pub block_extends : (block : Block) (around : List Tuple) (s : Progress) → Extends s (run_block ls schemes args block around s)
   unfolding run_block
@@ -124,14 +120,12 @@ module _ (policy : Policy) (schemes : Schemes) (hi : ℕ) where
   module _ (distinct : AreDistinct (labels_of policy)) (args : List (Option Value)) where
     pub perform_stored : (scope : Scope) (around : List Tuple) (stmt : Stmt) (s : Progress) → StmtFits policy schemes hi scope stmt → AreStored ls schemes s.db → AreStored ls schemes (perform ls schemes args around stmt s).db
     unfolding perform
-    perform_stored scope around (Assign x e) s f h = h
     perform_stored scope around (Write_at relation w writing outcome) s f h =
         let wr = write_in (environment args around s) writing in
         let n = length (scheme_of schemes relation).others in
         table_holds (λ r T. IsStored ls (length (scheme_of schemes r).others) T) s.db relation (write ls (scheme_of schemes relation) w wr (s.db relation)).table h
         (keep_form ls distinct (scheme_of schemes relation) n w (s.db relation) (h relation) wr (write_fits scope w (scheme_of schemes relation) (environment args around s) writing f.1 f.2))
-    perform_stored scope around (Release e to into) s f h = h
-    perform_stored scope around (Emit e label) s f h = h
+    perform_stored scope around _ s f h = h
 
     pub block_stored : (scope : Scope) (block : Block) → BlockFits policy schemes hi scope block → (around : List Tuple) (s : Progress) → AreStored ls schemes s.db → AreStored ls schemes (run_block ls schemes args block around s).db
     unfolding run_block

@@ -1,11 +1,9 @@
 -- A call keeps kinds and intervals, and what it gives has labels and kinds.
-use Rattle.std.proofs.Common.{◌≡◌, ℕ, zero, suc, ◌-◌, ◌<◌, true, false, cond, List, [], ◌∷◌, length, map, Option, Some, None, refl, sym, ap, ◌∙◌, subst, arith, inl, inr, ℤ}
+use Rattle.std.proofs.Common.{◌≡◌, ℕ, zero, suc, ◌-◌, ◌<◌, true, false, cond, List, [], ◌∷◌, length, map, Option, Some, None, refl, sym, ap, ◌∙◌, subst, arith, inl, inr, ℤ, ◌⊎◌, nat_eq, nat_lt, slice_index_or, pos, ◌+ℤ◌, ◌-ℤ◌, ◌*ℤ◌, IfSome, eqb-true, ltb-true, ltb-false}
 use Rattle.std.proofs.SliceLists.{all_by_recursion_push}
-use Rattle.std.specs.Prelude.{◌⊎◌, nat_eq, nat_lt, slice_index_or, pos, ◌+ℤ◌, ◌-ℤ◌, ◌*ℤ◌}
 use Rattle.std.specs.List.{AllZip, AllByRecursion}
-use Rattle.std.specs.Option.{IfSome}
 use Rattle.std.specs.FinMap.{get}
-use Rattle.std.proofs.lemmas.Bool.{cases_Bool, eqb-true, ltb-true, ltb-false}
+use Rattle.std.proofs.lemmas.Bool.{cases_Bool}
 use Rattle.std.proofs.lemmas.List.{get_or-map, get_or_past}
 use Rattle.std.proofs.lemmas.Option.{same_Some}
 use Rattle.std.proofs.lemmas.Slice.Zip.{AllZip-long}
@@ -14,7 +12,7 @@ use Rattle.mls_lattice.specs.Policy.{Name, Policy, labels_of}
 use Rattle.mls_scheme.specs.declared.value.Kind.{Kind}
 use Rattle.mls_scheme.specs.declared.value.Kind.TheVariants as kinds
 use Rattle.mls_scheme.specs.declared.value.Value.{Value}
-use Rattle.mls_scheme.specs.declared.value.Value.TheVariants.{Int, Text}
+use Rattle.mls_scheme.specs.declared.value.Value.TheVariants.{Int}
 use Rattle.mls_scheme.specs.declared.tuple.Element.{Element}
 use Rattle.mls_scheme.specs.declared.tuple.Tuple.{Tuple}
 use Rattle.mls_scheme.specs.declared.place.Place.{Place}
@@ -28,13 +26,13 @@ use Rattle.mls_filterview.specs.View.{rows}
 use Rattle.mls_filterview.specs.Stored.{IsContent, AreContent}
 use Rattle.mls_filterview.proofs.RowLemmas.{rows_are_the_view}
 use Rattle.mls_updates.specs.declared.outcome.Outcome.{Outcome}
-use Rattle.mls_updates.specs.declared.outcome.Outcome.TheVariants.{Done, KeyNull, Duplicate, NoTuple, NullAboveKey, Inherited, OutOfInterval, AlreadyDerived}
+use Rattle.mls_updates.specs.declared.outcome.Outcome.TheVariants.{Done}
 use Rattle.mls_updates.specs.Outcome.{code_of}
 use Rattle.mls_updates.specs.Writes.{WriteKinds, write}
 use Rattle.mls_updates.proofs.FittingLemmas.{zip_at}
 use Rattle.mls_updates.proofs.LawLemmas.{keep_content}
 use Rattle.mls_translang.specs.declared.operator.Operator.TheVariants as operators
-use Rattle.mls_translang.specs.Tree.{Expr, Known, Null, Var, Param, Field, No, Op, Writing, Insert, Update, Delete, Stmt, Assign, Write_at, Release, Emit, Block, End, Do, If, For}
+use Rattle.mls_translang.specs.Tree.{Expr, Known, Null, Var, Param, Field, Op, Writing, Insert, Update, Delete, Stmt, Assign, Write_at, Release, Emit, Block, End, Do, If, For}
 use Rattle.mls_translang.specs.Scope.{Scope, in_loop, row_at, kind_of_var, kind_of_param}
 use Rattle.mls_translang.specs.Kinds.{Sort, Of, Truth, field_of, HasKind, HaveKinds, WritingKinds, Assigns, StmtKinds, BlockKinds}
 use Rattle.mls_translang.specs.Fits.{StmtFits, BlockFits}
@@ -50,11 +48,8 @@ bounded_kind : (n : ℤ) → fits_kind (bounded n) kinds.Int ≡ true
 bounded_kind n = elim (is_signed n) as (λ b. is_signed n ≡ b → fits_kind (cond b (Some (Int n)) None) kinds.Int ≡ true) [ true ↦ λ e. e | false ↦ λ e. refl ] refl
 
 calculated_kind : (f : ℤ → ℤ → ℤ) (a b : Option Value) → fits_kind (calculate f a b) kinds.Int ≡ true
-calculated_kind f None b = refl
-calculated_kind f (Some (Text s)) b = refl
-calculated_kind f (Some (Int n)) None = refl
-calculated_kind f (Some (Int n)) (Some (Text s)) = refl
 calculated_kind f (Some (Int n)) (Some (Int m)) = bounded_kind (f n m)
+calculated_kind f _ _ = refl
 
 -- the kind of a sort that is one
 kind_in : Sort → Kind → Kind
@@ -114,13 +109,7 @@ set_kind scope x v vars h f i k e =
 code_kind : (o : Outcome) → fits_kind (Some (Int (pos (code_of o)))) kinds.Int ≡ true
 unfolding is_signed
 code_kind Done = refl
-code_kind KeyNull = refl
-code_kind Duplicate = refl
-code_kind NoTuple = refl
-code_kind NullAboveKey = refl
-code_kind Inherited = refl
-code_kind OutOfInterval = refl
-code_kind AlreadyDerived = refl
+code_kind _ = refl
 
 pub outcome_kind : (scope : Scope) (outcome : Option ℕ) (o : Outcome) (vars : Variables) → IfSome outcome (λ x. kind_of_var scope x ≡ Some kinds.Int) → VarsFit scope vars → VarsFit scope (set_outcome outcome o vars)
 outcome_kind scope None o vars f h = h
@@ -143,18 +132,10 @@ module _ (policy : Policy) (schemes : Schemes) (hi : ℕ) where
   value_kind scope env h k (Var i) s = h.vars i k (s.2 ∙ ap Some (sym (same_kind k s.0 s.1)))
   value_kind scope env h k (Param i) s = h.params i k (s.2 ∙ ap Some (sym (same_kind k s.0 s.1)))
   value_kind scope env h k (Field d i) s = subst (λ j. fits_kind (cell_of (slice_index_or env.rows d no_tuple) i) j ≡ true) (sym (same_kind k _ s)) (h.rows d i)
-  value_kind scope env h k (No e) s = absurd (not_truth k s.0)
   value_kind scope env h k (Op operators.Plus a b) s = subst (λ j. fits_kind (calculate ◌+ℤ◌ (value_in env a) (value_in env b)) j ≡ true) (sym (same_kind k kinds.Int s.0)) (calculated_kind ◌+ℤ◌ (value_in env a) (value_in env b))
   value_kind scope env h k (Op operators.Minus a b) s = subst (λ j. fits_kind (calculate ◌-ℤ◌ (value_in env a) (value_in env b)) j ≡ true) (sym (same_kind k kinds.Int s.0)) (calculated_kind ◌-ℤ◌ (value_in env a) (value_in env b))
   value_kind scope env h k (Op operators.Times a b) s = subst (λ j. fits_kind (calculate ◌*ℤ◌ (value_in env a) (value_in env b)) j ≡ true) (sym (same_kind k kinds.Int s.0)) (calculated_kind ◌*ℤ◌ (value_in env a) (value_in env b))
-  value_kind scope env h k (Op operators.Equal a b) s = absurd (not_truth k s.0)
-  value_kind scope env h k (Op operators.Unequal a b) s = absurd (not_truth k s.0)
-  value_kind scope env h k (Op operators.Less a b) s = absurd (not_truth k s.0)
-  value_kind scope env h k (Op operators.AtMost a b) s = absurd (not_truth k s.0)
-  value_kind scope env h k (Op operators.Greater a b) s = absurd (not_truth k s.0)
-  value_kind scope env h k (Op operators.AtLeast a b) s = absurd (not_truth k s.0)
-  value_kind scope env h k (Op operators.And a b) s = absurd (not_truth k s.0)
-  value_kind scope env h k (Op operators.Or a b) s = absurd (not_truth k s.0)
+  value_kind scope env h k _ s = absurd (not_truth k s.0)
 
   pub values_kinds : (scope : Scope) (env : Environment) → EnvironmentFits scope env → (attributes : List Attribute) (es : List Expr) → HaveKinds schemes scope attributes es → AllZip (λ a v. fits_kind v a.1.kind ≡ true) attributes (map (value_in env) es)
   values_kinds scope env h [] [] z = tt

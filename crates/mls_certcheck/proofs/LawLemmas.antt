@@ -1,7 +1,6 @@
 -- The rules of certificates imply security.
-use Rattle.std.proofs.Common.{◌≡◌, ℕ, true, false, List, [], length, Option, None, refl, sym, ◌∙◌, arith, inl, inr}
-use Rattle.std.specs.Prelude.{nat_lt, slice_index_or}
-use Rattle.std.proofs.lemmas.Bool.{cases_Bool, ltb-true, ltb-false}
+use Rattle.std.proofs.Common.{◌≡◌, ℕ, true, false, List, [], length, Option, None, refl, sym, ◌∙◌, arith, inl, inr, nat_lt, slice_index_or, ltb-true, ltb-false}
+use Rattle.std.proofs.lemmas.Bool.{cases_Bool}
 use Rattle.std.proofs.lemmas.List.{get_or_past}
 use Rattle.mls_lattice.specs.Lattice.{◌⊑◌}
 use Rattle.mls_lattice.specs.Labels.{label_of}

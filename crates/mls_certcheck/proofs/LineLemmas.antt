@@ -1,8 +1,6 @@
 -- What the lines of a statement say of the labels of its parts.
-use Rattle.std.proofs.Common.{ℕ, ◌+◌, ◌<◌, List, [], ◌∷◌, ◌++◌, length, map, Option, Some, None}
-use Rattle.std.specs.Prelude.{slice_index}
-use Rattle.std.specs.List.{flat_map, AllByRecursion}
-use Rattle.std.specs.Option.{IfSome}
+use Rattle.std.proofs.Common.{ℕ, ◌+◌, ◌<◌, List, [], ◌∷◌, ◌++◌, length, map, Option, Some, None, slice_index, flat_map, IfSome}
+use Rattle.std.specs.List.{AllByRecursion}
 use Rattle.mls_lattice.specs.Lattice.{Pair, Dominates, join, bottom}
 use Rattle.mls_lattice.specs.Labels.{label_of}
 use Rattle.mls_lattice.proofs.LatticeLemmas.{join-least}
@@ -32,14 +30,12 @@ module _ (c : Claim) where
   over_names : (b : ℕ) (rows : List ℕ) (e : Expr) (p : Pair) → IsOver c p (names b rows e) → Dominates p (lab b rows e)
   over_names b rows (Known v) p h = above_bottom p
   over_names b rows Null p h = above_bottom p
-  over_names b rows (Var x) p h = h.0
-  over_names b rows (Param i) p h = h.0
-  over_names b rows (Field depth i) p h = h.0
   over_names b rows (No e) p h = over_names b rows e p h
   over_names b rows (Op op l r) p h =
       join-least (lab b rows l) (lab b rows r) p
       (over_names b rows l p (all_front (λ s. Dominates p (source_label c s)) (names b rows l) (names b rows r) h))
       (over_names b rows r p (all_back (λ s. Dominates p (source_label c s)) (names b rows l) (names b rows r) h))
+  over_names b rows _ p h = h.0
 
   -- what a variable holds after the one statement, it may hold after the other
   abbrev pub Keeps : ℕ → ℕ → Type 0

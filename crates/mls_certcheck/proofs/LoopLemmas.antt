@@ -1,8 +1,7 @@
 -- The labels of the loops around a statement.
-use Rattle.std.proofs.Common.{◌≡◌, ℕ, suc, ◌+◌, ◌-◌, ◌<◌, ◌≤◌, List, [], ◌∷◌, length, take, set, get_or, ap, ◌∙◌, arith}
-use Rattle.std.specs.Prelude.{reverse}
+use Rattle.std.proofs.Common.{◌≡◌, ℕ, suc, ◌+◌, ◌-◌, ◌<◌, ◌≤◌, List, [], ◌∷◌, length, take, set, get_or, ap, ◌∙◌, arith, reverse, get_or-take, length-take}
 use Rattle.std.proofs.Math.Seq.{take-suc-set}
-use Rattle.std.proofs.lemmas.List.{get_or-reverse, get_or_past, get_or-take, length-reverse, length-take, reverse-append}
+use Rattle.std.proofs.lemmas.List.{get_or-reverse, get_or_past, length-reverse, reverse-append}
 
 -- one loop more
 pub one_more : (labels : List ℕ) (count label : ℕ) → count < length labels → reverse (take (count + 1) (set labels count label)) ≡ label ∷ reverse (take count labels)

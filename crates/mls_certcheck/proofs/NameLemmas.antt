@@ -1,6 +1,5 @@
 -- Names of transactions.
-use Rattle.std.proofs.Common.{◌≡◌, ℕ, true, false, List}
-use Rattle.std.specs.Prelude.{IsUtf8}
+use Rattle.std.proofs.Common.{◌≡◌, ℕ, true, false, List, IsUtf8}
 use Rattle.std.specs.List.{list_all}
 use Rattle.std.proofs.lemmas.Bool.{and_parts, false_from_ne_true}
 use Rattle.mls_lattice.specs.Name.{is_name, is_name_byte}

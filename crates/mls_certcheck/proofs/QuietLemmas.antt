@@ -1,10 +1,6 @@
 -- Statements whose label a level does not dominate change nothing that it may see.
-use Rattle.std.proofs.Common.{◌≡◌, ℕ, ◌+◌, true, false, cond, List, [], ◌∷◌, ◌++◌, length, Option, Some, None, refl, sym, ap, ◌∙◌}
+use Rattle.std.proofs.Common.{◌≡◌, ℕ, ◌+◌, true, false, cond, List, [], ◌∷◌, ◌++◌, length, Option, Some, None, refl, sym, ap, ◌∙◌, nat_eq, IfSome, true≢false, eqb-true, ne_eqb, append-nil}
 use Rattle.std.proofs.Recursive.{every_front, every_back}
-use Rattle.std.specs.Prelude.{nat_eq}
-use Rattle.std.specs.Option.{IfSome}
-use Rattle.std.proofs.lemmas.Bool.{true≢false, eqb-true, ne_eqb}
-use Rattle.std.proofs.lemmas.List.{append-nil}
 use Rattle.std.proofs.lemmas.List.Elements.{filter-append}
 use Rattle.mls_lattice.specs.Lattice.{Pair, Dominates, ◌⊑◌, join}
 use Rattle.mls_lattice.specs.Labels.{Labels, label_of, below, AreDistinct}

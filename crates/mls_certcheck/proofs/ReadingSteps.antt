@@ -1,6 +1,6 @@
 -- How lines, rows and blocks follow one another.
-use Rattle.std.proofs.Common.{◌≡◌, ℕ, zero, suc, ◌+◌, ◌-◌, ◌<◌, true, false, List, [], ◌∷◌, ◌++◌, length, map, take, drop, codes, Ok, Err, refl, sym, ap, ◌∙◌, arith, Bor}
-use Rattle.std.proofs.lemmas.List.{drop-map, take_all, length-drop}
+use Rattle.std.proofs.Common.{◌≡◌, ℕ, zero, suc, ◌+◌, ◌-◌, ◌<◌, true, false, List, [], ◌∷◌, ◌++◌, length, map, take, drop, codes, Ok, Err, refl, sym, ap, ◌∙◌, arith, Bor, take_all, length-drop}
+use Rattle.std.proofs.lemmas.List.{drop-map}
 use Rattle.mls_lattice.specs.declared.label.Label.{Label}
 use Rattle.mls_certcheck.specs.declared.fault.CertFault.{CertFault}
 use Rattle.mls_certcheck.specs.Reading.{Block, line_at, is_past_end, rows_at, lines_of, block_at, blocks_at}

@@ -1,7 +1,6 @@
 -- Expressions and writes give the same where the names in them that c sees stand for the same.
-use Rattle.std.proofs.Common.{◌≡◌, ℕ, true, List, [], ◌∷◌, map, None, refl, ap}
+use Rattle.std.proofs.Common.{◌≡◌, ℕ, true, List, [], ◌∷◌, map, None, refl, ap, not, slice_index, slice_index_or}
 use Rattle.std.proofs.Recursive.{every_front, every_back}
-use Rattle.std.specs.Prelude.{not, slice_index, slice_index_or}
 use Rattle.std.specs.List.{AllByRecursion}
 use Rattle.mls_lattice.specs.Lattice.{Pair, Dominates, ◌⊑◌, join}
 use Rattle.mls_lattice.specs.Labels.{label_of}

@@ -1,7 +1,5 @@
 -- How the walk goes from statement to statement.
-use Rattle.std.proofs.Common.{◌≡◌, ℕ, suc, ◌+◌, ◌<◌, ◌≤◌, List, [], ◌∷◌, ◌++◌, length, drop, get_or, Result, refl, sym, ap, ◌∙◌, subst, append_assoc, arith, add-zero}
-use Rattle.std.specs.List.{flat_map}
-use Rattle.std.proofs.lemmas.List.{append-nil}
+use Rattle.std.proofs.Common.{◌≡◌, ℕ, suc, ◌+◌, ◌<◌, ◌≤◌, List, [], ◌∷◌, ◌++◌, length, drop, get_or, Result, refl, sym, ap, ◌∙◌, subst, append_assoc, arith, add-zero, flat_map, append-nil}
 use Rattle.std.proofs.Math.Seq.{drop-cons}
 use Rattle.std.proofs.lemmas.Grind.{flat_map-append}
 use Rattle.mls_translang.specs.Tree.{Expr, Stmt as Simple, Block, End, Do, If, For, statements}
@@ -25,20 +23,12 @@ then (For row relation label body rest) after = For row relation label body (the
 
 first_then : (s : Stmt) (rest : List Stmt) → block_of (s ∷ rest) ≡ then (block_of (s ∷ [])) (block_of rest)
 first_then (stmt.Assign x e) rest = refl
-first_then (stmt.If guard one other) rest = refl
-first_then (stmt.For row relation label body) rest = refl
-first_then (stmt.Write relation w writing outcome) rest = refl
-first_then (stmt.Release e to into) rest = refl
-first_then (stmt.Emit e label) rest = refl
+first_then _ rest = refl
 
 -- one statement is the last of its block
 last_one : (before n : ℕ) (s : Stmt) → last before n (block_of (s ∷ [])) ≡ n
 last_one before n (stmt.Assign x e) = refl
-last_one before n (stmt.If guard one other) = refl
-last_one before n (stmt.For row relation label body) = refl
-last_one before n (stmt.Write relation w writing outcome) = refl
-last_one before n (stmt.Release e to into) = refl
-last_one before n (stmt.Emit e label) = refl
+last_one before n _ = refl
 
 statements-then : (b d : Block) → statements (then b d) ≡ statements b + statements d
 statements-then End d = omega arith
@@ -158,17 +148,11 @@ module _ (h : Here) where
   do_whole s = refl
 
   pub stmt_whole : (s : Stmt) → here_lines h (block_of (s ∷ [])) ++ inner_of h (block_of (s ∷ [])) ≡ block_lines h (block_of (s ∷ []))
-  stmt_whole (stmt.Assign x value) = do_whole _
   stmt_whole (stmt.If guard one other) = if_whole guard one other
   stmt_whole (stmt.For row relation label body) = for_whole row relation label body
-  stmt_whole (stmt.Write relation w writing outcome) = do_whole _
-  stmt_whole (stmt.Release value to into) = do_whole _
-  stmt_whole (stmt.Emit value label) = do_whole _
+  stmt_whole _ = do_whole _
 
   pub none_inside : (s : Stmt) (not_if : (guard : Expr) (one other : Block) → s ≡ stmt.If guard one other → ⊥) (not_for : (row : List ℕ) (relation label : ℕ) (body : Block) → s ≡ stmt.For row relation label body → ⊥) → [] ≡ inner_of h (block_of (s ∷ []))
-  none_inside (stmt.Assign x value) not_if not_for = refl
   none_inside (stmt.If guard one other) not_if not_for = absurd (not_if guard one other refl)
   none_inside (stmt.For row relation label body) not_if not_for = absurd (not_for row relation label body refl)
-  none_inside (stmt.Write relation w writing outcome) not_if not_for = refl
-  none_inside (stmt.Release value to into) not_if not_for = refl
-  none_inside (stmt.Emit value label) not_if not_for = refl
+  none_inside _ not_if not_for = refl

@@ -1,9 +1,10 @@
 -- The rules as tests, in the order in which a checker names the first that is broken.
-use Rattle.std.specs.Prelude.{ℕ, zero, suc, Bool, true, false, ◌&&◌, ◌||◌, if◌then◌else◌, nat_eq, List, [], ◌∷◌, length, Option, Some, None, Result, Ok, Err}
+use Rattle.std.specs.Prelude.{ℕ, zero, suc, Bool, true, false, ◌&&◌, ◌||◌, if◌then◌else◌, nat_eq, List, [], ◌∷◌, length}
+use Rattle.std.specs.Prelude.{Option, Some, None, Result, Ok, Err}
 use Rattle.std.specs.List.{list_all}
+use Rattle.mls_lattice.specs.Reading.{◌>>=◌}
 use Rattle.mls_lattice.specs.Lattice.{Pair, ◌⊑◌}
 use Rattle.mls_lattice.specs.Labels.{label_of}
-use Rattle.mls_lattice.specs.Reading.{◌>>=◌}
 use Rattle.mls_translang.specs.Tree.{statements}
 use Rattle.mls_certcheck.specs.declared.cert.Certificate.{Certificate}
 use Rattle.mls_certcheck.specs.declared.cert.Certificate.TheVariants.{One, Two}

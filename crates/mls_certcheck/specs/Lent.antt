@@ -1,6 +1,5 @@
 -- What is said by a line that the walk lends.
-use Rattle.std.specs.Prelude.{List, [], ◌∷◌, ◌++◌, map, Option, Some, None}
-use Rattle.std.specs.List.{flat_map}
+use Rattle.std.specs.Prelude.{List, [], ◌∷◌, ◌++◌, map, Option, Some, None, flat_map}
 use Rattle.mls_scheme.specs.Writes.{operands}
 use Rattle.mls_translang.specs.Tree.{Expr}
 use Rattle.mls_certcheck.specs.Place.{directs}

@@ -1,8 +1,9 @@
 -- Certificates are read line by line, and a line word by word, up to the first fault.
-use Rattle.std.specs.Prelude.{◌≡◌, ℕ, zero, suc, ◌+◌, ◌*◌, ◌-◌, true, false, Bool, ◌&&◌, ◌||◌, not, ◌==◌, nat_lt, nat_le, if◌then◌else◌, List, [], ◌∷◌, ◌++◌, length, take, drop, slice_index, codes, Result, Ok, Err}
+use Rattle.std.specs.Prelude.{◌≡◌, ℕ, zero, suc, ◌+◌, ◌*◌, ◌-◌, true, false, Bool, ◌&&◌, ◌||◌, not, ◌==◌, nat_lt}
+use Rattle.std.specs.Prelude.{nat_le, if◌then◌else◌, List, [], ◌∷◌, ◌++◌, length, take, drop, slice_index, codes}
+use Rattle.std.specs.Prelude.{Result, Ok, Err, bytes_eq}
 use Rattle.std.specs.List.{slice_split, list_any, list_all, prefix_len}
 use Rattle.std.specs.Char.{is_ascii_digit}
-use Rattle.std.specs.Str.{bytes_eq}
 use Rattle.std.specs.Str.Parse.{digits_value}
 use Rattle.std.specs.Int.{w32, from_be_bytes}
 use Rattle.mls_lattice.specs.declared.label.Label.{Label}
@@ -17,7 +18,8 @@ use Rattle.mls_certcheck.specs.declared.cert.Version.{Version}
 use Rattle.mls_certcheck.specs.declared.cert.Version.TheVariants.{First, Second}
 use Rattle.mls_certcheck.specs.declared.fault.CertFault.{CertFault}
 use Rattle.mls_certcheck.specs.declared.fault.CertCause.{CertCause}
-use Rattle.mls_certcheck.specs.declared.fault.CertCause.TheVariants.{Line, Label as BadLabel, Version as BadVersion, Repeated, Memory}
+use Rattle.mls_certcheck.specs.declared.fault.CertCause.TheVariants.{Line, Label as BadLabel, Version as BadVersion}
+use Rattle.mls_certcheck.specs.declared.fault.CertCause.TheVariants.{Repeated, Memory}
 
 -- What a function returned, seen by view, is what reading gives, unless memory ran out.
 abbrev pub Gives : {X Y : Type 0} → (X → Y) → Result X CertFault → Result Y CertFault → Type 0

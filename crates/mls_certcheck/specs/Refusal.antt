@@ -1,7 +1,9 @@
 -- The short names of the rules.
 use Rattle.std.specs.Prelude.{ℕ, List, codes}
 use Rattle.mls_certcheck.specs.declared.refusal.Rule.{Rule}
-use Rattle.mls_certcheck.specs.declared.refusal.Rule.TheVariants.{Assignment, Branch, RowLoop, Write, Order, Release, Emit, Context, Rest, VarCount, StmtCount, AboveCeiling}
+use Rattle.mls_certcheck.specs.declared.refusal.Rule.TheVariants.{Assignment, Branch, RowLoop, Write, Order, Release}
+use Rattle.mls_certcheck.specs.declared.refusal.Rule.TheVariants.{Emit, Context, Rest, VarCount, StmtCount}
+use Rattle.mls_certcheck.specs.declared.refusal.Rule.TheVariants.{AboveCeiling}
 
 abbrev pub text_of : Rule → List ℕ
 text_of Assignment = codes "F1"

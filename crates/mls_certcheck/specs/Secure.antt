@@ -1,6 +1,6 @@
 -- What a transaction must not tell.
-use Rattle.std.specs.Prelude.{◌≡◌, ℕ, ◌<◌, true, false, List, [], ◌∷◌, map, length, Option, None, ◌⊎◌, ◌↔◌, slice_index_or}
-use Rattle.std.specs.List.{filter}
+use Rattle.std.specs.Prelude.{◌≡◌, ℕ, ◌<◌, true, false, List, [], ◌∷◌, map, length, Option, None, ◌⊎◌, ◌↔◌}
+use Rattle.std.specs.Prelude.{slice_index_or, filter}
 use Rattle.mls_lattice.specs.Labels.{Labels, below}
 use Rattle.mls_lattice.specs.Policy.{Policy, labels_of}
 use Rattle.mls_scheme.specs.declared.value.Value.{Value}

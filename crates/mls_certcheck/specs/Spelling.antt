@@ -1,8 +1,7 @@
 -- Certificates as texts: each has one.
-use Rattle.std.specs.Prelude.{◌≡◌, ℕ, ◌<◌, ◌^◌, ◌/◌, ◌%◌, true, List, [], ◌∷◌, ◌++◌, length, codes, map}
-use Rattle.std.specs.List.{flat_map, AllByRecursion, IsDistinct}
-use Rattle.std.specs.Str.{bytes_eq}
-use Rattle.std.specs.Fmt.{decimal}
+use Rattle.std.specs.Prelude.{◌≡◌, ℕ, ◌<◌, ◌^◌, ◌/◌, ◌%◌, true, List, [], ◌∷◌, ◌++◌, length, codes, map, flat_map}
+use Rattle.std.specs.Prelude.{bytes_eq, decimal}
+use Rattle.std.specs.List.{AllByRecursion, IsDistinct}
 use Rattle.std.specs.Char.{digit_char}
 use Rattle.std.specs.Int.{w32, to_be_bytes}
 use Rattle.mls_lattice.specs.declared.label.Label.{Label}

@@ -1,6 +1,5 @@
 -- The lines of statements as the walk comes to them, and what the checker knows of its claim.
-use Rattle.std.specs.Prelude.{◌≡◌, ℕ, ◌+◌, List, [], ◌∷◌, ◌++◌, Result, Ok, Err}
-use Rattle.std.specs.List.{flat_map}
+use Rattle.std.specs.Prelude.{◌≡◌, ℕ, ◌+◌, List, [], ◌∷◌, ◌++◌, Result, Ok, Err, flat_map}
 use Rattle.mls_lattice.specs.Lattice.{Pair, ◌⊑◌}
 use Rattle.mls_lattice.specs.Policy.{labels_of}
 use Rattle.mls_translang.specs.Tree.{Block, End, Do, If, For, statements}

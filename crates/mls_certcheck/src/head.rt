@@ -1,8 +1,6 @@
 //! The first line of a block: a word, the version, and the name of a transaction.
-ghost use Rattle.std.specs.Prelude.{◌≡◌, ◌≤◌, length};
-ghost use Rattle.std.specs.List.{list_any, prefix_len};
-ghost use Rattle.std.specs.Char.{is_ascii_digit};
-ghost use Rattle.std.specs.Str.{bytes_eq};
+ghost use Rattle.std.specs.Prelude.{◌≡◌, bytes_eq};
+ghost use Rattle.std.specs.List.{list_any};
 ghost use Rattle.mls_certcheck.specs.Reading.{Gives, fresh_in, proper_in, version_in, versioned_in, named_in, head_in};
 
 use crate::cert::{Certificate, Version};

@@ -1,7 +1,8 @@
 //! A label: the rank in decimal, a colon, and the categories as eight hexadecimal digits.
 ghost use Rattle.std.specs.Prelude.{◌≡◌, ◌<◌, length, true, IfOk};
 ghost use Rattle.mls_certcheck.specs.declared.fault.CertCause.TheVariants.{Label as BadLabel};
-ghost use Rattle.mls_certcheck.specs.Reading.{Gives, are_digits, is_decimal, number_in, rank_in, digit_in, byte_in, bytes_in, cats_in, label_in};
+ghost use Rattle.mls_certcheck.specs.Reading.{Gives, are_digits, is_decimal, number_in, rank_in, digit_in, byte_in};
+ghost use Rattle.mls_certcheck.specs.Reading.{bytes_in, cats_in, label_in};
 
 use crate::fault::{CertCause, CertFault};
 use mls_lattice::{Label, ascii_text};

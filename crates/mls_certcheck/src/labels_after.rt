@@ -1,5 +1,5 @@
 //! The lines of a certificate whose variables have a label after each statement.
-ghost use Rattle.std.specs.Prelude.{◌≡◌, ◌<◌, ◌≤◌, ◌+◌, ◌^◌, IfOk, map, length, []};
+ghost use Rattle.std.specs.Prelude.{◌<◌, ◌≤◌, ◌+◌, ◌^◌, IfOk, map, length, []};
 ghost use Rattle.mls_certcheck.specs.Reading.{Gives, rows_at, cert2_at};
 
 use crate::cert::Cert2;

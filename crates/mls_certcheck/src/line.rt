@@ -1,5 +1,5 @@
 //! A line is words between spaces.
-ghost use Rattle.std.specs.Prelude.{◌≡◌, ◌==◌, ◌<◌, IfOk, map, length, [], Ok};
+ghost use Rattle.std.specs.Prelude.{◌≡◌, ◌==◌, ◌<◌, IfOk, map, [], Ok};
 ghost use Rattle.mls_certcheck.specs.Reading.{Gives, pieces, labels_in, worded_in, line_in};
 
 use crate::fault::{CertCause, CertFault};

@@ -1,5 +1,6 @@
 //! The laws of calls, each the contract of a function.
-ghost use Rattle.mls_certcheck.specs.MeaningLaws.{CallsKeepForm, CallsKeepFormThroughout, CallsKeepContent, CallsGiveItems};
+ghost use Rattle.mls_certcheck.specs.MeaningLaws.{CallsKeepForm, CallsKeepFormThroughout, CallsKeepContent};
+ghost use Rattle.mls_certcheck.specs.MeaningLaws.{CallsGiveItems};
 
 /// A call keeps the stored form.
 pub fn calls_keep_form()

@@ -2,7 +2,8 @@
 ghost use Rattle.std.specs.Prelude.{◌≡◌, ◌<◌, ◌≤◌, ◌+◌, IfOk, List, Ok, ◌^◌, map, length, []};
 ghost use Rattle.mls_certcheck.specs.declared.cert.Cert.{Cert as SpecCert};
 ghost use Rattle.mls_certcheck.specs.declared.cert.Cert2.{Cert2 as SpecCert2};
-ghost use Rattle.mls_certcheck.specs.Reading.{Block, Gives, cert_at, certificate_at, lines_of, block_at, blocks_at, lines_in, lines2_in, file_in, text_in, text2_in};
+ghost use Rattle.mls_certcheck.specs.Reading.{Block, Gives, cert_at, certificate_at, lines_of, block_at, blocks_at};
+ghost use Rattle.mls_certcheck.specs.Reading.{lines_in, lines2_in, file_in, text_in, text2_in};
 ghost use Rattle.mls_certcheck.specs.Spelling.{IsCert, IsCert2, IsFile, cert_text, cert2_text, file_text};
 
 use crate::cert::{Cert, Cert2, Certificate, Version};

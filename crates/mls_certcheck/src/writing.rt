@@ -1,10 +1,12 @@
 //! The text of a certificate.
-ghost use Rattle.std.specs.Prelude.{◌≡◌, ◌∷◌, [], ◌++◌, true, codes, string_bytes, Ok, OnOk, IfOk};
-ghost use Rattle.std.specs.List.{flat_map, AllByRecursion};
+ghost use Rattle.std.specs.Prelude.{◌≡◌, ◌∷◌, [], ◌++◌, true, string_bytes, Ok, OnOk, IfOk, flat_map};
+ghost use Rattle.std.specs.List.{AllByRecursion};
 ghost use Rattle.std.specs.Int.{w32, to_be_bytes};
 ghost use Rattle.mls_lattice.specs.Name.{is_name};
 ghost use Rattle.mls_certcheck.specs.Reading.{file_in, text2_in};
-ghost use Rattle.mls_certcheck.specs.Spelling.{byte_text, label_text, spaced_label, labels_line, row_line, cert_text, cert2_text, block_text, IsLabel, AreLabels, HasEachRow, HasText, IsCert, IsCert2, IsCertificate};
+ghost use Rattle.mls_certcheck.specs.Spelling.{byte_text, spaced_label, labels_line, row_line, cert_text, cert2_text};
+ghost use Rattle.mls_certcheck.specs.Spelling.{block_text, IsLabel, AreLabels, HasEachRow, HasText, IsCert, IsCert2};
+ghost use Rattle.mls_certcheck.specs.Spelling.{IsCertificate};
 
 use crate::cert::{Cert, Cert2, Certificate};
 use mls_lattice::{Items, Label};

@@ -1,7 +1,5 @@
 -- Tasks and jobs: what is done, and what is given up.
-use Rattle.std.proofs.Common.{◌≡◌, ℕ, Bool, List, [], ◌++◌, Option, Some, None, Result, Ok, Err, inl, inr, refl, sym, subst}
-use Rattle.std.proofs.lemmas.List.{append-nil}
-use Rattle.std.specs.Result.{IsErrAnd}
+use Rattle.std.proofs.Common.{◌≡◌, ℕ, Bool, List, [], ◌++◌, Option, Some, None, Result, Ok, Err, inl, inr, refl, sym, subst, append-nil, IsErrAnd, Bor}
 use Rattle.mls_script.specs.declared.run_fault.RunFault.{RunFault}
 use Rattle.mls_host.specs.declared.words.Job.{Job}
 use Rattle.mls_host.specs.declared.words.Task.{Task}
@@ -9,27 +7,26 @@ use Rattle.mls_host.specs.declared.words.Task.TheVariants as tasks
 use Rattle.mls_host.specs.Words.{named, usage_text, usage_status}
 use Rattle.mls_host.specs.declared.usage.Usage.TheVariants as usages
 use Rattle.clap.specs.Words.{Text}
-use Rattle.std.specs.Borrow.{Bor}
 use Rattle.mls_host.specs.declared.ending.Ending.{Ending}
 use Rattle.mls_host.specs.declared.ending.Ending.TheVariants.{Well}
 use Rattle.mls_host.specs.declared.job.Inputs.{Inputs}
 use Rattle.mls_host.specs.declared.reason.Reason.{Reason}
 use Rattle.mls_host.specs.declared.stop.Stop.{Stop}
-use Rattle.mls_host.specs.declared.stop.Stop.TheVariants.{Before, Run, NotClosed, Output, Served, Unread, Turned}
-use Rattle.mls_host.specs.Deed.{Deed, IsQuiet, end_text}
+use Rattle.mls_host.specs.declared.stop.Stop.TheVariants.{Before, Run, NotClosed}
+use Rattle.mls_host.specs.Deed.{Deed, end_text}
 use Rattle.mls_host.specs.declared.errors.Errors.{Errors}
 use Rattle.mls_host.specs.Hosting.{Hosted, KeepsStores, IsTold}
 use Rattle.mls_host.proofs.HostingLemmas.{told_more}
 use Rattle.mls_host.specs.Causes.{IsNotBegun}
 use Rattle.mls_host.specs.Reading.{AreInputsRefused}
-use Rattle.mls_host.specs.Stop.{IsEnd, stop_text}
+use Rattle.mls_host.specs.Stop.{IsEnd}
 use Rattle.mls_host.specs.Stopping.{IsCaused}
 use Rattle.mls_command.specs.Printing.{IsPrinting}
 use Rattle.mls_command.proofs.PrintingLemmas.{printing_told}
 use Rattle.mls_runs.specs.ScriptRun.{IsScriptRun}
 use Rattle.mls_runs.specs.ShellRun.{IsShellRun, IsShellRefused}
 use Rattle.mls_runs.specs.DeskRun.{IsDeskRun}
-use Rattle.mls_command.specs.Acting.{Prints, IsRunOf, IsRunDeed, IsTaskRefused, IsTaskDeed, IsDeedOf}
+use Rattle.mls_command.specs.Acting.{Prints, IsRunDeed, IsTaskRefused, IsTaskDeed, IsDeedOf}
 use Rattle.mls_command.specs.Accounting.{Accounts, IsUnread, IsAccountOf}
 use Rattle.mls_command.specs.Answering.{IsFinished, IsNoted, Answers, asked, IsAnsweredAs, IsOutcomeOf, not_asked}
 use Rattle.mls_command.specs.Explained.{explained_of}
@@ -53,10 +50,7 @@ module _ (h : Hosted) (inputs : Inputs) (store : Option (List ℕ)) where
     run_ended (Before reason) k quiet = (k.0, (k.1.0, (k.1.1, quiet)))
     run_ended (Run fault) k quiet = (k.0, (quiet, k.1))
     run_ended NotClosed k quiet = (k.0, (Well, (refl, quiet, k.1.1)))
-    run_ended Output k quiet = absurd k.1
-    run_ended (Served cause) k quiet = absurd k.1
-    run_ended Unread k quiet = absurd k.1
-    run_ended (Turned cause) k quiet = absurd k.1
+    run_ended _ k quiet = absurd k.1
 
     -- one that was given up, at the exit of a `?`
     pub run_given_up : (r : Result (Unit {0}) Stop) (e : Stop) → r ≡ Err e → IsRunEnd r → told [] → (end : Result Ending Stop) → IsErrAnd end (λ x. x ≡ e)
@@ -73,10 +67,7 @@ module _ (h : Hosted) (inputs : Inputs) (store : Option (List ℕ)) where
   shell_ended label user wrote told (Err (Before reason)) caused k = (caused, (k.0, (k.1, k.2)))
   shell_ended label user wrote told (Err (Run fault)) caused k = (caused, k)
   shell_ended label user wrote told (Err NotClosed) caused k = (caused, k)
-  shell_ended label user wrote told (Err Output) caused k = absurd k
-  shell_ended label user wrote told (Err (Served cause)) caused k = absurd k
-  shell_ended label user wrote told (Err Unread) caused k = absurd k
-  shell_ended label user wrote told (Err (Turned cause)) caused k = absurd k
+  shell_ended label user wrote told _ caused k = absurd k
 
   -- a desk that ended, or was given up
   pub desk_ended : (wrote told : List ℕ → Type 0) (r : Result Ending Stop) → IsCaused h store r
@@ -86,10 +77,7 @@ module _ (h : Hosted) (inputs : Inputs) (store : Option (List ℕ)) where
   desk_ended wrote told (Err (Before reason)) caused k quiet = (caused, (k.0, (k.1, quiet)))
   desk_ended wrote told (Err (Run fault)) caused k quiet = (caused, (quiet, k))
   desk_ended wrote told (Err NotClosed) caused k quiet = (caused, (k.0, (quiet, k.1)))
-  desk_ended wrote told (Err Output) caused k quiet = absurd k
-  desk_ended wrote told (Err (Served cause)) caused k quiet = absurd k
-  desk_ended wrote told (Err Unread) caused k quiet = absurd k
-  desk_ended wrote told (Err (Turned cause)) caused k quiet = absurd k
+  desk_ended wrote told _ caused k quiet = absurd k
 
 -- ---- jobs
 
@@ -128,10 +116,7 @@ module _ (h : Hosted) (wrote told more : List ℕ → Type 0) (f : (text : List 
     shell_end_told label user (Err (Before reason)) k = (k.0, (k.1.0, (k.1.1.0, f [] k.1.1.1)))
     shell_end_told label user (Err (Run fault)) k = (k.0, shell_told label.now user.now (Err fault) k.1)
     shell_end_told label user (Err NotClosed) k = (k.0, (k.1.0, shell_told label.now user.now (Ok k.1.0) k.1.1))
-    shell_end_told label user (Err Output) k = k
-    shell_end_told label user (Err (Served cause)) k = k
-    shell_end_told label user (Err Unread) k = k
-    shell_end_told label user (Err (Turned cause)) k = k
+    shell_end_told label user _ k = k
 
     desk_end_told : (end : Result Ending Stop) → IsRunDeed h inputs store tasks.Serve (record { wrote = wrote; told = told; end = end })
         → IsRunDeed h inputs store tasks.Serve (record { wrote = wrote; told = more; end = end })
@@ -139,10 +124,7 @@ module _ (h : Hosted) (wrote told more : List ℕ → Type 0) (f : (text : List 
     desk_end_told (Err (Before reason)) k = (k.0, (k.1.0, (k.1.1.0, f [] k.1.1.1)))
     desk_end_told (Err (Run fault)) k = (k.0, (f [] k.1.0, k.1.1))
     desk_end_told (Err NotClosed) k = (k.0, (k.1.0, (f [] k.1.1.0, k.1.1.1)))
-    desk_end_told (Err Output) k = k
-    desk_end_told (Err (Served cause)) k = k
-    desk_end_told (Err Unread) k = k
-    desk_end_told (Err (Turned cause)) k = k
+    desk_end_told _ k = k
 
     run_end_told : (at : Option (Bor (List ℕ))) (is_table : Bool) (end : Result Ending Stop) → IsRunDeed h inputs store (tasks.Run at is_table) (record { wrote = wrote; told = told; end = end })
         → IsRunDeed h inputs store (tasks.Run at is_table) (record { wrote = wrote; told = more; end = end })
@@ -150,10 +132,7 @@ module _ (h : Hosted) (wrote told more : List ℕ → Type 0) (f : (text : List 
     run_end_told at is_table (Err (Before reason)) k = (k.0, (k.1.0, (k.1.1.0, f [] k.1.1.1)))
     run_end_told at is_table (Err (Run fault)) k = (k.0, (f [] k.1.0, k.1.1))
     run_end_told at is_table (Err NotClosed) k = (k.0, (k.1.0, (k.1.1.0, f [] k.1.1.1, k.1.1.2)))
-    run_end_told at is_table (Err Output) k = k
-    run_end_told at is_table (Err (Served cause)) k = k
-    run_end_told at is_table (Err Unread) k = k
-    run_end_told at is_table (Err (Turned cause)) k = k
+    run_end_told at is_table _ k = k
 
     printed_told : (task : Task) (end : Result Ending Stop) → KeepsStores h × IsPrinting (Prints inputs task) (IsTaskRefused h inputs store task) (record { wrote = wrote; told = told; end = end })
         → KeepsStores h × IsPrinting (Prints inputs task) (IsTaskRefused h inputs store task) (record { wrote = wrote; told = more; end = end })

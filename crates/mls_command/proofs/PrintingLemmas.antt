@@ -1,12 +1,11 @@
 -- What is printed, of a listing or of what stands for it, with what was told before.
-use Rattle.std.proofs.Common.{◌≡◌, ℕ, List, [], string_bytes, Result, Ok, Err, IfOk, sym, subst}
-use Rattle.std.specs.Result.{IsErrAnd, IsOkAnd}
+use Rattle.std.proofs.Common.{◌≡◌, ℕ, List, [], string_bytes, Result, Ok, Err, IfOk, sym, subst, IsErrAnd, IsOkAnd}
 use Rattle.std.specs.declared.alloc.AllocError.{AllocError}
 use Rattle.mls_host.specs.declared.ending.Ending.{Ending}
 use Rattle.mls_host.specs.declared.reason.Reason.{Reason}
 use Rattle.mls_host.specs.declared.reason.Reason.TheVariants.{Memory}
 use Rattle.mls_host.specs.declared.stop.Stop.{Stop}
-use Rattle.mls_host.specs.declared.stop.Stop.TheVariants.{Before, Run, NotClosed, Output, Served, Unread, Turned}
+use Rattle.mls_host.specs.declared.stop.Stop.TheVariants.{Before, Output}
 use Rattle.mls_host.specs.Deed.{Deed, IsQuiet}
 use Rattle.mls_command.specs.declared.listing.Listing.{Listing}
 use Rattle.mls_command.specs.Printing.{IsListed, IsPrintingTo, IsPrinting}
@@ -19,12 +18,8 @@ module _ (Prints : List ℕ → List ℕ → Ending → Type 0) (Refuses : Reaso
   listed_to : (l : Listing) (d : Deed) → Prints l.text.items (string_bytes l.told) l.ending → (end : Result Ending Stop) → IsPrintingTo (IsListed l) (λ reason. ⊥) d end → IsPrintingTo Prints Refuses d end
   listed_to l d prints (Ok end) k = (k.0, k.1, listed l prints k.0 k.1 end k.2, k.3, k.4)
   listed_to l d prints (Err (Before reason)) k = absurd k.0
-  listed_to l d prints (Err (Run fault)) k = k
-  listed_to l d prints (Err NotClosed) k = k
-  listed_to l d prints (Err (Served cause)) k = k
-  listed_to l d prints (Err Unread) k = k
-  listed_to l d prints (Err (Turned cause)) k = k
   listed_to l d prints (Err Output) k = (k.0, k.1, k.2, listed l prints k.0 k.1 k.2 k.3, k.4, k.5)
+  listed_to l d prints _ k = k
 
   -- a listing with such texts
   pub listing_printed : (l : Listing) (d : Deed) → Prints l.text.items (string_bytes l.told) l.ending → IsPrinting (IsListed l) (λ reason. ⊥) d → IsPrinting Prints Refuses d
@@ -37,11 +32,7 @@ module _ (Prints : List ℕ → List ℕ → Ending → Type 0) (Refuses : Reaso
   made_to (Err e) d prints refused (Ok end) k = absurd k.2
   made_to (Err e) d prints refused (Err Output) k = absurd k.3
   made_to made d prints refused (Err (Before reason)) k = (subst Refuses (sym k.0) refused, k.1)
-  made_to made d prints refused (Err (Run fault)) k = k
-  made_to made d prints refused (Err NotClosed) k = k
-  made_to made d prints refused (Err (Served cause)) k = k
-  made_to made d prints refused (Err Unread) k = k
-  made_to made d prints refused (Err (Turned cause)) k = k
+  made_to made d prints refused _ k = k
 
   refused_to : (d : Deed) (end : Result Ending Stop) (reason : Reason) → IsErrAnd end (λ e. e ≡ Before reason) → Refuses reason → IsQuiet d → IsPrintingTo Prints Refuses d end
   refused_to d (Ok end) reason is refused quiet = absurd is
@@ -62,9 +53,5 @@ module _ (Prints : List ℕ → List ℕ → Ending → Type 0) (Refuses : Reaso
         → IsPrinting Prints Refuses (record { wrote = wrote; told = more; end = end })
     printing_told (Ok end) k = (k.0, k.1, k.2, k.3, f k.1 k.4)
     printing_told (Err (Before reason)) k = (k.0, (k.1.0, f [] k.1.1))
-    printing_told (Err (Run fault)) k = k
-    printing_told (Err NotClosed) k = k
-    printing_told (Err (Served cause)) k = k
-    printing_told (Err Unread) k = k
-    printing_told (Err (Turned cause)) k = k
     printing_told (Err Output) k = (k.0, k.1, k.2, k.3, k.4, f [] k.5)
+    printing_told _ k = k

@@ -1,8 +1,6 @@
 -- What the command certify prints: for each transaction the least certificate that holds for it, if there is one.
-use Rattle.std.specs.Prelude.{◌≡◌, ℕ, Bool, true, false, if◌then◌else◌, List, [], ◌++◌, codes}
-use Rattle.std.specs.Prelude.{Err}
-use Rattle.std.specs.List.{flat_map, list_any, AllZip}
-use Rattle.std.specs.Fmt.{decimal}
+use Rattle.std.specs.Prelude.{◌≡◌, ℕ, Bool, true, false, if◌then◌else◌, List, [], ◌++◌, codes, Err, flat_map, decimal}
+use Rattle.std.specs.List.{list_any, AllZip}
 use Rattle.mls_lattice.specs.Policy.{Name, Policy}
 use Rattle.mls_translang.specs.Tx.{Tx}
 use Rattle.mls_certcheck.specs.declared.cert.Cert.{Cert}

@@ -1,6 +1,5 @@
 -- Words of another command.
-use Rattle.std.specs.Prelude.{Bool, ◌&&◌, ◌||◌, if◌then◌else◌, List, [], ◌∷◌, codes, Option, Some, None}
-use Rattle.std.specs.Str.{bytes_eq}
+use Rattle.std.specs.Prelude.{Bool, ◌&&◌, ◌||◌, if◌then◌else◌, List, [], ◌∷◌, codes, Option, Some, None, bytes_eq}
 use Rattle.clap.specs.Words.{Text}
 
 -- ---- the words of another command, which are explained

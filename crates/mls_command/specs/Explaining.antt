@@ -1,7 +1,7 @@
 -- What the command explain tells: what came of the least labels of each transaction of a file, or of the one of a name.
 use Rattle.std.specs.Prelude.{◌≡◌, ℕ, Bool, false, not, List, [], ◌∷◌, Option, None, Some, Contains, string_bytes}
-use Rattle.std.specs.List.{flat_map, list_any, AllZip}
-use Rattle.std.specs.Str.{bytes_eq}
+use Rattle.std.specs.Prelude.{flat_map, bytes_eq}
+use Rattle.std.specs.List.{list_any, AllZip}
 use Rattle.mls_lattice.specs.Policy.{Name, Policy}
 use Rattle.mls_scheme.specs.Scheme.{Schemes}
 use Rattle.mls_translang.specs.Tx.{Tx}

@@ -1,10 +1,9 @@
 -- Whether the session of a shell would be opened.
-use Rattle.std.specs.Prelude.{◌≡◌, ℕ, List, [], ◌++◌, Option, Some, None, Result, Ok, Err, codes}
-use Rattle.std.specs.Fmt.{decimal}
+use Rattle.std.specs.Prelude.{ℕ, List, [], ◌++◌, Option, Some, None, Result, Ok, Err, codes, decimal}
 use Rattle.mls_lattice.specs.Policy.{Policy}
 use Rattle.mls_machine.specs.Denying.{cleared, user_named}
 use Rattle.mls_machine.specs.Reply.{code_of, word_of}
-use Rattle.mls_certcheck.specs.Site.{Site, site_of}
+use Rattle.mls_certcheck.specs.Site.{site_of}
 use Rattle.mls_machine.specs.declared.reply.Denial.{Denial}
 use Rattle.mls_host.specs.declared.words.Task.{Task}
 use Rattle.mls_host.specs.declared.words.Task.TheVariants.{Shell}

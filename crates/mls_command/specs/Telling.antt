@@ -1,13 +1,13 @@
 -- What is told of an input that is refused: the line that the command tells; the place of the fault; and more, for people.
-use Rattle.std.specs.Prelude.{◌≡◌, ◌⊎◌, ℕ, List, [], ◌++◌, Option, Some, None, option_map, ⊤}
+use Rattle.std.specs.Prelude.{◌≡◌, ◌⊎◌, ℕ, List, ◌++◌, Option, Some, None, option_map, ⊤}
 use Rattle.mls_host.specs.declared.words.Documents.{Documents}
 use Rattle.mls_host.specs.declared.words.Job.{Job}
 use Rattle.mls_host.specs.Words.{named}
 use Rattle.mls_host.specs.declared.reason.Role.{Role}
 use Rattle.mls_host.specs.declared.reason.Role.TheVariants as role
 use Rattle.mls_host.specs.declared.reason.Reason.{Reason}
-use Rattle.mls_host.specs.declared.reason.Reason.TheVariants.{Unreadable, TooLong, Policy, Schemes}
-use Rattle.mls_host.specs.declared.reason.Reason.TheVariants.{Transactions, Certificates, Script}
+use Rattle.mls_host.specs.declared.reason.Reason.TheVariants.{Unreadable, TooLong, Policy, Schemes, Transactions}
+use Rattle.mls_host.specs.declared.reason.Reason.TheVariants.{Certificates, Script}
 use Rattle.mls_host.specs.Reason.{reason_text}
 use Rattle.mls_advice.specs.Excerpt.{Begins, place_line, file_line}
 use Rattle.mls_command.specs.declared.paths.Place.{Place}

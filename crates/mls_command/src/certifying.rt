@@ -1,8 +1,9 @@
 //! Transactions get the least certificates that hold for them.
-ghost use Rattle.std.specs.Prelude.{◌≡◌, ◌++◌, string_bytes, IfOk, OnOk};
-ghost use Rattle.std.specs.List.{flat_map, list_any, AllByRecursion};
+ghost use Rattle.std.specs.Prelude.{◌≡◌, ◌++◌, string_bytes, IfOk, OnOk, flat_map};
+ghost use Rattle.std.specs.List.{list_any, AllByRecursion};
 ghost use Rattle.mls_certcheck.specs.declared.cert.Version.TheVariants.{First};
-ghost use Rattle.mls_command.specs.Certifying.{HasNoneOf, HaveText, AreLabels, IsAnswer, AreAnswers, block_of, none_front, none_text, refusal_of, has_none, ending_of, IsCertified};
+ghost use Rattle.mls_command.specs.Certifying.{HasNoneOf, HaveText, AreLabels, IsAnswer, AreAnswers, block_of};
+ghost use Rattle.mls_command.specs.Certifying.{none_front, none_text, refusal_of, has_none, ending_of, IsCertified};
 
 use crate::listing::Listing;
 use mls_certcheck::{Certificate, Rule, block_print};

@@ -1,6 +1,6 @@
 //! Certificates are checked against the transactions of their names.
-ghost use Rattle.std.specs.Prelude.{◌≡◌, ◌↔◌, ◌++◌, Some, string_bytes, IfOk, OnOk};
-ghost use Rattle.std.specs.List.{flat_map, list_any};
+ghost use Rattle.std.specs.Prelude.{◌≡◌, ◌↔◌, ◌++◌, Some, string_bytes, IfOk, OnOk, flat_map};
+ghost use Rattle.std.specs.List.{list_any};
 ghost use Rattle.mls_certcheck.specs.Rules.{Rules, claim};
 ghost use Rattle.mls_certcheck.specs.declared.cert.Certificate.{Certificate as SpecCertificate};
 ghost use Rattle.mls_host.specs.Storing.{cert_named};

@@ -1,8 +1,9 @@
 //! What is told of transactions: their labels, or why they have none.
-ghost use Rattle.std.specs.Prelude.{◌≡◌, [], Some, None, IfOk, IfErr, IfSome, string_bytes};
-ghost use Rattle.std.specs.List.{flat_map, list_any, AllByRecursion};
+ghost use Rattle.std.specs.Prelude.{◌≡◌, [], Some, None, IfOk, IfErr, IfSome, string_bytes, flat_map};
+ghost use Rattle.std.specs.List.{list_any, AllByRecursion};
 ghost use Rattle.mls_translang.specs.Fits.{IsReadUnder};
-ghost use Rattle.mls_command.specs.Explaining.{AreChosen, HaveNone, AreExplained, lacks_labels, IsExplained, IsUnexplained};
+ghost use Rattle.mls_command.specs.Explaining.{AreChosen, HaveNone, AreExplained, lacks_labels, IsExplained};
+ghost use Rattle.mls_command.specs.Explaining.{IsUnexplained};
 ghost use Rattle.mls_host.specs.Ending.{ending_if};
 ghost use Rattle.mls_host.specs.Words.{named};
 

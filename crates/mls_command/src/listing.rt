@@ -1,6 +1,5 @@
 //! What a command other than a run prints on standard output, and tells on standard error.
-ghost use Rattle.std.specs.Prelude.{◌≡◌, OnErr};
-ghost use Rattle.std.specs.Result.{IsOkAnd};
+ghost use Rattle.std.specs.Prelude.{◌≡◌, OnErr, IsOkAnd};
 ghost use Rattle.mls_host.specs.Deed.{deed};
 ghost use Rattle.mls_host.specs.declared.reason.Reason.TheVariants.{Memory};
 ghost use Rattle.mls_command.specs.Printing.{IsListed, IsPrinting};

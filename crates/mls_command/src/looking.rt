@@ -1,6 +1,5 @@
 //! The store that a command names, which is looked at and not opened.
-ghost use Rattle.std.specs.Prelude.{◌≡◌, ◌≢◌, Some, string_bytes, IfOk};
-ghost use Rattle.std.specs.Option.{IfSome};
+ghost use Rattle.std.specs.Prelude.{◌≡◌, ◌≢◌, Some, string_bytes, IfOk, IfSome};
 ghost use Rattle.mls_host.specs.Words.{named};
 ghost use Rattle.mls_host.specs.declared.host.StoreCause.TheVariants as causes;
 ghost use Rattle.mls_advice.specs.Excerpt.{Begins};

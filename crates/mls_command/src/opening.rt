@@ -1,6 +1,5 @@
 //! The session that a shell is to open.
-ghost use Rattle.std.specs.Prelude.{◌≡◌, ◌<◌, ◌++◌, length, string_bytes, IfOk, OnOk};
-ghost use Rattle.std.specs.Option.{IfSome};
+ghost use Rattle.std.specs.Prelude.{◌≡◌, ◌<◌, ◌++◌, length, string_bytes, IfOk, OnOk, IfSome};
 ghost use Rattle.mls_advice.specs.Excerpt.{Begins};
 ghost use Rattle.mls_command.specs.Opening.{denial_at, opening_denial, denial_text};
 

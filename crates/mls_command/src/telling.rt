@@ -1,10 +1,9 @@
 //! What is told of an input that is refused.
 //! The whole form of a script's line is told where a token is not expected: a line is short. The grammar of
 //! transactions is a parser and no table, so nothing more is told there.
-ghost use Rattle.std.specs.Prelude.{◌≡◌, ◌++◌, [], List, ℕ, false, string_bytes, option_map, IfOk, OnOk};
+ghost use Rattle.std.specs.Prelude.{◌≡◌, ◌++◌, string_bytes, IfOk, OnOk};
 ghost use Rattle.mls_host.specs.Hosting.{IsTold};
 ghost use Rattle.mls_host.specs.Reason.{reason_text};
-ghost use Rattle.mls_host.specs.Words.{named};
 ghost use Rattle.mls_command.specs.Telling.{place_of, source_of, IsPlaceTold, IsToldOf};
 ghost use Rattle.mls_host.specs.Telling.{IsMore};
 

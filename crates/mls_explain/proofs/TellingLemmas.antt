@@ -1,8 +1,7 @@
 -- What is told of a transaction: lines with numbers, names of labels, and lines of things in order.
-use Rattle.std.proofs.Common.{◌≡◌, ℕ, ◌+◌, ◌-◌, ◌<◌, ◌≤◌, ◌^◌, Bool, true, false, List, [], ◌∷◌, ◌++◌, length, refl, sym, ap, subst, ◌∙◌, take, drop, get_or, map, arith, append-nil, append_assoc, drop-cons, add-one, Bor, Option, codes}
-use Rattle.std.specs.Prelude.{if◌then◌else◌}
-use Rattle.std.specs.List.{concat, flat_map, enumerate_from, AllZip}
-use Rattle.std.specs.Fmt.{decimal, padded_integral, format_spec, styled_decimal}
+use Rattle.std.proofs.Common.{◌≡◌, ℕ, ◌+◌, ◌-◌, ◌<◌, ◌≤◌, ◌^◌, Bool, true, false, List, [], ◌∷◌, ◌++◌, length, refl, sym, ap, subst, ◌∙◌, take, drop, get_or, map, arith, append-nil, append_assoc, drop-cons, add-one, Bor, Option, codes, if◌then◌else◌, flat_map, decimal}
+use Rattle.std.specs.List.{concat, enumerate_from, AllZip}
+use Rattle.std.specs.Fmt.{padded_integral, format_spec, styled_decimal}
 use Rattle.std.proofs.lemmas.List.{drop_all, map_more, take_more, flat_map_more, get_or-map}
 use Rattle.std.proofs.lemmas.List.Folds.{concat-append}
 use Rattle.std.proofs.lemmas.Option.{slice_get-get_or}

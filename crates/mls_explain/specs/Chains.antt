@@ -1,7 +1,6 @@
 -- Chains of flows: something of a root comes into one slot after another, and flows out to where it must not be.
-use Rattle.std.specs.Prelude.{◌≡◌, ℕ, zero, suc, ◌≤◌, Bool, true, false, not, slice_index, Option, Some, None}
-use Rattle.std.specs.Prelude.{List, [], ◌∷◌, length, map}
-use Rattle.std.specs.List.{Contains}
+use Rattle.std.specs.Prelude.{◌≡◌, ℕ, zero, suc, ◌≤◌, Bool, true, false, not, slice_index, Option, Some, None, List, []}
+use Rattle.std.specs.Prelude.{◌∷◌, length, map, Contains}
 use Rattle.mls_lattice.specs.Lattice.{◌⊑◌}
 use Rattle.mls_lattice.specs.Labels.{label_of}
 use Rattle.mls_lattice.specs.Policy.{Policy, labels_of}

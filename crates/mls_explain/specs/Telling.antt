@@ -1,8 +1,8 @@
 -- What stands in the text that is told of a transaction: its canonical text, what came of its least labels, and then any advice.
-use Rattle.std.specs.Prelude.{◌≡◌, ℕ, ◌+◌, ◌-◌, Bool, true, false, if◌then◌else◌, List, [], ◌∷◌, ◌++◌, length, replicate, codes, slice_get, string_bytes, Option, None, Some, option_map}
-use Rattle.std.specs.Option.{unwrap_or}
-use Rattle.std.specs.List.{flat_map, concat, enumerate_from, AllZip}
-use Rattle.std.specs.Fmt.{decimal}
+use Rattle.std.specs.Prelude.{◌≡◌, ℕ, ◌+◌, ◌-◌, Bool, true, false, if◌then◌else◌, List, [], ◌∷◌, ◌++◌, length}
+use Rattle.std.specs.Prelude.{replicate, codes, slice_get, string_bytes, Option, None, Some, option_map, unwrap_or}
+use Rattle.std.specs.Prelude.{flat_map, decimal}
+use Rattle.std.specs.List.{concat, enumerate_from, AllZip}
 use Rattle.std.specs.Str.Lossy.{utf8_lossy}
 use Rattle.std.specs.Str.Lines.{lines}
 use Rattle.mls_lattice.specs.Lattice.{Pair, ◌⊑◌, same_pair, pair_of}

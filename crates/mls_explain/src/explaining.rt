@@ -1,5 +1,5 @@
 //! What is told of a transaction.
-ghost use Rattle.std.specs.Prelude.{◌≡◌, string_bytes, IfOk};
+ghost use Rattle.std.specs.Prelude.{string_bytes, IfOk};
 ghost use Rattle.mls_translang.specs.Fits.{IsReadUnder};
 ghost use Rattle.mls_explain.specs.Telling.{IsTold, IsExplanation};
 

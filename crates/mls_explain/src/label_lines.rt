@@ -1,7 +1,7 @@
 //! The lines of least labels, of a refusal, and of what is released.
-ghost use Rattle.std.specs.Prelude.{◌≡◌, ◌++◌, ◌+◌, ◌<◌, ◌^◌, [], slice_get, string_bytes, OnOk};
-ghost use Rattle.std.specs.Option.{unwrap_or};
-ghost use Rattle.mls_explain.specs.Telling.{variable_line, variable_lines, at_line, statement_line, statement_lines, label_lines, refused_front, refused_line, head};
+ghost use Rattle.std.specs.Prelude.{◌≡◌, ◌++◌, ◌+◌, ◌<◌, ◌^◌, [], slice_get, string_bytes, OnOk, unwrap_or};
+ghost use Rattle.mls_explain.specs.Telling.{variable_line, variable_lines, at_line, statement_lines, label_lines};
+ghost use Rattle.mls_explain.specs.Telling.{refused_front, refused_line, head};
 
 use crate::labelling::Labelling;
 use crate::naming::words_of;

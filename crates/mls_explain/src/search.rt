@@ -1,8 +1,8 @@
 //! The search: breadth first, back from where something must not be, one slot further in each round. A step is
 //! taken once, so rounds end, and a chain is shortest. Slots that only keep what they hold count too; the text
 //! leaves them out.
-ghost use Rattle.std.specs.Prelude.{◌≡◌, ◌≢◌, ◌↔◌, ◌++◌, [], true, false, None, IsTrue, IfOk, OnOk, IfSome};
-ghost use Rattle.std.specs.List.{AllByRecursion, Contains};
+ghost use Rattle.std.specs.Prelude.{◌≡◌, ◌≢◌, ◌↔◌, ◌++◌, [], true, false, None, IsTrue, IfOk, OnOk, IfSome, Contains};
+ghost use Rattle.std.specs.List.{AllByRecursion};
 ghost use Rattle.mls_lattice.specs.Policy.{Policy};
 ghost use Rattle.mls_translang.specs.Tx.{Tx as SpecTx};
 ghost use Rattle.mls_certcheck.specs.declared.flow.Source.TheVariants.{Held};

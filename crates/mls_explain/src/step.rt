@@ -1,6 +1,5 @@
 //! What flows, one source into one slot.
-ghost use Rattle.std.specs.Prelude.{◌≡◌, ◌++◌, IfOk, OnOk};
-ghost use Rattle.std.specs.List.{flat_map};
+ghost use Rattle.std.specs.Prelude.{◌≡◌, ◌++◌, IfOk, OnOk, flat_map};
 ghost use Rattle.mls_explain.specs.Steps.{steps_to, into_steps, kept_steps, steps_in};
 
 use crate::teller::Told;

@@ -1,6 +1,5 @@
 //! Names of what numbers stand for, and the order of declared labels.
-ghost use Rattle.std.specs.Prelude.{◌≡◌, [], slice_get, option_map};
-ghost use Rattle.std.specs.Option.{unwrap_or};
+ghost use Rattle.std.specs.Prelude.{◌≡◌, [], slice_get, option_map, unwrap_or};
 
 use crate::numbering::four_to;
 use crate::statements::Statement;

@@ -1,9 +1,8 @@
 -- Membership in lists.
-use Rattle.std.proofs.Common.{◌≡◌, zero, suc, Bool, true, false, cond, List, [], ◌∷◌, ◌++◌, map, refl, sym, ap, subst, ◌∙◌, inl, inr, arith}
-use Rattle.std.specs.Prelude.{◌⊎◌, ◌↔◌, IsPermutation, Contains}
-use Rattle.std.specs.List.{filter, list_any, flat_map, AllByRecursion}
+use Rattle.std.proofs.Common.{◌≡◌, zero, suc, Bool, true, false, cond, ◌||◌, List, [], ◌∷◌, ◌++◌, map, refl, sym, ap, subst, ◌∙◌, inl, inr, arith, ◌⊎◌, ◌↔◌, IsPermutation, Contains, filter, flat_map, true≢false}
+use Rattle.std.specs.List.{list_any, AllByRecursion}
 use Rattle.std.proofs.lemmas.List.Sorted.{Contains-permutation, IsPermutation-sym}
-use Rattle.std.proofs.lemmas.Bool.{true≢false, or_parts, or_from}
+use Rattle.std.proofs.lemmas.Bool.{or_parts, or_from}
 use Rattle.mls_filterview.specs.View.{IsAmong}
 
 pub among_map : {A B : Type 0} (f : A → B) (xs : List A) (y : B) → IsAmong y (map f xs) → (x : A) × IsAmong x xs × (y ≡ f x)
@@ -97,3 +96,13 @@ pub flat_map_among : {A B : Type 0} (f : A → List B) (xs : List A) (x : A) (y 
 flat_map_among f [] x y h k = absurd h
 flat_map_among f (z ∷ xs) x y (inl e) k = among_left (f z) (flat_map f xs) y (subst (λ w. IsAmong y (f w)) e k)
 flat_map_among f (z ∷ xs) x y (inr h) k = among_right (f z) (flat_map f xs) y (flat_map_among f xs x y h k)
+
+-- one of two lists has none that passes a test
+pub any_left : {A : Type 0} (p : A → Bool) (xs ys : List A) → ((d : A) → IsAmong d ys → p d ≡ false) → list_any p (xs ++ ys) ≡ list_any p xs
+any_left p [] [] h = refl
+any_left p [] (y ∷ ys) h = (λ i. h y (inl refl) i || list_any p ys) ∙ any_left p [] ys (λ d j. h d (inr j))
+any_left p (x ∷ xs) ys h = ap (λ b. p x || b) (any_left p xs ys h)
+
+pub any_right : {A : Type 0} (p : A → Bool) (xs ys : List A) → ((d : A) → IsAmong d xs → p d ≡ false) → list_any p (xs ++ ys) ≡ list_any p ys
+any_right p [] ys h = refl
+any_right p (x ∷ xs) ys h = (λ i. h x (inl refl) i || list_any p (xs ++ ys)) ∙ any_right p xs ys (λ d j. h d (inr j))

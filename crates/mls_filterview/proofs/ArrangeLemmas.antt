@@ -1,6 +1,5 @@
 -- Lists sorted and rid of ties have the elements that they had.
-use Rattle.std.proofs.Common.{◌≡◌, Result, Ok, Err, Bool, true, false, cond, List, [], ◌∷◌, refl, sym, subst, inl, inr}
-use Rattle.std.specs.Prelude.{◌⊎◌, IfOk}
+use Rattle.std.proofs.Common.{◌≡◌, Result, Ok, Err, Bool, true, false, cond, List, [], ◌∷◌, refl, sym, subst, inl, inr, ◌⊎◌, IfOk}
 use Rattle.std.specs.List.{dedup, dedup_from}
 use Rattle.mls_filterview.specs.View.{IsAmong}
 

@@ -1,12 +1,8 @@
 -- Calls over a base, one after another.
-use Rattle.std.proofs.Common.{◌≡◌, ℕ, ◌≤◌, arith, true, cond, Result, Err, refl, sym, ap, ◌∙◌, subst}
-use Rattle.mls_filterview.specs.Content.{State, after, failed, ended}
+use Rattle.std.proofs.Common.{◌≡◌, ℕ, ◌≤◌, arith, Result, Err, refl, sym, ap, ◌∙◌, subst}
+use Rattle.mls_filterview.specs.Content.{State, after}
 use Rattle.mls_filterview.specs.Calls.{begun_after, IsCall, IsRead, IsServed}
 use Rattle.mls_filterview.specs.declared.base.BaseFault.{BaseFault}
-
--- what ends a change goes back to the last commit
-failed_begun : (s : State) → s.begun ≡ true → failed s ≡ ended s
-failed_begun s h = ap (λ b. cond b (ended s) s) h
 
 module _ {Self : Type 0} (is_clean : Self → Type 0) (failures : Self → ℕ) (state : Self → State) where
   -- a fault after steps that leave what it goes back to

@@ -1,6 +1,5 @@
 -- The class of a tuple is the least label that dominates all its classes.
-use Rattle.std.proofs.Common.{◌≡◌, ℕ, zero, suc, ◌<◌, true, false, cond, ap, List, [], ◌∷◌, length, arith, subst, sym, ◌∙◌, refl, inl, inr}
-use Rattle.std.specs.Prelude.{◌⊎◌}
+use Rattle.std.proofs.Common.{◌≡◌, ℕ, zero, suc, ◌<◌, true, false, cond, ap, List, [], ◌∷◌, length, arith, subst, sym, ◌∙◌, refl, inl, inr, ◌⊎◌}
 use Rattle.mls_lattice.specs.Lattice.{Pair, join, Dominates}
 use Rattle.mls_lattice.specs.Labels.{Labels, label_of, below}
 use Rattle.mls_lattice.proofs.LatticeLemmas.{below-refl, below-trans, ⊑-Dominates, Dominates-refl, Dominates-trans, Dominates-antisym, join-left, join-right, join-least}

@@ -1,8 +1,7 @@
 -- Rows in the order of places: those of one entity stand together.
-use Rattle.std.proofs.Common.{◌≡◌, ◌⊎◌, ℕ, zero, suc, ◌+◌, ◌<◌, get_or, arith, Bool, true, false, cond, not, ◌&&◌, ◌||◌, List, [], ◌∷◌, ◌++◌, map, take, drop, length, refl, sym, ap, ◌∙◌, subst, inl, inr}
-use Rattle.std.specs.Prelude.{nat_eq}
-use Rattle.std.specs.List.{filter, list_any, prefix_len, AllByRecursion}
-use Rattle.std.specs.Ordering.{nat_cmp, ordering_then, ordering_reverse, is_lt, is_eq}
+use Rattle.std.proofs.Common.{◌≡◌, ◌⊎◌, ℕ, zero, suc, ◌+◌, ◌<◌, get_or, arith, Bool, true, false, cond, not, ◌&&◌, List, [], ◌∷◌, ◌++◌, map, take, drop, length, refl, sym, ap, ◌∙◌, subst, inl, inr, nat_eq, filter, nat_cmp, is_lt, is_eq, true≢false}
+use Rattle.std.specs.List.{prefix_len, AllByRecursion}
+use Rattle.std.specs.Ordering.{ordering_then, ordering_reverse}
 use Rattle.std.specs.Cmp.{IsTotalOrder}
 use Rattle.std.specs.Cmp.Lexicographic.{slice_cmp}
 use Rattle.std.specs.FinMap.{is_sorted}
@@ -10,7 +9,7 @@ use Rattle.std.specs.FinMap.Entries.{below_all}
 use Rattle.std.specs.declared.cmp.Ordering.{Ordering}
 use Rattle.std.specs.declared.cmp.Ordering.TheVariants.{Less, Equal, Greater}
 use Rattle.std.proofs.lemmas.Cmp.{on_total, then_total, nat_cmp_total, lists_total, tied_itself}
-use Rattle.std.proofs.lemmas.Bool.{true≢false, and_parts, false_from_ne_true, cond-true}
+use Rattle.std.proofs.lemmas.Bool.{and_parts, false_from_ne_true, cond-true}
 use Rattle.mls_scheme.specs.declared.place.Place.{Place}
 use Rattle.mls_scheme.specs.Value.{value_cmp}
 use Rattle.mls_scheme.specs.Table.{place_cmp, tuple_at}
@@ -19,7 +18,7 @@ use Rattle.mls_scheme.proofs.OrderLemmas.{value_total, is_place-true}
 use Rattle.mls_filterview.specs.Subsumption.{all_cover, subsumes_entry, is_max_among, flagged, entity_cmp, AreByEntity}
 use Rattle.mls_filterview.specs.Stored.{with_class, is_entity}
 use Rattle.mls_filterview.specs.View.{IsAmong}
-use Rattle.mls_filterview.proofs.AmongLemmas.{all_at}
+use Rattle.mls_filterview.proofs.AmongLemmas.{all_at, any_left, any_right}
 use Rattle.mls_filterview.proofs.EntryLemmas.{Entry}
 
 -- ---- entities in order
@@ -105,15 +104,6 @@ left_out h (d ∷ es) b s e i q =
         true≢false (sym (ent_same d.0 h (ent_turned h d.0 (between h d.0 e.0 b.0 (all_at (λ x. entity_cmp d.0 x.0 ≡ Greater → ⊥) es s.0 e k) (ent_turned e.0 h q) (entity_cmp h d.0) refl))) ∙ t)
 
 -- ---- maximal rows
-
-any_left : (p : Entry → Bool) (xs ys : List Entry) → ((d : Entry) → IsAmong d ys → p d ≡ false) → list_any p (xs ++ ys) ≡ list_any p xs
-any_left p [] [] h = refl
-any_left p [] (y ∷ ys) h = (λ i. h y (inl refl) i || list_any p ys) ∙ any_left p [] ys (λ d j. h d (inr j))
-any_left p (x ∷ xs) ys h = ap (λ b. p x || b) (any_left p xs ys h)
-
-any_right : (p : Entry → Bool) (xs ys : List Entry) → ((d : Entry) → IsAmong d xs → p d ≡ false) → list_any p (xs ++ ys) ≡ list_any p ys
-any_right p [] ys h = refl
-any_right p (x ∷ xs) ys h = (λ i. h x (inl refl) i || list_any p (xs ++ ys)) ∙ any_right p xs ys (λ d j. h d (inr j))
 
 map_two : (p q r : Entry → Bool) (xs ys : List Entry) → ((e : Entry) → IsAmong e xs → p e ≡ q e) → ((e : Entry) → IsAmong e ys → p e ≡ r e) → map p (xs ++ ys) ≡ map q xs ++ map r ys
 map_two p q r [] [] h k = refl

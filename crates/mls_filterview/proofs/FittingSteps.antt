@@ -1,7 +1,5 @@
 -- Tests of two lists, place by place.
-use Rattle.std.proofs.Common.{◌≡◌, ℕ, zero, suc, ◌<◌, ◌+◌, Bool, true, false, ◌&&◌, List, [], ◌∷◌, length, get_or, drop, Some, refl, sym, ap, ◌∙◌, arith}
-use Rattle.std.specs.Prelude.{slice_get}
-use Rattle.std.specs.Option.{option_map}
+use Rattle.std.proofs.Common.{◌≡◌, ℕ, zero, suc, ◌<◌, ◌+◌, Bool, true, false, ◌&&◌, List, [], ◌∷◌, length, get_or, drop, Some, refl, sym, ap, ◌∙◌, arith, slice_get, option_map}
 use Rattle.std.proofs.lemmas.Bool.{and_right}
 use Rattle.std.proofs.lemmas.Option.{same_Some, none-some}
 use Rattle.mls_lattice.specs.Labels.{Labels}
@@ -22,10 +20,8 @@ zip-uneven p (x ∷ xs) (y ∷ ys) h = and_right (p x y) (all_zip p xs ys) (zip-
 zip-ended : {A B : Type 0} (p : A → B → Bool) (xs : List A) (ys : List B) (i : ℕ) → length ys ≡ length xs → length ys ≡ i → all_zip p (drop i xs) (drop i ys) ≡ true
 zip-ended p [] [] zero h e = refl
 zip-ended p [] [] (suc i) h e = refl
-zip-ended p [] (y ∷ ys) i h e = absurd (omega arith)
-zip-ended p (x ∷ xs) [] i h e = absurd (omega arith)
-zip-ended p (x ∷ xs) (y ∷ ys) zero h e = absurd (omega arith)
 zip-ended p (x ∷ xs) (y ∷ ys) (suc i) h e = zip-ended p xs ys i (omega arith) (omega arith)
+zip-ended p _ _ _ h e = absurd (omega arith)
 
 -- a test that speaks of what is kept of an attribute beside its name
 module _ {B : Type 0} (q : Column → B → Bool) where

@@ -34,3 +34,4 @@ pub mod WidenedRowLemmas
 pub mod FilteredLemmas
 pub mod PartLemmas
 pub mod MendLemmas
+pub mod MovedLemmas

@@ -1,6 +1,5 @@
 -- The tuples of classes that a level dominates, by look-up.
-use Rattle.std.proofs.Common.{◌≡◌, ℕ, true, false, cond, map, None, refl, sym, ap, ◌∙◌}
-use Rattle.std.specs.List.{filter, flat_map}
+use Rattle.std.proofs.Common.{◌≡◌, ℕ, true, false, cond, map, None, refl, sym, ap, ◌∙◌, filter, flat_map}
 use Rattle.std.specs.FinMap.{get, entries}
 use Rattle.std.proofs.lemmas.Option.{none-some}
 use Rattle.mls_lattice.specs.Labels.{Labels, below}

@@ -1,8 +1,7 @@
 -- The parts of one entity, put together.
-use Rattle.std.proofs.Common.{◌≡◌, ◌+◌, ◌<◌, ℕ, Bool, true, false, cond, List, ◌++◌, length, map, Some, None, refl, sym, ap, subst, ◌∙◌, inl, inr, arith}
-use Rattle.std.specs.Prelude.{◌&&◌, ◌↔◌, ◌⊎◌}
+use Rattle.std.proofs.Common.{◌≡◌, ◌+◌, ◌<◌, ℕ, Bool, true, false, cond, List, ◌++◌, length, map, Some, None, refl, sym, ap, subst, ◌∙◌, inl, inr, arith, ◌&&◌, ◌↔◌, ◌⊎◌, true≢false}
 use Rattle.std.specs.FinMap.{get, entries, retain_keys}
-use Rattle.std.proofs.lemmas.Bool.{true≢false, and_from, cases_lt}
+use Rattle.std.proofs.lemmas.Bool.{and_from, cases_lt}
 use Rattle.std.proofs.lemmas.Option.{none-some}
 use Rattle.mls_lattice.specs.Labels.{Labels, below}
 use Rattle.mls_scheme.specs.declared.value.Value.{Value}
@@ -21,6 +20,7 @@ use Rattle.mls_filterview.specs.Assembly.{AreOf, AreLow, IsLowEntry}
 use Rattle.mls_filterview.specs.Entities.{IsOfEntity, of_entity}
 use Rattle.mls_filterview.proofs.AmongLemmas.{among_map, map_among, among_filter, filter_among, among_append, among_left, among_right, among_permutation, among_flat_map, flat_map_among}
 use Rattle.mls_filterview.proofs.EntryLemmas.{Entry, among_entries, entries_among}
+use Rattle.mls_filterview.proofs.MovedLemmas.{moved}
 
 -- ---- parts of tuples
 
@@ -149,17 +149,7 @@ module _ (T : Table) (test : List Value → ℕ → Bool) where
   pub those_stored : (ls : Labels) (n : ℕ) → IsStored ls n T → IsStored ls n (those test T)
   those_stored ls n stored p es g =
       let h = in_those p es g in
-      let st = stored p es h.0 in
-      record {
-        count = st.count;
-        declared = st.declared;
-        above_key = st.above_key;
-        null_at_key = st.null_at_key;
-        comparable = st.comparable;
-        greatest = st.greatest;
-        own = st.own;
-        closed = λ m o. (let cl = st.closed m o in (cl.0, those_have (with_class p m) cl.0 cl.1 h.1, cl.2));
-      }
+      moved ls n T (those test T) p es (stored p es h.0) (λ m fs o k. those_have (with_class p m) fs k h.1)
 
 -- ---- the tuples of one entity
 

@@ -1,8 +1,7 @@
 -- The tests of a row tell whether it keeps the rules.
-use Rattle.std.proofs.Common.{◌≡◌, ℕ, zero, suc, ◌<◌, Bool, true, false, not, ◌&&◌, ◌||◌, cond, List, [], ◌∷◌, length, take, Option, Some, None, refl, sym, ap, ◌∙◌, subst, arith, inl, inr}
-use Rattle.std.specs.Prelude.{◌⊎◌, is_some, nat_eq, slice_index_or}
+use Rattle.std.proofs.Common.{◌≡◌, ℕ, zero, suc, ◌<◌, Bool, true, false, not, ◌&&◌, ◌||◌, cond, List, [], ◌∷◌, length, take, Option, Some, None, refl, sym, ap, ◌∙◌, subst, arith, inl, inr, ◌⊎◌, is_some, nat_eq, slice_index_or, true≢false, eqb-true, eq-eqb}
 use Rattle.std.specs.List.{list_all, list_any, AllZip}
-use Rattle.std.proofs.lemmas.Bool.{true≢false, false≢true, and_parts, and_from, or_cases, cases_Bool, not-true, not_from_false, eqb-true, eq-eqb, false_from_ne_true, or_right}
+use Rattle.std.proofs.lemmas.Bool.{false≢true, and_parts, and_from, or_cases, cases_Bool, not-true, not_from_false, false_from_ne_true, or_right}
 use Rattle.std.proofs.lemmas.Option.{same_Some, none-some}
 use Rattle.mls_lattice.specs.Lattice.{same_pair}
 use Rattle.mls_lattice.specs.Labels.{Labels, label_of, below}
@@ -260,10 +259,7 @@ chosen-none true true false d e h r = absurd (none-some Interval (sym h))
 chosen-none true true true false e h r = absurd (none-some Poly (sym h))
 chosen-none true true true true false h r = absurd (none-some Closure (sym h))
 chosen-none true true true true true h Entity = refl
-chosen-none true true true true true h Null = refl
-chosen-none true true true true true h Interval = refl
-chosen-none true true true true true h Poly = refl
-chosen-none true true true true true h Closure = refl
+chosen-none true true true true true h _ = refl
 
 abbrev IsFirst : Bool → Bool → Bool → Bool → Bool → Rule → Type 0
 IsFirst a b c d e r = (test a b c d e r ≡ false) × ((q : Rule) → rank q < rank r → test a b c d e q ≡ true)

@@ -1,6 +1,5 @@
 -- Worked rows, which compute: small relations, and which of their tuples no other one subsumes.
-use Rattle.std.proofs.Common.{◌≡◌, ℕ, List, [], ◌∷◌, Option, Some, None, refl}
-use Rattle.std.specs.Prelude.{codes}
+use Rattle.std.proofs.Common.{◌≡◌, ℕ, List, [], ◌∷◌, Option, Some, None, refl, codes}
 use Rattle.mls_scheme.specs.declared.value.Value.{Value}
 use Rattle.mls_scheme.specs.declared.value.Value.TheVariants.{Text}
 use Rattle.mls_scheme.specs.Table.{place_cmp}

@@ -1,10 +1,8 @@
 -- Widening keeps the stored form, also where labels are added behind those that it speaks of.
-use Rattle.std.proofs.Common.{◌≡◌, ℕ, zero, suc, ◌+◌, ◌<◌, ◌≤◌, true, ◌&&◌, List, [], ◌∷◌, ◌++◌, length, take, Some, refl, sym, ap, ◌∙◌, subst, arith, inl, inr}
-use Rattle.std.specs.Prelude.{slice_index_or}
+use Rattle.std.proofs.Common.{◌≡◌, ℕ, zero, suc, ◌+◌, ◌<◌, ◌≤◌, true, ◌&&◌, List, [], ◌∷◌, ◌++◌, length, take, Some, refl, sym, ap, ◌∙◌, subst, arith, inl, inr, slice_index_or, length-append, length-take, get_or-take}
 use Rattle.std.specs.List.{AllByRecursion, AllZip}
 use Rattle.std.specs.FinMap.{get}
 use Rattle.std.proofs.lemmas.Bool.{cases_lt, and_parts, and_from}
-use Rattle.std.proofs.lemmas.List.{length-append, length-take, get_or-take}
 use Rattle.mls_lattice.specs.Lattice.{bottom, ◌⊑◌}
 use Rattle.mls_lattice.specs.Labels.{Labels, label_of, below}
 use Rattle.mls_lattice.proofs.LatticeLemmas.{below-trans}

@@ -1,7 +1,7 @@
 -- Tuples put together from fragments.
-use Rattle.std.specs.Prelude.{◌≡◌, ℕ, suc, ◌<◌, true, if◌then◌else◌, nat_eq, List, [], ◌∷◌, find, Option, Some, None, option_and_then, ◌↔◌}
+use Rattle.std.specs.Prelude.{◌≡◌, ℕ, suc, ◌<◌, true, if◌then◌else◌, nat_eq, List, [], ◌∷◌, find, Option, Some, None}
+use Rattle.std.specs.Prelude.{option_and_then, ◌↔◌, unwrap_or}
 use Rattle.std.specs.Ordering.{nat_cmp, ordering_then}
-use Rattle.std.specs.Option.{unwrap_or}
 use Rattle.std.specs.FinMap.{get, from_sorted}
 use Rattle.std.specs.declared.cmp.Ordering.{Ordering}
 use Rattle.mls_lattice.specs.Labels.{Labels, below}

@@ -1,5 +1,6 @@
 -- The rules of the stored form, as tests of a row.
-use Rattle.std.specs.Prelude.{ℕ, Bool, true, false, not, ◌&&◌, ◌||◌, if◌then◌else◌, nat_eq, nat_lt, is_some, List, [], ◌∷◌, take, drop, Option, Some, None}
+use Rattle.std.specs.Prelude.{ℕ, Bool, true, false, not, ◌&&◌, ◌||◌, if◌then◌else◌, nat_eq, nat_lt, is_some, List, []}
+use Rattle.std.specs.Prelude.{◌∷◌, take, drop, Option, Some, None}
 use Rattle.std.specs.List.{list_all, list_any}
 use Rattle.mls_lattice.specs.Lattice.{same_pair}
 use Rattle.mls_lattice.specs.Labels.{Labels, label_of, below}

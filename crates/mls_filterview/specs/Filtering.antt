@@ -1,6 +1,5 @@
 -- The view of a list of tuples, step by step.
-use Rattle.std.specs.Prelude.{ℕ, ⊤, Bool, if◌then◌else◌, List, [], ◌∷◌, map}
-use Rattle.std.specs.List.{filter}
+use Rattle.std.specs.Prelude.{ℕ, ⊤, Bool, if◌then◌else◌, List, [], ◌∷◌, map, filter}
 use Rattle.std.specs.Ordering.{nat_cmp, on, then_cmp}
 use Rattle.std.specs.Option.{option_cmp}
 use Rattle.std.specs.Cmp.Lexicographic.{slice_cmp}

@@ -1,7 +1,6 @@
 -- The tuples that a level may see, in an order in which each stands behind those that it is derived from.
 -- Labels go by how many they dominate, since a policy may declare one before those below it.
-use Rattle.std.specs.Prelude.{ℕ, zero, suc, nat_eq, List, [], ◌∷◌, ◌++◌, map, length}
-use Rattle.std.specs.List.{filter, flat_map}
+use Rattle.std.specs.Prelude.{ℕ, zero, suc, nat_eq, List, [], ◌∷◌, ◌++◌, map, length, filter, flat_map}
 use Rattle.std.specs.FinMap.{entries}
 use Rattle.mls_lattice.specs.Labels.{Labels, below}
 use Rattle.mls_scheme.specs.declared.tuple.Element.{Element}

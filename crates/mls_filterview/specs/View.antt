@@ -1,6 +1,6 @@
 -- What a level sees of a relation (Jajodia and Sandhu 1991).
-use Rattle.std.specs.Prelude.{◌≡◌, ℕ, true, if◌then◌else◌, List, [], ◌∷◌, map, Some, None, ◌⊎◌, IsTrue}
-use Rattle.std.specs.List.{AllByRecursion, filter}
+use Rattle.std.specs.Prelude.{◌≡◌, ℕ, true, if◌then◌else◌, List, [], ◌∷◌, map, Some, None, ◌⊎◌, IsTrue, filter}
+use Rattle.std.specs.List.{AllByRecursion}
 use Rattle.std.specs.FinMap.{get, entries, retain_keys, is_sorted}
 use Rattle.mls_lattice.specs.Labels.{Labels, below}
 use Rattle.mls_scheme.specs.declared.tuple.Element.{Element}

@@ -1,6 +1,5 @@
 //! Tuples put together from fragments.
-ghost use Rattle.std.specs.Prelude.{◌≡◌, OnOk, IfOk, Some, None};
-ghost use Rattle.std.specs.Option.{unwrap_or};
+ghost use Rattle.std.specs.Prelude.{◌≡◌, OnOk, IfOk, Some, None, unwrap_or};
 ghost use Rattle.std.specs.BTreeMap.{Updates, IsOrdered, get};
 ghost use Rattle.mls_scheme.specs.Table.{place_cmp};
 ghost use Rattle.mls_filterview.specs.Assembly.{cell_place_cmp, AreValues, AreRows, elements_of};

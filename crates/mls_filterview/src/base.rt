@@ -1,14 +1,15 @@
 //! Bases: what keeps content, and what each of their calls promises.
-ghost use Rattle.std.specs.Prelude.{◌≡◌, ◌<◌, ◌≤◌, ℕ, List, false, true, IfOk, IfErr, OnOk, Ok};
+ghost use Rattle.std.specs.Prelude.{◌≡◌, ◌<◌, ◌≤◌, ℕ, List, false, true, IfOk, IfErr, OnOk, Ok, option_map};
 ghost use Rattle.std.specs.List.{AllByRecursion};
-ghost use Rattle.std.specs.Option.{option_map};
 ghost use Rattle.std.specs.FinMap.{get, insert, remove};
 ghost use Rattle.mls_scheme.specs.declared.tuple.Element.{Element as SpecElement};
 ghost use Rattle.mls_scheme.specs.Table.{change};
 ghost use Rattle.mls_scheme.specs.Spelling.{IsSpelledKey};
-ghost use Rattle.mls_filterview.specs.Content.{State, begun_change, committed, ended, failed, with_relation, with_entry, with_no_entries};
+ghost use Rattle.mls_filterview.specs.Content.{State, begun_change, committed, ended, failed, with_relation};
+ghost use Rattle.mls_filterview.specs.Content.{with_entry, with_no_entries};
 ghost use Rattle.mls_filterview.specs.Calls.{IsCall, IsRead, IsChange, IsOutside, IsServed, CanAdd, CanSet, CanDrop};
-ghost use Rattle.mls_filterview.specs.Fragment.{IsFragment, AreFragments, IsEntityPart, classes, IsMadeOf, place_of_node, set_in};
+ghost use Rattle.mls_filterview.specs.Fragment.{IsFragment, AreFragments, IsEntityPart, classes, IsMadeOf};
+ghost use Rattle.mls_filterview.specs.Fragment.{place_of_node, set_in};
 
 use crate::fragment::{Cell, Fragment, Node};
 use mls_lattice::{Items, LabelNo};

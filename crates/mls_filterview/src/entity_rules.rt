@@ -4,7 +4,9 @@ ghost use Rattle.std.specs.List.{list_any, AllByRecursion};
 ghost use Rattle.mls_lattice.specs.Lattice.{pair_of, same_pair};
 ghost use Rattle.mls_lattice.specs.Policy.{labels_of};
 ghost use Rattle.mls_scheme.specs.Tuple.{HasClassesBelow};
-ghost use Rattle.mls_filterview.specs.Checking.{all_classes, has_same_class, is_of_class, has_element_at, has_below, agrees_with_first, is_determined, is_comparable, is_chain, has_each_class};
+ghost use Rattle.mls_filterview.specs.Checking.{all_classes, has_same_class, is_of_class, has_element_at, has_below};
+ghost use Rattle.mls_filterview.specs.Checking.{agrees_with_first, is_determined, is_comparable, is_chain};
+ghost use Rattle.mls_filterview.specs.Checking.{has_each_class};
 
 use crate::entity::is_one_entity;
 use mls_lattice::{Label, LabelNo, Policy};

@@ -9,7 +9,7 @@ ghost use Rattle.mls_scheme.specs.Table.{Table, IsIn};
 ghost use Rattle.mls_scheme.specs.declared.tuple.Tuple.{Tuple as SpecTuple};
 ghost use Rattle.mls_filterview.specs.View.{hide, filtered, View, rows, IsAmong};
 ghost use Rattle.mls_filterview.specs.Stored.{IsStored};
-ghost use Rattle.mls_filterview.specs.Filtering.{EachOnce, seen, greatest_from, class_number, row_of, row_cmp};
+ghost use Rattle.mls_filterview.specs.Filtering.{EachOnce, seen, greatest_from, class_number, row_of};
 
 use crate::maximal::maximal_tuples;
 use crate::row::PlacedTuple;

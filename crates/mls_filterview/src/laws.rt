@@ -1,6 +1,8 @@
 //! The laws of views and of the stored form, each the contract of a function.
-ghost use Rattle.mls_filterview.specs.Laws.{StoredHasIntegrity, ViewIsMaxOfLow, ViewTellsLow, ViewsAndLowAgree, RowsAreTheView, ViewsAreMended};
-ghost use Rattle.mls_filterview.specs.Widen.{ViewOfWidened, ViewOfWidenedTable, WideningKeepsContent, WidenedWasContent, ContentNeedsItsLabels};
+ghost use Rattle.mls_filterview.specs.Laws.{StoredHasIntegrity, ViewIsMaxOfLow, ViewTellsLow, ViewsAndLowAgree};
+ghost use Rattle.mls_filterview.specs.Laws.{RowsAreTheView, ViewsAreMended};
+ghost use Rattle.mls_filterview.specs.Widen.{ViewOfWidened, ViewOfWidenedTable, WideningKeepsContent};
+ghost use Rattle.mls_filterview.specs.Widen.{WidenedWasContent, ContentNeedsItsLabels};
 
 /// The stored form has the four integrity properties.
 pub fn stored_has_integrity()

@@ -1,6 +1,6 @@
 //! The rows that no other row subsumes, one entity after another.
-ghost use Rattle.std.specs.Prelude.{◌≡◌, ◌≤◌, ◌&&◌, ◌++◌, not, length, map, IfOk, OnOk};
-ghost use Rattle.std.specs.List.{filter, list_any, prefix_len};
+ghost use Rattle.std.specs.Prelude.{◌≡◌, ◌≤◌, ◌&&◌, ◌++◌, not, length, map, IfOk, OnOk, filter};
+ghost use Rattle.std.specs.List.{list_any, prefix_len};
 ghost use Rattle.mls_scheme.specs.Table.{tuple_at};
 ghost use Rattle.mls_filterview.specs.Subsumption.{subsumes_entry, is_max_among, flagged, AreByEntity};
 ghost use Rattle.mls_filterview.specs.Stored.{is_entity};

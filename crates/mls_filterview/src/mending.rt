@@ -1,11 +1,9 @@
 //! Rows of a view, with those of one entity as they are now.
-ghost use Rattle.std.specs.Prelude.{◌≡◌, ◌<◌, ◌∷◌, ◌++◌, [], ℕ, length, IfOk, IfErr, OnOk};
-ghost use Rattle.std.specs.List.{filter};
+ghost use Rattle.std.specs.Prelude.{◌≡◌, ◌<◌, ◌∷◌, ◌++◌, [], length, IfOk, OnOk, filter};
 ghost use Rattle.mls_lattice.specs.Policy.{labels_of};
 ghost use Rattle.mls_scheme.specs.Spelling.{IsSpelledKey};
 ghost use Rattle.mls_scheme.specs.Table.{place_of};
 ghost use Rattle.mls_filterview.specs.View.{rows};
-ghost use Rattle.mls_filterview.specs.Stored.{IsStored};
 ghost use Rattle.mls_filterview.specs.Calls.{IsRead, CanSee};
 ghost use Rattle.mls_filterview.specs.Subsumption.{entity_cmp};
 ghost use Rattle.mls_filterview.specs.Entities.{of_entity, is_before, is_behind, mended};

@@ -1,6 +1,6 @@
 //! Rows by their classes, in an order in which each stands behind those that it is derived from.
-ghost use Rattle.std.specs.Prelude.{◌≡◌, ◌≤◌, ◌<◌, ◌++◌, nat_eq, length, IfOk, OnOk};
-ghost use Rattle.std.specs.List.{filter, flat_map, AllByRecursion};
+ghost use Rattle.std.specs.Prelude.{◌≡◌, ◌≤◌, ◌<◌, ◌++◌, nat_eq, length, IfOk, OnOk, filter, flat_map};
+ghost use Rattle.std.specs.List.{AllByRecursion};
 ghost use Rattle.mls_lattice.specs.Labels.{below};
 ghost use Rattle.mls_lattice.specs.Policy.{labels_of};
 ghost use Rattle.mls_filterview.specs.Reach.{numbers, reach, of_reach, upward, of_class};

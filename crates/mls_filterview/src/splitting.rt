@@ -1,6 +1,5 @@
 //! Tuples taken apart into nodes and cells.
-ghost use Rattle.std.specs.Prelude.{◌≡◌, ◌++◌, IfOk, OnOk, map};
-ghost use Rattle.std.specs.List.{flat_map};
+ghost use Rattle.std.specs.Prelude.{◌≡◌, ◌++◌, IfOk, OnOk, map, flat_map};
 ghost use Rattle.mls_filterview.specs.Fragment.{classes, node_of, cells_of};
 
 use crate::fragment::{Cell, Node};

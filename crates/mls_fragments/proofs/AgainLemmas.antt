@@ -1,5 +1,5 @@
 -- What files keep is what a base over them finds.
-use Rattle.std.proofs.Common.{Bool, false, not, IsTrue, ◌≡◌, ◌≢◌, inl, inr, List, [], ◌∷◌, length, refl, sym, ap, subst, ◌∙◌, arith}
+use Rattle.std.proofs.Common.{Bool, false, not, IsTrue, ◌≡◌, ◌≢◌, inl, inr, List, [], ◌∷◌, length, refl, sym, ap, subst, ◌∙◌}
 use Rattle.std.proofs.Math.Logic.{∥∥₁_elim, ∥∥₁_map}
 use Rattle.std.specs.List.{AllZip}
 use Rattle.sqlite_trees.specs.Objects.{catalog_tree}

@@ -1,13 +1,12 @@
 -- Rows in order, cut where an entity begins.
-use Rattle.std.proofs.Common.{◌≡◌, inl, inr, ℕ, zero, suc, ◌≤◌, Bool, true, false, not, ◌&&◌, List, [], ◌∷◌, ◌++◌, filter, length, take, drop, get_or, Less, Equal, Greater, Ordering, refl, sym, ap, ◌∙◌, arith, true≢false, IsPermutation}
+use Rattle.std.proofs.Common.{◌≡◌, inl, inr, ℕ, zero, suc, ◌≤◌, Bool, true, false, not, ◌&&◌, List, [], ◌∷◌, ◌++◌, filter, length, take, drop, get_or, Less, Equal, Greater, Ordering, refl, sym, ap, ◌∙◌, arith, true≢false, IsPermutation, IsSorted, is_lt, nat_cmp, get_or-take, length-take}
 use Rattle.std.specs.List.{AllWithin}
-use Rattle.std.specs.List.Sorted.{IsSorted, IsPartitionedBy, IsPartitionPoint}
+use Rattle.std.specs.List.Sorted.{IsPartitionedBy, IsPartitionPoint}
 use Rattle.std.specs.Cmp.{IsTotalOrder}
 use Rattle.std.specs.Cmp.Lexicographic.{slice_cmp}
-use Rattle.std.specs.Ordering.{is_lt, nat_cmp, on, then_cmp, ordering_then, ordering_reverse}
+use Rattle.std.specs.Ordering.{on, then_cmp, ordering_then, ordering_reverse}
 use Rattle.std.proofs.lemmas.Bool.{cases_Bool}
 use Rattle.std.proofs.lemmas.Cmp.{on_total, then_total, nat_cmp_total, nat_list_cmp_total}
-use Rattle.std.proofs.lemmas.List.{get_or-take, length-take}
 use Rattle.std.proofs.lemmas.List.Sorted.{ranks_by, sorted_far, IsPermutation-refl, IsPermutation-trans, IsPermutation-cons, IsPermutation-middle}
 use Rattle.mls_tables.specs.declared.rows.NodeRow.{NodeRow}
 use Rattle.mls_tables.specs.declared.rows.CellRow.{CellRow}
@@ -66,10 +65,8 @@ before_too a b k up h = by (key_cmp a b) (key_cmp b k) refl refl
 -- where the keys come first in an order
 first_two : (a b c : Ordering) → is_lt (ordering_then a (ordering_then b c)) ≡ false → is_lt (ordering_then a b) ≡ false
 first_two Less b c h = h
-first_two Greater b c h = refl
 first_two Equal Less c h = h
-first_two Equal Equal c h = refl
-first_two Equal Greater c h = refl
+first_two _ _ c h = refl
 
 abbrev rest_of_node : NodeRow → NodeRow → Ordering
 rest_of_node = then_cmp (on (λ r. r.kclass) nat_cmp) (then_cmp (on (λ r. r.label) nat_cmp) (on (λ r. r.pattern) (slice_cmp nat_cmp)))

@@ -1,9 +1,7 @@
 -- What a database has is one thing, what is taken of it, and what a base has then.
-use Rattle.std.proofs.Common.{◌≡◌, ◌≢◌, inl, inr, ℕ, zero, suc, pos, List, [], ◌∷◌, ◌++◌, length, Option, Some, None, refl, sym, ap, subst, ◌∙◌, arith, append-nil}
+use Rattle.std.proofs.Common.{◌≡◌, ◌≢◌, inl, inr, ℕ, zero, suc, pos, List, [], ◌∷◌, ◌++◌, length, Option, Some, None, refl, sym, ap, subst, ◌∙◌, arith, append-nil, option_map, length-take-le}
 use Rattle.std.specs.List.{AllZip}
-use Rattle.std.specs.Option.{option_map}
 use Rattle.std.specs.FinMap.{get, same_map}
-use Rattle.std.proofs.lemmas.List.{length-take-le}
 use Rattle.sqlite.specs.Effect.{Database}
 use Rattle.mls_lattice.specs.Canon as lattice
 use Rattle.mls_lattice.specs.Policy.{Policy}

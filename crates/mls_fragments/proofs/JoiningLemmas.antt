@@ -1,8 +1,6 @@
 -- Rows of two parts hold together what each holds, and that is sound where each is.
-use Rattle.std.proofs.Common.{◌≡◌, ◌⊎◌, inl, inr, ℕ, Bool, true, false, cond, List, [], ◌∷◌, ◌++◌, map, filter, Option, None, Some, refl, sym, ap, subst, ◌∙◌, true≢false, IsPermutation}
-use Rattle.std.specs.Prelude.{nat_eq}
-use Rattle.std.specs.List.{flat_map, AllByRecursion}
-use Rattle.std.specs.Ordering.{is_lt}
+use Rattle.std.proofs.Common.{◌≡◌, ◌⊎◌, inl, inr, ℕ, Bool, true, false, cond, List, [], ◌∷◌, ◌++◌, map, filter, Option, None, Some, refl, sym, ap, subst, ◌∙◌, true≢false, IsPermutation, nat_eq, flat_map, is_lt}
+use Rattle.std.specs.List.{AllByRecursion}
 use Rattle.std.specs.FinMap.{get, entries, entries_sorted, is_sorted}
 use Rattle.std.specs.FinMap.Entries.{below_all}
 use Rattle.std.proofs.lemmas.Bool.{and_parts}
@@ -27,6 +25,7 @@ use Rattle.mls_filterview.specs.Stored.{with_class, IsStoredTuple, IsContent}
 use Rattle.mls_filterview.specs.View.{IsAmong}
 use Rattle.mls_filterview.proofs.AmongLemmas.{all_at, among_filter, map_among, among_permutation}
 use Rattle.mls_filterview.proofs.EntryLemmas.{Entry, among_entries, entries_among, so_true}
+use Rattle.mls_filterview.proofs.MovedLemmas.{moved}
 use Rattle.mls_tables.specs.Rows.{Tables}
 use Rattle.mls_rows.specs.Changes.{Entries, with_entries}
 use Rattle.mls_rows.specs.Finding.{AreWithin}
@@ -92,16 +91,7 @@ module _ (T B : Table) (stay : (p : Place) (us : List Element) → get T p ≡ S
   shared_still p es s = record { key = s.key; values = s.values; own = λ i l. (let o = s.own i l in (o.0, stay (with_class p (at es i).class) o.0 o.1, o.2, o.3)) }
 
   stored_still : (ls : Labels) (n : ℕ) (p : Place) (es : List Element) → IsStoredTuple ls n T p es → IsStoredTuple ls n B p es
-  stored_still ls n p es s = record {
-    count = s.count;
-    declared = s.declared;
-    above_key = s.above_key;
-    null_at_key = s.null_at_key;
-    comparable = s.comparable;
-    greatest = s.greatest;
-    own = s.own;
-    closed = λ m occurs. (let c = s.closed m occurs in (c.0, stay (with_class p m) c.0 c.1, c.2));
-  }
+  stored_still ls n p es s = moved ls n T B p es s (λ m fs o g. stay (with_class p m) fs g)
 
 -- ---- two parts of a relation
 

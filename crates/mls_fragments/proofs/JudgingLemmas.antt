@@ -1,6 +1,5 @@
 -- Rows that are judged part by part: what is found of each is joined, and sound rows are refused at no part.
-use Rattle.std.proofs.Common.{◌≡◌, ℕ, Bool, true, false, not, ◌&&◌, List, [], map, filter, flat_map, refl, sym, ap, subst, ◌∙◌, arith, IsPermutation}
-use Rattle.std.specs.Prelude.{nat_eq}
+use Rattle.std.proofs.Common.{◌≡◌, ℕ, Bool, true, false, not, ◌&&◌, List, [], map, filter, flat_map, refl, sym, ap, subst, ◌∙◌, arith, IsPermutation, nat_eq}
 use Rattle.std.specs.List.{AllByRecursion}
 use Rattle.std.specs.FinMap.{entries-from_sorted}
 use Rattle.std.proofs.lemmas.Bool.{and_parts, not-true}

@@ -1,9 +1,7 @@
 -- What is noted of the rows stays so where they and the note change alike.
-use Rattle.std.proofs.Common.{◌≡◌, ℕ, ◌<◌, pos, ◌+ℤ◌, ◌+◌, true, cond, List, [], ◌∷◌, map, length, Option, None, refl, sym, ap, subst, ◌∙◌, true≢false}
-use Rattle.std.specs.Prelude.{◌≢◌, IfSome}
+use Rattle.std.proofs.Common.{◌≡◌, ℕ, ◌<◌, pos, ◌+ℤ◌, ◌+◌, true, cond, List, [], ◌∷◌, map, length, Option, None, refl, sym, ap, subst, ◌∙◌, true≢false, ◌≢◌, IfSome, length-append}
 use Rattle.std.specs.List.{AllByRecursion}
 use Rattle.std.specs.FinMap.{get, insert}
-use Rattle.std.proofs.lemmas.List.{length-append}
 use Rattle.mls_lattice.specs.Version.{version_number}
 use Rattle.mls_lattice.specs.declared.version.Version.{Version}
 use Rattle.mls_scheme.specs.declared.value.Value.{Value}

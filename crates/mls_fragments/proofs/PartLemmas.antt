@@ -1,7 +1,5 @@
 -- The rows of a part hold the content of the part, and that of sound content is sound.
-use Rattle.std.proofs.Common.{◌≡◌, ℕ, Bool, true, List, [], map, filter, length, Some, sym, ap, subst, ◌∙◌}
-use Rattle.std.specs.Prelude.{nat_eq}
-use Rattle.std.specs.List.{flat_map}
+use Rattle.std.proofs.Common.{◌≡◌, ℕ, Bool, true, List, [], map, filter, length, Some, sym, ap, subst, ◌∙◌, nat_eq, flat_map}
 use Rattle.std.specs.FinMap.{get, entries, entries_sorted, entries-from_sorted}
 use Rattle.std.proofs.lemmas.List.Sorted.{IsPermutation-refl}
 use Rattle.sqlite_trees.proofs.ListLemmas.{filter-map, IsPermutation-filter}
@@ -17,11 +15,12 @@ use Rattle.mls_filterview.proofs.FilteredLemmas.{filter_turned}
 use Rattle.mls_filterview.specs.Assembly.{table_of}
 use Rattle.mls_filterview.specs.Content.{Content}
 use Rattle.mls_filterview.specs.Fragment.{node_of, cells_of}
-use Rattle.mls_filterview.specs.Stored.{with_class, IsStoredTuple, IsContent}
+use Rattle.mls_filterview.specs.Stored.{with_class, IsContent}
 use Rattle.mls_filterview.specs.View.{IsAmong}
 use Rattle.mls_filterview.proofs.AmongLemmas.{among_filter, filter_among}
 use Rattle.mls_filterview.proofs.EntryLemmas.{Entry, among_entries, entries_among, sorted_filter, so_true, so_from}
 use Rattle.mls_filterview.proofs.FragmentLemmas.{cell_found}
+use Rattle.mls_filterview.proofs.MovedLemmas.{moved}
 use Rattle.mls_tables.specs.Rows.{Tables}
 use Rattle.mls_rows.specs.Finding.{IsSoundWithin}
 use Rattle.mls_rows.specs.Holding.{Holds, HoldsTable, IsSharedTuple, node_row, cell_row, nodes_in, cells_in}
@@ -75,21 +74,9 @@ module _ (q : Part) (rel : ℕ) (T : Table) where
 
   -- ---- its form
 
-  stored_part : (ls : Labels) (n : ℕ) (p : Place) (es : List Element) → here (p, es) ≡ true → IsStoredTuple ls n T p es → IsStoredTuple ls n P p es
-  stored_part ls n p es h s = record {
-    count = s.count;
-    declared = s.declared;
-    above_key = s.above_key;
-    null_at_key = s.null_at_key;
-    comparable = s.comparable;
-    greatest = s.greatest;
-    own = s.own;
-    closed = λ m occurs. (let c = s.closed m occurs in (c.0, in_part (with_class p m) c.0 c.1 h, c.2));
-  }
-
   content_part : (ls : Labels) (scheme : Scheme) → IsContent ls scheme T → IsContent ls scheme P
   content_part ls scheme content = record {
-    stored = λ p es g. (let i = of_part p es g in stored_part ls (length scheme.others) p es i.1 (content.stored p es i.0));
+    stored = λ p es g. (let i = of_part p es g in moved ls (length scheme.others) T P p es (content.stored p es i.0) (λ m fs o k. in_part (with_class p m) fs k i.1));
     fits = λ p es g. content.fits p es (of_part p es g).0;
   }
 

@@ -1,15 +1,11 @@
 -- A value is set, and the cell that has it with it.
-use Rattle.std.proofs.Common.{◌≡◌, ℕ, zero, suc, ◌<◌, ◌+◌, Bool, true, false, cond, not, ◌&&◌, List, [], ◌∷◌, ◌++◌, map, length, Option, Some, None, refl, sym, ap, ◌∙◌, subst, inl, inr, arith, IsPermutation, true≢false}
-use Rattle.std.specs.Prelude.{nat_eq, bytes_eq, IfSome}
-use Rattle.std.specs.List.{filter, flat_map}
-use Rattle.std.specs.Ordering.{is_lt}
+use Rattle.std.proofs.Common.{◌≡◌, ℕ, zero, suc, ◌<◌, ◌+◌, Bool, true, false, cond, not, ◌&&◌, List, [], ◌∷◌, ◌++◌, map, length, Option, Some, None, refl, sym, ap, ◌∙◌, subst, inl, inr, arith, IsPermutation, true≢false, nat_eq, bytes_eq, IfSome, filter, flat_map, is_lt, option_map, eqb-true, eq-eqb, ne_eqb, append-nil}
 use Rattle.std.specs.FinMap.{get, entries, entries_sorted, entries-from_sorted, is_sorted}
 use Rattle.std.specs.FinMap.Entries.{below_all}
-use Rattle.std.specs.Option.{option_map}
 use lib.Dec.{T as IsSo}
-use Rattle.std.proofs.lemmas.Bool.{cond-true, cond-false, cond_both, and_parts, eqb-true, eq-eqb, ne_eqb}
+use Rattle.std.proofs.lemmas.Bool.{cond-true, cond-false, cond_both, and_parts}
 use Rattle.std.proofs.lemmas.Option.{none-some, same_Some}
-use Rattle.std.proofs.lemmas.List.{map-append, append-nil}
+use Rattle.std.proofs.lemmas.List.{map-append}
 use Rattle.std.proofs.lemmas.List.Sorted.{IsPermutation-refl, IsPermutation-cons, IsPermutation-trans, IsPermutation-sym, IsPermutation-map, IsPermutation-filter_both}
 use Rattle.sqlite_trees.proofs.ListLemmas.{map-map, filter-filter, IsPermutation-filter}
 use Rattle.mls_scheme.specs.declared.value.Value.{Value}
@@ -100,10 +96,7 @@ and_turned false false = refl
 
 first_four : (a b c d e : Bool) → (a && (b && (c && (d && e)))) ≡ true → (a && (b && (c && d))) ≡ true
 first_four true true true true e h = refl
-first_four true true true false e h = h
-first_four true true false d e h = h
-first_four true false c d e h = h
-first_four false b c d e h = h
+first_four _ _ _ _ e h = h
 
 module _ (p : Place) (attr : ℕ) (v : Option Value) where
   abbrev new : Element

@@ -1,5 +1,6 @@
 -- Stores of older policies and schemes, and content under schemes with more attributes.
-use Rattle.std.specs.Prelude.{◌≡◌, ◌⊎◌, ℕ, suc, ◌-◌, ◌≤◌, pos, List, [], ◌∷◌, length, map, slice_index_or, IsPermutation}
+use Rattle.std.specs.Prelude.{◌≡◌, ◌⊎◌, ℕ, suc, ◌-◌, ◌≤◌, pos, List, [], ◌∷◌, length, map, slice_index_or}
+use Rattle.std.specs.Prelude.{IsPermutation}
 use Rattle.std.specs.List.{AllByRecursion}
 use Rattle.mls_lattice.specs.Policy.{Policy}
 use Rattle.mls_lattice.specs.declared.version.Version.TheVariants.{Two}

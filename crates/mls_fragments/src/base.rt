@@ -12,7 +12,7 @@ ghost use Rattle.mls_tables.specs.Store.{IsClean};
 ghost use Rattle.mls_fragments.specs.Based.{HasRow, IsNoted, state_of};
 ghost use Rattle.mls_rows.specs.Changes.{content_of};
 ghost use Rattle.mls_rows.specs.Holding.{Holds};
-ghost use Rattle.mls_fragments.specs.Holdings.{HasHoldings, HaveOneMeta, holdings_of};
+ghost use Rattle.mls_fragments.specs.Holdings.{HasHoldings, holdings_of};
 
 use crate::noted::{Noted, abandon_changes};
 use mls_filterview::{Base, BaseFault, Cell, Fragment, Node};

@@ -1,5 +1,5 @@
 //! All rows of a store, judged part by part: what is put together of one part is gone before the next.
-ghost use Rattle.std.specs.Prelude.{◌≡◌, [], ◌∷◌, pos, length, IfOk, IfErr, OnOk, IsPermutation};
+ghost use Rattle.std.specs.Prelude.{◌≡◌, [], pos, length, IfOk, IfErr, OnOk, IsPermutation};
 ghost use Rattle.std.specs.List.{AllByRecursion};
 ghost use Rattle.mls_scheme.specs.Scheme.{AreUnder};
 ghost use Rattle.mls_audit.specs.Spelling.{IsEntryOf};
@@ -9,7 +9,8 @@ ghost use Rattle.mls_tables.specs.Rows.{Tables};
 ghost use Rattle.mls_rows.specs.Changes.{content_of};
 ghost use Rattle.mls_rows.specs.Finding.{HasByteClasses, IsMemory, IsSoundWithin};
 ghost use Rattle.mls_rows.specs.Holding.{Holds};
-ghost use Rattle.mls_fragments.specs.Parts.{Part, before, AreNodesInOrder, AreCellsInOrder, IsCut, IsTakenOff, IsJudged, rows_in};
+ghost use Rattle.mls_fragments.specs.Parts.{Part, before, AreNodesInOrder, AreCellsInOrder, IsCut, IsTakenOff};
+ghost use Rattle.mls_fragments.specs.Parts.{IsJudged, rows_in};
 
 use crate::noted::Noted;
 use crate::recalled::GhostContent;

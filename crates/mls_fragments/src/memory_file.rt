@@ -1,5 +1,5 @@
 //! A file in memory.
-ghost use Rattle.std.specs.Prelude.{◌≡◌, nat_lt, length, true, false, [], refl, is_ok, IsTrue, OnOk};
+ghost use Rattle.std.specs.Prelude.{◌≡◌, nat_lt, length, true, false, [], refl, is_ok, OnOk};
 ghost use Rattle.sqlite_disk.specs.Disk.{Holds, Torn, Cut, CountsFault};
 ghost use Rattle.sqlite_disk.specs.Refusal.{finds_no_room};
 

@@ -1,10 +1,8 @@
 //! Stores of older policies and schemes, whose content is widened. That is a transaction of its own, before the
 //! base is made: a base has no state between two schemes.
-ghost use Rattle.std.specs.Prelude.{◌≡◌, ◌≤◌, ℕ, List, map, length, string_bytes, None, IfOk, IfErr, IfSome, OnOk, OnErr};
+ghost use Rattle.std.specs.Prelude.{◌≡◌, ◌≤◌, ℕ, List, map, length, string_bytes, None, IfOk, IfErr, IfSome};
 ghost use Rattle.std.specs.List.{AllZip};
-ghost use Rattle.sqlite.specs.State.{HasCleanDisk};
 ghost use Rattle.sqlite.specs.Held.{state};
-ghost use Rattle.mls_lattice.specs.Policy.{labels_of};
 ghost use Rattle.mls_lattice.specs.Canon as lattice;
 ghost use Rattle.mls_lattice.specs.Extending as older_lattice;
 ghost use Rattle.mls_scheme.specs.Scheme.{AreUnder};

@@ -1,6 +1,6 @@
 //! Stores that are opened.
-ghost use Rattle.std.specs.Prelude.{◌≡◌, ◌⊎◌, false, length, map, string_bytes, None, IsTrue, IfOk, IfErr, IfSome, OnOk};
-ghost use Rattle.sqlite.specs.Files.{file_state};
+ghost use Rattle.std.specs.Prelude.{◌≡◌, ◌⊎◌, false, length, map, string_bytes, None, IsTrue, IfOk, IfErr, IfSome};
+ghost use Rattle.std.specs.Prelude.{OnOk};
 ghost use Rattle.sqlite.specs.Held.{state};
 ghost use Rattle.sqlite.specs.State.{HasCleanDisk};
 ghost use Rattle.sqlite.specs.WalFiles.{image_at};
@@ -19,7 +19,8 @@ ghost use Rattle.mls_fragments.specs.Based.{IsBaseOf, state_of};
 ghost use Rattle.mls_rows.specs.Finding.{node_rows, cell_rows};
 ghost use Rattle.mls_fragments.specs.Holdings.{HasHoldings, HaveOneMeta};
 ghost use Rattle.mls_fragments.specs.Migrating.{IsBefore, IsSoundBefore, AreSpelledTables};
-ghost use Rattle.mls_fragments.specs.Opening.{AreTexts, HoldsContent, IsFoundIn, IsFoundUnadopted, IsMigrated, IsRefused, IsStoreOrMemory, IsUnadopted, IsUnmade, IsUnopened, IsUntaken};
+ghost use Rattle.mls_fragments.specs.Opening.{AreTexts, HoldsContent, IsFoundUnadopted, IsMigrated, IsRefused};
+ghost use Rattle.mls_fragments.specs.Opening.{IsStoreOrMemory, IsUnadopted, IsUnmade, IsUnopened, IsUntaken};
 
 use crate::base::SqlBase;
 use crate::connecting::connected_at;

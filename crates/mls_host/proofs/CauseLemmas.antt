@@ -1,6 +1,5 @@
 -- Why inputs are refused, from what is said of each step.
-use Rattle.std.proofs.Common.{◌≡◌, ◌≢◌, ◌↔◌, ℕ, List, Option, Result, Ok, Err, IfErr, refl, sym, subst}
-use Rattle.std.specs.Result.{IsErrAnd}
+use Rattle.std.proofs.Common.{◌≡◌, ◌≢◌, ◌↔◌, ℕ, List, Option, Result, Ok, Err, IfErr, refl, sym, subst, IsErrAnd}
 use Rattle.toml.specs.Data.{Members}
 use Rattle.mls_lattice.specs.Policy.{Policy}
 use Rattle.mls_lattice.specs.ReadsPolicy.{IsDocument, HasFault}
@@ -30,14 +29,8 @@ not_read_of h role source Refuses (Err e) bytes given is gives refused = not_rea
 module _ (bytes : List ℕ) where
   pub policy_fault : (e : PolicyFault) → (e ≢ policies.Memory → e ≢ policies.NotToml → HasFault bytes e) → (e ≢ policies.Memory → (e ≡ policies.NotToml) ↔ IsNoDocument bytes) → IsPolicyFault bytes e
   policy_fault policies.NotToml first not_toml = (not_toml (λ x. cc)).0 refl
-  policy_fault policies.MissingField first not_toml = first (λ x. cc) (λ x. cc)
-  policy_fault policies.WrongKind first not_toml = first (λ x. cc) (λ x. cc)
-  policy_fault policies.Repeated first not_toml = first (λ x. cc) (λ x. cc)
-  policy_fault policies.UnknownName first not_toml = first (λ x. cc) (λ x. cc)
-  policy_fault policies.TooMany first not_toml = first (λ x. cc) (λ x. cc)
-  policy_fault policies.BadName first not_toml = first (λ x. cc) (λ x. cc)
-  policy_fault policies.EmptyInterval first not_toml = first (λ x. cc) (λ x. cc)
   policy_fault policies.Memory first not_toml = tt
+  policy_fault _ first not_toml = first (λ x. cc) (λ x. cc)
 
   is_document : (e : SchemeFault) → e ≢ schemes.NotToml → (e ≡ schemes.NotToml) ↔ IsNoDocument bytes → ¬ IsNoDocument bytes
   is_document e other not_toml none = other (not_toml.1 none)

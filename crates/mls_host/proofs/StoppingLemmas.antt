@@ -1,13 +1,11 @@
 -- What goes with the end of a run or a shell, and that a host which is not touched keeps its stores.
-use Rattle.std.proofs.Common.{◌≡◌, ◌<◌, ℕ, List, Option, Some, None, Result, Ok, Err, IfErr, IsErr, refl, sym, subst, arith}
-use Rattle.std.specs.Borrow.{Bor}
-use Rattle.std.specs.Result.{IsErrAnd}
+use Rattle.std.proofs.Common.{◌≡◌, ◌<◌, ℕ, List, Option, Some, None, Result, Ok, Err, IfErr, IsErr, refl, sym, subst, arith, Bor, IsErrAnd}
 use Rattle.mls_script.specs.declared.run_fault.RunCause.TheVariants.{Store}
 use Rattle.mls_script.specs.declared.run_fault.RunFault.{RunFault}
 use Rattle.mls_host.specs.declared.host.CloseFault.{CloseFault}
 use Rattle.mls_host.specs.declared.reason.Reason.{Reason}
 use Rattle.mls_host.specs.declared.stop.Stop.{Stop}
-use Rattle.mls_host.specs.declared.stop.Stop.TheVariants.{Before, Run, NotClosed, Output, Served, Unread, Turned}
+use Rattle.mls_host.specs.declared.stop.Stop.TheVariants.{Before, Run}
 use Rattle.mls_host.specs.Hosting.{Hosting, Hosted, KeepSame, KeepsStores}
 use Rattle.mls_host.specs.Stop.{ended}
 use Rattle.mls_host.specs.Stopping.{IsCaused, IsCausedInMemory}
@@ -27,11 +25,7 @@ module _ {A : Type 0} (h : Hosted) where
   caused_without kept (Ok end) k = kept
   caused_without kept (Err (Before reason)) k = kept
   caused_without kept (Err (Run fault)) k = (kept, k)
-  caused_without kept (Err NotClosed) k = absurd k
-  caused_without kept (Err Output) k = absurd k
-  caused_without kept (Err (Served cause)) k = absurd k
-  caused_without kept (Err Unread) k = absurd k
-  caused_without kept (Err (Turned cause)) k = absurd k
+  caused_without kept _ k = absurd k
 
   -- over a store, of which a call failed where more have failed than before
   pub caused_in_store : (path : List ℕ) (outcome : Result A RunFault) (closed : Result (Unit {0}) CloseFault) (before after : ℕ) → (IsErr closed → h.after.is_unclosed) → (0 < after → h.after.has_failed)

@@ -1,8 +1,6 @@
 -- Why a command is given up before anything is written: an input is refused, a word names nothing, a store is
 -- not opened, or memory runs out.
-use Rattle.std.specs.Prelude.{◌≡◌, ◌≢◌, ℕ, List, Option, Some, None, Err, ⊤}
-use Rattle.std.specs.List.{position}
-use Rattle.std.specs.Str.{bytes_eq}
+use Rattle.std.specs.Prelude.{◌≡◌, ◌≢◌, ℕ, List, Option, Some, None, Err, ⊤, position, bytes_eq}
 use Rattle.toml.specs.Data.{Members}
 use Rattle.mls_lattice.specs.Policy.{Policy}
 use Rattle.mls_lattice.specs.ReadsPolicy.{IsDocument, HasFault}
@@ -35,8 +33,8 @@ use Rattle.mls_host.specs.declared.host.HostFault.{HostFault}
 use Rattle.mls_host.specs.declared.reason.Role.{Role}
 use Rattle.mls_host.specs.declared.reason.Role.TheVariants as role
 use Rattle.mls_host.specs.declared.reason.Reason.{Reason}
-use Rattle.mls_host.specs.declared.reason.Reason.TheVariants.{Policy as OfPolicy, Reader, Label, Schemes as OfSchemes, Transactions}
-use Rattle.mls_host.specs.declared.reason.Reason.TheVariants.{Certificates, Script, Store, Memory}
+use Rattle.mls_host.specs.declared.reason.Reason.TheVariants.{Policy as OfPolicy, Reader, Label, Schemes as OfSchemes}
+use Rattle.mls_host.specs.declared.reason.Reason.TheVariants.{Transactions, Certificates, Script, Store, Memory}
 use Rattle.mls_host.specs.Hosting.{Hosting}
 use Rattle.mls_host.specs.Reason.{input_reason}
 

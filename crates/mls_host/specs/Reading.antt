@@ -17,9 +17,10 @@ use Rattle.mls_host.specs.declared.job.Inputs.{Inputs}
 use Rattle.mls_host.specs.declared.reason.Reason.{Reason}
 use Rattle.mls_host.specs.declared.reason.Reason.TheVariants.{User}
 use Rattle.mls_host.specs.Hosting.{Hosting}
-use Rattle.mls_host.specs.Inputs.{IsPolicyOf, AreSchemesOf, IsReader, AreTransactionsFrom, AreCertificatesFrom, AreEventsOf}
-use Rattle.mls_host.specs.Causes.{IsPolicyRefused, IsReaderUnknown, AreSchemesRefused}
-use Rattle.mls_host.specs.Causes.{AreTransactionsRefused, AreCertificatesRefused, AreEventsRefused}
+use Rattle.mls_host.specs.Inputs.{IsPolicyOf, AreSchemesOf, IsReader, AreTransactionsFrom, AreCertificatesFrom}
+use Rattle.mls_host.specs.Inputs.{AreEventsOf}
+use Rattle.mls_host.specs.Causes.{IsPolicyRefused, IsReaderUnknown, AreSchemesRefused, AreTransactionsRefused}
+use Rattle.mls_host.specs.Causes.{AreCertificatesRefused, AreEventsRefused}
 
 -- ---- users
 

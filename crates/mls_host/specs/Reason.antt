@@ -1,6 +1,5 @@
 -- Why a command is given up before anything is written, and the line that tells it.
-use Rattle.std.specs.Prelude.{ℕ, List, ◌++◌, codes}
-use Rattle.std.specs.Fmt.{decimal}
+use Rattle.std.specs.Prelude.{ℕ, List, ◌++◌, codes, decimal}
 use Rattle.mls_lattice.specs.declared.fault.PolicyFault.{PolicyFault}
 use Rattle.mls_lattice.specs.declared.fault.PolicyFault.TheVariants as policies
 use Rattle.mls_lattice.specs.Fault as policy_faults
@@ -129,16 +128,11 @@ script_status scripts.Memory = 3
 script_status cause = 2
 
 abbrev pub reason_status : Reason → ℕ
-reason_status (Unreadable r) = 2
-reason_status (TooLong r) = 2
 reason_status (Policy f) = policy_status f
-reason_status Reader = 2
-reason_status Label = 2
-reason_status User = 2
-reason_status Name = 2
 reason_status (Schemes f) = scheme_status f
 reason_status (Transactions f) = text_status f.cause
 reason_status (Certificates f) = cert_status f.cause
 reason_status (Script f) = script_status f.cause
 reason_status (Store f) = 3
 reason_status Memory = 3
+reason_status _ = 2

@@ -1,6 +1,5 @@
 -- Why a command ends without success, and the line that tells it.
-use Rattle.std.specs.Prelude.{ℕ, List, ◌++◌, codes, Result, Ok, Err}
-use Rattle.std.specs.Fmt.{decimal}
+use Rattle.std.specs.Prelude.{ℕ, List, ◌++◌, codes, Result, Ok, Err, decimal}
 use Rattle.mls_fragments.specs.declared.open_fault.OpenFault.TheVariants as stores
 use Rattle.mls_fragments.specs.OpenFault as store_faults
 use Rattle.mls_script.specs.declared.run_fault.RunCause.{RunCause}
@@ -36,12 +35,8 @@ stop_text (Turned cause) = turned_text cause
 
 abbrev pub stop_status : Stop → ℕ
 stop_status (Before reason) = reason_status reason
-stop_status (Run f) = 3
-stop_status NotClosed = 3
-stop_status Output = 3
-stop_status (Served cause) = 3
 stop_status Unread = 1
-stop_status (Turned cause) = 3
+stop_status _ = 3
 
 -- ---- over a store
 
@@ -59,10 +54,7 @@ module _ {A : Type 0} where
   IsEnd Ends Nothing (Err (Before reason)) = Nothing reason
   IsEnd Ends Nothing (Err (Run fault)) = Ends (Err fault)
   IsEnd Ends Nothing (Err NotClosed) = (end : A) × Ends (Ok end)
-  IsEnd Ends Nothing (Err Output) = ⊥
-  IsEnd Ends Nothing (Err (Served cause)) = ⊥
-  IsEnd Ends Nothing (Err Unread) = ⊥
-  IsEnd Ends Nothing (Err (Turned cause)) = ⊥
+  IsEnd Ends Nothing _ = ⊥
 
 -- how a desk ended, as it is told: without a number, and a line that could not be read as a stop
 abbrev pub served : Result Ending Stop → Result Ending Stop

@@ -3,7 +3,7 @@ use Rattle.std.specs.Prelude.{◌≡◌, ◌≢◌, ℕ, List, Option, Some, Non
 use Rattle.mls_script.specs.declared.run_fault.RunCause.TheVariants.{Store}
 use Rattle.mls_script.specs.declared.run_fault.RunFault.{RunFault}
 use Rattle.mls_host.specs.declared.stop.Stop.{Stop}
-use Rattle.mls_host.specs.declared.stop.Stop.TheVariants.{Before, Run, NotClosed, Output, Served, Unread, Turned}
+use Rattle.mls_host.specs.declared.stop.Stop.TheVariants.{Before, Run, NotClosed}
 use Rattle.mls_host.specs.Hosting.{Hosted, KeepsStores, LeavesStores}
 
 module _ (h : Hosted) where
@@ -25,18 +25,11 @@ module _ (h : Hosted) where
   IsCaused store (Err (Before reason)) = KeepsStores h
   IsCaused store (Err (Run fault)) = LeavesStores h store × IsStoppedFor store fault
   IsCaused store (Err NotClosed) = IsUnclosed store
-  IsCaused store (Err Output) = ⊥
-  IsCaused store (Err (Served cause)) = ⊥
-  IsCaused store (Err Unread) = ⊥
-  IsCaused store (Err (Turned cause)) = ⊥
+  IsCaused store _ = ⊥
 
 -- without a store it stops for none, and none is not closed
 abbrev pub IsCausedInMemory : {A : Type 0} → Result A Stop → Type 0
 IsCausedInMemory (Ok end) = ⊤
 IsCausedInMemory (Err (Before reason)) = ⊤
 IsCausedInMemory (Err (Run fault)) = fault.cause ≢ Store
-IsCausedInMemory (Err NotClosed) = ⊥
-IsCausedInMemory (Err Output) = ⊥
-IsCausedInMemory (Err (Served cause)) = ⊥
-IsCausedInMemory (Err Unread) = ⊥
-IsCausedInMemory (Err (Turned cause)) = ⊥
+IsCausedInMemory _ = ⊥

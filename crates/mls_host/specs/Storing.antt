@@ -1,7 +1,6 @@
 -- How the transactions of a file are stored: with the certificates of another file that hold for them, or without.
-use Rattle.std.specs.Prelude.{◌≡◌, List, Option, Some, None, option_map}
-use Rattle.std.specs.List.{find, AllZip}
-use Rattle.std.specs.Str.{bytes_eq}
+use Rattle.std.specs.Prelude.{◌≡◌, List, Option, Some, None, option_map, find, bytes_eq}
+use Rattle.std.specs.List.{AllZip}
 use Rattle.mls_lattice.specs.Policy.{Name, Policy}
 use Rattle.mls_translang.specs.Tx.{Tx}
 use Rattle.mls_certcheck.specs.declared.cert.Certificate.{Certificate}

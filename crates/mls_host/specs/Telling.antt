@@ -1,6 +1,5 @@
 -- What is told of lines that are typed, and what is told beside it.
-use Rattle.std.specs.Prelude.{◌≡◌, ℕ, ◌-◌, nat_eq, if◌then◌else◌, Bool, false, List, [], ◌++◌, codes}
-use Rattle.std.specs.Fmt.{decimal}
+use Rattle.std.specs.Prelude.{◌≡◌, ℕ, ◌-◌, nat_eq, if◌then◌else◌, Bool, false, List, [], ◌++◌, codes, decimal}
 use Rattle.mls_script.specs.declared.fault.ScriptCause.{ScriptCause}
 use Rattle.mls_script.specs.Fault as faults
 use Rattle.mls_host.specs.declared.telling.Tally.{Tally}

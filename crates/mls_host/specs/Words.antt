@@ -1,8 +1,7 @@
 -- What the words of a command line ask for, and what is said where they ask for nothing.
 use Rattle.std.specs.Prelude.{◌≡◌, ℕ, ◌<◌, ◌≤◌, Bool, true, false, List, [], map, length, codes, string_bytes, Option}
-use Rattle.std.specs.Prelude.{Some, None, option_map, is_some, ⊤}
+use Rattle.std.specs.Prelude.{Some, None, option_map, is_some, ⊤, bytes_eq}
 use Rattle.std.specs.Borrow.{Bor}
-use Rattle.std.specs.Str.{bytes_eq}
 use Rattle.clap.specs.Words.{App, Row, Rule, Text, fault_of, first_of, new_app, new_rule, subcommand_of, with_rule}
 use Rattle.clap.specs.Words.{with_subcommand}
 use Rattle.clap.specs.declared.builder.action.ArgAction.TheVariants.{SetTrue}
@@ -10,7 +9,8 @@ use Rattle.mls_host.specs.declared.words.Job.{Job}
 use Rattle.mls_host.specs.declared.words.Documents.{Documents}
 use Rattle.mls_host.specs.declared.words.Files.{Files}
 use Rattle.mls_host.specs.declared.words.Task.{Task}
-use Rattle.mls_host.specs.declared.words.Task.TheVariants.{ShowPolicy, Picture, Run, Shell, Serve, Turn, Certify, Check, Explain}
+use Rattle.mls_host.specs.declared.words.Task.TheVariants.{ShowPolicy, Picture, Run, Shell, Serve, Turn, Certify, Check}
+use Rattle.mls_host.specs.declared.words.Task.TheVariants.{Explain}
 use Rattle.mls_host.specs.declared.usage.Usage.{Usage}
 use Rattle.mls_host.specs.declared.usage.Usage.TheVariants as usage
 
@@ -172,15 +172,10 @@ AskNothing words usage.Memory = ⊤
 
 -- the name of the label for which alone a task prints
 abbrev pub at_of : Task → Option (List ℕ)
-at_of ShowPolicy = None
-at_of Picture = None
 at_of (Run at is_table) = named at
 at_of (Shell label user) = Some label.now
-at_of Serve = None
 at_of (Turn at) = named at
-at_of Certify = None
-at_of Check = None
-at_of (Explain name) = None
+at_of _ = None
 
 -- ---- what is said
 

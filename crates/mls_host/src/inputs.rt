@@ -1,16 +1,16 @@
 //! Files, read as what a command takes them for.
-ghost use Rattle.std.specs.Prelude.{◌≡◌, ◌<◌, length, Some, IfOk, IfErr};
-ghost use Rattle.std.specs.Option.{IfSome};
+ghost use Rattle.std.specs.Prelude.{◌≡◌, ◌<◌, length, Some, IfOk, IfErr, IfSome};
 ghost use Rattle.std.specs.List.{AllByRecursion};
 ghost use Rattle.mls_scheme.specs.Scheme.{AreUnder};
 ghost use Rattle.mls_translang.specs.Fits.{IsReadUnder};
 ghost use Rattle.mls_lattice.specs.ReadsPolicy.{ReadsPolicy};
 ghost use Rattle.mls_scheme.specs.Document.{ReadsSchemes};
 ghost use Rattle.mls_script.specs.Event.{EventFits};
-ghost use Rattle.mls_host.specs.Causes.{IsNotGiven, IsInputRefused, RefusesPolicy, RefusesSchemes, IsPolicyRefused, AreSchemesRefused};
-ghost use Rattle.mls_host.specs.Causes.{AreTransactionsRefused, AreCertificatesRefused, IsScriptRefused, AreEventsRefused, no_reader, IsReaderUnknown};
-ghost use Rattle.mls_host.specs.Inputs.{IsFrom, IsPolicyOf, AreSchemesOf, IsReader, AreToldIn, AreBlocksIn, AreTransactionsFrom, AreCertificatesFrom};
-ghost use Rattle.mls_host.specs.Inputs.{IsScriptFrom, AreEventsOf};
+ghost use Rattle.mls_host.specs.Causes.{IsNotGiven, IsInputRefused, RefusesPolicy, RefusesSchemes, IsPolicyRefused};
+ghost use Rattle.mls_host.specs.Causes.{AreSchemesRefused, AreTransactionsRefused, AreCertificatesRefused};
+ghost use Rattle.mls_host.specs.Causes.{IsScriptRefused, AreEventsRefused, no_reader, IsReaderUnknown};
+ghost use Rattle.mls_host.specs.Inputs.{IsFrom, IsPolicyOf, AreSchemesOf, IsReader, AreToldIn, AreBlocksIn};
+ghost use Rattle.mls_host.specs.Inputs.{AreTransactionsFrom, AreCertificatesFrom, IsScriptFrom, AreEventsOf};
 ghost use Rattle.mls_host.specs.Words.{named};
 
 use crate::host::{Host, HostFault};

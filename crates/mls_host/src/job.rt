@@ -1,6 +1,5 @@
 //! What a job has read before it does anything.
-ghost use Rattle.std.specs.Prelude.{◌<◌, length};
-ghost use Rattle.std.specs.Option.{IfSome};
+ghost use Rattle.std.specs.Prelude.{◌<◌, length, IfSome};
 ghost use Rattle.std.proofs.Props.{props};
 ghost use Rattle.mls_scheme.specs.Scheme.{AreUnder};
 

@@ -9,7 +9,8 @@ ghost use Rattle.mls_translang.specs.Tells.{Tells};
 ghost use Rattle.mls_certcheck.specs.Spelling.{IsFile, file_text};
 ghost use Rattle.mls_script.specs.Event.{EventFits};
 ghost use Rattle.mls_script.specs.Script.{ReadsScript};
-ghost use Rattle.mls_host.specs.Causes.{RefusesPolicy, RefusesSchemes, RefusesTransactions, RefusesCertificates, RefusesScript};
+ghost use Rattle.mls_host.specs.Causes.{RefusesPolicy, RefusesSchemes, RefusesTransactions, RefusesCertificates};
+ghost use Rattle.mls_host.specs.Causes.{RefusesScript};
 
 use crate::reason::Reason;
 use mls_certcheck::{Certificate, certs_read};

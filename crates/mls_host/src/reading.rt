@@ -1,7 +1,7 @@
 //! A job's inputs, read in their order, for who does the job and for who explains it.
 ghost use Rattle.std.specs.Prelude.{IfOk, IfErr, OnOk};
-ghost use Rattle.mls_host.specs.Reading.{HasUser, IsUserRefused, IsSetting, IsSettingRefused, AreContents, AreContentsRefused, AreInputs, AreInputsRefused};
-ghost use Rattle.mls_host.specs.Reading.{FitSetting};
+ghost use Rattle.mls_host.specs.Reading.{HasUser, IsUserRefused, IsSetting, IsSettingRefused, AreContents};
+ghost use Rattle.mls_host.specs.Reading.{AreContentsRefused, AreInputs, AreInputsRefused, FitSetting};
 
 use crate::host::Host;
 use crate::inputs::{

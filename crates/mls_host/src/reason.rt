@@ -1,7 +1,9 @@
 //! Why a command is given up before anything is written, and how that is told.
 ghost use Rattle.std.specs.Prelude.{◌≡◌, OnOk};
 ghost use Rattle.std.specs.Io.KnownBytes.{Appends};
-ghost use Rattle.mls_host.specs.Reason.{role_word, input_reason, input_text, fault_text, line_text, front_text, spot_text, place_text, text_fault_text, cert_fault_text, script_fault_text, reason_text, reason_status};
+ghost use Rattle.mls_host.specs.Reason.{role_word, input_reason, input_text, fault_text, line_text, front_text};
+ghost use Rattle.mls_host.specs.Reason.{spot_text, place_text, text_fault_text, cert_fault_text, script_fault_text};
+ghost use Rattle.mls_host.specs.Reason.{reason_text, reason_status};
 
 use crate::host::HostFault;
 use crate::usage::tell_memory;

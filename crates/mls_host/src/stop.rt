@@ -1,7 +1,8 @@
 //! Why a command ends without success, and how that is told.
 ghost use Rattle.std.specs.Prelude.{◌≡◌, OnOk};
 ghost use Rattle.std.specs.Io.KnownBytes.{Appends};
-ghost use Rattle.mls_host.specs.Stop.{run_text, served_text, turned_text, stop_text, stop_status, ended, served, turned};
+ghost use Rattle.mls_host.specs.Stop.{run_text, served_text, turned_text, stop_text, stop_status, ended, served};
+ghost use Rattle.mls_host.specs.Stop.{turned};
 
 use crate::ending::Ending;
 use crate::host::CloseFault;

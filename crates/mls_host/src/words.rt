@@ -1,13 +1,17 @@
 //! The words of a command line, and what they ask for.
 ghost use Rattle.std.specs.Prelude.{◌≡◌, ◌⊎◌, ◌≤◌, false, [], length, Some, None, codes, option_map, IfOk, IfErr};
-ghost use Rattle.std.specs.Option.{IfSome};
-ghost use Rattle.clap.specs.Words.{App, app_of, fault_of, first_of, found_of, kind_of, new_app, new_rule, rows_of, rule_of, subcommand_of, subcommand_rows_of, with_rule, with_subcommand};
+ghost use Rattle.std.specs.Prelude.{IfSome};
+ghost use Rattle.clap.specs.Words.{App, app_of, fault_of, first_of, found_of, kind_of, new_app, new_rule, rows_of};
+ghost use Rattle.clap.specs.Words.{rule_of, subcommand_of, subcommand_rows_of, with_rule, with_subcommand};
 ghost use Rattle.clap.specs.declared.builder.command.Command.TheViews.{out-Command as fields_of};
 ghost use Rattle.mls_host.specs.declared.words.Task.{Task as SpecTask};
 ghost use Rattle.mls_host.specs.declared.words.Job.{Job as SpecJob};
 ghost use Rattle.mls_host.specs.declared.usage.Usage.TheVariants.{Memory};
 ghost use Rattle.mls_host.specs.Building.{IsBuilt};
-ghost use Rattle.mls_host.specs.Words.{at_of, texts_of, place, option, flag, is_flag_set, AreFilesOf, with_documents, with_stored, needed, run, shell, serve, turn, show_policy, certify, check, explain, program, command_line, IsTask, IsCommand, IsCommandOf, Asks, AskNothing};
+ghost use Rattle.mls_host.specs.Words.{at_of, texts_of, place, option, flag, is_flag_set, AreFilesOf, with_documents};
+ghost use Rattle.mls_host.specs.Words.{with_stored, needed, run, shell, serve, turn, show_policy, certify, check};
+ghost use Rattle.mls_host.specs.Words.{explain, program, command_line, IsTask, IsCommand, IsCommandOf, Asks};
+ghost use Rattle.mls_host.specs.Words.{AskNothing};
 
 use crate::usage::Usage;
 use clap::error::ErrorKind;

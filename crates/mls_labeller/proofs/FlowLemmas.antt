@@ -1,6 +1,6 @@
 -- The lines of the rules set lower bounds, and labels that meet these break a line only where all greater labels do.
-use Rattle.std.proofs.Common.{ℕ, List, [], ◌∷◌}
-use Rattle.std.specs.List.{flat_map, AllByRecursion}
+use Rattle.std.proofs.Common.{ℕ, List, [], ◌∷◌, flat_map}
+use Rattle.std.specs.List.{AllByRecursion}
 use Rattle.mls_lattice.specs.Lattice.{Pair, Dominates}
 use Rattle.mls_lattice.specs.Labels.{Labels, label_of}
 use Rattle.mls_lattice.proofs.LatticeLemmas.{Dominates-refl, Dominates-trans}

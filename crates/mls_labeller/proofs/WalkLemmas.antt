@@ -1,6 +1,6 @@
 -- The slots and sources of a line, one after another.
-use Rattle.std.proofs.Common.{◌≡◌, ℕ, zero, suc, ◌+◌, ◌-◌, ◌<◌, List, [], ◌∷◌, ◌++◌, length, drop, get_or, map, refl, sym, ap, ◌∙◌, append_assoc, arith}
-use Rattle.std.proofs.lemmas.List.{append-nil, map-append}
+use Rattle.std.proofs.Common.{◌≡◌, ℕ, zero, suc, ◌+◌, ◌-◌, ◌<◌, List, [], ◌∷◌, ◌++◌, length, drop, get_or, map, refl, sym, ap, ◌∙◌, append_assoc, arith, append-nil}
+use Rattle.std.proofs.lemmas.List.{map-append}
 use Rattle.mls_translang.specs.Tree.{Block, End, statements}
 use Rattle.mls_translang.specs.Blocks.{block_of}
 use Rattle.mls_translang.specs.declared.block.Stmt.{Stmt}
@@ -22,16 +22,13 @@ notes_more out two a x y all h e k = ap (λ l. l ++ y) h ∙ append_assoc out a 
 -- ---- the first statement of a block, and the rest
 
 directs-first : (n : ℕ) (s : Stmt) (rest : List Stmt) → directs n (block_of (s ∷ rest)) ≡ n ∷ directs (n + statements (block_of (s ∷ []))) (block_of rest)
-directs-first n (stmt.Assign x e) rest = refl
 directs-first n (stmt.If guard one other) rest =
     let e : n + (1 + statements one + statements other) ≡ n + (1 + statements one + statements other + 0) = omega arith in
     ap (λ (k : ℕ). n ∷ directs k (block_of rest)) e
 directs-first n (stmt.For row relation label body) rest =
     let e : n + (1 + statements body) ≡ n + (1 + statements body + 0) = omega arith in
     ap (λ (k : ℕ). n ∷ directs k (block_of rest)) e
-directs-first n (stmt.Write relation w writing outcome) rest = refl
-directs-first n (stmt.Release e to into) rest = refl
-directs-first n (stmt.Emit e label) rest = refl
+directs-first n _ rest = refl
 
 module _ (items : List Stmt) (i : ℕ) (s : Stmt) (within : i < length items) (is : s ≡ get_or items i s) where
   pub slots_more : (n m : ℕ) (out two all : List Slot) → m ≡ n + statements (block_of (s ∷ [])) → two ≡ out ++ Statement n ∷ [] → out ++ own_slots n (block_of (drop i items)) ≡ all → two ++ own_slots m (block_of (drop (i + 1) items)) ≡ all

@@ -1,6 +1,5 @@
 -- Ranges: sets of values, one of which something has.
-use Rattle.std.specs.Prelude.{◌≡◌, ℕ, true, ℤ, ◌≤ℤ◌, ◌+ℤ◌, ◌-ℤ◌, List, Option, Some, None, slice_index_or}
-use Rattle.std.specs.List.{Contains}
+use Rattle.std.specs.Prelude.{◌≡◌, ℕ, true, ℤ, ◌≤ℤ◌, ◌+ℤ◌, ◌-ℤ◌, List, Option, Some, None, slice_index_or, Contains}
 use Rattle.mls_scheme.specs.declared.value.Value.{Value}
 use Rattle.mls_scheme.specs.declared.value.Value.TheVariants.{Int, Text}
 use Rattle.mls_translang.specs.declared.operator.Operator.{Operator}

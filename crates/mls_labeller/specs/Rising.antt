@@ -1,5 +1,6 @@
 -- Inner: no public contract names these. Labels rise from the lowest until they meet the lower bounds.
-use Rattle.std.specs.Prelude.{◌≡◌, ℕ, ◌+◌, ◌-◌, ◌<◌, ◌≤◌, ◌^◌, Bool, true, false, List, [], ◌∷◌, map, length, drop, replicate, slice_index_or, sum_by}
+use Rattle.std.specs.Prelude.{◌≡◌, ℕ, ◌+◌, ◌-◌, ◌<◌, ◌≤◌, ◌^◌, Bool, true, false, List, [], ◌∷◌, map, length, drop}
+use Rattle.std.specs.Prelude.{replicate, slice_index_or, sum_by}
 use Rattle.std.specs.List.{AllByRecursion}
 use Rattle.mls_lattice.specs.declared.label.Label.{Label}
 use Rattle.mls_translang.specs.Tree.{statements}

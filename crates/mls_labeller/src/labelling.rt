@@ -1,5 +1,5 @@
 //! The least certificate of a transaction, of either version.
-ghost use Rattle.std.specs.Prelude.{◌≡◌, IfOk, IfErr};
+ghost use Rattle.std.specs.Prelude.{IfOk, IfErr};
 ghost use Rattle.mls_certcheck.specs.Rules.{Rules, claim};
 ghost use Rattle.mls_labeller.specs.Least.{IsOf, IsLeast, Below};
 ghost use Rattle.mls_labeller.specs.Fault.{HasNone, IsFirst};

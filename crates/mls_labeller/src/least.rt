@@ -1,5 +1,5 @@
 //! The labels rise until every lower bound holds.
-ghost use Rattle.std.specs.Prelude.{◌≡◌, ◌↔◌, IsTrue, Some, IfOk, length, slice_index, slice_index_or, map};
+ghost use Rattle.std.specs.Prelude.{◌≡◌, ◌↔◌, IsTrue, Some, IfOk, slice_index, slice_index_or, map};
 ghost use Rattle.std.specs.List.{AllByRecursion};
 ghost use Rattle.mls_lattice.specs.Lattice.{Dominates, pair_of, bottom};
 ghost use Rattle.mls_lattice.specs.Labels.{label_of};
@@ -9,7 +9,8 @@ ghost use Rattle.mls_certcheck.specs.Rules.{slot_label, source_label};
 ghost use Rattle.mls_certcheck.specs.Walk.{IsJoin};
 ghost use Rattle.mls_labeller.specs.Flows.{IsBounded, body_lines};
 ghost use Rattle.mls_labeller.specs.Least.{IsLeast};
-ghost use Rattle.mls_labeller.specs.Rising.{rows_of, certificate, claim_at, HasStatement, HasSlot, HasTargets, IsDue, Stands, Rises};
+ghost use Rattle.mls_labeller.specs.Rising.{rows_of, certificate, claim_at, HasStatement, HasSlot, HasTargets, IsDue};
+ghost use Rattle.mls_labeller.specs.Rising.{Stands, Rises};
 ghost use Rattle.mls_certcheck.specs.declared.flow.Flow.TheVariants.{Into, Kept};
 
 use crate::labels::{Labels, cell};

@@ -1,6 +1,5 @@
 //! Ranges: sets of values, one of which something has.
-ghost use Rattle.std.specs.Prelude.{◌≡◌, IfOk, OnOk, Option as SpecOption, Some};
-ghost use Rattle.std.specs.List.{Contains};
+ghost use Rattle.std.specs.Prelude.{◌≡◌, IfOk, OnOk, Some, Contains};
 ghost use Rattle.mls_scheme.specs.declared.value.Value.{Value as SpecValue};
 ghost use Rattle.mls_certcheck.specs.Expressions.{Datum, value_of, apply};
 ghost use Rattle.mls_labeller.specs.Ranges.{IsAmong, IsBetween, Holds, Includes, any_value};

@@ -1,5 +1,5 @@
 //! A range for each variable.
-ghost use Rattle.std.specs.Prelude.{◌≡◌, List, None, Some, IsTrue, IfOk, Option as SpecOption, pos, slice_index_or};
+ghost use Rattle.std.specs.Prelude.{◌≡◌, None, Some, IsTrue, IfOk, Option as SpecOption, pos, slice_index_or};
 ghost use Rattle.mls_scheme.specs.declared.value.Value.{Value as SpecValue};
 ghost use Rattle.mls_scheme.specs.declared.value.Value.TheVariants.{Int};
 ghost use Rattle.mls_updates.specs.declared.outcome.Outcome.{Outcome};

@@ -1,16 +1,13 @@
 -- The categories of a number are the places at which it has a 1.
-use Rattle.std.proofs.Common.{◌≡◌, ◌≢◌, not, ◌*◌, ◌%◌, ℕ, zero, suc, ◌<◌, ◌^◌, max, min, Bool, true, false, ◌&&◌, ◌||◌, ◌==◌, nat_eq, nat_lt, refl, sym, ap, ◌∙◌, inl, inr, arith}
-use Rattle.std.specs.Ordering.{nat_cmp}
-use Rattle.std.specs.Int.{bit_at, w32}
-use Rattle.std.specs.Int.RustNames.{bit_or}
-use Rattle.std.specs.Prelude.{bit_and}
+use Rattle.std.proofs.Common.{◌≡◌, ◌≢◌, not, ◌*◌, ◌%◌, ℕ, zero, suc, ◌<◌, ◌^◌, max, min, Bool, true, false, ◌&&◌, ◌||◌, ◌==◌, nat_eq, nat_lt, refl, sym, ap, ◌∙◌, inl, inr, arith, nat_cmp, w32, bit_or, bit_and, lt-ltb, le-ltb, ne_eqb, eq-eqb}
+use Rattle.std.specs.Int.{bit_at}
 use Rattle.std.specs.FinSet as set
 use Rattle.std.specs.FinSet.{nat_cmp-IsAntisymmetric}
 use Rattle.std.specs.Cmp.{unsigned_tied}
 use Rattle.std.proofs.lemmas.Cmp.{nat_cmp_total}
 use Rattle.std.proofs.Math.Nat.{one-mul, zero-mul, mod-eq_of_lt}
 use Rattle.std.proofs.Math.Pow.{pow-lt, pow_pos}
-use Rattle.std.proofs.lemmas.Bool.{cases_lt, cases_eq, cases_Bool, lt-ltb, le-ltb, ne_eqb, eq-eqb, and_parts}
+use Rattle.std.proofs.lemmas.Bool.{cases_lt, cases_eq, cases_Bool, and_parts}
 use Rattle.std.proofs.lemmas.Bool.Decides.{nat_tests}
 use Rattle.std.proofs.lemmas.Nat.Bits.{bit_at_above, bit_at_and, bit_at_or, bit_at-lt, same_from_bits, bit_at_set_same, bit_at_set_other, and_pow}
 use Rattle.mls_lattice.specs.Lattice.{cats_below, cats_of}

@@ -1,15 +1,11 @@
 -- What holds of every policy, since a document says it.
-use Rattle.std.proofs.Common.{◌≡◌, ◌≢◌, ℕ, zero, suc, ◌<◌, ◌^◌, Bool, true, false, nat_eq, List, [], ◌∷◌, ◌++◌, append_assoc, length, map, Option, None, Some, Ok, refl, sym, ap, subst, ◌∙◌, arith, cond, Err}
-use Rattle.std.specs.Prelude.{position}
-use Rattle.std.specs.Int.RustNames.{bit_or}
-use Rattle.std.specs.Option.{IfSome}
-use Rattle.std.specs.List.{list_any, AllByRecursion, IsDistinct, fold}
-use Rattle.std.specs.Str.{bytes_eq}
+use Rattle.std.proofs.Common.{◌≡◌, ◌≢◌, ℕ, zero, suc, ◌<◌, ◌^◌, Bool, true, false, nat_eq, List, [], ◌∷◌, ◌++◌, append_assoc, length, map, Option, None, Some, Ok, refl, sym, ap, subst, ◌∙◌, arith, cond, Err, position, bit_or, IfSome, fold, bytes_eq, append-nil}
+use Rattle.std.specs.List.{list_any, AllByRecursion, IsDistinct}
 use Rattle.std.specs.Cmp.{IsEquivalence, nat_eq_equiv}
 use Rattle.std.specs.Cmp.Lexicographic.{nat_list_eq_equiv}
 use Rattle.std.proofs.lemmas.Bool.{or_parts, and_parts, and_from}
 use Rattle.std.proofs.lemmas.Nat.{or_lt}
-use Rattle.std.proofs.lemmas.List.{append-nil, map_push}
+use Rattle.std.proofs.lemmas.List.{map_push}
 use Rattle.std.proofs.lemmas.List.Quantifiers.{position-Some}
 use Rattle.std.proofs.lemmas.Map.Keys.{IsDistinct-push}
 use Rattle.toml.specs.Data.{Data, Items, no_items, item, Members}

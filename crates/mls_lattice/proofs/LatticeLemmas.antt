@@ -1,10 +1,9 @@
 -- Laws of pairs.
-use Rattle.std.proofs.Common.{◌≡◌, ℕ, ◌<◌, Bool, true, false, ◌&&◌, ◌||◌, length, nat_eq, refl, sym, ap, ◌∙◌, inl, inr, arith}
-use Rattle.std.specs.Prelude.{◌↔◌, nat_le}
+use Rattle.std.proofs.Common.{◌≡◌, ℕ, ◌<◌, Bool, true, false, ◌&&◌, ◌||◌, length, nat_eq, refl, sym, ap, ◌∙◌, inl, inr, arith, ◌↔◌, nat_le, leb-true, le-leb, eqb-true, eq-eqb}
 use Rattle.std.specs.FinSet as set
 use Rattle.std.specs.FinSet.{nat_cmp-IsAntisymmetric}
 use Rattle.std.proofs.lemmas.Cmp.{nat_cmp_total}
-use Rattle.std.proofs.lemmas.Bool.{and_parts, and_from, or_cases, leb-true, le-leb, eqb-true, eq-eqb}
+use Rattle.std.proofs.lemmas.Bool.{and_parts, and_from, or_cases}
 use Rattle.mls_lattice.specs.Lattice.{Pair, Dominates, join, meet, ◌⊑◌, same_pair, cats_of, pair_of, IsOrder, IsLeastUpperBound, IsGreatestLowerBound}
 use Rattle.mls_lattice.specs.declared.label.Label.{Label}
 use Rattle.mls_lattice.proofs.CategoryLemmas.{same_from_cats}

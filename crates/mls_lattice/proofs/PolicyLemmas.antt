@@ -1,7 +1,6 @@
 -- The tables of a policy, seen through the view of its labels.
-use Rattle.std.proofs.Common.{◌≡◌, ℕ, zero, suc, arith, ◌<◌, Bool, List, [], ◌∷◌, length, map, get_or, cond, not, nat_lt, ◌+◌, Some, None, refl, ap, ◌∙◌}
-use Rattle.std.specs.List.{position, prefix_len, AllByRecursion}
-use Rattle.std.specs.Str.{bytes_eq}
+use Rattle.std.proofs.Common.{◌≡◌, ℕ, zero, suc, arith, ◌<◌, Bool, List, [], ◌∷◌, length, map, get_or, cond, not, nat_lt, ◌+◌, Some, None, refl, ap, ◌∙◌, position, bytes_eq}
+use Rattle.std.specs.List.{prefix_len, AllByRecursion}
 use Rattle.std.proofs.lemmas.List.{get_or-map, length-map}
 use Rattle.mls_lattice.specs.Lattice.{pair_of, bottom}
 use Rattle.mls_lattice.specs.Labels.{label_of}

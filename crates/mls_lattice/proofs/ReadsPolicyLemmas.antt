@@ -1,6 +1,5 @@
 -- Reading is exact, so a document says one policy, and no reader refuses it.
-use Rattle.std.proofs.Common.{◌≡◌, ◌≢◌, ℕ, List, codes, Some, Result, Ok, Err, refl, sym, ap, ◌∙◌, subst, is_some}
-use Rattle.std.specs.Prelude.{IfOk}
+use Rattle.std.proofs.Common.{◌≡◌, ◌≢◌, ℕ, List, codes, Some, Result, Ok, Err, refl, sym, ap, ◌∙◌, subst, is_some, IfOk}
 use Rattle.toml.specs.Data.{Members, as_str, as_table}
 use Rattle.mls_lattice.specs.declared.failed.Failed.{Failed}
 use Rattle.mls_lattice.specs.declared.failed.Failed.TheVariants as failed

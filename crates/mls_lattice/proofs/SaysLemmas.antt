@@ -1,7 +1,6 @@
 -- Reading gives the tables that the document says, and refuses no document that says some.
-use Rattle.std.proofs.Common.{◌≡◌, ℕ, suc, ◌<◌, ◌≤◌, Bool, true, false, ◌==◌, cond, List, [], ◌∷◌, ◌++◌, length, Option, None, Some, Result, Ok, Err, refl, sym, ap, ◌∙◌, inl, inr, append_assoc, arith, nat_lt, subst}
-use Rattle.std.proofs.lemmas.Bool.{ne_eqb, le-ltb, ltb-false, eqb-false}
-use Rattle.std.proofs.lemmas.List.{append-nil}
+use Rattle.std.proofs.Common.{◌≡◌, ℕ, suc, ◌<◌, ◌≤◌, Bool, true, false, ◌==◌, cond, List, [], ◌∷◌, ◌++◌, length, Option, None, Some, Result, Ok, Err, refl, sym, ap, ◌∙◌, inl, inr, append_assoc, arith, nat_lt, subst, ne_eqb, le-ltb, ltb-false, append-nil}
+use Rattle.std.proofs.lemmas.Bool.{eqb-false}
 use Rattle.toml.specs.Data.{Data, Items, no_items, item, Members, get_member, string, array, as_str, as_array}
 use Rattle.mls_lattice.specs.declared.fault.FieldFault.{FieldFault}
 use Rattle.mls_lattice.specs.declared.fault.FieldFault.TheVariants.{MissingField, WrongKind, TooMany, BadName}

@@ -1,13 +1,8 @@
 -- Table by table: the rows that reading gives are those that the items say.
-use Rattle.std.proofs.Common.{◌≡◌, ℕ, ℤ, Bool, true, cond, ◌==◌, List, [], ◌∷◌, ◌++◌, append_assoc, is_some, false, map, codes, pos, Option, None, Some, Ok, Err, refl, sym, ap, ◌∙◌, subst, bit_and}
-use Rattle.std.specs.Prelude.{position}
-use Rattle.std.specs.Int.RustNames.{bit_or}
+use Rattle.std.proofs.Common.{◌≡◌, ℕ, ℤ, Bool, true, cond, ◌==◌, List, [], ◌∷◌, ◌++◌, append_assoc, is_some, false, map, codes, pos, Option, None, Some, Ok, Err, refl, sym, ap, ◌∙◌, subst, bit_and, position, bit_or, bytes_eq, int_eq, append-nil}
 use Rattle.std.specs.List.{list_any}
-use Rattle.std.specs.Str.{bytes_eq}
-use Rattle.std.specs.Ordering.{int_eq}
 use Rattle.std.specs.FinSet as set
 use Rattle.std.proofs.lemmas.Bool.Decides.{Decides-int_eq}
-use Rattle.std.proofs.lemmas.List.{append-nil}
 use Rattle.std.proofs.lemmas.List.Sums.{fold_push}
 use Rattle.std.specs.FinSet.{nat_cmp-IsAntisymmetric}
 use Rattle.std.proofs.lemmas.Cmp.{nat_cmp_total}

@@ -1,7 +1,6 @@
 -- The canonical text of a policy: one line each, single spaces, in the order of its file.
-use Rattle.std.specs.Prelude.{ℕ, ◌+◌, ◌==◌, bit_and, List, [], ◌∷◌, ◌++◌, codes, if◌then◌else◌, Option, Some, None, option_map, slice_get, slice_index_or}
-use Rattle.std.specs.Option.{unwrap_or}
-use Rattle.std.specs.List.{flat_map}
+use Rattle.std.specs.Prelude.{ℕ, ◌+◌, ◌==◌, bit_and, List, [], ◌∷◌, ◌++◌, codes, if◌then◌else◌, Option, Some, None}
+use Rattle.std.specs.Prelude.{option_map, slice_get, slice_index_or, unwrap_or, flat_map}
 use Rattle.std.specs.FinSet as set
 use Rattle.mls_lattice.specs.declared.tables.User.{User}
 use Rattle.mls_lattice.specs.declared.tables.Right.{Right}

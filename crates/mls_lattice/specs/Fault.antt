@@ -5,7 +5,9 @@ use Rattle.mls_lattice.specs.declared.failed.Failed.TheVariants as failed
 use Rattle.mls_lattice.specs.declared.fault.FieldFault.{FieldFault}
 use Rattle.mls_lattice.specs.declared.fault.FieldFault.TheVariants as field
 use Rattle.mls_lattice.specs.declared.fault.PolicyFault.{PolicyFault}
-use Rattle.mls_lattice.specs.declared.fault.PolicyFault.TheVariants.{NotToml, MissingField, WrongKind, Repeated, UnknownName, TooMany, BadName, EmptyInterval, Memory}
+use Rattle.mls_lattice.specs.declared.fault.PolicyFault.TheVariants.{NotToml, MissingField, WrongKind, Repeated}
+use Rattle.mls_lattice.specs.declared.fault.PolicyFault.TheVariants.{UnknownName, TooMany, BadName, EmptyInterval}
+use Rattle.mls_lattice.specs.declared.fault.PolicyFault.TheVariants.{Memory}
 use Rattle.mls_lattice.specs.declared.fault.TheConstants.{WORDS}
 
 abbrev pub code_of : PolicyFault → ℕ

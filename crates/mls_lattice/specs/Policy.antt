@@ -1,8 +1,7 @@
 -- What a policy is: its version, levels, categories, labels and users, and the matrix of rights.
 use Rattle.std.specs.Prelude.{◌≡◌, ℕ, ◌<◌, ◌≤◌, Bool, true, ◌&&◌, List, [], ◌∷◌, map, length, if◌then◌else◌, nat_eq}
-use Rattle.std.specs.Option.{IfSome}
+use Rattle.std.specs.Prelude.{IfSome, bytes_eq}
 use Rattle.std.specs.List.{AllByRecursion, IsDistinct}
-use Rattle.std.specs.Str.{bytes_eq}
 use Rattle.mls_lattice.specs.Lattice.{Pair, pair_of}
 use Rattle.mls_lattice.specs.Labels.{Labels, AreDistinct, below}
 use Rattle.mls_lattice.specs.Name.{is_name}

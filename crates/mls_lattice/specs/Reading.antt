@@ -1,5 +1,6 @@
 -- What a field of a document says, or its fault.
-use Rattle.std.specs.Prelude.{◌≡◌, ℕ, suc, ℤ, pos, codes, List, Bool, true, nat_lt, ◌==◌, ◌&&◌, if◌then◌else◌, Option, Some, None, is_some, Result, Ok, Err, ok_or}
+use Rattle.std.specs.Prelude.{◌≡◌, ℕ, suc, ℤ, pos, codes, List, Bool, true, nat_lt, ◌==◌, ◌&&◌, if◌then◌else◌, Option}
+use Rattle.std.specs.Prelude.{Some, None, is_some, Result, Ok, Err, ok_or}
 use Rattle.std.specs.Ordering.{int_eq}
 use Rattle.toml.specs.Data.{Data, Items, no_items, item, Members, get_member, as_str, as_integer, as_array, as_table}
 use Rattle.mls_lattice.specs.declared.failed.Failed.{Failed}

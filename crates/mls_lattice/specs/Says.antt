@@ -1,8 +1,7 @@
 -- The document of a policy: how each table stands in it, with no word of how it is read.
-use Rattle.std.specs.Prelude.{◌≡◌, ◌⊎◌, ℕ, pos, ◌<◌, ◌≤◌, true, false, ◌==◌, bit_and, List, [], ◌∷◌, ◌++◌, length, map, codes, nat_eq, Option, Some, None, Ok, position, ⊤}
-use Rattle.std.specs.Int.RustNames.{bit_or}
-use Rattle.std.specs.List.{list_any, fold}
-use Rattle.std.specs.Str.{bytes_eq}
+use Rattle.std.specs.Prelude.{◌≡◌, ◌⊎◌, ℕ, pos, ◌<◌, ◌≤◌, true, false, ◌==◌, bit_and, List, [], ◌∷◌, ◌++◌, length, map}
+use Rattle.std.specs.Prelude.{codes, nat_eq, Option, Some, None, Ok, position, ⊤, bit_or, fold, bytes_eq}
+use Rattle.std.specs.List.{list_any}
 use Rattle.std.specs.FinSet as set
 use Rattle.toml.specs.Data.{Data, Items, no_items, item, Members, get_member, string, integer, array, table}
 use Rattle.mls_lattice.specs.declared.tables.User.{User}

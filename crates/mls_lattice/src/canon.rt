@@ -1,10 +1,11 @@
 //! The lines of the canonical text.
-ghost use Rattle.std.specs.Prelude.{◌≡◌, ◌++◌, ◌<◌, ◌≤◌, OnOk, codes, length, map, string_bytes};
-ghost use Rattle.std.specs.List.{flat_map, AllByRecursion};
-ghost use Rattle.mls_lattice.specs.Lattice.{cats_of, pair_of};
+ghost use Rattle.std.specs.Prelude.{◌≡◌, ◌++◌, ◌<◌, ◌≤◌, OnOk, codes, length, map, string_bytes, flat_map};
+ghost use Rattle.std.specs.List.{AllByRecursion};
+ghost use Rattle.mls_lattice.specs.Lattice.{cats_of};
 ghost use Rattle.mls_lattice.specs.Version.{version_text};
 ghost use Rattle.mls_lattice.specs.Policy.{named, HasLevel, IsCleared, HasUser};
-ghost use Rattle.mls_lattice.specs.Canon.{label_name, user_name, spaced, names_of, level_line, category_line, label_line, interval_text, user_line, word_if, modes_text, right_line};
+ghost use Rattle.mls_lattice.specs.Canon.{label_name, user_name, spaced, names_of, level_line, category_line};
+ghost use Rattle.mls_lattice.specs.Canon.{label_line, user_line, word_if, modes_text, right_line};
 
 use crate::label::Label;
 use crate::modes::Modes;

@@ -3,7 +3,8 @@ ghost use Rattle.std.specs.Prelude.{◌≡◌, option_map, is_some};
 ghost use Rattle.std.specs.List.{list_all};
 ghost use Rattle.toml.specs.Data.{get_member, as_str, as_table};
 ghost use Rattle.toml.specs.View.{view, items_view, table_view};
-ghost use Rattle.mls_lattice.specs.Reading.{Shows, wanted, text_at, integer_at, version_at, array_at, table_at, name_at, name_field, texts_at, tables_at, optional, bounded, some_of};
+ghost use Rattle.mls_lattice.specs.Reading.{Shows, wanted, text_at, integer_at, version_at, array_at, table_at};
+ghost use Rattle.mls_lattice.specs.Reading.{name_at, name_field, texts_at, tables_at, optional, bounded, some_of};
 
 use crate::fault::FieldFault;
 use crate::name::is_name;

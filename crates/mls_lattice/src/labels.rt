@@ -1,7 +1,6 @@
 //! The labels of a document.
-ghost use Rattle.std.specs.Prelude.{◌≡◌, ◌<◌, ◌≤◌, [], length, IfOk, IfSome, map, position};
+ghost use Rattle.std.specs.Prelude.{◌≡◌, ◌<◌, ◌≤◌, [], length, IfOk, IfSome, map, position, bytes_eq};
 ghost use Rattle.std.specs.List.{list_any};
-ghost use Rattle.std.specs.Str.{bytes_eq};
 ghost use Rattle.std.specs.FinSet as set;
 ghost use Rattle.toml.specs.View.{view, items_view, table_view};
 ghost use Rattle.mls_lattice.specs.Lattice.{cats_of, pair_of, same_pair};

@@ -1,7 +1,6 @@
 //! Sets of modes. The operators are written out, since those of `bitflag_items!` promise nothing. Number
 //! formats and an iterator over modes are left out, since nothing uses them.
-ghost use Rattle.std.specs.Prelude.{⊤, ◌≡◌, [], ◌∷◌, codes};
-ghost use Rattle.std.specs.Int.RustNames.{bit_and, bit_or, bit_xor};
+ghost use Rattle.std.specs.Prelude.{⊤, ◌≡◌, [], ◌∷◌, codes, bit_and, bit_or, bit_xor};
 ghost use Rattle.bitflags.specs.Sets.{without};
 
 use bitflags::{Flag, Flags};

@@ -1,7 +1,7 @@
 //! Policies, and what is asked of them.
-ghost use Rattle.std.specs.Prelude.{◌≡◌, true, ◌≢◌, ◌↔◌, ◌<◌, ◌≤◌, ℕ, IsTrue, length, map, position, slice_get, Some, None, IfSome, IfOk, IfErr, option_map, IsUtf8};
+ghost use Rattle.std.specs.Prelude.{◌≡◌, true, ◌≢◌, ◌↔◌, ◌<◌, ◌≤◌, ℕ, IsTrue, length, map, position, slice_get, Some};
+ghost use Rattle.std.specs.Prelude.{None, IfSome, IfOk, IfErr, option_map, IsUtf8, bytes_eq};
 ghost use Rattle.std.specs.List.{IsDistinct};
-ghost use Rattle.std.specs.Str.{bytes_eq};
 ghost use Rattle.mls_lattice.specs.Lattice.{pair_of};
 ghost use Rattle.mls_lattice.specs.Labels.{label_of, below, AreDistinct};
 ghost use Rattle.mls_lattice.specs.Name.{is_name};

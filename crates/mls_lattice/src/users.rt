@@ -1,13 +1,13 @@
 //! The users of a document.
-ghost use Rattle.std.specs.Prelude.{◌≡◌, ◌<◌, ◌≤◌, [], codes, length, IfOk, IfSome, map, position};
+ghost use Rattle.std.specs.Prelude.{◌≡◌, ◌<◌, ◌≤◌, [], codes, length, IfOk, IfSome, map, position, bytes_eq};
 ghost use Rattle.std.specs.List.{list_any};
-ghost use Rattle.std.specs.Str.{bytes_eq};
 ghost use Rattle.toml.specs.Data.{get_member};
 ghost use Rattle.toml.specs.View.{view, items_view, table_view};
 ghost use Rattle.mls_lattice.specs.Labels.{below};
 ghost use Rattle.mls_lattice.specs.Policy.{named};
 ghost use Rattle.mls_lattice.specs.Reading.{Shows, Gives};
-ghost use Rattle.mls_lattice.specs.PolicyReading.{rows_at, label_name_at, interval_at, trusted_at, user_at, users_at, user_place};
+ghost use Rattle.mls_lattice.specs.PolicyReading.{rows_at, label_name_at, interval_at, trusted_at, user_at, users_at};
+ghost use Rattle.mls_lattice.specs.PolicyReading.{user_place};
 
 use crate::document::{bounded, field, name_field, name_of, optional_tables, table_of, texts_of};
 use crate::failed::Failed;

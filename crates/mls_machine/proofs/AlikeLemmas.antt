@@ -1,8 +1,5 @@
 -- A step without a call at a level that c dominates, from two worlds that look alike to c.
-use Rattle.std.proofs.Common.{◌≡◌, ℕ, Bool, true, false, cond, ◌&&◌, List, [], ◌∷◌, ◌++◌, Option, Some, None, Result, Ok, Err, refl, sym, ap, ◌∙◌, subst, true≢false}
-use Rattle.std.specs.Prelude.{nat_eq}
-use Rattle.std.specs.List.{filter}
-use Rattle.std.specs.Str.{bytes_eq}
+use Rattle.std.proofs.Common.{◌≡◌, ℕ, Bool, true, false, cond, ◌&&◌, List, [], ◌∷◌, ◌++◌, Option, Some, None, Result, Ok, Err, refl, sym, ap, ◌∙◌, subst, true≢false, nat_eq, filter, bytes_eq}
 use Rattle.std.proofs.lemmas.Bool.{false_from_ne_true}
 use Rattle.std.proofs.lemmas.List.Elements.{filter-append}
 use Rattle.mls_lattice.specs.Labels.{Labels, below}
@@ -136,12 +133,7 @@ module _ (site : Site) (c : ℕ) (v w : World) (e : Event) (seen : below (site_l
 
   alike_outside : (command : Command) → Alike (step_outside site v e command) (step_outside site w e command)
   alike_outside (commands.Open name) = alike_open (cleared site e.level (user_named site.policy name))
-  alike_outside commands.Close = record { world = h; reply = refl }
-  alike_outside commands.Audit = record { world = h; reply = refl }
-  alike_outside (commands.View relation label query counts) = record { world = h; reply = refl }
-  alike_outside (commands.Dump relation) = record { world = h; reply = refl }
-  alike_outside (commands.Write relation wr) = record { world = h; reply = refl }
-  alike_outside (commands.Call name args) = record { world = h; reply = refl }
+  alike_outside _ = record { world = h; reply = refl }
 
   alike_at : (session : Option ℕ) → IsNoCall e.command → Alike (step_at site v e e.command session) (step_at site w e e.command session)
   alike_at (Some user) plain = alike_inside e.command user plain

@@ -1,9 +1,6 @@
 -- Two steps at one level that c dominates, from worlds that look alike to c: calls of one transaction, whose arguments look
 -- alike to c, and two events that look alike to c.
-use Rattle.std.proofs.Common.{◌≡◌, ℕ, Bool, true, false, not, ◌&&◌, ◌||◌, List, [], ◌∷◌, ◌++◌, length, map, Option, Some, None, refl, sym, ap, ◌∙◌, subst, inl, inr, ◌⊎◌, true≢false}
-use Rattle.std.specs.Prelude.{nat_eq}
-use Rattle.std.specs.Option.{IfSome}
-use Rattle.std.proofs.lemmas.Bool.{eqb-true}
+use Rattle.std.proofs.Common.{◌≡◌, ℕ, Bool, true, false, not, ◌&&◌, ◌||◌, List, [], ◌∷◌, ◌++◌, length, map, Option, Some, None, refl, sym, ap, ◌∙◌, subst, inl, inr, ◌⊎◌, true≢false, nat_eq, IfSome, eqb-true}
 use Rattle.std.proofs.lemmas.List.{length-map}
 use Rattle.std.proofs.lemmas.List.Elements.{filter-append}
 use Rattle.mls_lattice.specs.Labels.{below, AreDistinct}
@@ -172,23 +169,13 @@ module _ (site : Site) (distinct : AreDistinct (site_labels site)) (c : ℕ) (v 
   sh = shown site c
 
   shown_plain : (a : Command) → IsNoCall a → sh a ≡ a
-  shown_plain (commands.Open name) h = refl
-  shown_plain commands.Close h = refl
-  shown_plain commands.Audit h = refl
-  shown_plain (commands.View relation label query counts) h = refl
-  shown_plain (commands.Dump relation) h = refl
-  shown_plain (commands.Write relation wr) h = refl
   shown_plain (commands.Call name args) h = absurd h
+  shown_plain _ h = refl
 
   -- what is shown without a call is the command itself
   plain_back : (a b : Command) → IsNoCall a → a ≡ sh b → a ≡ b
-  plain_back a (commands.Open name) p q = q
-  plain_back a commands.Close p q = q
-  plain_back a commands.Audit p q = q
-  plain_back a (commands.View relation label query counts) p q = q
-  plain_back a (commands.Dump relation) p q = q
-  plain_back a (commands.Write relation wr) p q = q
   plain_back a (commands.Call name args) p q = absurd (subst IsNoCall q p)
+  plain_back a _ p q = q
 
   abbrev Pair : Command → Command → Type 0
   Pair a b = SplitOrAlike site c (twin e a) (twin e b) (step site v (twin e a)) (step site w (twin e b))
@@ -219,16 +206,11 @@ module _ (site : Site) (distinct : AreDistinct (site_labels site)) (c : ℕ) (v 
   plain_no_call name args b p q = subst IsNoCall (sym q) p
 
   from_call : (name : Name) (vs : List (Option Value)) (b : Command) → WhereCalled site (IsSafe site) (commands.Call name vs) → sh (commands.Call name vs) ≡ sh b → Pair (commands.Call name vs) b
-  from_call name vs (commands.Open n) safe q = absurd (plain_no_call name _ _ tt q)
-  from_call name vs commands.Close safe q = absurd (plain_no_call name _ _ tt q)
-  from_call name vs commands.Audit safe q = absurd (plain_no_call name _ _ tt q)
-  from_call name vs (commands.View relation label query counts) safe q = absurd (plain_no_call name _ _ tt q)
-  from_call name vs (commands.Dump relation) safe q = absurd (plain_no_call name _ _ tt q)
-  from_call name vs (commands.Write relation wr) safe q = absurd (plain_no_call name _ _ tt q)
   from_call name vs (commands.Call n ws) safe q =
       let same : name ≡ n = ap name_of q in
       let args = ap args_of q ∙ ap (λ m. blanked (site_labels site) c (params_of (stored_named site.stored m)) ws) (sym same) in
       subst (λ m. Pair (commands.Call name vs) (commands.Call m ws)) same (call_steps name vs ws safe args)
+  from_call name vs _ safe q = absurd (plain_no_call name _ _ tt q)
 
   pair : (a b : Command) → WhereCalled site (IsSafe site) a → sh a ≡ sh b → Pair a b
   pair (commands.Open name) b safe q = from_plain (commands.Open name) b tt q

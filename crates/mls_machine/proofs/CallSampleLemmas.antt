@@ -1,9 +1,7 @@
 -- A script of two calls, and the lines that it prints: one is denied; the other has an argument of the wrong kind above the
 -- session's level, which is taken as null, and emits it there and releases it.
-use Rattle.std.proofs.Common.{◌≡◌, ℕ, true, false, List, [], ◌∷◌, ◌++◌, Option, ap, refl, ◌∙◌, Ok, Err}
-use Rattle.std.specs.Prelude.{◌==◌, Bool, cond, not, ◌&&◌, ◌||◌, nat_eq, bit_and, codes, length, Some, None}
-use Rattle.std.specs.List.{list_any, find}
-use Rattle.std.specs.Str.{bytes_eq}
+use Rattle.std.proofs.Common.{◌≡◌, ℕ, true, false, List, [], ◌∷◌, ◌++◌, Option, ap, refl, ◌∙◌, Ok, Err, ◌==◌, Bool, cond, not, ◌&&◌, ◌||◌, nat_eq, bit_and, codes, length, Some, None, find, bytes_eq}
+use Rattle.std.specs.List.{list_any}
 use Rattle.std.specs.Fmt.{digits}
 use Rattle.std.specs.FinMap.{empty}
 use Rattle.mls_lattice.specs.declared.tables.Right.{Right}

@@ -1,8 +1,7 @@
 -- What is stored by the name of a call.
-use Rattle.std.proofs.Common.{Bool, true, false, cond, List, [], ◌∷◌, Option, Some, None}
+use Rattle.std.proofs.Common.{Bool, true, false, cond, List, [], ◌∷◌, Option, Some, None, find, IfSome}
 use Rattle.std.specs.Prelude.{⊤}
-use Rattle.std.specs.List.{find, AllByRecursion}
-use Rattle.std.specs.Option.{IfSome}
+use Rattle.std.specs.List.{AllByRecursion}
 use Rattle.mls_lattice.specs.Policy.{Name}
 use Rattle.mls_translang.specs.Tx.{Tx}
 use Rattle.mls_translang.specs.Fits.{IsReadUnder}
@@ -39,13 +38,8 @@ found_holds P test [] h = tt
 found_holds P test (x ∷ xs) h = elim (test x) as (λ b. IfSome (cond b (Some x) (find test xs)) P) [ true ↦ h.0 | false ↦ found_holds P test xs h.1 ]
 
 where_called : (site : Site) (P : Tx → Type 0) → ((name : Name) → IfSome (certified_of (stored_named site.stored name)) P) → (command : Command) → WhereCalled site P command
-where_called site P h (commands.Open name) = tt
-where_called site P h commands.Close = tt
-where_called site P h commands.Audit = tt
-where_called site P h (commands.View relation label query counts) = tt
-where_called site P h (commands.Dump relation) = tt
-where_called site P h (commands.Write relation wr) = tt
 where_called site P h (commands.Call name args) = h name
+where_called site P h _ = tt
 
 -- the policy and the schemes that it was read under, and security
 pub record IsSafe (site : Site) (tx : Tx) : Type 0 where
@@ -72,12 +66,6 @@ all_safe site read secure =
 -- ---- of one command
 
 pub secure_call : (site : Site) (command : Command) → IsCallSecure site command → WhereCalled site (IsSafe site) command
-secure_call site (commands.Open name) h = tt
-secure_call site commands.Close h = tt
-secure_call site commands.Audit h = tt
-secure_call site (commands.View relation label query counts) h = tt
-secure_call site (commands.Dump relation) h = tt
-secure_call site (commands.Write relation wr) h = tt
 secure_call site (commands.Call name args) h = by_stored (stored_named site.stored name) h
   where
     by_stored : (o : Option Stored)
@@ -86,16 +74,12 @@ secure_call site (commands.Call name args) h = by_stored (stored_named site.stor
     by_stored None h = tt
     by_stored (Some (Plain tx)) h = tt
     by_stored (Some (Certified k)) h = record { read = h.0; secure = h.1 }
+secure_call site _ h = tt
 
 some_weaker : {X : Type 0} (P Q : X → Type 0) → ((x : X) → P x → Q x) → (o : Option X) → IfSome o P → IfSome o Q
 some_weaker P Q k None h = tt
 some_weaker P Q k (Some x) h = k x h
 
 pub weaker : (site : Site) (P Q : Tx → Type 0) → ((tx : Tx) → P tx → Q tx) → (command : Command) → WhereCalled site P command → WhereCalled site Q command
-weaker site P Q k (commands.Open name) h = tt
-weaker site P Q k commands.Close h = tt
-weaker site P Q k commands.Audit h = tt
-weaker site P Q k (commands.View relation label query counts) h = tt
-weaker site P Q k (commands.Dump relation) h = tt
-weaker site P Q k (commands.Write relation wr) h = tt
 weaker site P Q k (commands.Call name args) h = some_weaker P Q k (certified_of (stored_named site.stored name)) h
+weaker site P Q k _ h = tt

@@ -1,7 +1,6 @@
 -- What makes a tuple again has known numbers, and a name is printed as it is.
-use Rattle.std.proofs.Common.{◌≡◌, ℕ, suc, ◌<◌, true, false, cond, not, ◌&&◌, List, [], ◌∷◌, ◌++◌, length, map, Some, codes, refl, ap, ◌∙◌, ltb-true, arith}
-use Rattle.std.specs.Prelude.{◌/◌, ◌%◌, nat_eq, nat_lt}
-use Rattle.std.specs.List.{filter, list_all, AllByRecursion}
+use Rattle.std.proofs.Common.{◌≡◌, ℕ, suc, ◌<◌, true, false, cond, not, ◌&&◌, List, [], ◌∷◌, ◌++◌, length, map, Some, codes, refl, ap, ◌∙◌, ltb-true, arith, ◌/◌, ◌%◌, nat_eq, nat_lt, filter}
+use Rattle.std.specs.List.{list_all, AllByRecursion}
 use Rattle.std.proofs.lemmas.Bool.{and_parts}
 use Rattle.std.proofs.lemmas.Bool.Decides.{nat_tests}
 use Rattle.mls_tokens.specs.Writing.{is_control, hex_digit, printable}

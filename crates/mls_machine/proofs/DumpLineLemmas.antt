@@ -1,7 +1,6 @@
 -- No line feed stands in the lines of a dump, where none stands in a name.
-use Rattle.std.proofs.Common.{ℕ, zero, suc, Bool, true, false, cond, List, [], ◌∷◌, ◌++◌, map, Option, Some, refl}
-use Rattle.std.specs.Prelude.{codes, nat_eq, length, slice_index_or}
-use Rattle.std.specs.List.{flat_map, AllByRecursion}
+use Rattle.std.proofs.Common.{ℕ, zero, suc, Bool, true, false, cond, List, [], ◌∷◌, ◌++◌, map, Option, Some, refl, codes, nat_eq, length, slice_index_or, flat_map}
+use Rattle.std.specs.List.{AllByRecursion}
 use Rattle.mls_lattice.specs.Policy.{Name}
 use Rattle.mls_lattice.specs.Canon.{label_name}
 use Rattle.mls_scheme.specs.declared.value.Value.{Value}

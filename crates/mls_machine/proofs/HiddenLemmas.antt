@@ -1,10 +1,7 @@
 -- A step at a level that c does not dominate shows c nothing.
-use Rattle.std.proofs.Common.{◌≡◌, ℕ, Bool, true, false, cond, List, [], ◌∷◌, ◌++◌, map, Option, Some, None, Result, Ok, Err, refl, sym, ap, ◌∙◌, true≢false, eqb-true, append-nil}
-use Rattle.std.specs.Prelude.{nat_eq}
-use Rattle.std.specs.Str.{bytes_eq}
-use Rattle.std.proofs.lemmas.Bool.{ne_eqb, and_left}
+use Rattle.std.proofs.Common.{◌≡◌, ℕ, Bool, true, false, cond, List, [], ◌∷◌, ◌++◌, map, Option, Some, None, Result, Ok, Err, refl, sym, ap, ◌∙◌, true≢false, eqb-true, append-nil, nat_eq, bytes_eq, ne_eqb, IfSome}
+use Rattle.std.proofs.lemmas.Bool.{and_left}
 use Rattle.std.proofs.lemmas.List.Elements.{filter-append}
-use Rattle.std.specs.Option.{IfSome}
 use Rattle.mls_lattice.specs.Labels.{Labels, below, AreDistinct}
 use Rattle.mls_lattice.specs.Policy.{Name, Policy}
 use Rattle.mls_filterview.specs.View.{low}
@@ -151,12 +148,7 @@ module _ (site : Site) (distinct : AreDistinct (site_labels site)) (c : ℕ) (w 
 
   hidden_outside : (command : Command) → Unseen (step_outside site w e command)
   hidden_outside (commands.Open name) = hidden_open (cleared site e.level (user_named site.policy name))
-  hidden_outside commands.Close = same _ refl refl
-  hidden_outside commands.Audit = same _ refl refl
-  hidden_outside (commands.View relation label query counts) = same _ refl refl
-  hidden_outside (commands.Dump relation) = same _ refl refl
-  hidden_outside (commands.Write relation wr) = same _ refl refl
-  hidden_outside (commands.Call name args) = same _ refl refl
+  hidden_outside _ = same _ refl refl
 
   hidden_at : (session : Option ℕ) → WhereCalled site (IsSafe site) e.command → Unseen (step_at site w e e.command session)
   hidden_at (Some user) safe = hidden_inside e.command user safe

@@ -1,8 +1,6 @@
 -- Steps and runs keep what writes keep: the stored form, and with it integrity.
-use Rattle.std.proofs.Common.{◌≡◌, ℕ, zero, suc, ◌<◌, Bool, true, false, cond, List, [], ◌∷◌, length, take, Option, Some, None, Ok, Err, Result, refl, sym, ap, subst, eqb-true}
-use Rattle.std.specs.Prelude.{nat_eq}
+use Rattle.std.proofs.Common.{◌≡◌, ℕ, zero, suc, ◌<◌, Bool, true, false, cond, List, [], ◌∷◌, length, take, Option, Some, None, Ok, Err, Result, refl, sym, ap, subst, eqb-true, nat_eq, IfSome}
 use Rattle.std.specs.List.{AllByRecursion}
-use Rattle.std.specs.Option.{IfSome}
 use Rattle.std.proofs.lemmas.List.{length-map}
 use Rattle.std.proofs.lemmas.Slice.Zip.{AllZip-long}
 use Rattle.mls_lattice.specs.Labels.{AreDistinct}
@@ -83,13 +81,11 @@ module _ (site : Site) (P : ℕ → Table → Type 0) (keeps : Kept site P) wher
         (λ none. keeps.by_call k.tx args w.db read (may_run site e.level user k.tx args none).count all)
 
     inside_holds : (command : Command) (user : ℕ) → CommandFits site.policy site.schemes command → CallsRead site command → Holds (step_inside site w e command user).world
-    inside_holds (commands.Open name) user fits read = all
-    inside_holds commands.Close user fits read = all
-    inside_holds commands.Audit user fits read = all
     inside_holds (commands.View relation label query counts) user fits read = unless_holds _ w e user _ all (λ none. all)
     inside_holds (commands.Dump relation) user fits read = unless_holds _ w e user _ all (λ none. all)
     inside_holds (commands.Write relation wr) user fits read = write_holds user relation wr _ (fitting relation wr fits.1)
     inside_holds (commands.Call name args) user fits read = call_holds user name args (stored_named site.stored name) read
+    inside_holds _ user fits read = all
 
     opened_holds : (r : Result ℕ Denial) → Holds (open_step site w e r).world
     opened_holds (Ok user) = all
@@ -97,12 +93,7 @@ module _ (site : Site) (P : ℕ → Table → Type 0) (keeps : Kept site P) wher
 
     outside_holds : (command : Command) → Holds (step_outside site w e command).world
     outside_holds (commands.Open name) = opened_holds (cleared site e.level (user_named site.policy name))
-    outside_holds commands.Close = all
-    outside_holds commands.Audit = all
-    outside_holds (commands.View relation label query counts) = all
-    outside_holds (commands.Dump relation) = all
-    outside_holds (commands.Write relation wr) = all
-    outside_holds (commands.Call name args) = all
+    outside_holds _ = all
 
     at_holds : (session : Option ℕ) → CommandFits site.policy site.schemes e.command → CallsRead site e.command → Holds (step_at site w e e.command session).world
     at_holds (Some user) fits read = inside_holds e.command user fits read

@@ -1,8 +1,6 @@
 -- No line feed stands in a line, and parted at them the output is its lines.
-use Rattle.std.proofs.Common.{◌≡◌, ℕ, Bool, true, false, cond, List, [], ◌∷◌, ◌++◌, map, Option, Some, None, refl, ap, ◌∙◌, append_assoc, arith}
-use Rattle.std.specs.Prelude.{codes, length}
-use Rattle.std.specs.List.{filter, All, AllByRecursion, slice_split}
-use Rattle.std.specs.Fmt.{decimal}
+use Rattle.std.proofs.Common.{◌≡◌, ℕ, Bool, true, false, cond, List, [], ◌∷◌, ◌++◌, map, Option, Some, None, refl, ap, ◌∙◌, append_assoc, arith, codes, length, filter, All, decimal}
+use Rattle.std.specs.List.{AllByRecursion, slice_split}
 use Rattle.std.proofs.lemmas.List.Folds.{list_any-append}
 use Rattle.std.proofs.lemmas.List.Elements.{All-cons}
 use Rattle.std.proofs.lemmas.List.Splits.{slice_split_at}
@@ -46,13 +44,7 @@ coded_line deed word n h k = simp (list_any-append, h, one_line-decimal n, k)
 
 outcome_word_line : (o : Outcome) → IsOneLine (outcome_word o)
 outcome_word_line outcomes.Done = refl
-outcome_word_line outcomes.KeyNull = refl
-outcome_word_line outcomes.Duplicate = refl
-outcome_word_line outcomes.NoTuple = refl
-outcome_word_line outcomes.NullAboveKey = refl
-outcome_word_line outcomes.Inherited = refl
-outcome_word_line outcomes.OutOfInterval = refl
-outcome_word_line outcomes.AlreadyDerived = refl
+outcome_word_line _ = refl
 
 outcome_line : (o : Outcome) → IsOneLine (outcome_text o)
 outcome_line o =
@@ -63,15 +55,7 @@ outcome_line o =
 
 denial_word_line : (d : Denial) → IsOneLine (word_of d)
 denial_word_line denials.NoSession = refl
-denial_word_line denials.AlreadyOpen = refl
-denial_word_line denials.UnknownUser = refl
-denial_word_line denials.UnknownTransaction = refl
-denial_word_line denials.NotCertified = refl
-denial_word_line denials.Ds = refl
-denial_word_line denials.Ss = refl
-denial_word_line denials.Star = refl
-denial_word_line denials.Trust = refl
-denial_word_line denials.Arguments = refl
+denial_word_line _ = refl
 
 denial_line : (d : Denial) → IsOneLine (denial_text d)
 denial_line d = coded_line (codes "denied ") (word_of d) (code_of d) refl (denial_word_line d)
@@ -89,33 +73,18 @@ module _ (site : Site) (plain : IsPlain site) where
     heading_line site.policy plain.labels (scheme_of site.schemes relation) label query (scheme_line site.schemes relation plain.relations),
     each-map IsOneLine (row_text site.policy) tuples (each (λ t. IsOneLine (row_text site.policy t)) (row_line site.policy plain.labels) tuples),
   )
-  view_lines (commands.Open name) tuples = tt
-  view_lines commands.Close tuples = tt
-  view_lines commands.Audit tuples = tt
-  view_lines (commands.Dump relation) tuples = tt
-  view_lines (commands.Write relation wr) tuples = tt
-  view_lines (commands.Call name args) tuples = tt
+  view_lines _ tuples = tt
 
   in_table : (command : Command) (tuples : List Tuple) → AllByRecursion IsOneLine (table_texts site command tuples)
   in_table (commands.View relation label query true) tuples = view_lines (commands.View relation label query true) tuples
   in_table (commands.View relation label query false) tuples =
       let s = scheme_of site.schemes relation in
       table_lines site.policy plain.labels s label query (table_widths site.policy s tuples) tuples (scheme_line site.schemes relation plain.relations)
-  in_table (commands.Open name) tuples = tt
-  in_table commands.Close tuples = tt
-  in_table commands.Audit tuples = tt
-  in_table (commands.Dump relation) tuples = tt
-  in_table (commands.Write relation wr) tuples = tt
-  in_table (commands.Call name args) tuples = tt
+  in_table _ tuples = tt
 
   call_lines : (command : Command) → AllByRecursion IsOneLine (call_texts command)
   call_lines (commands.Call name args) = (one_line-append (codes "called ") (printable name) refl (one_line-printable name), tt)
-  call_lines (commands.Open name) = tt
-  call_lines commands.Close = tt
-  call_lines commands.Audit = tt
-  call_lines (commands.View relation label query counts) = tt
-  call_lines (commands.Dump relation) = tt
-  call_lines (commands.Write relation wr) = tt
+  call_lines _ = tt
 
   dump_lines : (session : Name) → IsOneLine session → (command : Command) (tuples : List Tuple) → AllByRecursion IsOneLine (dump_texts site session command tuples)
   dump_lines session h (commands.Dump relation) tuples = (
@@ -123,12 +92,7 @@ module _ (site : Site) (plain : IsPlain site) where
     each-map IsOneLine (λ t. script_text site (dump_event site session relation t)) tuples
         (each (λ t. IsOneLine (script_text site (dump_event site session relation t))) (λ t. made_line site plain session h relation t) tuples),
   )
-  dump_lines session h (commands.Open name) tuples = tt
-  dump_lines session h commands.Close tuples = tt
-  dump_lines session h commands.Audit tuples = tt
-  dump_lines session h (commands.View relation label query counts) tuples = tt
-  dump_lines session h (commands.Write relation wr) tuples = tt
-  dump_lines session h (commands.Call name args) tuples = tt
+  dump_lines session h _ tuples = tt
 
   opened_line : (user : ℕ) → IsOneLine (codes "opened " ++ user_name site.policy.users user)
   opened_line user = one_line-append (codes "opened ") (user_name site.policy.users user) refl (one_line-at (λ u. u.name) site.policy.users user plain.users)
@@ -169,16 +133,10 @@ module _ (site : Site) (plain : IsPlain site) where
   whole_map e deed h items = each-map Whole (item_line site.policy e deed) items (each (λ i. Whole (item_line site.policy e deed i)) (λ i. whole_item e deed i h) items)
 
   whole_items : (e : Event) (r : Reply) → AllByRecursion Whole (item_lines site.policy e r)
-  whole_items e (Opened user) = tt
-  whole_items e Closed = tt
-  whole_items e (Rows tuples) = tt
-  whole_items e (Dumped tuples) = tt
-  whole_items e (Wrote o) = tt
   whole_items e (Ran run) =
       each-append Whole (map (item_line site.policy e (codes "emit ")) run.emitted) (map (item_line site.policy e (codes "release ")) run.released)
       (whole_map e (codes "emit ") refl run.emitted) (whole_map e (codes "release ") refl run.released)
-  whole_items e (Entries es) = tt
-  whole_items e (Denied d) = tt
+  whole_items e _ = tt
 
   whole_lines : (e : Event) (texts : List (List ℕ)) (r : Reply) → AllByRecursion IsOneLine texts → AllByRecursion Whole (lines_with site e texts r)
   whole_lines e texts r h =

@@ -1,8 +1,6 @@
 -- The first word of a line names its label.
-use Rattle.std.proofs.Common.{◌≡◌, ℕ, suc, ◌+◌, ◌<◌, Bool, true, false, cond, List, [], ◌∷◌, ◌++◌, length, map, take, Option, Some, None, refl, sym, ap, ◌∙◌, subst, append_assoc, append-nil, arith, true≢false}
-use Rattle.std.specs.Prelude.{codes, not}
-use Rattle.std.specs.List.{list_all, filter, position, before_first, prefix_len, AllByRecursion}
-use Rattle.std.specs.Str.{bytes_eq}
+use Rattle.std.proofs.Common.{◌≡◌, ℕ, suc, ◌+◌, ◌<◌, Bool, true, false, cond, List, [], ◌∷◌, ◌++◌, length, map, take, Option, Some, None, refl, sym, ap, ◌∙◌, subst, append_assoc, append-nil, arith, true≢false, codes, not, filter, position, bytes_eq}
+use Rattle.std.specs.List.{list_all, before_first, prefix_len, AllByRecursion}
 use Rattle.std.proofs.lemmas.Bool.{and_parts}
 use Rattle.std.proofs.lemmas.Bool.Decides.{nat_tests}
 use Rattle.std.proofs.lemmas.List.Elements.{filter-append}
@@ -16,7 +14,7 @@ use Rattle.mls_certcheck.specs.Meaning.{Item}
 use Rattle.mls_script.specs.declared.event.Event.{Event}
 use Rattle.mls_machine.specs.declared.form.Form.TheVariants.{Lines}
 use Rattle.mls_machine.specs.declared.reply.Reply.{Reply}
-use Rattle.mls_machine.specs.declared.reply.Reply.TheVariants.{Opened, Closed, Rows, Dumped, Wrote, Ran, Entries, Denied}
+use Rattle.mls_machine.specs.declared.reply.Reply.TheVariants.{Ran}
 use Rattle.mls_certcheck.specs.Site.{Site, site_labels, AreRead}
 use Rattle.mls_machine.specs.Machine.{World, step}
 use Rattle.mls_script.specs.Writing.{cell_text}
@@ -82,16 +80,10 @@ module _ (p : Policy) (policy : IsPolicy p) where
       (each_if (λ i. i.0 < length p.labels) (λ i. Tells (item_line p e deed i)) (λ i k. tells_line e i.0 (deed ++ cell_text i.1) k) items h)
 
   tells_items : (e : Event) (r : Reply) → ReplyIsKnown p r → AllByRecursion Tells (item_lines p e r)
-  tells_items e (Opened user) h = tt
-  tells_items e Closed h = tt
-  tells_items e (Rows tuples) h = tt
-  tells_items e (Dumped tuples) h = tt
-  tells_items e (Wrote o) h = tt
   tells_items e (Ran run) h =
       each-append Tells (map (item_line p e (codes "emit ")) run.emitted) (map (item_line p e (codes "release ")) run.released)
       (tells_map e (codes "emit ") run.emitted h.0) (tells_map e (codes "release ") run.released h.1)
-  tells_items e (Entries es) h = tt
-  tells_items e (Denied d) h = tt
+  tells_items e _ h = tt
 
 module _ (site : Site) (policy : IsPolicy site.policy) (read : AreRead site) where
   tells_reply : (e : Event) (r : Reply) → e.level < length site.policy.labels → ReplyIsKnown site.policy r → AllByRecursion (Tells site.policy policy) (reply_lines site e r)

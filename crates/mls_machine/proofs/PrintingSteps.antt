@@ -1,7 +1,5 @@
 -- What is printed: the name of a label by its value, and the lines of replies.
-use Rattle.std.proofs.Common.{◌≡◌, ◌+◌, ℕ, ◌<◌, Bool, true, false, List, [], ◌∷◌, length, drop, get_or, refl, sym, ap, ◌∙◌, add-one, drop-cons, Some, None, ◌++◌, take, codes, append-nil, append_assoc}
-use Rattle.std.specs.List.{flat_map}
-use Rattle.std.specs.Prelude.{map, slice_get, option_map, Result, Ok, Err, OnOk}
+use Rattle.std.proofs.Common.{◌≡◌, ◌+◌, ℕ, ◌<◌, Bool, true, false, List, [], ◌∷◌, length, drop, get_or, refl, sym, ap, ◌∙◌, add-one, drop-cons, Some, None, ◌++◌, take, codes, append-nil, append_assoc, flat_map, map, slice_get, option_map, Result, Ok, Err, OnOk}
 use Rattle.std.proofs.lemmas.List.{get_or-map, flat_map_more, take_more}
 use Rattle.std.proofs.lemmas.Option.{slice_get-get_or}
 use Rattle.mls_lattice.specs.Lattice.{Pair, same_pair, bottom}
@@ -25,7 +23,7 @@ use Rattle.mls_script.specs.declared.event.Command.TheVariants as commands
 use Rattle.mls_machine.specs.declared.form.Form.{Form}
 use Rattle.mls_machine.specs.declared.form.Form.TheVariants.{Lines, Table}
 use Rattle.mls_machine.specs.declared.reply.Reply.{Reply}
-use Rattle.mls_machine.specs.declared.reply.Reply.TheVariants.{Opened, Closed, Rows, Dumped, Wrote, Ran, Entries, Denied}
+use Rattle.mls_machine.specs.declared.reply.Reply.TheVariants.{Rows, Dumped, Ran, Entries}
 use Rattle.mls_certcheck.specs.declared.stored.Stored.{Stored}
 use Rattle.mls_certcheck.specs.Site.{Site, site_scheme}
 use Rattle.mls_machine.specs.Dumping.{dump_event}
@@ -188,12 +186,7 @@ module _ (site : Site) (e : Event) where
 same_views : (p : Policy) (s : Schemes) (stored : List Stored) (command : Command) (tuples : List Tuple)
     → view_texts (site_under p s) command tuples ≡ view_texts (record { policy = p; schemes = s; stored = stored }) command tuples
 same_views p s stored (commands.Open name) tuples = refl
-same_views p s stored commands.Close tuples = refl
-same_views p s stored commands.Audit tuples = refl
-same_views p s stored (commands.View relation label query counts) tuples = refl
-same_views p s stored (commands.Dump relation) tuples = refl
-same_views p s stored (commands.Write relation wr) tuples = refl
-same_views p s stored (commands.Call name args) tuples = refl
+same_views p s stored _ tuples = refl
 
 same_dumps : (p : Policy) (s : Schemes) (stored : List Stored) (session : Name) (command : Command) (tuples : List Tuple)
     → dump_texts (site_under p s) session command tuples ≡ dump_texts (record { policy = p; schemes = s; stored = stored }) session command tuples
@@ -202,14 +195,9 @@ same_dumps p s stored session command tuples = refl
 
 same_texts : (p : Policy) (s : Schemes) (stored : List Stored) (session : Name) (command : Command) (r : Reply)
     → reply_texts (site_under p s) session command r ≡ reply_texts (record { policy = p; schemes = s; stored = stored }) session command r
-same_texts p s stored session command (Opened user) = refl
-same_texts p s stored session command Closed = refl
 same_texts p s stored session command (Rows tuples) = same_views p s stored command tuples
 same_texts p s stored session command (Dumped tuples) = same_dumps p s stored (printable session) command tuples
-same_texts p s stored session command (Wrote o) = refl
-same_texts p s stored session command (Ran run) = refl
-same_texts p s stored session command (Entries es) = refl
-same_texts p s stored session command (Denied d) = refl
+same_texts p s stored session command _ = refl
 
 same_tables : (p : Policy) (s : Schemes) (stored : List Stored) (command : Command) (tuples : List Tuple)
     → table_texts (site_under p s) command tuples ≡ table_texts (record { policy = p; schemes = s; stored = stored }) command tuples

@@ -66,12 +66,7 @@ module _ (site : Site) (w : World) (e : Event) where
 
   outside_left : (command : Command) → Leaves site w e command None (step_outside site w e command)
   outside_left (commands.Open name) = opened_left name (cleared site e.level (user_named site.policy name))
-  outside_left commands.Close = all_left _ None _ refl refl
-  outside_left commands.Audit = all_left _ None _ refl refl
-  outside_left (commands.View relation label query counts) = all_left _ None _ refl refl
-  outside_left (commands.Dump relation) = all_left _ None _ refl refl
-  outside_left (commands.Write relation wr) = all_left _ None _ refl refl
-  outside_left (commands.Call name args) = all_left _ None _ refl refl
+  outside_left _ = all_left _ None _ refl refl
 
   at_left : (session : Option ℕ) → Leaves site w e e.command session (step_at site w e e.command session)
   at_left (Some user) = inside_left e.command user

@@ -1,9 +1,7 @@
 -- Over content of the stored form the numbers in a reply are those of the policy.
-use Rattle.std.specs.Prelude.{nat_eq}
-use Rattle.std.proofs.Common.{◌≡◌, ℕ, suc, ◌<◌, Bool, true, false, cond, not, List, [], ◌∷◌, ◌++◌, length, map, Option, Some, None, Ok, Err, inl, inr, refl, sym, subst, arith}
-use Rattle.std.specs.List.{AllByRecursion, filter, flat_map, list_any}
+use Rattle.std.proofs.Common.{nat_eq, ◌≡◌, ℕ, suc, ◌<◌, Bool, true, false, cond, not, List, [], ◌∷◌, ◌++◌, length, map, Option, Some, None, Ok, Err, inl, inr, refl, sym, subst, arith, filter, flat_map, IfSome}
+use Rattle.std.specs.List.{AllByRecursion, list_any}
 use Rattle.std.specs.FinMap.{get, entries}
-use Rattle.std.specs.Option.{IfSome}
 use Rattle.std.proofs.lemmas.List.{length-map}
 use Rattle.mls_lattice.specs.Labels.{Labels, below, AreDistinct}
 use Rattle.mls_lattice.specs.Policy.{Name, Policy}
@@ -178,12 +176,7 @@ module _ (site : Site) (distinct : AreDistinct (site_labels site)) (read : AreRe
 
   outside_known : (command : Command) → IsKnown site (step_outside site w e command)
   outside_known (commands.Open name) = opened_known (user_named site.policy name) (user_below site.policy name)
-  outside_known commands.Close = record { reply = tt; audit = known }
-  outside_known commands.Audit = record { reply = tt; audit = known }
-  outside_known (commands.View relation label query counts) = record { reply = tt; audit = known }
-  outside_known (commands.Dump relation) = record { reply = tt; audit = known }
-  outside_known (commands.Write relation wr) = record { reply = tt; audit = known }
-  outside_known (commands.Call name args) = record { reply = tt; audit = known }
+  outside_known _ = record { reply = tt; audit = known }
 
   at_known : (session : Option ℕ) → IsKnown site (step_at site w e e.command session)
   at_known (Some user) = inside_known e.command user

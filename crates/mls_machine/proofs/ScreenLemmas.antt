@@ -1,6 +1,5 @@
 -- Lines for a screen: their bytes are those of the lines, escaped.
-use Rattle.std.proofs.Common.{◌≡◌, ℕ, List, [], ◌∷◌, ◌++◌, map, Option, Some, None, refl, sym, ap, ◌∙◌, subst, append_assoc, false}
-use Rattle.std.specs.Prelude.{codes}
+use Rattle.std.proofs.Common.{◌≡◌, ℕ, List, [], ◌∷◌, ◌++◌, map, Option, Some, None, refl, sym, ap, ◌∙◌, subst, append_assoc, false, codes}
 use Rattle.std.proofs.lemmas.List.{map-append}
 use Rattle.mls_tokens.specs.Screen.{escaped, IsHarmless}
 use Rattle.mls_tokens.proofs.EscapingLemmas.{escaped-line}

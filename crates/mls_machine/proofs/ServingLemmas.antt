@@ -1,6 +1,5 @@
 -- What many sessions are answered, each for its own level, in two worlds that look alike to a level above them.
-use Rattle.std.proofs.Common.{◌≡◌, ℕ, Bool, true, false, cond, List, [], ◌∷◌, ◌++◌, map, refl, sym, ap, ◌∙◌}
-use Rattle.std.specs.List.{filter}
+use Rattle.std.proofs.Common.{◌≡◌, ℕ, Bool, true, false, cond, List, [], ◌∷◌, ◌++◌, map, refl, sym, ap, ◌∙◌, filter}
 use Rattle.mls_lattice.specs.Labels.{below}
 use Rattle.mls_lattice.proofs.LatticeLemmas.{below-trans}
 use Rattle.mls_script.specs.declared.event.Event.{Event}

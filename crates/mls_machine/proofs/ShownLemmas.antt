@@ -1,6 +1,5 @@
 -- What a reader may see of the lines of a reply.
-use Rattle.std.proofs.Common.{◌≡◌, ℕ, Bool, true, false, cond, List, [], ◌∷◌, ◌++◌, map, codes, Some, refl, sym, ap, ◌∙◌, subst, append-nil, append_assoc}
-use Rattle.std.specs.List.{flat_map}
+use Rattle.std.proofs.Common.{◌≡◌, ℕ, Bool, true, false, cond, List, [], ◌∷◌, ◌++◌, map, codes, Some, refl, sym, ap, ◌∙◌, subst, append-nil, append_assoc, flat_map}
 use Rattle.mls_lattice.specs.Labels.{Labels, below}
 use Rattle.mls_certcheck.specs.declared.run.Run.{Run}
 use Rattle.mls_certcheck.specs.Meaning.{Item}

@@ -1,6 +1,5 @@
 -- The lines of an audit list that is turned.
-use Rattle.std.proofs.Common.{◌≡◌, List, [], ◌∷◌, ◌++◌, refl, ap, codes}
-use Rattle.std.specs.List.{flat_map}
+use Rattle.std.proofs.Common.{◌≡◌, List, [], ◌∷◌, ◌++◌, refl, ap, codes, flat_map}
 use Rattle.mls_lattice.specs.Policy.{Policy}
 use Rattle.mls_audit.specs.declared.entry.Entry.{Entry}
 use Rattle.mls_machine.specs.Output.{printed}

@@ -1,9 +1,9 @@
 -- Why commands are denied (after Bell and LaPadula 1976): conditions and their denials, in the order of their numbers.
 -- Which of them a command can have is said by its own step.
 use Rattle.std.specs.Prelude.{ℕ, ◌==◌, Bool, true, not, ◌&&◌, ◌||◌, bit_and, nat_eq, slice_index_or, List, [], ◌∷◌}
-use Rattle.std.specs.Prelude.{length, map, zip, Option, Some, None, Result, Ok, Err, if◌then◌else◌}
-use Rattle.std.specs.List.{list_any, position, find}
-use Rattle.std.specs.Str.{bytes_eq}
+use Rattle.std.specs.Prelude.{length, map, zip, Option, Some, None, Result, Ok, Err, if◌then◌else◌, position, find}
+use Rattle.std.specs.Prelude.{bytes_eq}
+use Rattle.std.specs.List.{list_any}
 use Rattle.mls_lattice.specs.declared.tables.User.{User}
 use Rattle.mls_lattice.specs.Labels.{Labels, below}
 use Rattle.mls_lattice.specs.Policy.{Name, Policy, granted_modes}
@@ -13,8 +13,8 @@ use Rattle.mls_updates.specs.Writes.{Write, Insert, Update, Delete}
 use Rattle.mls_translang.specs.declared.tx.Parameter.{Parameter}
 use Rattle.mls_translang.specs.Tx.{Tx}
 use Rattle.mls_machine.specs.declared.reply.Denial.{Denial}
-use Rattle.mls_machine.specs.declared.reply.Denial.TheVariants.{UnknownUser, UnknownTransaction, NotCertified, Ds}
-use Rattle.mls_machine.specs.declared.reply.Denial.TheVariants.{Ss, Star, Trust, Arguments}
+use Rattle.mls_machine.specs.declared.reply.Denial.TheVariants.{UnknownUser, UnknownTransaction, NotCertified, Ds, Ss}
+use Rattle.mls_machine.specs.declared.reply.Denial.TheVariants.{Star, Trust, Arguments}
 use Rattle.mls_certcheck.specs.declared.stored.Stored.{Stored}
 use Rattle.mls_certcheck.specs.declared.stored.Stored.TheVariants.{Certified, Plain}
 use Rattle.mls_certcheck.specs.Stored.{tx_of}

@@ -1,6 +1,6 @@
 -- The commands that make tuples again.
 use Rattle.std.specs.Prelude.{ℕ, suc, not, ◌&&◌, if◌then◌else◌, nat_eq, nat_lt, List, [], ◌∷◌, map, length, Some}
-use Rattle.std.specs.List.{filter}
+use Rattle.std.specs.Prelude.{filter}
 use Rattle.mls_lattice.specs.Labels.{Labels}
 use Rattle.mls_lattice.specs.Policy.{Name}
 use Rattle.mls_scheme.specs.declared.tuple.Element.{Element}

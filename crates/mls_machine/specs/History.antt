@@ -12,7 +12,8 @@ use Rattle.mls_machine.specs.declared.reply.Reply.{Reply}
 use Rattle.mls_certcheck.specs.Site.{Site, site_labels, AreRead, AreCertified}
 use Rattle.mls_machine.specs.Machine.{World, no_sessions, end_of}
 use Rattle.mls_machine.specs.Output.{Line, run_lines, printed}
-use Rattle.mls_machine.specs.Observation.{EventsFit, AreSecure, HaveNoCall, AgreeAt, seen, released_to, AreBelowCeiling, out, heard, reader_of, replies_shown, PassesOnlyReleasesDown}
+use Rattle.mls_machine.specs.Observation.{EventsFit, AreSecure, HaveNoCall, AgreeAt, seen, released_to, AreBelowCeiling}
+use Rattle.mls_machine.specs.Observation.{out, heard, reader_of, replies_shown, PassesOnlyReleasesDown}
 use Rattle.mls_machine.specs.Turning.{turn_lines, turned}
 use Rattle.mls_machine.specs.Laws.{KeepsIntegrity}
 

@@ -5,7 +5,7 @@ use Rattle.mls_lattice.specs.Policy.{Policy}
 use Rattle.mls_scheme.specs.declared.tuple.Element.{Element}
 use Rattle.mls_scheme.specs.declared.tuple.Tuple.{Tuple}
 use Rattle.mls_machine.specs.declared.reply.Reply.{Reply}
-use Rattle.mls_machine.specs.declared.reply.Reply.TheVariants.{Opened, Closed, Rows, Dumped, Wrote, Ran, Entries, Denied}
+use Rattle.mls_machine.specs.declared.reply.Reply.TheVariants.{Opened, Ran, Entries}
 use Rattle.mls_machine.specs.Output.{EntriesAreKnown, ItemsAreKnown}
 
 -- ---- classes, as a test
@@ -24,10 +24,6 @@ tuples_known count = list_all (tuple_known count)
 -- the user that a session is opened for is one of the policy, and the labels of items and of entries are declared
 abbrev pub HasKnownNumbers : Policy → Reply → Type 0
 HasKnownNumbers policy (Opened user) = user < length policy.users
-HasKnownNumbers policy Closed = ⊤
-HasKnownNumbers policy (Rows tuples) = ⊤
-HasKnownNumbers policy (Dumped tuples) = ⊤
-HasKnownNumbers policy (Wrote o) = ⊤
 HasKnownNumbers policy (Ran run) = ItemsAreKnown policy run.emitted × ItemsAreKnown policy run.released
 HasKnownNumbers policy (Entries es) = EntriesAreKnown policy es
-HasKnownNumbers policy (Denied d) = ⊤
+HasKnownNumbers policy _ = ⊤

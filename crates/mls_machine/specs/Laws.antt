@@ -14,24 +14,23 @@ use Rattle.mls_script.specs.declared.event.Command.{Command}
 use Rattle.mls_script.specs.declared.event.Command.TheVariants.{Call}
 use Rattle.mls_machine.specs.declared.form.Form.TheVariants.{Table}
 use Rattle.mls_machine.specs.declared.reply.Reply.{Reply}
-use Rattle.mls_machine.specs.declared.reply.Reply.TheVariants.{Opened, Closed, Rows, Dumped, Wrote, Ran, Entries, Denied}
+use Rattle.mls_machine.specs.declared.reply.Reply.TheVariants.{Opened, Closed, Wrote, Ran}
+use Rattle.mls_machine.specs.declared.reply.Reply.TheVariants.{Denied}
 use Rattle.mls_certcheck.specs.declared.stored.Stored.{Stored}
 use Rattle.mls_certcheck.specs.Stored.{tx_of}
 use Rattle.mls_certcheck.specs.Site.{Site, site_labels, AreRead, AreCertified}
 use Rattle.mls_machine.specs.Denying.{stored_named, fitted}
 use Rattle.mls_machine.specs.Machine.{World, denial_entry, call_entries, step, end_of}
-use Rattle.mls_machine.specs.Observation.{AreStored, EventsFit, AreCallsSecure, AreSecure, PassesNothingDown, PassesOnlyReleasesDown, run_shows}
+use Rattle.mls_machine.specs.Observation.{AreStored, EventsFit, AreCallsSecure, AreSecure, PassesNothingDown}
+use Rattle.mls_machine.specs.Observation.{PassesOnlyReleasesDown, run_shows}
 
 -- a denial, the rows of a view, the tuples of a dump, the entries of an audit, or a write that is refused
 abbrev pub ChangesNothing : Reply → Type 0
 ChangesNothing (Opened user) = ⊥
 ChangesNothing Closed = ⊥
-ChangesNothing (Rows tuples) = ⊤
-ChangesNothing (Dumped tuples) = ⊤
 ChangesNothing (Wrote o) = is_done o ≡ false
 ChangesNothing (Ran run) = ⊥
-ChangesNothing (Entries es) = ⊤
-ChangesNothing (Denied d) = ⊤
+ChangesNothing _ = ⊤
 
 -- after such a reply the database and the sessions are as they were
 abbrev pub RefusalsChangeNothing : Type 0

@@ -1,8 +1,7 @@
 -- What a level may see of a run, and when two worlds look alike to it.
-use Rattle.std.specs.Prelude.{◌≡◌, ℕ, true, if◌then◌else◌, List, [], ◌∷◌, ◌++◌, map, length, Option, Some, None}
-use Rattle.std.specs.Prelude.{◌↔◌, ◌⊎◌, ⊤}
-use Rattle.std.specs.List.{filter, AllByRecursion}
-use Rattle.std.specs.Option.{IfSome}
+use Rattle.std.specs.Prelude.{◌≡◌, ℕ, true, if◌then◌else◌, List, [], ◌∷◌, ◌++◌, map, length, Option, Some, None, ◌↔◌}
+use Rattle.std.specs.Prelude.{◌⊎◌, ⊤, filter, IfSome}
+use Rattle.std.specs.List.{AllByRecursion}
 use Rattle.mls_lattice.specs.Labels.{Labels, below}
 use Rattle.mls_lattice.specs.Policy.{Name}
 use Rattle.mls_scheme.specs.declared.value.Value.{Value}

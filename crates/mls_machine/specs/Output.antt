@@ -1,7 +1,7 @@
 -- The printed output: the lines of the replies, in order, with a line feed after each.
-use Rattle.std.specs.Prelude.{◌≡◌, ℕ, Bool, true, if◌then◌else◌, is_some, List, [], ◌∷◌, ◌++◌, map, Option, Some, codes, length, ◌<◌, ⊤}
-use Rattle.std.specs.List.{flat_map, AllByRecursion}
-use Rattle.std.specs.Fmt.{decimal}
+use Rattle.std.specs.Prelude.{◌≡◌, ℕ, Bool, true, if◌then◌else◌, is_some, List, [], ◌∷◌, ◌++◌, map, Option, Some, codes}
+use Rattle.std.specs.Prelude.{length, ◌<◌, ⊤, flat_map, decimal}
+use Rattle.std.specs.List.{AllByRecursion}
 use Rattle.mls_tokens.specs.Writing.{printable}
 use Rattle.mls_tokens.specs.Screen.{escaped}
 use Rattle.mls_tokens.specs.Table.{wider, padded, ruled}
@@ -28,7 +28,8 @@ use Rattle.mls_machine.specs.declared.form.Form.{Form}
 use Rattle.mls_machine.specs.declared.form.Form.TheVariants.{Lines, Table}
 use Rattle.mls_machine.specs.declared.reply.Denial.{Denial}
 use Rattle.mls_machine.specs.declared.reply.Reply.{Reply}
-use Rattle.mls_machine.specs.declared.reply.Reply.TheVariants.{Opened, Closed, Rows, Dumped, Wrote, Ran, Entries, Denied}
+use Rattle.mls_machine.specs.declared.reply.Reply.TheVariants.{Opened, Closed, Rows, Dumped, Wrote, Ran, Entries}
+use Rattle.mls_machine.specs.declared.reply.Reply.TheVariants.{Denied}
 use Rattle.mls_certcheck.specs.Site.{Site}
 use Rattle.mls_machine.specs.Dumping.{dump_event}
 use Rattle.mls_machine.specs.Reply.{code_of, word_of}
@@ -130,6 +131,7 @@ table_texts site (commands.View relation label query counts) tuples =
     (table_widths site.policy (scheme_of site.schemes relation) tuples) tuples
 table_texts site command tuples = []
 
+-- what a view and a count show, in lines or as a table
 abbrev pub rows_texts : Form → Site → Command → List Tuple → List (List ℕ)
 rows_texts Lines = view_texts
 rows_texts Table = table_texts

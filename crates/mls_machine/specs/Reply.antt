@@ -1,9 +1,8 @@
 -- The numbers and names of denials.
 use Rattle.std.specs.Prelude.{ℕ, List, ◌-◌, [], map, get_or}
 use Rattle.mls_machine.specs.declared.reply.Denial.{Denial}
-use Rattle.mls_machine.specs.declared.reply.Denial.TheVariants.{NoSession, AlreadyOpen, UnknownUser}
-use Rattle.mls_machine.specs.declared.reply.Denial.TheVariants.{UnknownTransaction, NotCertified, Ds, Ss, Star}
-use Rattle.mls_machine.specs.declared.reply.Denial.TheVariants.{Trust, Arguments}
+use Rattle.mls_machine.specs.declared.reply.Denial.TheVariants.{NoSession, AlreadyOpen, UnknownUser, UnknownTransaction}
+use Rattle.mls_machine.specs.declared.reply.Denial.TheVariants.{NotCertified, Ds, Ss, Star, Trust, Arguments}
 use Rattle.mls_machine.specs.declared.reply.TheConstants.{WORDS}
 
 abbrev pub code_of : Denial → ℕ

@@ -1,8 +1,12 @@
 //! The laws of the machine, each the contract of a function.
-ghost use Rattle.mls_machine.specs.History.{HistoriesKeepIntegrity, LowHistoriesAreAlike, SecureHistoriesAreAlike, AcceptedHistoriesAreAlike, HistoriesPassWhatRunsPass, HistoriesShowOnlyReleases};
+ghost use Rattle.mls_machine.specs.History.{HistoriesKeepIntegrity, LowHistoriesAreAlike, SecureHistoriesAreAlike};
+ghost use Rattle.mls_machine.specs.History.{AcceptedHistoriesAreAlike, HistoriesPassWhatRunsPass};
+ghost use Rattle.mls_machine.specs.History.{HistoriesShowOnlyReleases};
 ghost use Rattle.mls_machine.specs.Turning.{TurnedWorldsAreAlike, TurningsShowTheSame};
-ghost use Rattle.mls_machine.specs.Laws.{RefusalsChangeNothing, DenialsAndCallsAreEntered, RunsKeepIntegrity, LowRunsAreAlike, SecureRunsAreAlike, AcceptedRunsAreAlike, TablesAreHarmless};
-ghost use Rattle.mls_machine.specs.Parting.{PoliciesArePlain, RepliesAreLines, RunsAreLines, TurningsAreLines, RunsPartIntoLines, LinesArePicked};
+ghost use Rattle.mls_machine.specs.Laws.{RefusalsChangeNothing, DenialsAndCallsAreEntered, RunsKeepIntegrity};
+ghost use Rattle.mls_machine.specs.Laws.{LowRunsAreAlike, SecureRunsAreAlike, AcceptedRunsAreAlike, TablesAreHarmless};
+ghost use Rattle.mls_machine.specs.Parting.{PoliciesArePlain, RepliesAreLines, RunsAreLines, TurningsAreLines};
+ghost use Rattle.mls_machine.specs.Parting.{RunsPartIntoLines, LinesArePicked};
 ghost use Rattle.mls_machine.specs.Serving.{ServedRunsAreAlike};
 
 /// A command that is denied, a view, an audit, and a write that is refused leave the database and the sessions as they

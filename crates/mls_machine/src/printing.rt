@@ -1,6 +1,5 @@
 //! Names and values, as replies print them, and what each line begins with.
-ghost use Rattle.std.specs.Prelude.{◌≡◌, ◌<◌, ◌++◌, length, OnOk};
-ghost use Rattle.std.specs.Fmt.{decimal};
+ghost use Rattle.std.specs.Prelude.{◌≡◌, ◌<◌, ◌++◌, length, OnOk, decimal};
 ghost use Rattle.mls_audit.specs.Entry.{label_of};
 ghost use Rattle.mls_machine.specs.Output.{front, entry_front, entry_text};
 

@@ -1,6 +1,5 @@
 //! The lines of a transaction that was run.
-ghost use Rattle.std.specs.Prelude.{◌≡◌, ◌<◌, ◌++◌, length, codes, OnOk, IfOk};
-ghost use Rattle.std.specs.List.{flat_map};
+ghost use Rattle.std.specs.Prelude.{◌≡◌, ◌<◌, ◌++◌, length, codes, OnOk, IfOk, flat_map};
 ghost use Rattle.mls_tokens.specs.Writing.{printable};
 ghost use Rattle.mls_script.specs.Writing.{cell_text};
 ghost use Rattle.mls_machine.specs.Output.{front, on_line, call_texts, ItemsAreKnown};

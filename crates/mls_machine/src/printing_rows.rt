@@ -1,6 +1,6 @@
 //! The rows of a view.
-ghost use Rattle.std.specs.Prelude.{◌≡◌, ◌<◌, ◌++◌, length, codes, OnOk, Some};
-ghost use Rattle.std.specs.List.{flat_map, AllByRecursion};
+ghost use Rattle.std.specs.Prelude.{◌≡◌, ◌<◌, ◌++◌, length, codes, OnOk, Some, flat_map};
+ghost use Rattle.std.specs.List.{AllByRecursion};
 ghost use Rattle.mls_lattice.specs.Lattice.{pair_of};
 ghost use Rattle.mls_lattice.specs.Canon.{label_name};
 ghost use Rattle.mls_scheme.specs.Tuple.{tuple_class, HasClassesBelow};

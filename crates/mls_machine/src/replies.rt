@@ -1,12 +1,13 @@
 //! The lines of replies.
-ghost use Rattle.std.specs.Prelude.{◌≡◌, ◌<◌, ◌++◌, length, codes, string_bytes, OnOk, IfOk};
-ghost use Rattle.std.specs.Fmt.{decimal};
-ghost use Rattle.std.specs.List.{flat_map, AllByRecursion};
+ghost use Rattle.std.specs.Prelude.{◌≡◌, ◌<◌, ◌++◌, length, codes, string_bytes, OnOk, IfOk, decimal, flat_map};
+ghost use Rattle.std.specs.List.{AllByRecursion};
 ghost use Rattle.mls_lattice.specs.Canon.{user_name};
 ghost use Rattle.mls_scheme.specs.Tuple.{HasClassesBelow};
 ghost use Rattle.mls_updates.specs.Outcome.{is_done};
 ghost use Rattle.mls_machine.specs.Under.{site_under};
-ghost use Rattle.mls_machine.specs.Output.{on_line, heading, count_text, outcome_text, denial_text, row_text, entry_text, rows_texts, reply_lines, printed, CommandIsKnown, EntriesAreKnown, CanBePrinted};
+ghost use Rattle.mls_machine.specs.Output.{on_line, heading, count_text, outcome_text, denial_text, row_text};
+ghost use Rattle.mls_machine.specs.Output.{entry_text, rows_texts, reply_lines, printed, CommandIsKnown};
+ghost use Rattle.mls_machine.specs.Output.{EntriesAreKnown, CanBePrinted};
 
 use crate::answered::Answered;
 use crate::asked::{Asked, push_asked};

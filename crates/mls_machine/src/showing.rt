@@ -1,12 +1,12 @@
 //! What an audience is shown of a reply.
-ghost use Rattle.std.specs.Prelude.{◌≡◌, ◌<◌, map, length, IfOk};
+ghost use Rattle.std.specs.Prelude.{◌≡◌, ◌<◌, map, length, IfOk, IfSome};
 ghost use Rattle.std.specs.List.{AllByRecursion};
-ghost use Rattle.std.specs.Option.{IfSome};
 ghost use Rattle.mls_lattice.specs.Policy.{labels_of};
 ghost use Rattle.mls_scheme.specs.Tuple.{HasClassesBelow};
 ghost use Rattle.mls_machine.specs.Under.{site_under};
 ghost use Rattle.mls_machine.specs.Seen.{hears};
-ghost use Rattle.mls_machine.specs.Output.{line, lines_with, table_texts, texts_in_table, reply_lines, printed, CommandIsKnown, CanBePrinted};
+ghost use Rattle.mls_machine.specs.Output.{line, lines_with, table_texts, texts_in_table, reply_lines, printed};
+ghost use Rattle.mls_machine.specs.Output.{CommandIsKnown, CanBePrinted};
 ghost use Rattle.mls_machine.specs.Observation.{heard, reply_shows};
 
 use crate::answered::Answered;

@@ -1,12 +1,13 @@
 //! A view as a table. Cells are made twice, for the widths and for the rows, and so no list of all cells is
 //! kept.
-ghost use Rattle.std.specs.Prelude.{◌≡◌, ◌<◌, ◌++◌, map, length, codes, OnOk, IfOk, Some, []};
-ghost use Rattle.std.specs.List.{flat_map, AllByRecursion};
+ghost use Rattle.std.specs.Prelude.{◌≡◌, ◌<◌, ◌++◌, map, length, codes, OnOk, IfOk, Some, [], flat_map};
+ghost use Rattle.std.specs.List.{AllByRecursion};
 ghost use Rattle.mls_lattice.specs.Canon.{label_name};
 ghost use Rattle.mls_scheme.specs.Tuple.{HasClassesBelow};
 ghost use Rattle.mls_tokens.specs.Screen.{escaped};
 ghost use Rattle.mls_tokens.specs.Table.{wider, padded};
-ghost use Rattle.mls_machine.specs.Output.{on_line, table_cell, tuple_cells, name_cells, widths_with, table_title, table_names, table_rule, table_row, table_widths};
+ghost use Rattle.mls_machine.specs.Output.{on_line, table_cell, tuple_cells, name_cells, widths_with, table_title};
+ghost use Rattle.mls_machine.specs.Output.{table_names, table_rule, table_row, table_widths};
 
 use crate::answered::Answered;
 use crate::asked::{Asked, push_asked};

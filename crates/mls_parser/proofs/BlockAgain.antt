@@ -1,10 +1,7 @@
 -- What stands there is read: blocks.
-use Rattle.std.proofs.Common.{◌≡◌, ℕ, zero, suc, ◌+◌, ◌-◌, ◌<◌, ◌≤◌, true, false, not, List, [], ◌∷◌, ◌++◌, length, map, Option, Some, None, Ok, Err, inl, inr, refl, sym, ap, ◌∙◌, subst, arith, append_assoc}
-use Rattle.std.specs.Prelude.{codes, if◌then◌else◌}
+use Rattle.std.proofs.Common.{◌≡◌, ℕ, zero, suc, ◌+◌, ◌-◌, ◌<◌, ◌≤◌, true, false, not, List, [], ◌∷◌, ◌++◌, length, map, Option, Some, None, Ok, Err, inl, inr, refl, sym, ap, ◌∙◌, subst, arith, append_assoc, codes, if◌then◌else◌, bytes_eq, lt-ltb, append-nil}
 use Rattle.std.specs.List.{AllByRecursion, list_any}
-use Rattle.std.specs.Str.{bytes_eq}
-use Rattle.std.proofs.lemmas.Bool.{lt-ltb, or_parts}
-use Rattle.std.proofs.lemmas.List.{append-nil}
+use Rattle.std.proofs.lemmas.Bool.{or_parts}
 use Rattle.std.proofs.lemmas.Map.Keys.{IsDistinct-cons}
 use Rattle.mls_lattice.specs.Name.{is_name, is_reserved}
 use Rattle.mls_lattice.specs.Policy.{Name}
@@ -21,7 +18,7 @@ use Rattle.mls_translang.specs.declared.block.Stmt.TheVariants as forms
 use Rattle.mls_translang.specs.Blocks.{block_of}
 use Rattle.mls_translang.specs.Fits.{IsLabel, ExprFits, WritingFits, StmtFits, BlockFits}
 use Rattle.mls_translang.specs.Kinds.{Truth, HasSort, WritingKinds, StmtKinds, BlockKinds}
-use Rattle.mls_translang.specs.Scope.{IsFresh, names_in}
+use Rattle.mls_translang.specs.Scope.{IsFresh}
 use Rattle.mls_translang.specs.Tells.{TellsOther, TellsBlock}
 use Rattle.mls_translang.specs.Tokens.{Place, at_row, name_at as name_of, label_token, rel_token, var_token, expr_tokens, list_tokens, class_tokens, update_end, write_end, stmt_end, write_tokens, stmt_tokens, for_tokens, braced as braced_tokens}
 use Rattle.mls_translang.specs.Tree.{Expr, Writing, Insert, Update, Delete, Stmt, Assign, Write_at, Release, Emit, Block, End, Do, If, For, statements, is_end}
@@ -62,9 +59,7 @@ forms_of (For row relation label body rest) = forms.For row relation label body 
 
 form_block : (s : Stmt) (fs : List Form) → block_of (form_of s ∷ fs) ≡ Do s (block_of fs)
 form_block (Assign x e) fs = refl
-form_block (Write_at relation w writing o) fs = refl
-form_block (Release e to into) fs = refl
-form_block (Emit e label) fs = refl
+form_block _ fs = refl
 
 forms_block : (b : Block) → block_of (forms_of b) ≡ b
 forms_block End = refl
@@ -183,9 +178,7 @@ no_other End count e = λ i. (End, same count i)
   where
     same : (count : ℕ) → count ≡ count + 0
     same count = omega arith
-no_other (Do stmt rest) count e = absurd cc
-no_other (If guard one other rest) count e = absurd cc
-no_other (For row relation label body rest) count e = absurd cc
+no_other _ count e = absurd cc
 
 module _ (d : ℕ) (p : Place) where
   abbrev reads : Place → ℕ → State → Counted Block
@@ -327,13 +320,11 @@ regroup g m q r b = append_assoc g (m ++ (q ++ r)) b ∙ ap (λ t. g ++ t) (appe
 
 pub many_read : (b : Block) (d : ℕ) (p : Place) (ts : List Token) → HasNames p → depth b ≤ d → BlockIsOwn p.scope b → BlockFits p.policy p.schemes p.hi p.scope b → BlockKinds p.schemes p.scope b → TellsBlock p b ts → ManyRead d p b ts
 many_read End d p ts n deep o f h t = end_read d p ts t
-many_read (Do stmt rest) zero p ts n deep o f h t = λ m front count us s less few k. absurd (omega (arith, deep))
 many_read (Do stmt rest) (suc d) p ts n deep o f h t = λ m front count us s less few k.
     let behind : List Token = t.0 ++ Closed us in
     let here : without_places s.1.placed ≡ stmt_tokens p stmt ++ behind = k ∙ ap (λ z. z ++ Closed us) t.1 ∙ append_assoc (stmt_tokens p stmt) t.0 (Closed us) in
     step (suc d) p (form_of stmt) rest t.0 m front (count + 1) (count + (1 + statements rest)) us count s (many_read rest (suc d) p t.0 n (omega (arith, deep)) o.1 f.1 h.1 t.2) (omega arith) less few
     (no_sign sign.RightBrace (stmt_tokens p stmt ++ behind) s (no_brace p stmt behind) here) (stmt_gets (λ q c r. stmts_at d q c r) p n stmt behind count s (omega (arith, few)) o.0 f.0 h.0 here)
-many_read (If guard one other rest) zero p ts n deep o f h t = λ m front count us s less few k. absurd (omega (arith, deep))
 many_read (If guard one other rest) (suc d) p ts n deep o f h t = λ m front count us s less few k.
     let c = count + 1 + statements one + statements other in
     let behind : List Token = t.2 ++ Closed us in
@@ -343,7 +334,6 @@ many_read (If guard one other rest) (suc d) p ts n deep o f h t = λ m front cou
     (omega arith) (omega (arith, less)) few (no_sign sign.RightBrace all s refl here)
     (if_gets d p n guard one other t.0 t.1 count behind s o.0 f.0 h.0 (block_reads d p one t.0 (many_read one d p t.0 n (omega (arith, deep)) o.1 f.1 h.1 t.4)) t.5
     (λ inner told. block_reads d p other inner (many_read other d p inner n (omega (arith, deep)) o.2 f.2 h.2 told)) (omega (arith, few)) (block_begins (codes "else") is_else p n rest t.2 us o.3 t.6) here)
-many_read (For row relation label body rest) zero p ts n deep o f h t = λ m front count us s less few k. absurd (omega (arith, deep))
 many_read (For row relation label body rest) (suc d) p ts n deep o f h t = λ m front count us s less few k.
     let q = at_row p row relation in
     let behind : List Token = t.1 ++ Closed us in
@@ -352,6 +342,7 @@ many_read (For row relation label body rest) (suc d) p ts n deep o f h t = λ m 
     step (suc d) p (forms.For row relation label body) rest t.1 m front (count + 1 + statements body) (count + (1 + statements body + statements rest)) us count s
     (many_read rest (suc d) p t.1 n (omega (arith, deep)) o.2 f.3 h.1 t.4) (omega arith) (omega (arith, less)) few (no_sign sign.RightBrace all s refl here)
     (for_gets d p n row relation label body t.0 count behind s o.0 f.0 f.1 (block_reads d q body t.0 (many_read body d q t.0 (names_more p row relation n o.0 f.0) (omega (arith, deep)) o.1 f.2 h.0 t.3)) (omega (arith, few)) here)
+many_read _ zero p ts n deep o f h t = λ m front count us s less few k. absurd (omega (arith, deep))
 
 pub block_again : (p : Place) (b : Block) (ts us : List Token) (s : State) → HasNames p → depth b ≤ 16 → statements b ≤ 1000 → BlockIsOwn p.scope b → BlockFits p.policy p.schemes p.hi p.scope b → BlockKinds p.schemes p.scope b
     → TellsBlock p b ts → without_places s.1.placed ≡ ts ++ Closed us → Gets (stmts_at 16 p 0 s) s (Same (b, statements b)) us

@@ -1,8 +1,6 @@
 -- What is read is what stands there: blocks.
-use Rattle.std.proofs.Common.{◌≡◌, ℕ, zero, suc, ◌+◌, ◌-◌, ◌<◌, ◌≤◌, Bool, true, false, not, nat_lt, List, [], ◌∷◌, ◌++◌, length, Option, Some, None, Ok, Err, inl, inr, refl, sym, ap, ◌∙◌, subst, arith, append_assoc}
-use Rattle.std.specs.Prelude.{codes, if◌then◌else◌}
-use Rattle.std.proofs.lemmas.Bool.{not-true, ltb-true}
-use Rattle.std.proofs.lemmas.List.{append-nil}
+use Rattle.std.proofs.Common.{◌≡◌, ℕ, zero, suc, ◌+◌, ◌-◌, ◌<◌, ◌≤◌, Bool, true, false, not, nat_lt, List, [], ◌∷◌, ◌++◌, length, Option, Some, None, Ok, Err, inl, inr, refl, sym, ap, ◌∙◌, subst, arith, append_assoc, codes, if◌then◌else◌, ltb-true, append-nil}
+use Rattle.std.proofs.lemmas.Bool.{not-true}
 use Rattle.mls_lattice.specs.Reading.{◌>>=◌}
 use Rattle.mls_lattice.proofs.ReadingLemmas.{bind_ok, same_ok}
 use Rattle.mls_tokens.specs.declared.token.Token.{Token}

@@ -1,14 +1,9 @@
 -- What stands there is read: conditions.
-use Rattle.std.proofs.Common.{◌≡◌, ℕ, zero, suc, ◌+◌, ◌-◌, ◌<◌, ◌≤◌, ◌==◌, Bool, true, false, ◌||◌, List, [], ◌∷◌, ◌++◌, length, map, Option, Some, None, Result, Ok, Err, inl, inr, refl, sym, ap, ◌∙◌, subst, arith, append_assoc}
-use Rattle.std.specs.Prelude.{option_map, is_some, if◌then◌else◌}
-use Rattle.std.specs.List.{AllByRecursion, IsDistinct}
-use Rattle.std.specs.Str.{bytes_eq}
-use Rattle.std.proofs.lemmas.Bool.{ne_eqb, and_from}
-use Rattle.std.proofs.lemmas.List.{append-nil}
-use Rattle.mls_lattice.specs.Policy.{Name, Policy, IsPolicy, AreNames}
+use Rattle.std.proofs.Common.{◌≡◌, ℕ, zero, suc, ◌+◌, ◌-◌, ◌<◌, ◌≤◌, ◌==◌, Bool, true, false, ◌||◌, List, [], ◌∷◌, ◌++◌, Option, Some, None, Ok, Err, inl, inr, refl, sym, ap, ◌∙◌, subst, arith, append_assoc, option_map, is_some, if◌then◌else◌, ne_eqb, append-nil}
+use Rattle.std.proofs.lemmas.Bool.{and_from}
+use Rattle.mls_lattice.specs.Policy.{Policy}
 use Rattle.mls_lattice.specs.Reading.{◌>>=◌}
-use Rattle.mls_scheme.specs.Scheme.{Attribute, Scheme, Schemes, IsScheme, AreSchemes, scheme_of}
-use Rattle.mls_scheme.proofs.SchemeNameLemmas.{scheme_is}
+use Rattle.mls_scheme.specs.Scheme.{Schemes}
 use Rattle.mls_tokens.specs.declared.fault.TokenFault.{TokenFault}
 use Rattle.mls_tokens.specs.declared.token.Token.{Token}
 use Rattle.mls_tokens.specs.declared.token.Placed.{Placed}
@@ -17,7 +12,7 @@ use Rattle.mls_tokens.specs.Scanning.{Left, without_places}
 use Rattle.mls_tokens.specs.Passing.{left, is_sign}
 use Rattle.mls_tokens.proofs.NextLemmas.{next_is, NotNext}
 use Rattle.mls_translang.specs.declared.operator.Operator.{Operator}
-use Rattle.mls_translang.specs.declared.operator.Operator.TheVariants.{Plus, Minus, Times, Equal, Unequal, Less, AtMost, Greater, AtLeast, And, Or}
+use Rattle.mls_translang.specs.declared.operator.Operator.TheVariants.{Plus, Minus, Times, And, Or}
 use Rattle.mls_translang.specs.Fits.{ExprFits}
 use Rattle.mls_translang.specs.Kinds.{Sort, Truth, HasSort}
 use Rattle.mls_translang.specs.Tokens.{Place, operator_token}
@@ -26,19 +21,19 @@ use Rattle.mls_translang.specs.Tx.{HasOwn}
 use Rattle.mls_parser.specs.declared.fault.PlacedFault.{PlacedFault}
 use Rattle.mls_parser.specs.declared.fault.TextCause.TheVariants as cause
 use Rattle.mls_parser.specs.declared.given.Given.{Given}
-use Rattle.mls_parser.specs.Condition.{is_comparison, SpellsBetween, SpellsSide, SpellsTest, SpellsTests, SpellsCondition, TellsCondition, IsRead, goes_on, EndsCondition, ConditionsAreRead}
-use Rattle.mls_parser.specs.Fault.{fault, least_from, least}
-use Rattle.mls_parser.specs.Infer.{may_be_truth, operands_fit}
+use Rattle.mls_parser.specs.Condition.{is_comparison, SpellsSide, SpellsTest, SpellsTests, SpellsCondition, EndsCondition, ConditionsAreRead}
+use Rattle.mls_parser.specs.Fault.{fault, least_from}
+use Rattle.mls_parser.specs.Infer.{may_be_truth}
 use Rattle.mls_parser.specs.Noted.{State, Read, note}
 use Rattle.mls_parser.specs.Parsing.{answer}
-use Rattle.mls_parser.specs.ReadCondition.{comparison_of, joiner_of, take_known, taken_as, behind_known, takes_known, between, between_faults, are_mixed, past_most, compared, test_at, joined, next_test_at, tests_from, tests_at, attribute_var, row_vars, written_scope, written_place, as_fields, judged, noted_at, condition_at}
+use Rattle.mls_parser.specs.ReadCondition.{comparison_of, joiner_of, take_known, behind_known, takes_known, between, between_faults, are_mixed, past_most, compared, test_at, joined, next_test_at, tests_from, tests_at, written_place, as_fields, judged, noted_at, condition_at}
 use Rattle.mls_parser.specs.ReadExpr.{whole_at}
 use Rattle.mls_parser.specs.ReadList.{tested}
 use Rattle.mls_parser.specs.Words.{pass_head}
 use Rattle.mls_parser.proofs.ConditionFound.{is_joiner}
 use Rattle.mls_parser.proofs.ConditionLemmas.{written_names}
 use Rattle.mls_parser.proofs.ConditionSteps.{first_test, tests_end, tests_more}
-use Rattle.mls_parser.proofs.ExprAgain.{IsAgain, Agrees, operator_fits, no_dot, whole_again}
+use Rattle.mls_parser.proofs.ExprAgain.{IsAgain, operator_fits, no_dot, whole_again}
 use Rattle.mls_parser.proofs.FoundLemmas.{HasNames}
 use Rattle.mls_parser.proofs.NextLemmas.{Gets, gets_more, gets_noted, none}
 
@@ -79,17 +74,12 @@ module _ (what : Token → Option Operator) where
   none_as ts s off e = ap (option_map (behind_known s.0)) (none_first ts s.1.placed s.1.stop off e)
 
 comparison_again : (op : Operator) → is_comparison op ≡ true → comparison_of (operator_token op) ≡ Some op
-comparison_again Equal h = refl
-comparison_again Unequal h = refl
-comparison_again Less h = refl
-comparison_again AtMost h = refl
-comparison_again Greater h = refl
-comparison_again AtLeast h = refl
 comparison_again Plus h = absurd cc
 comparison_again Minus h = absurd cc
 comparison_again Times h = absurd cc
 comparison_again And h = absurd cc
 comparison_again Or h = absurd cc
+comparison_again _ h = refl
 
 -- what stands between tests
 record Joins (op : Operator) : Type 0 where
@@ -101,15 +91,7 @@ record Joins (op : Operator) : Type 0 where
 joins : (op : Operator) → is_joiner op ≡ true → Joins op
 joins And h = record { known = refl; no_dot = refl; no_comparison = refl; same = refl }
 joins Or h = record { known = refl; no_dot = refl; no_comparison = refl; same = refl }
-joins Plus h = absurd cc
-joins Minus h = absurd cc
-joins Times h = absurd cc
-joins Equal h = absurd cc
-joins Unequal h = absurd cc
-joins Less h = absurd cc
-joins AtMost h = absurd cc
-joins Greater h = absurd cc
-joins AtLeast h = absurd cc
+joins _ h = absurd cc
 
 -- ---- tests
 
@@ -163,15 +145,7 @@ module _ (p : Place) (n : HasNames p) where
         quiet = λ a b at x y. none at cause.Kind (and_from (may_be_truth a.gives) (may_be_truth b.gives) x.agrees y.agrees);
         made = λ a b at x y. (let l = x.is in let r = y.is in record { is = (λ i. Op Or (l i) (r i)); agrees = refl });
       }
-  truths_fit Plus j left right e is h = absurd cc
-  truths_fit Minus j left right e is h = absurd cc
-  truths_fit Times j left right e is h = absurd cc
-  truths_fit Equal j left right e is h = absurd cc
-  truths_fit Unequal j left right e is h = absurd cc
-  truths_fit Less j left right e is h = absurd cc
-  truths_fit AtMost j left right e is h = absurd cc
-  truths_fit Greater j left right e is h = absurd cc
-  truths_fit AtLeast j left right e is h = absurd cc
+  truths_fit _ j left right e is h = absurd cc
 
   side_again : (t : Sort) (e : Expr) (ts us : List Token) (s : State) → SpellsSide p e ts → Fits t e → NotNext (is_sign sign.Dot) us → without_places s.1.placed ≡ ts ++ us → Gets (whole_at p s) s (IsAgain t e) us
   side_again t e ts us s h f off k = whole_again p n e t us s (record { nesting = h.nesting; numbers = f.own }) f.fits f.sort off (k ∙ ap (λ x. x ++ us) h.tokens)

@@ -1,7 +1,5 @@
 -- What is read is what stands there: conditions.
-use Rattle.std.proofs.Common.{◌≡◌, ℕ, zero, suc, ◌+◌, ◌<◌, ◌≤◌, Bool, true, false, ◌==◌, List, [], ◌∷◌, ◌++◌, Option, Some, None, option_map, Result, Ok, Err, inl, inr, refl, sym, ap, ◌∙◌, subst, arith}
-use Rattle.std.specs.Prelude.{codes, ◌⊎◌, if◌then◌else◌, IfOk}
-use Rattle.std.specs.Str.{bytes_eq}
+use Rattle.std.proofs.Common.{◌≡◌, ℕ, zero, suc, ◌+◌, ◌<◌, ◌≤◌, Bool, true, false, ◌==◌, List, [], ◌∷◌, ◌++◌, Option, Some, None, option_map, Result, Ok, Err, inl, inr, refl, sym, ap, ◌∙◌, subst, arith, codes, ◌⊎◌, if◌then◌else◌, IfOk, bytes_eq}
 use Rattle.std.proofs.lemmas.Option.{same_Some}
 use Rattle.mls_lattice.specs.Policy.{Policy}
 use Rattle.mls_lattice.specs.Reading.{◌>>=◌}
@@ -9,7 +7,7 @@ use Rattle.mls_lattice.proofs.ReadingLemmas.{ok_is, bind_ok}
 use Rattle.mls_scheme.specs.Scheme.{Schemes}
 use Rattle.mls_tokens.specs.declared.fault.TokenFault.{TokenFault}
 use Rattle.mls_tokens.specs.declared.token.Token.{Token}
-use Rattle.mls_tokens.specs.declared.token.Token.TheVariants.{Word, Int, Text, Sign as Sign_token}
+use Rattle.mls_tokens.specs.declared.token.Token.TheVariants.{Word, Sign as Sign_token}
 use Rattle.mls_tokens.specs.declared.token.Placed.{Placed}
 use Rattle.mls_tokens.specs.declared.sign.Sign.{Sign}
 use Rattle.mls_tokens.specs.declared.sign.Sign.TheVariants as signs
@@ -18,7 +16,7 @@ use Rattle.mls_tokens.specs.Passing.{left}
 use Rattle.mls_tokens.proofs.TokenLemmas.{chosen}
 use Rattle.mls_tokens.proofs.PassedLemmas.{Passed, passed_more}
 use Rattle.mls_translang.specs.declared.operator.Operator.{Operator}
-use Rattle.mls_translang.specs.declared.operator.Operator.TheVariants.{Plus, Minus, Times, Equal, Unequal, Less, AtMost, Greater, AtLeast, And, Or}
+use Rattle.mls_translang.specs.declared.operator.Operator.TheVariants.{Equal, Unequal, Less, AtMost, Greater, AtLeast, And, Or}
 use Rattle.mls_translang.specs.Tokens.{Place, operator_token}
 use Rattle.mls_translang.specs.Tree.{Expr}
 use Rattle.mls_parser.specs.declared.fault.PlacedFault.{PlacedFault}
@@ -32,7 +30,7 @@ use Rattle.mls_parser.specs.Parsing.{answer}
 use Rattle.mls_parser.specs.ReadCondition.{comparison_of_sign, comparison_of, joiner_of, take_known, taken_as, behind_known, takes_known, between, between_faults, are_mixed, past_most, with_next, compared, test_at, joined, next_test_at, tests_from, tests_at, written_place, as_fields, judged, noted_at, condition_at}
 use Rattle.mls_parser.specs.ReadExpr.{whole_at}
 use Rattle.mls_parser.specs.ReadList.{tested}
-use Rattle.mls_parser.specs.Words.{operator_of_word, pass_head}
+use Rattle.mls_parser.specs.Words.{pass_head}
 use Rattle.mls_parser.proofs.ConditionLemmas.{told_of_row}
 use Rattle.mls_parser.proofs.FaultLemmas.{neither, holds}
 use Rattle.mls_parser.proofs.FoundSteps.{Found}
@@ -58,24 +56,11 @@ comparison_sign signs.Less op e = this Less op refl e
 comparison_sign signs.AtMost op e = this AtMost op refl e
 comparison_sign signs.Greater op e = this Greater op refl e
 comparison_sign signs.AtLeast op e = this AtLeast op refl e
-comparison_sign signs.Becomes op e = absurd cc
-comparison_sign signs.LeftParen op e = absurd cc
-comparison_sign signs.RightParen op e = absurd cc
-comparison_sign signs.LeftBrace op e = absurd cc
-comparison_sign signs.RightBrace op e = absurd cc
-comparison_sign signs.Comma op e = absurd cc
-comparison_sign signs.Semicolon op e = absurd cc
-comparison_sign signs.Colon op e = absurd cc
-comparison_sign signs.Dot op e = absurd cc
-comparison_sign signs.Plus op e = absurd cc
-comparison_sign signs.Minus op e = absurd cc
-comparison_sign signs.Times op e = absurd cc
+comparison_sign _ op e = absurd cc
 
 comparison_is : (t : Token) (op : Operator) → comparison_of t ≡ Some op → IsComparison t op
-comparison_is (Word s) op e = absurd cc
-comparison_is (Int n) op e = absurd cc
-comparison_is (Text s) op e = absurd cc
 comparison_is (Sign_token s) op e = comparison_sign s op e
+comparison_is _ op e = absurd cc
 
 abbrev pub is_joiner : Operator → Bool
 is_joiner And = true
@@ -92,9 +77,7 @@ word_joins false false op e = absurd cc
 
 joiner_is : (t : Token) (op : Operator) → joiner_of t ≡ Some op → IsJoiner t op
 joiner_is (Word s) op e = (operator_is (Word s) op e, word_joins (bytes_eq s (codes "and")) (bytes_eq s (codes "or")) op e)
-joiner_is (Int n) op e = absurd cc
-joiner_is (Text s) op e = absurd cc
-joiner_is (Sign_token s) op e = absurd cc
+joiner_is _ op e = absurd cc
 
 module _ (what : Token → Option Operator) (Is : Operator → Type 0) (is : (t : Token) (op : Operator) → what t ≡ Some op → (t ≡ operator_token op) × Is op) where
   -- such an operator was passed
@@ -286,40 +269,13 @@ module _ (p : Place) where
   spells_whole None n le e ts h = inl (inl h)
   spells_whole (Some And) n le e ts h = inl (spells_more And n 16 e ts le h.1)
   spells_whole (Some Or) n le e ts h = inr (spells_more Or n 16 e ts le h.1)
-  spells_whole (Some Plus) n le e ts h = absurd (let j = h.0 in cc)
-  spells_whole (Some Minus) n le e ts h = absurd (let j = h.0 in cc)
-  spells_whole (Some Times) n le e ts h = absurd (let j = h.0 in cc)
-  spells_whole (Some Equal) n le e ts h = absurd (let j = h.0 in cc)
-  spells_whole (Some Unequal) n le e ts h = absurd (let j = h.0 in cc)
-  spells_whole (Some Less) n le e ts h = absurd (let j = h.0 in cc)
-  spells_whole (Some AtMost) n le e ts h = absurd (let j = h.0 in cc)
-  spells_whole (Some Greater) n le e ts h = absurd (let j = h.0 in cc)
-  spells_whole (Some AtLeast) n le e ts h = absurd (let j = h.0 in cc)
+  spells_whole _ n le e ts h = absurd (let j = h.0 in cc)
 
   -- the word is the one before
   mixed_or_same : (b op : Operator) → is_joiner b ≡ true → is_joiner op ≡ true → are_mixed (Some b) op ≡ false → b ≡ op
   mixed_or_same And And j k m = refl
   mixed_or_same Or Or j k m = refl
-  mixed_or_same And Or j k m = absurd cc
-  mixed_or_same Or And j k m = absurd cc
-  mixed_or_same Plus op j k m = absurd cc
-  mixed_or_same Minus op j k m = absurd cc
-  mixed_or_same Times op j k m = absurd cc
-  mixed_or_same Equal op j k m = absurd cc
-  mixed_or_same Unequal op j k m = absurd cc
-  mixed_or_same Less op j k m = absurd cc
-  mixed_or_same AtMost op j k m = absurd cc
-  mixed_or_same Greater op j k m = absurd cc
-  mixed_or_same AtLeast op j k m = absurd cc
-  mixed_or_same b Plus j k m = absurd cc
-  mixed_or_same b Minus j k m = absurd cc
-  mixed_or_same b Times j k m = absurd cc
-  mixed_or_same b Equal j k m = absurd cc
-  mixed_or_same b Unequal j k m = absurd cc
-  mixed_or_same b Less j k m = absurd cc
-  mixed_or_same b AtMost j k m = absurd cc
-  mixed_or_same b Greater j k m = absurd cc
-  mixed_or_same b AtLeast j k m = absurd cc
+  mixed_or_same _ _ j k m = absurd cc
 
   joined_so_far : (before : Option Operator) (op : Operator) (n : ℕ) → are_mixed before op ≡ false → is_joiner op ≡ true → (e : Expr) (ts : List Token) → SpellsSoFar before (suc n) e ts
       → SpellsTests p op (suc n) e ts

@@ -1,10 +1,8 @@
 -- Attributes of a row by their names alone.
-use Rattle.std.proofs.Common.{◌≡◌, ℕ, zero, suc, ◌+◌, ◌-◌, ◌<◌, ◌≤◌, false, List, [], ◌∷◌, ◌++◌, length, map, get_or, take, slice_get, Option, Some, None, option_map, Result, Ok, Err, refl, sym, ap, ◌∙◌, subst, arith, inl, inr, length-append, append_assoc, drop}
-use Rattle.std.specs.Prelude.{IfOk}
-use Rattle.std.specs.List.{AllByRecursion, IsDistinct}
-use Rattle.std.specs.Str.{bytes_eq}
+use Rattle.std.proofs.Common.{◌≡◌, ℕ, zero, suc, ◌+◌, ◌-◌, ◌<◌, ◌≤◌, false, List, [], ◌∷◌, ◌++◌, length, map, get_or, take, slice_get, Some, option_map, refl, sym, ap, ◌∙◌, subst, arith, inl, inr, length-append, append_assoc, drop, bytes_eq, take-append-drop}
+use Rattle.std.specs.List.{IsDistinct}
 use Rattle.std.proofs.lemmas.Bool.{cases_lt}
-use Rattle.std.proofs.lemmas.List.{length-map, map-append, take-append-drop, drop_more, take_more}
+use Rattle.std.proofs.lemmas.List.{length-map, map-append, drop_more, take_more}
 use Rattle.std.specs.Cmp.Lexicographic.{nat_list_eq_equiv}
 use Rattle.mls_lattice.specs.Policy.{Name, Policy, IsPolicy, AreNames}
 use Rattle.mls_scheme.specs.declared.value.Kind.{Kind}
@@ -12,18 +10,14 @@ use Rattle.mls_scheme.specs.declared.attributes.Column.{Column}
 use Rattle.mls_scheme.specs.Scheme.{column_of, Attribute, Scheme, Schemes, IsScheme, AreSchemes, scheme_of, no_attribute}
 use Rattle.mls_scheme.proofs.CanonLemmas.{attribute_there}
 use Rattle.mls_scheme.proofs.SchemeNameLemmas.{scheme_is}
-use Rattle.mls_tokens.specs.Scanning.{Left, without_places}
 use Rattle.mls_translang.specs.declared.operator.Operator.{Operator}
 use Rattle.mls_translang.specs.declared.operator.Operator.TheVariants as operators
 use Rattle.mls_translang.specs.Fits.{width, ExprFits}
 use Rattle.mls_translang.specs.Kinds.{Sort, Of, Truth, OperatorGives, HasSort, field_of}
 use Rattle.mls_scheme.specs.Named.{has_name}
-use Rattle.mls_translang.specs.Scope.{kind_of_var}
-use Rattle.mls_translang.specs.Tree.{Expr, Known, Null, Var, Param, Field, No, Op}
+use Rattle.mls_translang.specs.Tree.{Expr, Known, Var, Field, No, Op}
 use Rattle.mls_translang.specs.Tx.{HasOwn}
 use Rattle.mls_translang.proofs.FieldLemmas.{as_key, as_other}
-use Rattle.mls_parser.specs.declared.fault.PlacedFault.{PlacedFault}
-use Rattle.mls_parser.specs.declared.given.Given.{Given}
 use Rattle.mls_parser.specs.Condition.{IsConditionOf, TellsCondition}
 use Rattle.mls_parser.specs.ReadCondition.{attribute_var, row_vars, row_scope, written_scope, written_place, as_fields}
 use Rattle.mls_parser.proofs.FoundLemmas.{HasNames, named_any, new_behind, distinct_front}
@@ -69,48 +63,34 @@ operands_made operators.Minus t P Q made h = (h.0, made (Of _) h.1)
 operands_made operators.Times t P Q made h = (h.0, made (Of _) h.1)
 operands_made operators.And t P Q made h = (h.0, made Truth h.1)
 operands_made operators.Or t P Q made h = (h.0, made Truth h.1)
-operands_made operators.Equal t P Q made h = (h.0, (h.1.0, made (Of h.1.0) h.1.1))
-operands_made operators.Unequal t P Q made h = (h.0, (h.1.0, made (Of h.1.0) h.1.1))
-operands_made operators.Less t P Q made h = (h.0, (h.1.0, made (Of h.1.0) h.1.1))
-operands_made operators.AtMost t P Q made h = (h.0, (h.1.0, made (Of h.1.0) h.1.1))
-operands_made operators.Greater t P Q made h = (h.0, (h.1.0, made (Of h.1.0) h.1.1))
-operands_made operators.AtLeast t P Q made h = (h.0, (h.1.0, made (Of h.1.0) h.1.1))
+operands_made _ t P Q made h = (h.0, (h.1.0, made (Of h.1.0) h.1.1))
 
 module _ (schemes : Schemes) (relation : ℕ) where
   abbrev scheme : Scheme
   scheme = scheme_of schemes relation
 
   fields_own : (e : Expr) → HasOwn (written_scope schemes relation) e → HasOwn (row_scope schemes relation) (as_fields e)
-  fields_own (Known v) h = h
-  fields_own Null h = h
   fields_own (Var i) h = omega arith
-  fields_own (Param i) h = h
-  fields_own (Field d i) h = h
   fields_own (No e) h = fields_own e h
   fields_own (Op op left right) h = (fields_own left h.0, fields_own right h.1)
+  fields_own _ h = h
 
   fields_fit : (e : Expr) → HasOwn (written_scope schemes relation) e → ExprFits schemes (written_scope schemes relation) e → ExprFits schemes (row_scope schemes relation) (as_fields e)
-  fields_fit (Known v) h f = tt
-  fields_fit Null h f = tt
   fields_fit (Var i) h f = subst (λ n. i < n) (row_width scheme) h
-  fields_fit (Param i) h f = tt
   fields_fit (Field d i) h f = f
   fields_fit (No e) h f = fields_fit e h f
   fields_fit (Op op left right) h f = (fields_fit left h.0 f.0, fields_fit right h.1 f.1)
+  fields_fit _ h f = tt
 
   fields_sort : (e : Expr) (t : Sort) → HasSort schemes (written_scope schemes relation) t e → HasSort schemes (row_scope schemes relation) t (as_fields e)
   fields_sort (Known v) (Of k) h = h
-  fields_sort (Known v) Truth h = h
-  fields_sort Null (Of k) h = h
-  fields_sort Null Truth h = h
   fields_sort (Var i) t h = h.1 ∙ ap (λ k. Of k) (var_kind scheme i h.0 h.2)
-  fields_sort (Param i) t h = h
-  fields_sort (Field d i) t h = h
   fields_sort (No e) t h = (h.0, fields_sort e Truth h.1)
   fields_sort (Op op left right) t h =
       operands_made op t (λ u. HasSort schemes (written_scope schemes relation) u left × HasSort schemes (written_scope schemes relation) u right)
       (λ u. HasSort schemes (row_scope schemes relation) u (as_fields left) × HasSort schemes (row_scope schemes relation) u (as_fields right))
       (λ u both. (fields_sort left u both.0, fields_sort right u both.1)) h
+  fields_sort _ _ h = h
 
   -- what is told is a condition of the row
   pub told_of_row : (policy : Policy) (test : Expr) (ts : List _) → TellsCondition policy schemes relation test ts → IsConditionOf schemes relation test

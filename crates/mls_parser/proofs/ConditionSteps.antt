@@ -1,12 +1,10 @@
 -- Conditions, test by test.
-use Rattle.std.proofs.Common.{◌≡◌, ℕ, zero, suc, ◌-◌, ◌<◌, Bool, true, false, List, [], ◌∷◌, ◌++◌, Option, Some, None, Ok, Err, inl, inr, refl, sym, ap, ◌∙◌, arith}
-use Rattle.std.specs.Prelude.{codes, option_map, if◌then◌else◌}
-use Rattle.std.specs.Str.{bytes_eq}
+use Rattle.std.proofs.Common.{◌≡◌, ℕ, zero, suc, ◌-◌, ◌<◌, Bool, true, false, List, [], ◌∷◌, ◌++◌, Option, Some, None, Ok, Err, inl, inr, refl, sym, ap, ◌∙◌, arith, codes, option_map, if◌then◌else◌, bytes_eq}
 use Rattle.std.proofs.lemmas.Bool.{cases_Bool}
 use Rattle.mls_lattice.specs.Reading.{◌>>=◌}
 use Rattle.mls_tokens.specs.declared.fault.TokenFault.{TokenFault}
 use Rattle.mls_tokens.specs.declared.token.Token.{Token}
-use Rattle.mls_tokens.specs.declared.token.Token.TheVariants.{Word, Int, Text, Sign as Sign_token}
+use Rattle.mls_tokens.specs.declared.token.Token.TheVariants.{Word, Sign as Sign_token}
 use Rattle.mls_tokens.specs.declared.token.Placed.{Placed}
 use Rattle.mls_tokens.specs.declared.sign.Sign.{Sign}
 use Rattle.mls_tokens.specs.declared.sign.Sign.TheVariants as signs
@@ -86,27 +84,14 @@ no_sign signs.Less x a b c d e f = absurd cc
 no_sign signs.AtMost x a b c d e f = absurd cc
 no_sign signs.Greater x a b c d e f = absurd cc
 no_sign signs.AtLeast x a b c d e f = absurd cc
-no_sign signs.Becomes x a b c d e f = refl
-no_sign signs.LeftParen x a b c d e f = refl
-no_sign signs.RightParen x a b c d e f = refl
-no_sign signs.LeftBrace x a b c d e f = refl
-no_sign signs.RightBrace x a b c d e f = refl
-no_sign signs.Comma x a b c d e f = refl
-no_sign signs.Semicolon x a b c d e f = refl
-no_sign signs.Colon x a b c d e f = refl
-no_sign signs.Dot x a b c d e f = refl
-no_sign signs.Plus x a b c d e f = refl
-no_sign signs.Minus x a b c d e f = refl
-no_sign signs.Times x a b c d e f = refl
+no_sign _ x a b c d e f = refl
 
 no_token : (t : Token) (x : ℕ × Left)
     → None ≡ if_sign signs.Equals t x → None ≡ if_sign signs.Differs t x → None ≡ if_sign signs.Less t x
     → None ≡ if_sign signs.AtMost t x → None ≡ if_sign signs.Greater t x → None ≡ if_sign signs.AtLeast t x
     → None ≡ known_as x (comparison_of t)
-no_token (Word s) x a b c d e f = refl
-no_token (Int n) x a b c d e f = refl
-no_token (Text s) x a b c d e f = refl
 no_token (Sign_token s) x a b c d e f = no_sign s x a b c d e f
+no_token _ x a b c d e f = refl
 
 no_comparison : (ps : List Placed) (stop : TokenFault)
     → None ≡ take_first (is_sign signs.Equals) ps stop → None ≡ take_first (is_sign signs.Differs) ps stop → None ≡ take_first (is_sign signs.Less) ps stop
@@ -143,9 +128,7 @@ no_word false false x a o = refl
 no_joiner : (t : Token) (x : ℕ × Left) → None ≡ if_word (codes "and") t x → None ≡ if_word (codes "or") t x
     → None ≡ known_as x (joiner_of t)
 no_joiner (Word s) x a b = no_word (bytes_eq s (codes "and")) (bytes_eq s (codes "or")) x a b
-no_joiner (Int n) x a b = refl
-no_joiner (Text s) x a b = refl
-no_joiner (Sign_token s) x a b = refl
+no_joiner _ x a b = refl
 
 no_joiner_first : (ps : List Placed) (stop : TokenFault) → None ≡ take_first (is_word (codes "and")) ps stop → None ≡ take_first (is_word (codes "or")) ps stop
     → None ≡ take_known joiner_of ps stop

@@ -1,7 +1,5 @@
 -- What stands there is read: expressions.
-use Rattle.std.proofs.Common.{◌≡◌, ℕ, zero, suc, ◌≤◌, true, false, List, [], ◌∷◌, ◌++◌, Option, Some, None, Ok, inl, inr, refl, sym, ap, ◌∙◌, subst, arith, append_assoc}
-use Rattle.std.specs.Prelude.{codes, ◌||◌}
-use Rattle.std.specs.Str.{bytes_eq}
+use Rattle.std.proofs.Common.{◌≡◌, ℕ, zero, suc, ◌≤◌, true, false, List, [], ◌∷◌, ◌++◌, Option, Some, None, Ok, inl, inr, refl, sym, ap, ◌∙◌, subst, arith, append_assoc, codes, ◌||◌, bytes_eq}
 use Rattle.std.proofs.lemmas.Bool.{cases_Bool, and_parts, and_from, or_right, not-true}
 use Rattle.std.proofs.lemmas.Slice.Eq.{bytes_eq-Decides}
 use Rattle.mls_lattice.specs.Name.{is_name, is_reserved}
@@ -111,29 +109,11 @@ name_head s named = rw (differs (codes "null") s refl named, differs (codes "not
 
 operator_again : (op : Operator) → operator_of (operator_token op) ≡ Some op
 operator_again operators.Plus = refl
-operator_again operators.Minus = refl
-operator_again operators.Times = refl
-operator_again operators.Equal = refl
-operator_again operators.Unequal = refl
-operator_again operators.Less = refl
-operator_again operators.AtMost = refl
-operator_again operators.Greater = refl
-operator_again operators.AtLeast = refl
-operator_again operators.And = refl
-operator_again operators.Or = refl
+operator_again _ = refl
 
 pub no_dot : (op : Operator) (us : List Token) → NotNext (is_sign sign.Dot) (operator_token op ∷ us)
 no_dot operators.Plus us = refl
-no_dot operators.Minus us = refl
-no_dot operators.Times us = refl
-no_dot operators.Equal us = refl
-no_dot operators.Unequal us = refl
-no_dot operators.Less us = refl
-no_dot operators.AtMost us = refl
-no_dot operators.Greater us = refl
-no_dot operators.AtLeast us = refl
-no_dot operators.And us = refl
-no_dot operators.Or us = refl
+no_dot _ us = refl
 
 -- ---- expressions
 

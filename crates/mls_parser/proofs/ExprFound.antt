@@ -1,6 +1,5 @@
 -- What is read is what stands there: expressions.
-use Rattle.std.proofs.Common.{◌≡◌, ℕ, zero, suc, ◌<◌, ◌≤◌, true, List, [], ◌∷◌, ◌++◌, length, Option, Some, None, Ok, refl, sym, ap, ◌∙◌, subst, arith}
-use Rattle.std.specs.Prelude.{codes, is_some}
+use Rattle.std.proofs.Common.{◌≡◌, ℕ, zero, suc, ◌<◌, ◌≤◌, true, List, [], ◌∷◌, ◌++◌, length, Option, Some, None, Ok, refl, sym, ap, ◌∙◌, subst, arith, codes, is_some}
 use Rattle.mls_lattice.specs.Policy.{Name as Bytes}
 use Rattle.mls_lattice.specs.Reading.{◌>>=◌}
 use Rattle.mls_lattice.proofs.ReadingLemmas.{bind_ok, same_ok}

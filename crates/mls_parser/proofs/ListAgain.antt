@@ -1,8 +1,8 @@
 -- What stands there is read: lists of expressions, and new values of attributes.
-use Rattle.std.proofs.Common.{◌≡◌, ℕ, zero, suc, ◌+◌, ◌<◌, ◌≤◌, ◌==◌, false, not, nat_eq, List, [], ◌∷◌, ◌++◌, length, map, drop, get_or, slice_get, Some, None, Ok, refl, sym, ap, ◌∙◌, subst, arith, append_assoc, length-append}
+use Rattle.std.proofs.Common.{◌≡◌, ℕ, zero, suc, ◌+◌, ◌<◌, ◌≤◌, ◌==◌, false, not, nat_eq, List, [], ◌∷◌, ◌++◌, length, map, drop, get_or, slice_get, Some, None, Ok, refl, sym, ap, ◌∙◌, subst, arith, append_assoc, length-append, flat_map, append-nil}
 use Rattle.std.specs.Cmp.{nat_eq_equiv}
-use Rattle.std.specs.List.{AllByRecursion, IsDistinct, list_any, flat_map}
-use Rattle.std.proofs.lemmas.List.{append-nil, drop_more, length-map, map_push}
+use Rattle.std.specs.List.{AllByRecursion, IsDistinct, list_any}
+use Rattle.std.proofs.lemmas.List.{drop_more, length-map, map_push}
 use Rattle.std.proofs.lemmas.Option.{slice_get-get_or}
 use Rattle.mls_lattice.specs.Reading.{◌>>=◌}
 use Rattle.mls_scheme.specs.declared.value.Value.TheVariants as values
@@ -18,7 +18,7 @@ use Rattle.mls_tokens.proofs.NextLemmas.{NotNext}
 use Rattle.mls_translang.specs.Fits.{ExprFits, ListFits, SetsFit}
 use Rattle.mls_translang.specs.Kinds.{Of, HasKind, HaveKinds}
 use Rattle.mls_translang.specs.Tokens.{Place, expr_tokens, list_tokens, set_tokens}
-use Rattle.mls_translang.specs.Tree.{Expr, Known, Null, Var, Param, Field, No, Op}
+use Rattle.mls_translang.specs.Tree.{Expr, Known}
 use Rattle.mls_translang.specs.Tx.{IsOwn}
 use Rattle.mls_parser.specs.declared.fault.TextCause.TheVariants as cause
 use Rattle.mls_parser.specs.declared.given.Given.{Given}
@@ -92,13 +92,7 @@ no_comma ts = refl
 
 no_paren : (p : Place) (e : Expr) (us : List Token) → NotNext (is_sign sign.RightParen) (expr_tokens p e ++ us)
 no_paren p (Known (values.Int n)) us = refl
-no_paren p (Known (values.Text s)) us = refl
-no_paren p Null us = refl
-no_paren p (Var i) us = refl
-no_paren p (Param i) us = refl
-no_paren p (Field d i) us = refl
-no_paren p (No e) us = refl
-no_paren p (Op op left right) us = refl
+no_paren p _ us = refl
 
 -- one for each attribute, of its kind
 pub record AreListed (p : Place) (attributes : List Attribute) (es : List Expr) : Type 0 where

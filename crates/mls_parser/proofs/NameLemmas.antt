@@ -1,8 +1,6 @@
 -- What stands behind numbers of names.
-use Rattle.std.proofs.Common.{◌≡◌, ℕ, zero, suc, ◌<◌, List, [], ◌∷◌, length, get_or, Option, Some, None, option_map, slice_get, sym, ap, ◌∙◌, arith}
-use Rattle.std.specs.Option.{IfSome}
-use Rattle.std.specs.List.{position, AllByRecursion}
-use Rattle.std.specs.Str.{bytes_eq}
+use Rattle.std.proofs.Common.{◌≡◌, ℕ, zero, suc, ◌<◌, List, [], ◌∷◌, length, get_or, Option, Some, None, option_map, slice_get, sym, ap, ◌∙◌, arith, IfSome, position, bytes_eq}
+use Rattle.std.specs.List.{AllByRecursion}
 use Rattle.mls_lattice.specs.Policy.{Name, Policy}
 use Rattle.mls_scheme.specs.declared.attributes.Column.{Column}
 use Rattle.mls_scheme.specs.Scheme.{Attribute, Scheme, no_attribute, column_of, other_of}

@@ -1,7 +1,6 @@
 -- What stands there is passed, and nothing is noted.
-use Rattle.std.proofs.Common.{◌≡◌, ℕ, Bool, true, List, [], ◌∷◌, ◌++◌, Option, Some, None, option_map, Result, Ok, refl, ap, ◌∙◌}
+use Rattle.std.proofs.Common.{◌≡◌, ℕ, Bool, true, List, [], ◌∷◌, ◌++◌, Option, Some, None, option_map, Result, Ok, refl, ap, ◌∙◌, append-nil}
 use Rattle.std.specs.Prelude.{⊤}
-use Rattle.std.proofs.lemmas.List.{append-nil}
 use Rattle.mls_lattice.specs.Name.{is_name}
 use Rattle.mls_lattice.specs.Policy.{Name}
 use Rattle.mls_lattice.specs.Reading.{◌>>=◌}
@@ -18,8 +17,7 @@ use Rattle.mls_parser.specs.declared.fault.PlacedFault.{PlacedFault}
 use Rattle.mls_parser.specs.declared.fault.TextCause.{TextCause}
 use Rattle.mls_parser.specs.declared.words.Head.{Head}
 use Rattle.mls_parser.specs.Fault.{unless}
-use Rattle.mls_parser.specs.Noted.{State, Read, note, in_state, token, behind, takes_sign, takes_word, sign_at, word_at, name_at, name_behind}
-use Rattle.mls_parser.specs.Noted.{known as is_known}
+use Rattle.mls_parser.specs.Noted.{State, Read, note, in_state, token, behind, takes_sign, takes_word, sign_at, word_at, name_at, name_behind, known as is_known}
 use Rattle.mls_parser.specs.Words.{head_of, known, pass_known_of, pass_known, pass_head_of, pass_head}
 
 -- ---- steps

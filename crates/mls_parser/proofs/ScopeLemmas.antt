@@ -1,8 +1,6 @@
 -- Names that are taken at a place.
-use Rattle.std.proofs.Common.{◌≡◌, ◌||◌, ◌++◌, map, sym, ◌∙◌}
-use Rattle.std.specs.Prelude.{is_some}
+use Rattle.std.proofs.Common.{◌≡◌, ◌||◌, ◌++◌, map, sym, ◌∙◌, is_some, bytes_eq}
 use Rattle.std.specs.List.{list_any}
-use Rattle.std.specs.Str.{bytes_eq}
 use Rattle.std.proofs.lemmas.List.Folds.{list_any-append}
 use Rattle.mls_lattice.specs.Policy.{Name}
 use Rattle.mls_scheme.proofs.NamedLemmas.{is_some-position}

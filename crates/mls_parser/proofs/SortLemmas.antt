@@ -1,8 +1,5 @@
 -- What an expression without faults is and gives.
-use Rattle.std.proofs.Common.{◌≡◌, ℕ, ◌+◌, ◌^◌, ◌<◌, ◌≤◌, nat_lt, Bool, true, false, ◌&&◌, ◌||◌, List, [], length, get_or, Option, Some, None, option_map, refl, sym, ap, subst, ◌∙◌, arith}
-use Rattle.std.specs.Prelude.{is_some}
-use Rattle.std.specs.List.{position}
-use Rattle.std.specs.Str.{bytes_eq}
+use Rattle.std.proofs.Common.{◌≡◌, ℕ, ◌+◌, ◌^◌, ◌<◌, ◌≤◌, nat_lt, Bool, true, false, ◌&&◌, ◌||◌, List, [], length, get_or, Option, Some, None, option_map, refl, sym, ap, subst, ◌∙◌, arith, is_some, position, bytes_eq}
 use Rattle.std.proofs.lemmas.Bool.{and_parts}
 use Rattle.std.proofs.lemmas.Bool.Decides.{nat_tests}
 use Rattle.std.proofs.lemmas.List.Quantifiers.{position-Some}
@@ -49,12 +46,10 @@ pub record IsSound (p : Place) (given : Inferred) (e : core.Expr) : Type 0 where
 module _ (p : Place) where
   pub as_kind : (given : Inferred) (k : Kind) (e : core.Expr) → may_be given k ≡ true → Gives p given e → HasSort p.schemes p.scope (Of k) e
   as_kind (inferred.Value kinds.Int) kinds.Int e h g = g
-  as_kind (inferred.Value kinds.Int) kinds.Text e h g = absurd cc
-  as_kind (inferred.Value kinds.Text) kinds.Int e h g = absurd cc
   as_kind (inferred.Value kinds.Text) kinds.Text e h g = g
-  as_kind inferred.Truth k e h g = absurd cc
   as_kind inferred.Null k e h g = g k
   as_kind inferred.Unknown k e h g = absurd g
+  as_kind _ _ e h g = absurd cc
 
   pub as_truth : (given : Inferred) (e : core.Expr) → may_be_truth given ≡ true → Gives p given e → HasSort p.schemes p.scope Truth e
   as_truth (inferred.Value j) e h g = absurd cc
@@ -92,12 +87,7 @@ module _ (p : Place) where
   operator_gives operators.Times a b x y h g q = (refl, as_both kinds.Int a b x y h g q)
   operator_gives operators.And a b x y h g q = (refl, as_truths a b x y h g q)
   operator_gives operators.Or a b x y h g q = (refl, as_truths a b x y h g q)
-  operator_gives operators.Equal a b x y h g q = (refl, some_both a b x y h g q)
-  operator_gives operators.Unequal a b x y h g q = (refl, some_both a b x y h g q)
-  operator_gives operators.Less a b x y h g q = (refl, some_both a b x y h g q)
-  operator_gives operators.AtMost a b x y h g q = (refl, some_both a b x y h g q)
-  operator_gives operators.Greater a b x y h g q = (refl, some_both a b x y h g q)
-  operator_gives operators.AtLeast a b x y h g q = (refl, some_both a b x y h g q)
+  operator_gives _ a b x y h g q = (refl, some_both a b x y h g q)
 
   -- ---- names
 

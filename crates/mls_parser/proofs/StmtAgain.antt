@@ -1,7 +1,5 @@
 -- What stands there is read: statements with no statement inside.
-use Rattle.std.proofs.Common.{◌≡◌, ℕ, ◌<◌, true, List, [], ◌∷◌, ◌++◌, length, Option, Some, None, Ok, refl, ap, ◌∙◌, append_assoc}
-use Rattle.std.specs.Prelude.{codes}
-use Rattle.std.specs.Option.{IfSome}
+use Rattle.std.proofs.Common.{◌≡◌, ℕ, ◌<◌, true, List, [], ◌∷◌, ◌++◌, length, Option, Some, None, Ok, refl, ap, ◌∙◌, append_assoc, codes, IfSome}
 use Rattle.mls_lattice.specs.Canon.{label_name}
 use Rattle.mls_lattice.specs.Labels.{below}
 use Rattle.mls_lattice.specs.Policy.{Name, labels_of}
@@ -210,10 +208,8 @@ module _ (p : Place) (n : HasNames p) where
       (target_none x at v.gives h.0 within h.1 r.agrees) (λ j. forms.Assign (numbered (variable_again p n x within j)) (r.is j)) t3)))
 
   is_value : (k : Kind) (gives : Inferred) → may_be gives k ≡ true → may_be_value gives ≡ true
-  is_value k (inferred.Value j) e = refl
   is_value k inferred.Truth e = absurd cc
-  is_value k inferred.Null e = refl
-  is_value k inferred.Unknown e = refl
+  is_value k _ e = refl
 
   value_gets : (e : Expr) (k : Kind) (us : List Token) (s : State) → IsOwn p.scope e → ExprFits p.schemes p.scope e → HasKind p.schemes p.scope k e → NoDot us → without_places s.1.placed ≡ expr_tokens p e ++ us → Gets (value_at p s) s (IsAgain (Of k) e) us
   unfolding value_at

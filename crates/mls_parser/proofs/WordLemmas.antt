@@ -1,7 +1,5 @@
 -- What single tokens are in a transaction.
-use Rattle.std.proofs.Common.{◌≡◌, true, false, Option, Some, None, option_map, inl, inr, refl, ap, ◌∙◌, subst}
-use Rattle.std.specs.Prelude.{codes, ◌⊎◌, if◌then◌else◌}
-use Rattle.std.specs.Str.{bytes_eq}
+use Rattle.std.proofs.Common.{◌≡◌, true, false, Option, Some, None, option_map, inl, inr, refl, ap, ◌∙◌, subst, codes, ◌⊎◌, if◌then◌else◌, bytes_eq}
 use Rattle.std.proofs.lemmas.Slice.Eq.{bytes_eq-Decides}
 use Rattle.std.proofs.lemmas.Option.{same_Some}
 use Rattle.mls_lattice.specs.Name.{is_name}
@@ -52,23 +50,7 @@ head_word w h e = first (chosen (bytes_eq w (codes "null")) (Some heads.Null) (i
 
 head_sign : (s : Mark) (h : Head) → head_of_sign s ≡ Some h → HeadIs (Sign s) h
 head_sign sign.LeftParen h e = subst (HeadIs (Sign sign.LeftParen)) (same_Some heads.Paren h e) refl
-head_sign sign.Becomes h e = absurd cc
-head_sign sign.Differs h e = absurd cc
-head_sign sign.AtMost h e = absurd cc
-head_sign sign.AtLeast h e = absurd cc
-head_sign sign.RightParen h e = absurd cc
-head_sign sign.LeftBrace h e = absurd cc
-head_sign sign.RightBrace h e = absurd cc
-head_sign sign.Comma h e = absurd cc
-head_sign sign.Semicolon h e = absurd cc
-head_sign sign.Colon h e = absurd cc
-head_sign sign.Dot h e = absurd cc
-head_sign sign.Equals h e = absurd cc
-head_sign sign.Less h e = absurd cc
-head_sign sign.Greater h e = absurd cc
-head_sign sign.Plus h e = absurd cc
-head_sign sign.Minus h e = absurd cc
-head_sign sign.Times h e = absurd cc
+head_sign _ h e = absurd cc
 
 pub head_is : (t : Token) (h : Head) → head_of t ≡ Some h → HeadIs t h
 head_is (Word w) h e = head_word w h e
@@ -98,15 +80,7 @@ operator_sign sign.Less op e = ap operator_token (same_Some operators.Less op e)
 operator_sign sign.AtMost op e = ap operator_token (same_Some operators.AtMost op e)
 operator_sign sign.Greater op e = ap operator_token (same_Some operators.Greater op e)
 operator_sign sign.AtLeast op e = ap operator_token (same_Some operators.AtLeast op e)
-operator_sign sign.Becomes op e = absurd cc
-operator_sign sign.LeftParen op e = absurd cc
-operator_sign sign.RightParen op e = absurd cc
-operator_sign sign.LeftBrace op e = absurd cc
-operator_sign sign.RightBrace op e = absurd cc
-operator_sign sign.Comma op e = absurd cc
-operator_sign sign.Semicolon op e = absurd cc
-operator_sign sign.Colon op e = absurd cc
-operator_sign sign.Dot op e = absurd cc
+operator_sign _ op e = absurd cc
 
 pub operator_is : (t : Token) (op : Operator) → operator_of t ≡ Some op → t ≡ operator_token op
 operator_is (Word w) op e = operator_word w op e
@@ -204,9 +178,7 @@ opening_word w o e = first (test_word w (codes "if") openings.If o (or_for w) e)
 
 pub opening_is : (t : Token) (o : Opening) → opening_of t ≡ Some o → OpeningIs t o
 opening_is (Word w) o e = opening_word w o e
-opening_is (Int n) o e = absurd cc
-opening_is (Text s) o e = absurd cc
-opening_is (Sign s) o e = absurd cc
+opening_is _ o e = absurd cc
 
 -- ---- kinds
 
@@ -223,6 +195,4 @@ kind_word w k e = first (test_word w (codes "int") kinds.Int k (if bytes_eq w (c
 
 pub kind_is : (t : Token) (k : Kind) → kind_of t ≡ Some k → t ≡ kind_token k
 kind_is (Word w) k e = kind_word w k e
-kind_is (Int n) k e = absurd cc
-kind_is (Text s) k e = absurd cc
-kind_is (Sign s) k e = absurd cc
+kind_is _ k e = absurd cc

@@ -1,7 +1,5 @@
 -- What is read is what stands there: writes, and any statement with no statement inside.
-use Rattle.std.proofs.Common.{◌≡◌, ℕ, ◌<◌, List, [], ◌∷◌, ◌++◌, length, Option, Ok, refl, sym, subst}
-use Rattle.std.specs.Prelude.{codes}
-use Rattle.std.specs.Option.{IfSome}
+use Rattle.std.proofs.Common.{◌≡◌, ℕ, ◌<◌, List, [], ◌∷◌, ◌++◌, length, Option, Ok, refl, sym, subst, codes, IfSome}
 use Rattle.mls_lattice.specs.Reading.{◌>>=◌}
 use Rattle.mls_scheme.specs.Scheme.{Scheme, scheme_of}
 use Rattle.mls_tokens.specs.declared.token.Token.{Token}

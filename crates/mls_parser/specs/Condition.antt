@@ -1,5 +1,6 @@
 -- The tokens of conditions, with no word of how they are read; and that they are read so.
-use Rattle.std.specs.Prelude.{◌≡◌, ℕ, zero, suc, ◌<◌, ◌≤◌, Bool, true, false, ◌||◌, List, [], ◌∷◌, ◌++◌, ◌⊎◌, ⊤, is_some, length, Result, Ok, Err}
+use Rattle.std.specs.Prelude.{◌≡◌, ℕ, zero, suc, ◌<◌, ◌≤◌, Bool, true, false, ◌||◌, List, [], ◌∷◌, ◌++◌, ◌⊎◌, ⊤}
+use Rattle.std.specs.Prelude.{is_some, length, Result, Ok, Err}
 use Rattle.std.specs.List.{AllByRecursion}
 use Rattle.mls_lattice.specs.Policy.{Policy, IsPolicy}
 use Rattle.mls_scheme.specs.Scheme.{Schemes, AreSchemes}
@@ -9,7 +10,8 @@ use Rattle.mls_tokens.specs.Scanning.{Left, without_places}
 use Rattle.mls_tokens.specs.Passing.{is_sign}
 use Rattle.mls_tokens.specs.Text.{Spells}
 use Rattle.mls_translang.specs.declared.operator.Operator.{Operator}
-use Rattle.mls_translang.specs.declared.operator.Operator.TheVariants.{Equal, Unequal, Less, AtMost, Greater, AtLeast, And, Or}
+use Rattle.mls_translang.specs.declared.operator.Operator.TheVariants.{Equal, Unequal, Less, AtMost, Greater, AtLeast}
+use Rattle.mls_translang.specs.declared.operator.Operator.TheVariants.{And, Or}
 use Rattle.mls_translang.specs.Fits.{ExprFits}
 use Rattle.mls_translang.specs.Kinds.{Truth, HasSort}
 use Rattle.mls_translang.specs.Tokens.{Place, operator_token, expr_tokens}
@@ -19,7 +21,8 @@ use Rattle.mls_parser.specs.declared.fault.PlacedFault.{PlacedFault}
 use Rattle.mls_parser.specs.declared.given.Given.{Given}
 use Rattle.mls_parser.specs.Fault.{IsLeast}
 use Rattle.mls_parser.specs.Noted.{State}
-use Rattle.mls_parser.specs.ReadCondition.{comparison_of, joiner_of, row_scope, written_scope, written_place, as_fields, noted_at, condition_at}
+use Rattle.mls_parser.specs.ReadCondition.{comparison_of, joiner_of, row_scope, written_scope, written_place, as_fields}
+use Rattle.mls_parser.specs.ReadCondition.{noted_at, condition_at}
 
 -- ---- what spells a condition
 

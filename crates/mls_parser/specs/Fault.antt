@@ -1,12 +1,14 @@
 -- The causes for which texts of transactions are refused, and which of several faults is answered.
-use Rattle.std.specs.Prelude.{◌≡◌, ℕ, ◌-◌, Bool, true, false, ◌==◌, ◌&&◌, ◌||◌, nat_lt, if◌then◌else◌, List, [], ◌∷◌, Option, Some, None, map, get_or}
-use Rattle.std.specs.List.{Contains, AllByRecursion}
+use Rattle.std.specs.Prelude.{◌≡◌, ℕ, ◌-◌, Bool, true, false, ◌==◌, ◌&&◌, ◌||◌, nat_lt, if◌then◌else◌, List, [], ◌∷◌}
+use Rattle.std.specs.Prelude.{Option, Some, None, map, get_or, Contains}
+use Rattle.std.specs.List.{AllByRecursion}
 use Rattle.mls_tokens.specs.Spot.{spot_at}
 use Rattle.mls_tokens.specs.declared.fault.TokenCause.{TokenCause}
 use Rattle.mls_tokens.specs.declared.fault.TokenCause.TheVariants as tokens
 use Rattle.mls_tokens.specs.declared.fault.TokenFault.{TokenFault}
 use Rattle.mls_parser.specs.declared.fault.TextCause.{TextCause}
-use Rattle.mls_parser.specs.declared.fault.TextCause.TheVariants.{Token, Expected, UnknownName, Kind, Repeated, Depth, TooLong, LabelOrder, Memory}
+use Rattle.mls_parser.specs.declared.fault.TextCause.TheVariants.{Token, Expected, UnknownName, Kind, Repeated, Depth}
+use Rattle.mls_parser.specs.declared.fault.TextCause.TheVariants.{TooLong, LabelOrder, Memory}
 use Rattle.mls_parser.specs.declared.fault.PlacedFault.{PlacedFault}
 use Rattle.mls_parser.specs.declared.fault.TextFault.{TextFault}
 use Rattle.mls_parser.specs.declared.fault.TheConstants.{WORDS}

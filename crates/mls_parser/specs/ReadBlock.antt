@@ -1,5 +1,6 @@
 -- Statements, and blocks of them, from the tokens that are left.
-use Rattle.std.specs.Prelude.{ℕ, zero, suc, ◌+◌, ◌-◌, ◌==◌, Bool, false, not, nat_lt, if◌then◌else◌, List, [], ◌∷◌, ◌++◌, codes, Option, Some, None, Ok, Err}
+use Rattle.std.specs.Prelude.{ℕ, zero, suc, ◌+◌, ◌-◌, ◌==◌, Bool, false, not, nat_lt, if◌then◌else◌, List, [], ◌∷◌}
+use Rattle.std.specs.Prelude.{◌++◌, codes, Option, Some, None, Ok, Err}
 use Rattle.mls_lattice.specs.Labels.{below}
 use Rattle.mls_lattice.specs.Policy.{labels_of}
 use Rattle.mls_lattice.specs.Reading.{◌>>=◌}
@@ -26,7 +27,8 @@ use Rattle.mls_parser.specs.declared.words.Plain.TheVariants as plains
 use Rattle.mls_parser.specs.Fault.{fault, unless, lifted}
 use Rattle.mls_parser.specs.Infer.{may_be, may_be_truth, may_be_value}
 use Rattle.mls_parser.specs.Names.{label_named, relation_named, variable_named, numbered, is_taken}
-use Rattle.mls_parser.specs.Noted.{State, Read, note, token, takes_sign, takes_word, sign_at, word_at, name_at, name_behind, known}
+use Rattle.mls_parser.specs.Noted.{State, Read, note, token, takes_sign, takes_word, sign_at, word_at, name_at}
+use Rattle.mls_parser.specs.Noted.{name_behind, known}
 use Rattle.mls_parser.specs.ReadExpr.{whole_at}
 use Rattle.mls_parser.specs.ReadList.{tested, list_at, sets_at}
 use Rattle.mls_parser.specs.Words.{opening_of, pass_known}

@@ -1,7 +1,7 @@
 -- Transactions, from the tokens that are left.
-use Rattle.std.specs.Prelude.{ℕ, zero, suc, ◌+◌, not, ◌||◌, nat_lt, if◌then◌else◌, List, [], ◌∷◌, ◌++◌, codes, map, length, Option, Some, None, is_some, Ok, Err}
+use Rattle.std.specs.Prelude.{ℕ, zero, suc, ◌+◌, not, ◌||◌, nat_lt, if◌then◌else◌, List, [], ◌∷◌, ◌++◌, codes, map}
+use Rattle.std.specs.Prelude.{length, Option, Some, None, is_some, Ok, Err, bytes_eq}
 use Rattle.std.specs.List.{list_any}
-use Rattle.std.specs.Str.{bytes_eq}
 use Rattle.mls_lattice.specs.Labels.{below}
 use Rattle.mls_lattice.specs.Policy.{Name, Policy, labels_of}
 use Rattle.mls_lattice.specs.Reading.{◌>>=◌}
@@ -19,7 +19,8 @@ use Rattle.mls_parser.specs.declared.fault.TextCause.TheVariants as cause
 use Rattle.mls_parser.specs.declared.fault.PlacedFault.{PlacedFault}
 use Rattle.mls_parser.specs.Fault.{fault, unless, lifted}
 use Rattle.mls_parser.specs.Names.{label_named, relation_named, numbered}
-use Rattle.mls_parser.specs.Noted.{State, Read, note, token, takes_sign, takes_word, sign_at, word_at, name_at, name_behind, known}
+use Rattle.mls_parser.specs.Noted.{State, Read, note, token, takes_sign, takes_word, sign_at, word_at, name_at}
+use Rattle.mls_parser.specs.Noted.{name_behind, known}
 use Rattle.mls_parser.specs.ReadList.{items_at}
 use Rattle.mls_parser.specs.ReadBlock.{stmts_at}
 use Rattle.mls_parser.specs.Words.{kind_of, pass_known}

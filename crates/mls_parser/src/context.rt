@@ -1,10 +1,9 @@
 //! The place in a transaction at which names are looked up.
 ghost use Rattle.std.specs.Prelude.{◌≡◌, ◌<◌, ◌≤◌, length, Some, IfSome};
-ghost use Rattle.std.specs.List.{AllByRecursion};
 ghost use Rattle.mls_scheme.specs.Scheme.{IsScheme};
 ghost use Rattle.mls_translang.specs.Fits.{width};
-ghost use Rattle.mls_translang.specs.Scope.{kind_of_var, kind_of_param};
-ghost use Rattle.mls_parser.specs.Names.{label_named, relation_named, variable_named, parameter_named, row_named, numbered, referent, row_scheme, is_taken, IsReferent, IsPlace};
+ghost use Rattle.mls_parser.specs.Names.{label_named, relation_named, variable_named, parameter_named, row_named};
+ghost use Rattle.mls_parser.specs.Names.{numbered, referent, row_scheme, is_taken, IsReferent, IsPlace};
 ghost use Rattle.mls_parser.specs.Infer.{of_referent, of_attribute};
 
 use crate::inferred::Inferred;

@@ -1,6 +1,7 @@
 //! What expressions give.
 ghost use Rattle.std.specs.Prelude.{◌≡◌};
-ghost use Rattle.mls_parser.specs.Infer.{may_be, may_be_truth, may_be_value, same_kind, both, operands_fit, given_by_operator};
+ghost use Rattle.mls_parser.specs.Infer.{may_be, may_be_truth, may_be_value, same_kind, both, operands_fit};
+ghost use Rattle.mls_parser.specs.Infer.{given_by_operator};
 
 use mls_scheme::Kind;
 use mls_translang::Operator;

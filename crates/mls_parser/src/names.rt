@@ -1,6 +1,5 @@
 //! What names refer to.
-ghost use Rattle.std.specs.Prelude.{◌≡◌, ◌<◌, ◌++◌, length, position, IfSome};
-ghost use Rattle.std.specs.Str.{bytes_eq};
+ghost use Rattle.std.specs.Prelude.{◌≡◌, ◌<◌, length, position, IfSome, bytes_eq};
 ghost use Rattle.mls_scheme.specs.Scheme.{other_of};
 ghost use Rattle.mls_translang.specs.Fits.{width};
 ghost use Rattle.mls_translang.specs.Kinds.{field_of};

@@ -3,7 +3,8 @@ ghost use Rattle.std.specs.Prelude.{◌≡◌, ◌+◌, ◌≤◌, ◌<◌, ◌�
 ghost use Rattle.mls_translang.specs.Tokens.{at_row, with_rows};
 ghost use Rattle.mls_parser.specs.Names.{IsPlace};
 ghost use Rattle.mls_parser.specs.Noted.{Gives};
-ghost use Rattle.mls_parser.specs.ReadBlock.{guard_at, loop_head_at, braced, other_at, blocks_at, if_at, for_at, content_at, stmt_at, stmts_at};
+ghost use Rattle.mls_parser.specs.ReadBlock.{guard_at, loop_head_at, braced, other_at, blocks_at, if_at, for_at};
+ghost use Rattle.mls_parser.specs.ReadBlock.{content_at, stmt_at, stmts_at};
 
 use crate::context::Context;
 use crate::fault::{PlacedFault, TextCause, ill_formed, note};

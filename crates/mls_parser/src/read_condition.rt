@@ -1,14 +1,15 @@
 //! Conditions on a row, from the tokens that are left.
 ghost use Rattle.std.specs.Prelude.{◌≡◌, ◌≢◌, ◌<◌, ◌++◌, length, map, option_map, IfOk, IfErr, IfSome, IsNone, OnOk};
+ghost use Rattle.std.specs.Prelude.{bytes_eq};
 ghost use Rattle.std.specs.List.{IsDistinct};
-ghost use Rattle.std.specs.Str.{bytes_eq};
 ghost use Rattle.mls_tokens.specs.Scanning.{without_places};
 ghost use Rattle.mls_parser.specs.declared.fault.TextCause.TheVariants.{Memory};
 ghost use Rattle.mls_parser.specs.Condition.{AreOfText, IsCondition, IsConditionOf, IsJudged};
-ghost use Rattle.mls_parser.specs.Names.{IsPlace};
 ghost use Rattle.mls_parser.specs.Noted.{Gives};
 ghost use Rattle.mls_parser.specs.Parsing.{answer};
-ghost use Rattle.mls_parser.specs.ReadCondition.{comparison_of, joiner_of, taken_as, between, between_faults, test_at, are_mixed, past_most, next_test_at, tests_at, attribute_var, row_vars, as_fields, judged, noted_at, condition_at};
+ghost use Rattle.mls_parser.specs.ReadCondition.{comparison_of, joiner_of, taken_as, between, between_faults, test_at};
+ghost use Rattle.mls_parser.specs.ReadCondition.{are_mixed, past_most, next_test_at, tests_at, attribute_var, row_vars};
+ghost use Rattle.mls_parser.specs.ReadCondition.{as_fields, judged, noted_at, condition_at};
 ghost use Rattle.mls_parser.specs.Words.{pass_head};
 ghost use Rattle.mls_parser.specs.Fault.{least};
 

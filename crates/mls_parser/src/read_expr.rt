@@ -8,7 +8,8 @@ ghost use Rattle.mls_parser.specs.declared.inferred.Inferred.TheVariants.{Truth}
 ghost use Rattle.mls_parser.specs.Infer.{given_by_operator};
 ghost use Rattle.mls_parser.specs.Names.{referent, row_named, row_scheme};
 ghost use Rattle.mls_parser.specs.Noted.{Gives, known};
-ghost use Rattle.mls_parser.specs.ReadExpr.{given, refer, name_given, attribute_given, field_given, field_faults, named_at, term_at, second, negation_at, operation_at, expr_at, whole_at};
+ghost use Rattle.mls_parser.specs.ReadExpr.{given, refer, name_given, attribute_given, field_given, field_faults};
+ghost use Rattle.mls_parser.specs.ReadExpr.{named_at, term_at, second, negation_at, operation_at, expr_at, whole_at};
 
 use crate::context::Context;
 use crate::fault::{PlacedFault, TextCause, ill_formed, note};

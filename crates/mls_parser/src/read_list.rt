@@ -3,7 +3,8 @@ ghost use Rattle.std.specs.Prelude.{◌≡◌, ◌<◌, ◌++◌, [], nat_eq, ma
 ghost use Rattle.std.specs.List.{list_any};
 ghost use Rattle.mls_scheme.specs.Scheme.{IsScheme};
 ghost use Rattle.mls_parser.specs.Noted.{Gives};
-ghost use Rattle.mls_parser.specs.ReadList.{fits_item, items_at, item_at, list_at, with_set, set_faults, set_at, sets_at};
+ghost use Rattle.mls_parser.specs.ReadList.{fits_item, items_at, item_at, list_at, with_set, set_faults, set_at};
+ghost use Rattle.mls_parser.specs.ReadList.{sets_at};
 ghost use Rattle.mls_parser.specs.Names.{other_named};
 
 use crate::context::Context;

@@ -1,9 +1,12 @@
 //! Statements with no statement inside, from the tokens that are left, each behind what it begins with.
-ghost use Rattle.std.specs.Prelude.{◌≡◌, ◌<◌, ◌++◌, length, option_map, IfOk, OnOk};
+ghost use Rattle.std.specs.Prelude.{◌≡◌, ◌<◌, ◌++◌, length, IfOk, OnOk};
 ghost use Rattle.mls_scheme.specs.Scheme.{IsScheme, scheme_of};
-ghost use Rattle.mls_parser.specs.Names.{label_named, relation_named, variable_named, numbered};
+ghost use Rattle.mls_parser.specs.Names.{label_named, variable_named};
 ghost use Rattle.mls_parser.specs.Noted.{Gives, known};
-ghost use Rattle.mls_parser.specs.ReadBlock.{label, relation, variable, target_faults, label_behind, outcome_at, written_at, relation_at, keyed_at, assign_at, insert_at, classes_at, changes_at, update_at, delete_at, lower_behind, value_at, release_at, emit_at, plain_at};
+ghost use Rattle.mls_parser.specs.ReadBlock.{label, relation, variable, target_faults, label_behind, outcome_at};
+ghost use Rattle.mls_parser.specs.ReadBlock.{written_at, relation_at, keyed_at, assign_at, insert_at, classes_at};
+ghost use Rattle.mls_parser.specs.ReadBlock.{changes_at, update_at, delete_at, lower_behind, value_at, release_at};
+ghost use Rattle.mls_parser.specs.ReadBlock.{emit_at, plain_at};
 
 use crate::context::{Context, label, label_or_first, relation, relation_or_first};
 use crate::fault::{PlacedFault, TextCause, note};

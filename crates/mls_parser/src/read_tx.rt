@@ -1,10 +1,10 @@
 //! Transactions, from the tokens that are left.
-ghost use Rattle.std.specs.Prelude.{◌≡◌, ◌++◌, ◌<◌, ◌≤◌, ◌∷◌, ◌||◌, [], length, map, option_map, is_some, IfOk, IfSome, OnOk};
+ghost use Rattle.std.specs.Prelude.{◌≡◌, ◌++◌, ◌<◌, ◌≤◌, ◌∷◌, ◌||◌, [], length, map, option_map, is_some, IfOk, IfSome};
+ghost use Rattle.std.specs.Prelude.{OnOk, bytes_eq};
 ghost use Rattle.std.specs.List.{list_any};
-ghost use Rattle.std.specs.Str.{bytes_eq};
-ghost use Rattle.mls_parser.specs.Names.{relation_named};
 ghost use Rattle.mls_parser.specs.Noted.{Gives};
-ghost use Rattle.mls_parser.specs.ReadTx.{name_faults, levels_faults, heading_at, outermost, body_at, transaction_at, next_transaction, transactions_at};
+ghost use Rattle.mls_parser.specs.ReadTx.{name_faults, levels_faults, heading_at, outermost, body_at, transaction_at};
+ghost use Rattle.mls_parser.specs.ReadTx.{next_transaction, transactions_at};
 
 use crate::context::{Context, label, label_or_first, relation};
 use crate::draft::Draft;

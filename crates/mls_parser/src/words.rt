@@ -1,7 +1,9 @@
 //! What single tokens are in a transaction.
 ghost use Rattle.std.specs.Prelude.{◌≡◌};
 ghost use Rattle.mls_tokens.specs.Scanning.{Reads, fault_at};
-ghost use Rattle.mls_parser.specs.Words.{head_of_sign, head_of_word, head_of, plain_of_word, opening_of_word, opening_of, operator_of_sign, operator_of_word, operator_of, kind_of_word, kind_of, pass_known, pass_head, pass_name_behind};
+ghost use Rattle.mls_parser.specs.Words.{head_of_word, head_of, plain_of_word, opening_of_word, opening_of};
+ghost use Rattle.mls_parser.specs.Words.{operator_of_sign, operator_of_word, operator_of, kind_of_word, kind_of};
+ghost use Rattle.mls_parser.specs.Words.{pass_known, pass_head, pass_name_behind};
 
 use crate::names::Name;
 use mls_lattice::{Str, is_name};

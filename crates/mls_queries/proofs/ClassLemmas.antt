@@ -1,6 +1,5 @@
 -- Labels, by number and as tests.
-use Rattle.std.proofs.Common.{◌≡◌, ℕ, ◌≤◌, Bool, length, refl, arith}
-use Rattle.std.specs.Prelude.{◌↔◌, IsTrue}
+use Rattle.std.proofs.Common.{◌≡◌, ℕ, ◌≤◌, Bool, length, refl, arith, ◌↔◌, IsTrue}
 use Rattle.std.specs.Cmp.{both_ways}
 use Rattle.std.proofs.lemmas.List.{get_or_past, length-map}
 use Rattle.mls_lattice.specs.Lattice.{Pair, Dominates, ◌⊑◌, bottom, cats_of, cats_below, pair_of}

@@ -1,10 +1,7 @@
 -- Arithmetic of data.
-use Rattle.std.proofs.Common.{◌≡◌, true, false, cond, ℤ, Option, None, Some, refl, sym, ap, ◌∙◌}
-use Rattle.std.specs.Prelude.{FitsSigned}
-use Rattle.std.specs.Int.{w64}
-use Rattle.std.specs.Option.{SomeIff}
+use Rattle.std.proofs.Common.{◌≡◌, true, false, cond, ℤ, Option, None, Some, refl, sym, ap, ◌∙◌, FitsSigned, w64, SomeIff}
 use Rattle.mls_scheme.specs.declared.value.Value.{Value}
-use Rattle.mls_scheme.specs.declared.value.Value.TheVariants.{Int, Text}
+use Rattle.mls_scheme.specs.declared.value.Value.TheVariants.{Int}
 use Rattle.mls_scheme.specs.Value.{is_signed}
 use Rattle.mls_scheme.proofs.KindLemmas.{signed-from, signed-true}
 use Rattle.mls_certcheck.specs.Expressions.{Plain, bounded, calculate}
@@ -19,11 +16,8 @@ of_bounded (Some m) n h = ap (λ k. Plain (Some (Int k))) h.1 ∙ ap (λ b. Plai
 
 module _ (f : ℤ → ℤ → ℤ) where
   pub of_numbers : (v w : Option Value) (a b : ℤ) (r : Option ℤ) → Some a ≡ number_of v → Some b ≡ number_of w → SomeIff r (FitsSigned w64 (f a b)) (f a b) → of_number r ≡ Plain (calculate f v w)
-  of_numbers None w a b r p q h = absurd cc
-  of_numbers (Some (Text s)) w a b r p q h = absurd cc
-  of_numbers (Some (Int n)) None a b r p q h = absurd cc
-  of_numbers (Some (Int n)) (Some (Text s)) a b r p q h = absurd cc
   of_numbers (Some (Int n)) (Some (Int m)) a b r p q h =
       let x : a ≡ n = cc in
       let y : b ≡ m = cc in
       of_bounded r (f a b) h ∙ (λ i. Plain (bounded (f (x i) (y i))))
+  of_numbers _ _ a b r p q h = absurd cc

@@ -1,9 +1,7 @@
 -- The tuples of one key, and the key that a condition demands.
-use Rattle.std.proofs.Common.{◌≡◌, ℕ, suc, true, false, cond, ◌-◌, List, [], ◌∷◌, ◌++◌, length, map, Option, Some, None, refl, sym, ap, ◌∙◌, subst, arith, eqb-true}
-use Rattle.std.specs.Prelude.{⊤, nat_eq, nat_lt, slice_index_or}
-use Rattle.std.specs.List.{filter}
-use Rattle.std.proofs.lemmas.Bool.{true≢false, and_parts, lt-ltb}
-use Rattle.std.proofs.lemmas.List.{length-append}
+use Rattle.std.proofs.Common.{◌≡◌, ℕ, suc, true, false, cond, ◌-◌, List, [], ◌∷◌, ◌++◌, length, map, Option, Some, None, refl, sym, ap, ◌∙◌, subst, arith, eqb-true, nat_eq, nat_lt, slice_index_or, filter, true≢false, lt-ltb, length-append}
+use Rattle.std.specs.Prelude.{⊤}
+use Rattle.std.proofs.lemmas.Bool.{and_parts}
 use Rattle.std.proofs.lemmas.Option.{none-some, same_Some}
 use Rattle.mls_lattice.specs.Labels.{Labels}
 use Rattle.mls_scheme.specs.declared.value.Value.{Value}
@@ -13,7 +11,7 @@ use Rattle.mls_scheme.specs.Table.{Table}
 use Rattle.mls_scheme.proofs.OrderLemmas.{value_eq-true}
 use Rattle.mls_filterview.specs.View.{rows}
 use Rattle.mls_translang.specs.declared.operator.Operator.TheVariants as operators
-use Rattle.mls_translang.specs.Tree.{Expr, Known, Null, Var, Param, Field, No, Op}
+use Rattle.mls_translang.specs.Tree.{Expr, Known, Field, Op}
 use Rattle.mls_certcheck.specs.Expressions.{eval, same, cell_of, value_in}
 use Rattle.mls_queries.specs.Query.{passes, is_key, reading}
 use Rattle.mls_filterview.proofs.MendLemmas.{rows_of_those}
@@ -30,25 +28,15 @@ rows_of_key ls c key T = rows_of_those ls c (λ values key_class. is_key values 
 module _ (t : Tuple) where
   field_reads : (i : ℕ) (e : Expr) → is_field i e ≡ true → value_in (reading t) e ≡ cell_of t i
   unfolding eval
-  field_reads i (Known v) h = absurd (true≢false (sym h))
-  field_reads i Null h = absurd (true≢false (sym h))
-  field_reads i (Var n) h = absurd (true≢false (sym h))
-  field_reads i (Param n) h = absurd (true≢false (sym h))
   field_reads i (Field d j) h =
       let p = and_parts (nat_eq d 0) (nat_eq j i) h in
       ap (λ d. value_in (reading t) (Field d j)) (eqb-true d 0 p.0) ∙ ap (cell_of t) (eqb-true j i p.1)
-  field_reads i (No e) h = absurd (true≢false (sym h))
-  field_reads i (Op op l r) h = absurd (true≢false (sym h))
+  field_reads i _ h = absurd (true≢false (sym h))
 
   known_reads : (v : Value) (e : Expr) → value_known e ≡ Some v → value_in (reading t) e ≡ Some v
   unfolding eval
   known_reads v (Known w) h = h
-  known_reads v Null h = absurd (none-some v h)
-  known_reads v (Var n) h = absurd (none-some v h)
-  known_reads v (Param n) h = absurd (none-some v h)
-  known_reads v (Field d j) h = absurd (none-some v h)
-  known_reads v (No e) h = absurd (none-some v h)
-  known_reads v (Op op l r) h = absurd (none-some v h)
+  known_reads v _ h = absurd (none-some v h)
 
   same_values : (a b : Option Value) → same a b ≡ true → a ≡ b
   same_values None None h = refl
@@ -72,26 +60,12 @@ module _ (t : Tuple) where
 
   demanded_reads : (i : ℕ) (v : Value) (e : Expr) → demanded i e ≡ Some v → passes e t ≡ true → cell_of t i ≡ Some v
   unfolding eval
-  demanded_reads i v (Known w) h p = absurd (none-some v h)
-  demanded_reads i v Null h p = absurd (none-some v h)
-  demanded_reads i v (Var n) h p = absurd (none-some v h)
-  demanded_reads i v (Param n) h p = absurd (none-some v h)
-  demanded_reads i v (Field d j) h p = absurd (none-some v h)
-  demanded_reads i v (No e) h p = absurd (none-some v h)
   demanded_reads i v (Op operators.And l r) h p =
       let both = and_parts (passes l t) (passes r t) p in
       one_of (demanded i l) (demanded i r) v _ h (λ q. demanded_reads i v l q both.0) (λ q. demanded_reads i v r q both.1)
   demanded_reads i v (Op operators.Equal l r) h p =
       one_of (equated i l r) (equated i r l) v _ h (λ q. equated_reads i v l r q p) (λ q. equated_reads i v r l q (turned (value_in (reading t) l) (value_in (reading t) r) p))
-  demanded_reads i v (Op operators.Plus l r) h p = absurd (none-some v h)
-  demanded_reads i v (Op operators.Minus l r) h p = absurd (none-some v h)
-  demanded_reads i v (Op operators.Times l r) h p = absurd (none-some v h)
-  demanded_reads i v (Op operators.Unequal l r) h p = absurd (none-some v h)
-  demanded_reads i v (Op operators.Less l r) h p = absurd (none-some v h)
-  demanded_reads i v (Op operators.AtMost l r) h p = absurd (none-some v h)
-  demanded_reads i v (Op operators.Greater l r) h p = absurd (none-some v h)
-  demanded_reads i v (Op operators.AtLeast l r) h p = absurd (none-some v h)
-  demanded_reads i v (Op operators.Or l r) h p = absurd (none-some v h)
+  demanded_reads i v _ h p = absurd (none-some v h)
 
   -- the attributes from k on have these values
   abbrev Reads : ℕ → List Value → Type 0

@@ -1,8 +1,7 @@
 -- The parts of the entities of one key, put together.
-use Rattle.std.proofs.Common.{◌≡◌, ◌+◌, ℕ, Bool, true, false, cond, List, ◌++◌, length, Some, None, refl, sym, ap, ◌∙◌, inl, inr, arith}
-use Rattle.std.specs.Prelude.{◌⊎◌}
+use Rattle.std.proofs.Common.{◌≡◌, ◌+◌, ℕ, Bool, true, false, cond, List, ◌++◌, length, Some, None, refl, sym, ap, ◌∙◌, inl, inr, arith, ◌⊎◌, true≢false}
 use Rattle.std.specs.FinMap.{get}
-use Rattle.std.proofs.lemmas.Bool.{true≢false, cases_lt}
+use Rattle.std.proofs.lemmas.Bool.{cases_lt}
 use Rattle.std.proofs.lemmas.Option.{none-some}
 use Rattle.mls_lattice.specs.Labels.{Labels, below}
 use Rattle.mls_lattice.proofs.LatticeLemmas.{below-trans, below-refl}
@@ -17,6 +16,7 @@ use Rattle.mls_filterview.specs.Stored.{IsStored, IsStoredTuple, with_class}
 use Rattle.mls_filterview.specs.Assembly.{AreOf, AreLow, IsLowEntry}
 use Rattle.mls_filterview.proofs.EntryLemmas.{Entry}
 use Rattle.mls_filterview.proofs.LowLemmas.{get_low, get_low_in, rows_under}
+use Rattle.mls_filterview.proofs.MovedLemmas.{moved}
 use Rattle.mls_filterview.proofs.PartLemmas.{parts_more, parts_same, OfEntity, own_class, own_key_class, over_key, in_those, those_have, those_stored}
 use Rattle.mls_queries.specs.Query.{is_key}
 use Rattle.mls_queries.specs.Demanded.{of_key}
@@ -87,19 +87,7 @@ low_stored ls n c T stored p es g =
     elim (below ls p.class c) as (λ b. below ls p.class c ≡ b → cond b (get T p) None ≡ Some es → IsStoredTuple ls n (low ls c T) p es) [
       | true ↦ λ b k. (
           let st = stored p es k in
-          record {
-            count = st.count;
-            declared = st.declared;
-            above_key = st.above_key;
-            null_at_key = st.null_at_key;
-            comparable = st.comparable;
-            greatest = st.greatest;
-            own = st.own;
-            closed = λ m o. (
-                let cl = st.closed m o in
-                (cl.0, get_low_in ls c T (with_class p m) (below-trans ls m p.class c (st.greatest m o) b) ∙ cl.1, cl.2)
-                );
-          })
+          moved ls n T (low ls c T) p es st (λ m fs o g. get_low_in ls c T (with_class p m) (below-trans ls m p.class c (st.greatest m o) b) ∙ g))
       | false ↦ λ b k. absurd (none-some es k)
     ] refl (sym (get_low ls c T p) ∙ g)
 

@@ -1,17 +1,15 @@
 -- Rows in the order of keys: the highest of a key are found among those of the key.
-use Rattle.std.proofs.Common.{◌≡◌, ℕ, zero, suc, ◌+◌, ◌<◌, ◌≤◌, Bool, true, false, cond, not, ◌&&◌, ◌||◌, List, [], ◌∷◌, ◌++◌, length, map, take, drop, get_or, refl, sym, ap, ◌∙◌, subst, inl, inr, arith}
-use Rattle.std.specs.Prelude.{◌⊎◌}
-use Rattle.std.specs.List.{filter, list_any, prefix_len, AllByRecursion}
-use Rattle.std.specs.Ordering.{nat_cmp, ordering_then, ordering_reverse, is_lt, is_eq}
+use Rattle.std.proofs.Common.{◌≡◌, ℕ, zero, suc, ◌+◌, ◌<◌, ◌≤◌, Bool, true, false, cond, not, ◌&&◌, List, [], ◌∷◌, ◌++◌, length, map, take, drop, get_or, refl, sym, ap, ◌∙◌, subst, inl, inr, arith, ◌⊎◌, filter, nat_cmp, is_lt, is_eq, true≢false, take-append-drop, drop-drop}
+use Rattle.std.specs.List.{prefix_len, AllByRecursion}
+use Rattle.std.specs.Ordering.{ordering_then, ordering_reverse}
 use Rattle.std.specs.Cmp.Lexicographic.{slice_cmp}
-use Rattle.std.specs.FinMap.{entries, entries_sorted, is_sorted}
+use Rattle.std.specs.FinMap.{entries, entries_sorted, is_sorted, slice_cmp-IsAntisymmetric}
 use Rattle.std.specs.FinMap.Entries.{below_all}
-use Rattle.std.specs.FinMap.{slice_cmp-IsAntisymmetric}
 use Rattle.std.specs.declared.cmp.Ordering.{Ordering}
 use Rattle.std.specs.declared.cmp.Ordering.TheVariants.{Less, Equal, Greater}
 use Rattle.std.proofs.lemmas.Cmp.{tied_itself, lists_total}
-use Rattle.std.proofs.lemmas.Bool.{true≢false, and_parts, false_from_ne_true}
-use Rattle.std.proofs.lemmas.List.{map-append, take-append-drop, drop-drop}
+use Rattle.std.proofs.lemmas.Bool.{and_parts, false_from_ne_true}
+use Rattle.std.proofs.lemmas.List.{map-append}
 use Rattle.mls_lattice.specs.Labels.{Labels}
 use Rattle.mls_scheme.specs.declared.value.Value.{Value}
 use Rattle.mls_scheme.specs.declared.tuple.Tuple.{Tuple}
@@ -23,7 +21,7 @@ use Rattle.mls_scheme.proofs.OrderLemmas.{value_total, value_exact, is_eq-true}
 use Rattle.mls_filterview.specs.Rules.{no_tuple}
 use Rattle.mls_filterview.specs.Subsumption.{is_max_among}
 use Rattle.mls_filterview.specs.View.{low, rows, IsAmong}
-use Rattle.mls_filterview.proofs.AmongLemmas.{all_at}
+use Rattle.mls_filterview.proofs.AmongLemmas.{all_at, any_left, any_right}
 use Rattle.mls_filterview.proofs.EntryLemmas.{Entry, sorted_filter, so_true}
 use Rattle.mls_queries.specs.Query.{is_key, is_above, is_strictly_below, tops}
 use Rattle.mls_queries.specs.Places.{rows_at, AreWithin, AreByKey, is_top, places_from}
@@ -82,15 +80,6 @@ after h (d ∷ ts) b s t i q = by_test (is_key d.key h) refl (after h ts b.1 s.1
         other e (sym (tied h d.key b.0 (subst (λ x. key_cmp d.key x ≡ Greater → ⊥) q (all_at (λ x. key_cmp d.key x.key ≡ Greater → ⊥) ts s.0 t k)) (key_cmp h d.key) refl))
 
 -- ---- two parts of a list that have no key in common
-
-any_left : (p : Tuple → Bool) (xs ys : List Tuple) → ((d : Tuple) → IsAmong d ys → p d ≡ false) → list_any p (xs ++ ys) ≡ list_any p xs
-any_left p [] [] h = refl
-any_left p [] (y ∷ ys) h = (λ i. h y (inl refl) i || list_any p ys) ∙ any_left p [] ys (λ d j. h d (inr j))
-any_left p (x ∷ xs) ys h = ap (λ b. p x || b) (any_left p xs ys h)
-
-any_right : (p : Tuple → Bool) (xs ys : List Tuple) → ((d : Tuple) → IsAmong d xs → p d ≡ false) → list_any p (xs ++ ys) ≡ list_any p ys
-any_right p [] ys h = refl
-any_right p (x ∷ xs) ys h = (λ i. h x (inl refl) i || list_any p (xs ++ ys)) ∙ any_right p xs ys (λ d j. h d (inr j))
 
 filter_two : (p q r : Tuple → Bool) (xs ys : List Tuple) → ((t : Tuple) → IsAmong t xs → p t ≡ q t) → ((t : Tuple) → IsAmong t ys → p t ≡ r t) → filter p (xs ++ ys) ≡ filter q xs ++ filter r ys
 filter_two p q r [] [] h k = refl

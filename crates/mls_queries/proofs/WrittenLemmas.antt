@@ -1,6 +1,5 @@
 -- Kept views over a base: after one is taken or kept, after a call that left the database, and after a write.
-use Rattle.std.proofs.Common.{◌≡◌, ℕ, ◌<◌, Bool, true, false, cond, List, length, refl, sym, ap, ◌∙◌, subst, eqb-true}
-use Rattle.std.specs.Prelude.{◌&&◌, nat_eq}
+use Rattle.std.proofs.Common.{◌≡◌, ℕ, ◌<◌, Bool, true, false, cond, List, length, refl, sym, ap, ◌∙◌, subst, eqb-true, ◌&&◌, nat_eq}
 use Rattle.std.specs.FinMap.{get}
 use Rattle.std.specs.Map.{remove_entry}
 use Rattle.std.specs.Cmp.{nat_eq_equiv}

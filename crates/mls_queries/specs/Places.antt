@@ -1,5 +1,6 @@
 -- Rows by their places in a view.
-use Rattle.std.specs.Prelude.{◌≡◌, ⊤, ℕ, suc, ◌<◌, Bool, not, ◌&&◌, if◌then◌else◌, List, [], ◌∷◌, map, length, is_none, slice_index_or}
+use Rattle.std.specs.Prelude.{◌≡◌, ⊤, ℕ, suc, ◌<◌, Bool, not, ◌&&◌, if◌then◌else◌, List, [], ◌∷◌, map, length, is_none}
+use Rattle.std.specs.Prelude.{slice_index_or}
 use Rattle.std.specs.List.{AllByRecursion, list_any}
 use Rattle.std.specs.Cmp.Lexicographic.{slice_cmp}
 use Rattle.std.specs.declared.cmp.Ordering.TheVariants.{Greater}

@@ -1,8 +1,8 @@
 //! The key that a condition demands.
-ghost use Rattle.std.specs.Prelude.{◌≡◌, Some, length, IfOk, IfSome};
-ghost use Rattle.std.specs.Option.{option_copied};
+ghost use Rattle.std.specs.Prelude.{◌≡◌, Some, length, IfOk, IfSome, option_copied};
 ghost use Rattle.mls_scheme.specs.Spelling.{IsSpelledKey};
-ghost use Rattle.mls_queries.specs.Demanded.{either, is_field, value_known, equated, demanded, demanded_from, demanded_by};
+ghost use Rattle.mls_queries.specs.Demanded.{either, is_field, value_known, equated, demanded, demanded_from};
+ghost use Rattle.mls_queries.specs.Demanded.{demanded_by};
 
 use mls_lattice::Items;
 use mls_scheme::{Scheme, Value};

@@ -1,9 +1,9 @@
 //! A view as it was resolved, and the entities that were written since.
-ghost use Rattle.std.specs.Prelude.{◌≡◌, ◌<◌, ◌⊎◌, ℕ, length, IfOk, IfErr, IfSome, OnOk};
+ghost use Rattle.std.specs.Prelude.{◌≡◌, ◌<◌, length, IfOk, IfSome};
 ghost use Rattle.std.specs.List.{AllByRecursion, list_any};
 ghost use Rattle.mls_lattice.specs.Policy.{labels_of};
 ghost use Rattle.mls_filterview.specs.View.{rows};
-ghost use Rattle.mls_filterview.specs.Stored.{IsStored, is_entity};
+ghost use Rattle.mls_filterview.specs.Stored.{is_entity};
 ghost use Rattle.mls_filterview.specs.Calls.{IsRead, CanSee};
 ghost use Rattle.mls_queries.specs.Views.{AgreesWith, IsNamed, fresh, noted};
 

@@ -1,7 +1,6 @@
 //! Views that were resolved, by relation and label.
-ghost use Rattle.std.specs.Prelude.{◌≡◌, ◌∷◌, ◌++◌, ◌<◌, ◌⊎◌, ◌&&◌, ℕ, [], length, nat_eq, IfOk, IfSome};
+ghost use Rattle.std.specs.Prelude.{◌≡◌, ◌∷◌, ◌++◌, ◌<◌, ◌⊎◌, ◌&&◌, [], length, nat_eq, IfOk, IfSome, unwrap_or};
 ghost use Rattle.std.specs.List.{AllByRecursion};
-ghost use Rattle.std.specs.Option.{unwrap_or};
 ghost use Rattle.mls_scheme.specs.Spelling.{IsSpelledKey};
 ghost use Rattle.mls_scheme.specs.Writes.{key_class_of};
 ghost use Rattle.std.specs.Map.{lookup, remove_entry};
@@ -12,7 +11,8 @@ ghost use Rattle.mls_filterview.specs.Calls.{IsRead, CanSee};
 ghost use Rattle.lru.specs.LruCache.{lru_cache, put_entries};
 ghost use Rattle.mls_queries.specs.declared.views.ViewKey.{ViewKey as SpecKey};
 ghost use Rattle.mls_updates.specs.Writes.{named};
-ghost use Rattle.mls_queries.specs.Views.{Kept, Seen as SpecSeen, AreDeclared, AreViews, AreFollowed, AreLeftBy, IsFollowedBy, key_of, is_view, same_key, put_view, noted, no_place};
+ghost use Rattle.mls_queries.specs.Views.{Kept, Seen as SpecSeen, AreDeclared, AreViews, AreFollowed, AreLeftBy};
+ghost use Rattle.mls_queries.specs.Views.{IsFollowedBy, key_of, is_view, same_key, put_view, noted, no_place};
 
 use crate::naming::place_named;
 use crate::seen::{Seen, look};

@@ -1,7 +1,5 @@
 -- A tuple is dropped, and its node and the cells of its class with it.
-use Rattle.std.proofs.Common.{◌≡◌, ℕ, ◌<◌, Bool, true, false, cond, not, List, map, length, Some, None, refl, sym, ap, ◌∙◌, subst, true≢false}
-use Rattle.std.specs.Prelude.{nat_eq, ◌≢◌}
-use Rattle.std.specs.List.{filter, flat_map}
+use Rattle.std.proofs.Common.{◌≡◌, ℕ, ◌<◌, Bool, true, false, cond, not, List, map, length, Some, None, refl, sym, ap, ◌∙◌, subst, true≢false, nat_eq, ◌≢◌, filter, flat_map}
 use Rattle.std.specs.FinMap.{get, remove, entries, entries_sorted, get-remove}
 use Rattle.std.proofs.lemmas.Bool.{and_parts, false_from_ne_true, not-true}
 use Rattle.std.proofs.lemmas.Option.{none-some}

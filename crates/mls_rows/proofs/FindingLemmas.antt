@@ -1,13 +1,10 @@
 -- Tuples that are put together from a store's rows, and that have just these rows, are what the rows hold.
-use Rattle.std.proofs.Common.{◌≡◌, ◌⊎◌, inl, inr, ℕ, zero, suc, ◌+◌, ◌<◌, ◌≤◌, Bool, cond, List, [], ◌∷◌, ◌++◌, map, filter, flat_map, length, Option, None, Some, take, get_or, refl, sym, ap, subst, ◌∙◌, append-nil, append_assoc, zero-add, add-one, take-suc, arith, IsPermutation}
-use Rattle.std.specs.Prelude.{nat_eq, slice_index_or, IfSome}
+use Rattle.std.proofs.Common.{◌≡◌, ◌⊎◌, inl, inr, ℕ, zero, suc, ◌+◌, ◌<◌, ◌≤◌, Bool, cond, List, [], ◌∷◌, ◌++◌, map, filter, flat_map, length, Option, None, Some, take, get_or, refl, sym, ap, subst, ◌∙◌, append-nil, append_assoc, zero-add, add-one, take-suc, arith, IsPermutation, nat_eq, slice_index_or, IfSome, unwrap_or, ne_eqb, eq-eqb, length-take}
 use Rattle.std.specs.List.{AllByRecursion}
-use Rattle.std.specs.Option.{unwrap_or}
 use Rattle.std.specs.FinMap.{get, entries}
 use Rattle.std.specs.List.Sorted.{IsStrictlySortedBy}
 use Rattle.std.specs.Map.{keys_of}
-use Rattle.std.proofs.lemmas.Bool.{ne_eqb, eq-eqb}
-use Rattle.std.proofs.lemmas.List.{map-append, length-map, length-take}
+use Rattle.std.proofs.lemmas.List.{map-append, length-map}
 use Rattle.std.proofs.lemmas.List.Elements.{filter-append}
 use Rattle.std.proofs.lemmas.List.Sorted.{IsPermutation-trans, IsPermutation-sym}
 use Rattle.sqlite_trees.proofs.ListLemmas.{IsPermutation-filter}

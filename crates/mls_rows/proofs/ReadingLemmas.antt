@@ -1,6 +1,5 @@
 -- What rows of some labels show are their fragments, and what rows of one place show is what belongs to its entity.
-use Rattle.std.proofs.Common.{◌≡◌, ℕ, List, map, filter, Bool, true, ◌&&◌, sym, subst, ◌∙◌, IsPermutation}
-use Rattle.std.specs.Prelude.{nat_eq}
+use Rattle.std.proofs.Common.{◌≡◌, ℕ, List, map, filter, Bool, true, ◌&&◌, sym, subst, ◌∙◌, IsPermutation, nat_eq}
 use Rattle.std.specs.List.{AllByRecursion, list_any}
 use Rattle.std.specs.FinMap.{entries}
 use Rattle.mls_filterview.proofs.FilteredLemmas.{filter_same, filter_turned}

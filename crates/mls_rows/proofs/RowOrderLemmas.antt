@@ -1,8 +1,7 @@
 -- The orders of rows, field by field, are total, and only equal rows tie.
-use Rattle.std.proofs.Common.{◌≡◌, ℕ, zero, suc, ◌+◌, ◌<◌, pos, true, false, List, [], ◌∷◌, map, length, get_or, Greater, Ordering, IsPermutation, sym, ap, subst, arith}
+use Rattle.std.proofs.Common.{◌≡◌, ℕ, zero, suc, ◌+◌, ◌<◌, pos, true, false, List, [], ◌∷◌, map, length, get_or, Greater, Ordering, IsPermutation, sym, ap, subst, arith, IsSorted, nat_cmp, int_cmp, is_lt}
 use Rattle.std.specs.List.{AllByRecursion}
-use Rattle.std.specs.List.Sorted.{IsSorted}
-use Rattle.std.specs.Ordering.{nat_cmp, int_cmp, ordering_then, on, then_cmp, is_lt}
+use Rattle.std.specs.Ordering.{ordering_then, on, then_cmp}
 use Rattle.std.specs.Cmp.{IsTotalOrder, int_cmp_is}
 use Rattle.std.specs.Cmp.Lexicographic.{slice_cmp}
 use Rattle.std.specs.FinMap.{IsAntisymmetric, slice_cmp-IsAntisymmetric, nat_cmp-IsAntisymmetric, int_cmp-IsAntisymmetric}

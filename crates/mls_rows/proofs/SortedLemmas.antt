@@ -1,12 +1,8 @@
 -- A list has one order in which it is sorted, where only equal elements tie.
-use Rattle.std.proofs.Common.{◌≡◌, ℕ, suc, ◌+◌, ◌<◌, Bool, true, false, cond, List, [], ◌∷◌, filter, length, get_or, Less, Equal, Greater, Ordering, refl, sym, ap, subst, ◌∙◌, arith, true≢false, IsPermutation}
-use Rattle.std.specs.Prelude.{nat_eq}
-use Rattle.std.specs.Bool.{Decides}
-use Rattle.std.specs.Ordering.{is_eq, is_lt, ordering_reverse}
+use Rattle.std.proofs.Common.{◌≡◌, ℕ, suc, ◌+◌, ◌<◌, Bool, true, false, cond, List, [], ◌∷◌, filter, length, get_or, Less, Equal, Greater, Ordering, refl, sym, ap, subst, ◌∙◌, arith, true≢false, IsPermutation, nat_eq, Decides, is_eq, is_lt, IsSorted, eq-eqb}
+use Rattle.std.specs.Ordering.{ordering_reverse}
 use Rattle.std.specs.Cmp.{IsTotalOrder}
-use Rattle.std.specs.List.Sorted.{IsSorted}
 use Rattle.std.specs.FinMap.{IsAntisymmetric}
-use Rattle.std.proofs.lemmas.Bool.{eq-eqb}
 use Rattle.std.proofs.lemmas.Cmp.{tied_itself}
 use Rattle.std.proofs.lemmas.List.Sorted.{length_permutation, ranks_by, sorted_far, IsPermutation-trans, IsPermutation-sym}
 use Rattle.sqlite_trees.proofs.ListLemmas.{filter-filter, IsPermutation-filter}

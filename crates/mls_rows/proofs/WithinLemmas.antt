@@ -1,9 +1,8 @@
 -- The classes that occur in content are those of its rows.
-use Rattle.std.proofs.Common.{◌≡◌, inl, inr, ℕ, ◌<◌, true, List, map, length, refl, sym, ap, subst, ◌∙◌}
-use Rattle.std.specs.Prelude.{nat_eq, nat_lt, Some}
+use Rattle.std.proofs.Common.{◌≡◌, inl, inr, ℕ, ◌<◌, true, List, map, length, refl, sym, ap, subst, ◌∙◌, nat_eq, nat_lt, Some, eq-eqb, ltb-true, lt-ltb}
 use Rattle.std.specs.List.{list_all}
 use Rattle.std.specs.FinMap.{get, entries}
-use Rattle.std.proofs.lemmas.Bool.{eq-eqb, ltb-true, lt-ltb, and_parts, and_from}
+use Rattle.std.proofs.lemmas.Bool.{and_parts, and_from}
 use Rattle.std.proofs.lemmas.List.Folds.{list_all-map}
 use Rattle.std.proofs.lemmas.List.{length-map}
 use Rattle.mls_lattice.specs.Policy.{Policy}

@@ -1,7 +1,7 @@
 -- What the rows of a store hold.
 use Rattle.std.specs.Prelude.{◌≡◌, ℕ, suc, ◌<◌, ◌≤◌, pos, Bool, ◌&&◌, nat_eq, nat_lt, List, [], ◌∷◌, ◌++◌, map, length}
-use Rattle.std.specs.Prelude.{slice_index_or, Option, Some, IfSome, IsPermutation}
-use Rattle.std.specs.List.{AllByRecursion, filter, flat_map, list_all}
+use Rattle.std.specs.Prelude.{slice_index_or, Option, Some, IfSome, IsPermutation, filter, flat_map}
+use Rattle.std.specs.List.{AllByRecursion, list_all}
 use Rattle.std.specs.List.Sorted.{IsStrictlySortedBy}
 use Rattle.std.specs.FinMap.{get}
 use Rattle.std.specs.Map.{lookup, keys_of}

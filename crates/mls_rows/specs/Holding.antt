@@ -1,7 +1,6 @@
 -- The rows that content has: each tuple is a node, and each element is kept once, with the tuple of its class.
 use Rattle.std.specs.Prelude.{◌≡◌, ℕ, ◌<◌, not, nat_eq, List, [], ◌∷◌, ◌++◌, map, length, Option, None, Some, IfSome}
-use Rattle.std.specs.Prelude.{IsPermutation}
-use Rattle.std.specs.List.{filter, flat_map}
+use Rattle.std.specs.Prelude.{IsPermutation, filter, flat_map}
 use Rattle.std.specs.FinMap.{get, entries}
 use Rattle.mls_scheme.specs.declared.value.Value.{Value}
 use Rattle.mls_scheme.specs.declared.tuple.Element.{Element}

@@ -1,6 +1,5 @@
 //! What the tables hold of one entity.
-ghost use Rattle.std.specs.Prelude.{◌≡◌, [], slice_get, IfOk, IfErr};
-ghost use Rattle.std.specs.Option.{option_map};
+ghost use Rattle.std.specs.Prelude.{◌≡◌, [], slice_get, IfOk, IfErr, option_map};
 ghost use Rattle.std.specs.FinMap.{get};
 ghost use Rattle.mls_scheme.specs.Spelling.{IsSpelledKey};
 ghost use Rattle.mls_filterview.specs.Content.{Content};

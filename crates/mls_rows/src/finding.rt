@@ -1,16 +1,15 @@
 //! What the rows of a store hold: the tuples of each relation, put together and asked for the stored form, and the entries.
-ghost use Rattle.std.specs.Prelude.{◌≡◌, ◌↔◌, ◌≤◌, ℕ, List, pos, length, map, nat_lt, IsTrue, IfOk, IfErr, OnOk, IsPermutation};
+ghost use Rattle.std.specs.Prelude.{◌≡◌, ◌↔◌, ◌≤◌, ℕ, List, length, map, nat_lt, IsTrue, IfOk, IfErr, OnOk};
+ghost use Rattle.std.specs.Prelude.{IsPermutation};
 ghost use Rattle.std.specs.List.{AllByRecursion, list_all};
-ghost use Rattle.std.specs.List.Sorted.{IsStrictlySortedBy};
-ghost use Rattle.std.specs.Map.{keys_of};
 ghost use Rattle.mls_lattice.specs.Policy.{labels_of};
-ghost use Rattle.mls_scheme.specs.Scheme.{AreSchemes, AreUnder};
-ghost use Rattle.mls_scheme.specs.Table.{place_cmp};
+ghost use Rattle.mls_scheme.specs.Scheme.{AreUnder};
 ghost use Rattle.mls_audit.specs.Spelling.{IsEntryOf};
 ghost use Rattle.mls_filterview.specs.Content.{Content};
 ghost use Rattle.mls_tables.specs.Adopting.{AreAll};
 ghost use Rattle.mls_tables.specs.Rows.{Tables, numbered};
-ghost use Rattle.mls_rows.specs.Finding.{HasByteClasses, IsMemory, IsNodeRow, IsCellRow, IsAssembled, AreAssembled, AreTables, IsSpelledEntry, is_within, IsSoundWithin, HasFound};
+ghost use Rattle.mls_rows.specs.Finding.{IsMemory, IsNodeRow, IsCellRow, IsAssembled, AreAssembled, AreTables};
+ghost use Rattle.mls_rows.specs.Finding.{is_within, IsSoundWithin, HasFound};
 ghost use Rattle.mls_rows.specs.Holding.{Holds};
 
 use crate::comparing::have_rows;

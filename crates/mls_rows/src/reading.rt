@@ -1,5 +1,6 @@
 //! Nodes, cells and entries from rows.
-ghost use Rattle.std.specs.Prelude.{◌≡◌, ◌↔◌, ◌<◌, ◌≤◌, ℕ, List, map, filter, nat_eq, Option, IsOk, IfOk, IfErr, IfSome, IsPermutation};
+ghost use Rattle.std.specs.Prelude.{◌≡◌, ◌↔◌, ◌<◌, ◌≤◌, ℕ, List, map, filter, nat_eq, Option, IsOk, IfOk, IfErr};
+ghost use Rattle.std.specs.Prelude.{IfSome, IsPermutation};
 ghost use Rattle.std.specs.List.{AllByRecursion, list_any};
 ghost use Rattle.mls_scheme.specs.declared.value.Value.{Value as SpecValue};
 ghost use Rattle.mls_scheme.specs.declared.key_fault.KeyFault.TheVariants.{Memory as KeyMemory};

@@ -7,7 +7,8 @@ ghost use Rattle.mls_tables.specs.Statements.{SetsCell, AddsEntry};
 ghost use Rattle.mls_tables.specs.Store.{IsClean, Writes};
 ghost use Rattle.mls_rows.specs.Calls.{IsStep, IsSpelledTuple, CanSetValue};
 ghost use Rattle.mls_rows.specs.Finding.{IsMemory};
-ghost use Rattle.mls_rows.specs.Holding.{node_row, cell_row, value_bytes, IsSpelledCell, value_row, own_cell, tuple_key, AddsTuple, DropsTuple};
+ghost use Rattle.mls_rows.specs.Holding.{node_row, cell_row, value_bytes, IsSpelledCell, value_row, own_cell};
+ghost use Rattle.mls_rows.specs.Holding.{tuple_key, AddsTuple, DropsTuple};
 
 use crate::reading::{RowFault, abandon_at_row};
 use mls_filterview::{Cell, Node};

@@ -1,11 +1,8 @@
--- Desks over stores: where they begin, and how they end.
+-- Desks over stores, and how they end.
 use Rattle.mls_sessions.proofs.FrameLemmas.{carried}
-use Rattle.std.proofs.Common.{◌≡◌, ℕ, List, [], Option, Some, None, Result, refl, sym, subst, take}
-use Rattle.std.specs.Prelude.{IsErrAnd}
-use Rattle.std.specs.Borrow.{Bor}
-use Rattle.mls_filterview.specs.Content.{Content, no_content}
+use Rattle.std.proofs.Common.{◌≡◌, ℕ, List, [], Option, Result, refl, take, IsErrAnd}
+use Rattle.mls_filterview.specs.Content.{Content}
 use Rattle.mls_lattice.specs.Labels.{AreDistinct}
-use Rattle.mls_scheme.specs.declared.file.SchemesFile.{SchemesFile}
 use Rattle.mls_audit.specs.Sound.{IsSoundContent}
 use Rattle.mls_certcheck.specs.declared.stored.Stored.{Stored}
 use Rattle.mls_certcheck.specs.Site.{Site, site_labels, AreRead, AreCertified, site_of}
@@ -28,7 +25,6 @@ use Rattle.mls_host.specs.Causes.{IsBarred, IsNotBegun, no_memory, no_store}
 use Rattle.mls_host.specs.Stop.{IsEnd}
 use Rattle.mls_runs.specs.Running.{first_world}
 use Rattle.mls_runs.proofs.RunningLemmas.{end_weaker}
-use Rattle.mls_host.specs.Words.{named}
 use Rattle.mls_runs.specs.Shell.{events_in}
 use Rattle.mls_runs.specs.Desk.{IsService, IsDesk}
 use Rattle.mls_runs.specs.DeskRun.{IsDeskFrom, IsDeskRun}
@@ -51,27 +47,6 @@ desk_at echo site sessions first left before after Broken Wrote end distinct rea
       secret = secret;
       served = λ c n. served_alike site c w (take n es) (secret n);
     }
-
--- ---- where desks begin
-
-module _ (h : Hosted) (file : SchemesFile) (site : Site) (before after : Option (List ℕ)) (Broken : Type 0) (Wrote : List ℕ → Type 0) where
-  abbrev From : Option (List ℕ) → Result Ending RunFault → Type 0
-  From store = IsDeskFrom h before after Broken Wrote file store site
-
-  abbrev Fresh : Result Ending RunFault → Type 0
-  Fresh end = (left : Content) × IsDesk h.echo site before after Broken Wrote end no_content left
-
-  module _ (Nothing : Option (List ℕ) → Reason → Type 0) (store : Option (Bor (List ℕ))) (r : Result Ending Stop) where
-    -- with nothing
-    pub desk_from_memory : store ≡ None → IsEnd Fresh (Nothing None) r → IsEnd (From (named store)) (Nothing (named store)) r
-    desk_from_memory none desk =
-        let f : (end : Result Ending RunFault) → Fresh end → From None end
-        = λ end k. λ clean. record { first = no_content; left = k.0; begins = refl; kept = tt; leads = k.1 } in
-        subst (λ (s : Option (Bor (List ℕ))). IsEnd (From (named s)) (Nothing (named s)) r) (sym none) (end_weaker Fresh (Nothing None) (From None) (Nothing None) f (λ _ k. k) r desk)
-
-    -- with what a store kept
-    pub desk_from_store : (path : Bor (List ℕ)) → store ≡ Some path → IsEnd (From (Some path.now)) (Nothing (Some path.now)) r → IsEnd (From (named store)) (Nothing (named store)) r
-    desk_from_store path some desk = subst (λ (s : Option (Bor (List ℕ))). IsEnd (From (named s)) (Nothing (named s)) r) (sym some) desk
 
 -- ---- tasks
 

@@ -1,6 +1,5 @@
 -- The store of a machine in memory keeps one content, and is not opened for the causes that its connection is handed back for.
-use Rattle.std.proofs.Common.{◌≡◌, ◌↔◌, ◌⊎◌, inl, inr, ℕ, Bool, List, Option, Some, None, option_map, refl, sym, ◌∙◌, subst}
-use Rattle.std.specs.Prelude.{MatchOption, IsTrue}
+use Rattle.std.proofs.Common.{◌≡◌, ◌↔◌, ◌⊎◌, inl, inr, ℕ, Bool, List, Option, Some, None, option_map, refl, sym, ◌∙◌, subst, MatchOption, IsTrue}
 use Rattle.sqlite.specs.Effect.{Database}
 use Rattle.sqlite.specs.Held.{state}
 use Rattle.sqlite.specs.State.{State}

@@ -1,6 +1,6 @@
 -- What becomes of a line of a desk, and that it tells one event at most.
-use Rattle.std.proofs.Common.{◌≡◌, ◌≢◌, ℕ, suc, ◌+◌, ◌≤◌, ◌==◌, Bool, true, false, true≢false, List, [], ◌∷◌, ◌++◌, length, Option, Some, None, Result, Ok, Err, cond, nat_eq, eqb-true, ◌⊎◌, refl, sym, ap, ◌∙◌, subst, inl, inr, arith}
-use Rattle.std.specs.List.{list_any, flat_map, filter_map, cons_option}
+use Rattle.std.proofs.Common.{◌≡◌, ◌≢◌, ℕ, suc, ◌+◌, ◌≤◌, ◌==◌, Bool, true, false, true≢false, List, [], ◌∷◌, ◌++◌, length, Option, Some, None, Result, Ok, Err, cond, nat_eq, eqb-true, ◌⊎◌, refl, sym, ap, ◌∙◌, subst, inl, inr, arith, flat_map, filter_map}
+use Rattle.std.specs.List.{list_any, cons_option}
 use Rattle.std.specs.Io.KnownBytes.{Appends, IsAtEnd}
 use Rattle.mls_lattice.specs.Policy.{Policy}
 use Rattle.mls_scheme.specs.Scheme.{Schemes}
@@ -144,13 +144,7 @@ fate_one policy schemes line fate few (refused fault c r f) = subst (λ (x : Fat
 cut_one : (fate : Fate) → IsCut fate → length (events_of fate) ≤ 1
 cut_one fates.Unreadable h = omega arith
 cut_one (fates.Lost cause) h = omega arith
-cut_one fates.Over h = absurd h
-cut_one fates.Blank h = absurd h
-cut_one fates.Help h = absurd h
-cut_one fates.Asked h = absurd h
-cut_one (fates.Said events) h = absurd h
-cut_one (fates.Refused fault) h = absurd h
-cut_one fates.TooLong h = absurd h
+cut_one _ h = absurd h
 
 -- of a line that is read one event is told at most
 pub one_event : (echo : List ℕ → List ℕ) (policy : Policy) (schemes : Schemes) (before after was is : Option (List ℕ)) (Broken : Type 0) (fate : Fate)

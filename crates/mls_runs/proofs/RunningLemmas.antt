@@ -1,7 +1,9 @@
--- Runs over a content: the lines of their events, what they leave, and how they end.
-use Rattle.std.proofs.Common.{ℕ, List, Option, Some, None, Result, Ok, Err, OnOk, IfErr, IfSome, take}
+-- Runs over a content: where they begin, the lines of their events, what they leave, and how they end.
+use Rattle.std.proofs.Common.{◌≡◌, ℕ, List, Option, Some, None, Result, Ok, Err, OnOk, IfErr, IfSome, take, refl, sym, subst, Bor}
 use Rattle.std.specs.Io.KnownBytes.{Appends}
-use Rattle.mls_filterview.specs.Content.{Content}
+use Rattle.mls_lattice.specs.Policy.{Policy}
+use Rattle.mls_scheme.specs.declared.file.SchemesFile.{SchemesFile}
+use Rattle.mls_filterview.specs.Content.{Content, no_content}
 use Rattle.mls_audit.specs.Sound.{IsSoundContent}
 use Rattle.mls_script.specs.declared.event.Event.{Event}
 use Rattle.mls_machine.specs.declared.form.Audience.{Audience}
@@ -16,8 +18,10 @@ use Rattle.mls_sessions.specs.Run.{IsWhole, IsStopped as IsHalted, IsFaultOf}
 use Rattle.mls_host.specs.declared.host.CloseFault.{CloseFault}
 use Rattle.mls_host.specs.declared.stop.Stop.{Stop}
 use Rattle.mls_host.specs.declared.reason.Reason.{Reason}
-use Rattle.mls_host.specs.declared.stop.Stop.TheVariants.{Before, Run, NotClosed, Output, Served, Unread, Turned}
+use Rattle.mls_host.specs.declared.stop.Stop.TheVariants.{Before, Run, NotClosed}
+use Rattle.mls_host.specs.Hosting.{Hosted, IsClean, IsOver}
 use Rattle.mls_host.specs.Stop.{ended, IsEnd}
+use Rattle.mls_host.specs.Words.{named}
 use Rattle.mls_runs.specs.Running.{first_world, IsRun}
 
 -- what an engine's run comes to: its lines, its last world, and what is proved of it
@@ -68,7 +72,25 @@ module _ {A : Type 0} (Ends : Result A RunFault → Type 0) (Nothing : Reason �
   end_weaker More Less f g (Err (Before reason)) h = g reason h
   end_weaker More Less f g (Err (Run fault)) h = f (Err fault) h
   end_weaker More Less f g (Err NotClosed) h = (h.0, f (Ok h.0) h.1)
-  end_weaker More Less f g (Err Output) h = absurd h
-  end_weaker More Less f g (Err (Served cause)) h = absurd h
-  end_weaker More Less f g (Err Unread) h = absurd h
-  end_weaker More Less f g (Err (Turned cause)) h = absurd h
+  end_weaker More Less f g _ h = absurd h
+
+-- ---- where they begin
+
+module _ {A : Type 0} (h : Hosted) (file : SchemesFile) (policy : Policy) (Leads : Result A RunFault → Content → Content → Type 0) where
+  abbrev From : Option (List ℕ) → Result A RunFault → Type 0
+  From store end = IsClean h store → IsOver h policy file store (Leads end)
+
+  abbrev Fresh : Result A RunFault → Type 0
+  Fresh end = (left : Content) × Leads end no_content left
+
+  module _ (Nothing : Option (List ℕ) → Reason → Type 0) (store : Option (Bor (List ℕ))) (r : Result A Stop) where
+    -- with nothing
+    pub from_memory : store ≡ None → IsEnd Fresh (Nothing None) r → IsEnd (From (named store)) (Nothing (named store)) r
+    from_memory none run =
+        let f : (end : Result A RunFault) → Fresh end → From None end
+        = λ end k. λ clean. record { first = no_content; left = k.0; begins = refl; kept = tt; leads = k.1 } in
+        subst (λ (s : Option (Bor (List ℕ))). IsEnd (From (named s)) (Nothing (named s)) r) (sym none) (end_weaker Fresh (Nothing None) (From None) (Nothing None) f (λ _ k. k) r run)
+
+    -- with what a store kept
+    pub from_store : (path : Bor (List ℕ)) → store ≡ Some path → IsEnd (From (Some path.now)) (Nothing (Some path.now)) r → IsEnd (From (named store)) (Nothing (named store)) r
+    from_store path some run = subst (λ (s : Option (Bor (List ℕ))). IsEnd (From (named s)) (Nothing (named s)) r) (sym some) run

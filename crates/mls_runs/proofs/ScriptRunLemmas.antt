@@ -1,15 +1,7 @@
--- Runs of scripts: where they begin, and how they end.
-use Rattle.std.proofs.Common.{refl, ◌≡◌, ℕ, Bool, List, [], Option, Some, None, Result, Ok, Err, sym, subst}
-use Rattle.std.specs.Borrow.{Bor}
-use Rattle.std.specs.Result.{IsErrAnd}
-use Rattle.mls_filterview.specs.Content.{Content, no_content}
-use Rattle.mls_scheme.specs.declared.file.SchemesFile.{SchemesFile}
-use Rattle.mls_script.specs.declared.event.Event.{Event}
+-- Runs of scripts.
+use Rattle.std.proofs.Common.{refl, ◌≡◌, ℕ, Bool, List, [], Option, Result, Ok, Err, sym, subst, IsErrAnd}
 use Rattle.mls_certcheck.specs.declared.stored.Stored.{Stored}
-use Rattle.mls_machine.specs.declared.form.Audience.{Audience}
-use Rattle.mls_certcheck.specs.Site.{Site}
 use Rattle.mls_script.specs.declared.run_fault.RunFault.{RunFault}
-use Rattle.mls_host.specs.Words.{named}
 use Rattle.mls_host.specs.declared.reason.Reason.{Reason}
 use Rattle.mls_host.specs.declared.stop.Stop.{Stop}
 use Rattle.mls_host.specs.declared.stop.Stop.TheVariants.{Before}
@@ -19,27 +11,8 @@ use Rattle.mls_host.specs.declared.job.Inputs.{Inputs}
 use Rattle.mls_host.specs.Storing.{AreStoredWith}
 use Rattle.mls_host.specs.Causes.{IsBarred, IsNotBegun, no_memory, no_store}
 use Rattle.mls_host.specs.Stop.{IsEnd}
-use Rattle.mls_runs.specs.Running.{IsRun}
 use Rattle.mls_runs.proofs.RunningLemmas.{end_weaker}
 use Rattle.mls_runs.specs.ScriptRun.{audience_of, site_under, IsRunFrom, IsScriptRun}
-
--- ---- where runs begin
-
-module _ (h : Hosted) (file : SchemesFile) (site : Site) (audience : Audience) (es : List Event) (Wrote : List ℕ → Type 0) (Nothing : Option (List ℕ) → Reason → Type 0)
-    (store : Option (Bor (List ℕ))) (r : Result (Unit {0}) Stop) where
-  -- with nothing
-  pub from_memory : store ≡ None → IsEnd (λ end. (left : Content) × IsRun site audience es Wrote end no_content left) (Nothing None) r
-      → IsEnd (IsRunFrom h file (named store) site audience es Wrote) (Nothing (named store)) r
-  from_memory none run =
-      let f : (end : Result (Unit {0}) RunFault) → ((left : Content) × IsRun site audience es Wrote end no_content left) → IsRunFrom h file None site audience es Wrote end
-      = λ end k. λ clean. record { first = no_content; left = k.0; begins = refl; kept = tt; leads = k.1 } in
-      subst (λ (s : Option (Bor (List ℕ))). IsEnd (IsRunFrom h file (named s) site audience es Wrote) (Nothing (named s)) r) (sym none)
-      (end_weaker (λ end. (left : Content) × IsRun site audience es Wrote end no_content left) (Nothing None) (IsRunFrom h file None site audience es Wrote) (Nothing None) f (λ _ k. k) r run)
-
-  -- with what a store kept
-  pub from_store : (path : Bor (List ℕ)) → store ≡ Some path → IsEnd (IsRunFrom h file (Some path.now) site audience es Wrote) (Nothing (Some path.now)) r
-      → IsEnd (IsRunFrom h file (named store) site audience es Wrote) (Nothing (named store)) r
-  from_store path some run = subst (λ (s : Option (Bor (List ℕ))). IsEnd (IsRunFrom h file (named s) site audience es Wrote) (Nothing (named s)) r) (sym some) run
 
 -- ---- the events of a script
 

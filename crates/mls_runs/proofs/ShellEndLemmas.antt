@@ -1,14 +1,11 @@
--- Shells over stores: where they begin, and how they end.
+-- Shells over stores, and how they end.
 use Rattle.mls_sessions.proofs.FrameLemmas.{carried}
-use Rattle.std.proofs.Common.{◌≡◌, ℕ, ◌<◌, length, true, ◌∷◌, List, [], Option, Some, None, Result, refl, sym, subst}
-use Rattle.std.specs.Prelude.{IsErrAnd}
-use Rattle.std.specs.Borrow.{Bor}
+use Rattle.std.proofs.Common.{◌≡◌, ℕ, ◌<◌, length, true, ◌∷◌, List, [], Option, Some, Result, refl, subst, IsErrAnd}
 use Rattle.std.specs.Io.KnownBytes.{Appends}
-use Rattle.mls_filterview.specs.Content.{Content, no_content}
+use Rattle.mls_filterview.specs.Content.{Content}
 use Rattle.mls_lattice.specs.Name.{is_name}
 use Rattle.mls_lattice.specs.Labels.{AreDistinct}
 use Rattle.mls_script.specs.declared.event.Event.{Event}
-use Rattle.mls_scheme.specs.declared.file.SchemesFile.{SchemesFile}
 use Rattle.mls_audit.specs.Sound.{IsSoundContent}
 use Rattle.mls_certcheck.specs.declared.stored.Stored.{Stored}
 use Rattle.mls_certcheck.specs.Site.{Site, site_labels, AreRead, AreCertified, site_of}
@@ -27,7 +24,6 @@ use Rattle.mls_host.specs.Hosting.{Hosted}
 use Rattle.mls_host.specs.declared.reason.Reason.TheVariants.{Memory}
 use Rattle.mls_host.specs.declared.job.Inputs.{Inputs}
 use Rattle.mls_host.specs.Storing.{AreStoredWith}
-use Rattle.mls_host.specs.Words.{named}
 use Rattle.mls_host.specs.Causes.{IsBarred, no_memory, no_store}
 use Rattle.mls_host.specs.Stop.{IsEnd}
 use Rattle.mls_runs.specs.Running.{first_world}
@@ -62,27 +58,6 @@ pub conversation_at : (echo : List ℕ → List ℕ) (session : ShellSession) (b
 conversation_at echo session before after was is Broken Told end s t v x w y e f g k =
     subst (λ w. IsConversation echo t session before after was is Broken Told end x w) g
     (subst (λ v. IsConversation echo t session before after was is Broken Told end v w) f (subst (λ s. IsConversation echo s session before after was is Broken Told end v w) e k))
-
--- ---- where shells begin
-
-module _ (h : Hosted) (file : SchemesFile) (site : Site) (session : ShellSession) (before after : Option (List ℕ)) (Broken : Type 0) (Wrote Told : List ℕ → Type 0) where
-  abbrev From : Option (List ℕ) → Result Ending RunFault → Type 0
-  From store = IsShellFrom h before after Broken Wrote Told file store site session
-
-  abbrev Fresh : Result Ending RunFault → Type 0
-  Fresh end = (left : Content) × IsShell h.echo site session before after Broken Wrote Told end no_content left
-
-  module _ (Nothing : Option (List ℕ) → Reason → Type 0) (store : Option (Bor (List ℕ))) (r : Result Ending Stop) where
-    -- with nothing
-    pub shell_from_memory : store ≡ None → IsEnd Fresh (Nothing None) r → IsEnd (From (named store)) (Nothing (named store)) r
-    shell_from_memory none shell =
-        let f : (end : Result Ending RunFault) → Fresh end → From None end
-        = λ end k. λ clean. record { first = no_content; left = k.0; begins = refl; kept = tt; leads = k.1 } in
-        subst (λ (s : Option (Bor (List ℕ))). IsEnd (From (named s)) (Nothing (named s)) r) (sym none) (end_weaker Fresh (Nothing None) (From None) (Nothing None) f (λ _ k. k) r shell)
-
-    -- with what a store kept
-    pub shell_from_store : (path : Bor (List ℕ)) → store ≡ Some path → IsEnd (From (Some path.now)) (Nothing (Some path.now)) r → IsEnd (From (named store)) (Nothing (named store)) r
-    shell_from_store path some shell = subst (λ (s : Option (Bor (List ℕ))). IsEnd (From (named s)) (Nothing (named s)) r) (sym some) shell
 
 -- ---- tasks
 

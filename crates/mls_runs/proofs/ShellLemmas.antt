@@ -1,10 +1,9 @@
 -- Shells: events, lines and what is told of them, one after another.
-use Rattle.std.proofs.Common.{◌≡◌, ℕ, zero, suc, ◌+◌, ◌-◌, ◌≤◌, Bool, true, false, true≢false, cond, not, ◌||◌, List, [], ◌∷◌, ◌++◌, length, take, drop, Option, Result, Ok, Err, refl, sym, ap, ◌∙◌, subst, append_assoc, append-nil, arith}
-use Rattle.std.specs.List.{AllByRecursion, filter, flat_map, list_any}
+use Rattle.std.proofs.Common.{◌≡◌, ℕ, zero, suc, ◌+◌, ◌-◌, ◌≤◌, Bool, true, false, true≢false, cond, not, ◌||◌, List, [], ◌∷◌, ◌++◌, length, take, drop, Option, Result, Ok, Err, refl, sym, ap, ◌∙◌, subst, append_assoc, append-nil, arith, filter, flat_map, length-append, take-append-drop}
+use Rattle.std.specs.List.{AllByRecursion, list_any}
 use Rattle.std.specs.Io.KnownBytes.{Appends}
 use Rattle.std.proofs.KnownBytes.{Appends-nil, Appends-trans}
 use Rattle.std.proofs.lemmas.Grind.{flat_map-append}
-use Rattle.std.proofs.lemmas.List.{length-append, take-append-drop}
 use Rattle.std.proofs.lemmas.List.Elements.{filter-append}
 use Rattle.std.proofs.lemmas.List.Folds.{list_any-append}
 use Rattle.std.proofs.Math.Seq.{take-append-add, take-append_seam}
@@ -213,26 +212,12 @@ module _ {E : Type 0} (contents : E → Option (List ℕ)) (session : ShellSessi
 -- ---- last lines, and those that were not read
 
 failed_is_last : (fate : Fate) → is_last fate ≡ false → is_failed fate ≡ false
-failed_is_last fates.Over h = refl
-failed_is_last fates.Blank h = refl
-failed_is_last fates.Help h = refl
-failed_is_last fates.Asked h = refl
-failed_is_last (fates.Said events) h = refl
-failed_is_last (fates.Refused fault) h = refl
-failed_is_last fates.TooLong h = refl
 failed_is_last fates.Unreadable h = h
-failed_is_last (fates.Lost cause) h = refl
+failed_is_last _ h = refl
 
 failed_is : (fate : Fate) → is_failed fate ≡ true → fate ≡ fates.Unreadable
-failed_is fates.Over h = absurd (true≢false (sym h))
-failed_is fates.Blank h = absurd (true≢false (sym h))
-failed_is fates.Help h = absurd (true≢false (sym h))
-failed_is fates.Asked h = absurd (true≢false (sym h))
-failed_is (fates.Said events) h = absurd (true≢false (sym h))
-failed_is (fates.Refused fault) h = absurd (true≢false (sym h))
-failed_is fates.TooLong h = absurd (true≢false (sym h))
 failed_is fates.Unreadable h = refl
-failed_is (fates.Lost cause) h = absurd (true≢false (sym h))
+failed_is _ h = absurd (true≢false (sym h))
 
 pub none_failed : (ts : List Turn) → list_any (λ (t : Turn). is_last t.fate) ts ≡ false → list_any (λ (t : Turn). is_failed t.fate) ts ≡ false
 none_failed [] h = refl

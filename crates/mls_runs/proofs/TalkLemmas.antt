@@ -55,59 +55,31 @@ followed_nothing at audience w es a line r none is = record {
 }
 
 pub none_is_lost : (fate : Fate) → ((cause : RunCause) → fate ≡ fates.Lost cause → ⊥) → is_lost fate ≡ false
-none_is_lost fates.Over h = refl
-none_is_lost fates.Blank h = refl
-none_is_lost fates.Help h = refl
-none_is_lost fates.Asked h = refl
-none_is_lost (fates.Said events) h = refl
-none_is_lost (fates.Refused fault) h = refl
-none_is_lost fates.TooLong h = refl
-none_is_lost fates.Unreadable h = refl
 none_is_lost (fates.Lost cause) h = absurd (h cause refl)
+none_is_lost _ h = refl
 
 pub followed_lost : (at : Site) (audience : Audience) (w : World) (fate : Fate) (a : Option (List ℕ)) (line : ℕ) (cause : RunCause) → fate ≡ fates.Lost cause
     → IsFollowed at audience w (events_of fate) a a w line (Err (record { event = line; cause = cause; done = false }))
 followed_lost at audience w fate a line cause is = followed_nothing at audience w (events_of fate) a line _ (ap events_of is) refl
 
 pub no_events : (fate : Fate) → ((events : List Event) → fate ≡ fates.Said events → ⊥) → events_of fate ≡ []
-no_events fates.Over h = refl
-no_events fates.Blank h = refl
-no_events fates.Help h = refl
-no_events fates.Asked h = refl
 no_events (fates.Said events) h = absurd (h events refl)
-no_events (fates.Refused fault) h = refl
-no_events fates.TooLong h = refl
-no_events fates.Unreadable h = refl
-no_events (fates.Lost cause) h = refl
+no_events _ h = refl
 
 pub followed_none : (at : Site) (audience : Audience) (w : World) (fate : Fate) (a : Option (List ℕ)) (line : ℕ) → ((events : List Event) → fate ≡ fates.Said events → ⊥)
     → IsFollowed at audience w (events_of fate) a a w line (Ok tt)
 followed_none at audience w fate a line h = followed_nothing at audience w (events_of fate) a line (Ok tt) (no_events fate h) tt
 
 pub fate_fits : (at : Site) (fate : Fate) → FateFits at.policy at.schemes fate → EventsFit at (events_of fate)
-fate_fits at fates.Over h = tt
-fate_fits at fates.Blank h = tt
-fate_fits at fates.Help h = tt
-fate_fits at fates.Asked h = tt
 fate_fits at (fates.Said events) h = h
-fate_fits at (fates.Refused fault) h = tt
-fate_fits at fates.TooLong h = tt
-fate_fits at fates.Unreadable h = tt
-fate_fits at (fates.Lost cause) h = tt
+fate_fits at _ h = tt
 
 -- ---- what is counted of a line
 
 -- of one without events, whatever is said of events
 pub verdict_same : (fate : Fate) (a b : Bool) → ((events : List Event) → fate ≡ fates.Said events → ⊥) → verdict_of a fate ≡ verdict_of b fate
-verdict_same fates.Over a b h = refl
-verdict_same fates.Blank a b h = refl
-verdict_same fates.Help a b h = refl
-verdict_same fates.Asked a b h = refl
 verdict_same (fates.Said events) a b h = absurd (h events refl)
-verdict_same (fates.Refused fault) a b h = refl
-verdict_same fates.TooLong a b h = refl
-verdict_same fates.Unreadable a b h = refl
-verdict_same (fates.Lost cause) a b h = refl
+verdict_same _ a b h = refl
 
 -- of one whose events are answered, by whether there is a notice
 pub verdict_noticed : (at : Site) (w : World) (fate : Fate) (events es : List Event) (noticed : Bool) → fate ≡ fates.Said events → es ≡ events → noticed ≡ not (are_done at w es)
@@ -135,14 +107,8 @@ read_at echo q policy schemes session a b c d Broken fate e f h =
 -- a line behind which no other is read is the end, or it was not read, or the shell is given up at it
 pub last_line : (fate : Fate) (left : Option (List ℕ)) → is_last fate ≡ true → is_lost fate ≡ false → (fate ≡ fates.Over → IsAtEnd left) → IsAtEnd left ⊎ (is_failed fate ≡ true)
 last_line fates.Over left h none over = inl (over refl)
-last_line fates.Blank left h none over = absurd cc
-last_line fates.Help left h none over = absurd cc
-last_line fates.Asked left h none over = absurd cc
-last_line (fates.Said events) left h none over = absurd cc
-last_line (fates.Refused fault) left h none over = absurd cc
-last_line fates.TooLong left h none over = absurd cc
 last_line fates.Unreadable left h none over = inr refl
-last_line (fates.Lost cause) left h none over = absurd cc
+last_line _ left h none over = absurd cc
 
 pub failed_last : (ts : List Turn) (t : Turn) (left : Option (List ℕ)) → IsAtEnd left ⊎ (is_failed t.fate ≡ true) → IsAtEnd left ⊎ (list_any (λ (t : Turn). is_failed t.fate) (ts ++ t ∷ []) ≡ true)
 failed_last ts t left (inl h) = inl h

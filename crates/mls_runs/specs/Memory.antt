@@ -1,8 +1,6 @@
 -- A machine in memory, of which all is known.
 use Rattle.std.specs.Prelude.{◌≡◌, ◌<◌, ℕ, Bool, true, false, List, [], length, Option, Some, None, option_map, Result}
-use Rattle.std.specs.Prelude.{Ok, Err, MatchOption, ⊤}
-use Rattle.std.specs.List.{find}
-use Rattle.std.specs.Str.{bytes_eq}
+use Rattle.std.specs.Prelude.{Ok, Err, MatchOption, ⊤, find, bytes_eq}
 use Rattle.sqlite.specs.Effect.{Database}
 use Rattle.sqlite_trees.specs.declared.memory.MemStore.{MemStore}
 use Rattle.sqlite.specs.Held.{Held, state}

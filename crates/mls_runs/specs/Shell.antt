@@ -1,9 +1,8 @@
 -- A shell: lines are typed, and each is answered before the next is read.
 use Rattle.std.specs.Prelude.{◌≡◌, ◌≢◌, ℕ, zero, suc, ◌+◌, ◌-◌, ◌<◌, ◌≤◌, max, nat_eq, nat_lt, Bool, true, false, not}
-use Rattle.std.specs.Prelude.{if◌then◌else◌, List, [], ◌∷◌, ◌++◌, codes, length, take, Option, is_some, ◌⊎◌, ⊤}
-use Rattle.std.specs.Prelude.{◌&&◌, ◌||◌, IfErr, OnOk, Result, Ok, Err}
-use Rattle.std.specs.List.{AllByRecursion, filter, flat_map, list_all, list_any, starts_with}
-use Rattle.std.specs.Str.{bytes_eq}
+use Rattle.std.specs.Prelude.{if◌then◌else◌, List, [], ◌∷◌, ◌++◌, codes, length, take, Option, is_some, ◌⊎◌, ⊤, ◌&&◌}
+use Rattle.std.specs.Prelude.{◌||◌, IfErr, OnOk, Result, Ok, Err, filter, flat_map, bytes_eq}
+use Rattle.std.specs.List.{AllByRecursion, list_all, list_any, starts_with}
 use Rattle.std.specs.Io.KnownBytes.{Appends, Consumes, IsAtEnd}
 use Rattle.mls_lattice.specs.Name.{is_name}
 use Rattle.mls_lattice.specs.Policy.{Policy}

@@ -7,7 +7,8 @@ ghost use Rattle.mls_sessions.specs.Run.{are_done};
 ghost use Rattle.mls_host.specs.Ending.{ending_if};
 ghost use Rattle.mls_host.specs.Hosting.{IsAppended, IsTold};
 ghost use Rattle.mls_certcheck.specs.Site.{site_of};
-ghost use Rattle.mls_runs.specs.Shell.{opening, audience_at, told_of, events_of, verdict_of, is_short, end_told, is_last, is_lost, FateFits, MayTalk, IsFollowed, IsConversation, IsShell};
+ghost use Rattle.mls_runs.specs.Shell.{opening, audience_at, events_of, verdict_of, is_short, end_told, is_last};
+ghost use Rattle.mls_runs.specs.Shell.{is_lost, FateFits, MayTalk, IsFollowed, IsConversation, IsShell};
 
 use crate::explaining::Listener;
 use crate::form::form_of;

@@ -1,11 +1,10 @@
 //! What a typed line tells.
-ghost use Rattle.std.specs.Prelude.{◌≡◌, ◌∷◌, ◌++◌, ◌||◌, [], codes, IfOk};
-ghost use Rattle.std.specs.Str.{bytes_eq};
+ghost use Rattle.std.specs.Prelude.{◌≡◌, ◌∷◌, ◌++◌, ◌||◌, [], codes, IfOk, bytes_eq};
 ghost use Rattle.std.specs.List.{AllByRecursion, list_all};
-ghost use Rattle.mls_lattice.specs.Name.{is_name};
 ghost use Rattle.mls_script.specs.Event.{EventFits};
 ghost use Rattle.mls_script.specs.Reading.{IsRead as IsScriptRead, script_at};
-ghost use Rattle.mls_runs.specs.Shell.{prefix_of, opening, is_own, fate_of_events, is_asked, meant, IsFate, FateFits, IsRead};
+ghost use Rattle.mls_runs.specs.Shell.{prefix_of, opening, is_own, fate_of_events, is_asked, meant, IsFate, FateFits};
+ghost use Rattle.mls_runs.specs.Shell.{IsRead};
 ghost use Rattle.mls_runs.specs.Typed.{fate_of_fault, fate_of, Becomes};
 
 use crate::shell_session::{Fate, ShellSession};

@@ -1,9 +1,7 @@
 -- Which older schemes schemes extend: a text is the lines of older ones in one way.
-use Rattle.std.proofs.Common.{◌≡◌, ◌≢◌, ℕ, arith, ◌+◌, ◌<◌, ◌==◌, true, false, ◌↔◌, List, [], ◌∷◌, ◌++◌, append_assoc, length, get_or, take, drop, slice_get, option_map, Option, Some, None, refl, sym, ap, subst, ◌∙◌}
-use Rattle.std.specs.Prelude.{codes, IfSome, IsSomeAnd}
-use Rattle.std.specs.List.{AllByRecursion, flat_map}
-use Rattle.std.proofs.lemmas.List.{append-nil, append_cancel_left, drop_more}
-use Rattle.std.proofs.lemmas.Bool.{eqb-true}
+use Rattle.std.proofs.Common.{◌≡◌, ◌≢◌, ℕ, arith, ◌+◌, ◌<◌, ◌==◌, true, false, ◌↔◌, List, [], ◌∷◌, ◌++◌, append_assoc, length, get_or, take, drop, slice_get, option_map, Option, Some, None, refl, sym, ap, subst, ◌∙◌, codes, IfSome, IsSomeAnd, flat_map, append-nil, eqb-true}
+use Rattle.std.specs.List.{AllByRecursion}
+use Rattle.std.proofs.lemmas.List.{append_cancel_left, drop_more}
 use Rattle.mls_lattice.specs.Policy.{Policy, labels_of}
 use Rattle.mls_lattice.specs.Labels.{Labels, below}
 use Rattle.mls_lattice.specs.declared.version.Version.{Version}

@@ -1,9 +1,7 @@
 -- What the fields say that were read without a fault.
-use Rattle.std.proofs.Common.{◌≡◌, ℕ, ◌<◌, ◌≤◌, Bool, true, false, cond, List, [], ◌∷◌, codes, pos, Option, None, Some, is_some, Result, Ok, Err, refl, ap, ◌∙◌, inl, inr, arith, ◌==◌}
-use Rattle.std.specs.Prelude.{◌⊎◌, position}
-use Rattle.std.specs.Str.{bytes_eq}
+use Rattle.std.proofs.Common.{◌≡◌, ℕ, ◌<◌, ◌≤◌, Bool, true, false, cond, List, [], ◌∷◌, codes, pos, Option, None, Some, is_some, Result, Ok, Err, refl, ap, ◌∙◌, inl, inr, arith, ◌==◌, ◌⊎◌, position, bytes_eq, ne_eqb}
 use Rattle.std.specs.Cmp.Lexicographic.{bytes_decides}
-use Rattle.std.proofs.lemmas.Bool.{ne_eqb, eqb-false}
+use Rattle.std.proofs.lemmas.Bool.{eqb-false}
 use Rattle.toml.specs.Data.{Data, string, integer, array, table, Items, no_items, Members, get_member, as_str, as_table}
 use Rattle.mls_lattice.specs.declared.fault.FieldFault.{FieldFault}
 use Rattle.mls_lattice.specs.declared.fault.FieldFault.TheVariants.{MissingField, WrongKind, UnknownName}

@@ -1,11 +1,8 @@
 -- A value of a kind has a spelling, and so has a key of a scheme.
-use Rattle.std.proofs.Common.{◌≡◌, ℕ, suc, ◌^◌, ◌<◌, true, nat_lt, List, [], ◌∷◌, length, ℤ, pos, negsuc, Option, None, Some, refl, ap, arith}
-use Rattle.std.specs.Prelude.{FitsSigned, IsUtf8}
+use Rattle.std.proofs.Common.{◌≡◌, ℕ, suc, ◌^◌, ◌<◌, true, nat_lt, List, [], ◌∷◌, length, ℤ, pos, negsuc, Option, None, Some, refl, ap, arith, FitsSigned, IsUtf8, IfSome, w64, lt-ltb, ltb-true}
 use Rattle.std.specs.List.{AllZip, AllByRecursion}
-use Rattle.std.specs.Option.{IfSome}
-use Rattle.std.specs.Int.{w64}
 use Rattle.std.specs.Str.{is_utf8}
-use Rattle.std.proofs.lemmas.Bool.{and_parts, lt-ltb, ltb-true}
+use Rattle.std.proofs.lemmas.Bool.{and_parts}
 use Rattle.std.proofs.lemmas.Str.{is_utf8-from_IsUtf8, IsUtf8-from_is_utf8}
 use Rattle.mls_scheme.specs.declared.value.Kind.{Kind}
 use Rattle.mls_scheme.specs.declared.value.Kind.TheVariants as kinds

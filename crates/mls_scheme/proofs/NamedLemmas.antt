@@ -1,14 +1,12 @@
 -- Things by name, as a list and as the entries of a map.
-use Rattle.std.proofs.Common.{◌≡◌, ℕ, suc, ◌+◌, Bool, true, false, ◌||◌, List, [], ◌∷◌, ◌++◌, length, map, cond, not, nat_lt, Some, None, is_some, String, string_bytes, refl, sym, ap, ◌∙◌, inl, inr, arith}
-use Rattle.std.specs.List.{position, prefix_len, list_any}
-use Rattle.std.specs.Str.{bytes_eq}
+use Rattle.std.proofs.Common.{◌≡◌, ℕ, suc, ◌+◌, Bool, true, false, ◌||◌, List, [], ◌∷◌, ◌++◌, length, map, cond, not, nat_lt, Some, None, is_some, String, string_bytes, refl, sym, ap, ◌∙◌, inl, inr, arith, position, bytes_eq, lt-ltb, string_eq}
+use Rattle.std.specs.List.{prefix_len, list_any}
 use Rattle.std.specs.Map.{keys_of}
 use Rattle.std.specs.Cmp.Lexicographic.{nat_list_eq_equiv}
-use Rattle.std.proofs.lemmas.Bool.{or_parts, cases_Bool, lt-ltb}
+use Rattle.std.proofs.lemmas.Bool.{or_parts, cases_Bool}
 use Rattle.std.proofs.lemmas.Bool.Decides.{nat_tests}
 use Rattle.std.proofs.lemmas.List.{length-map}
 use Rattle.mls_lattice.specs.Policy.{Name}
-use Rattle.std.specs.String.{string_eq}
 use Rattle.indexmap.specs.IndexMap.{insert_entry}
 use Rattle.mls_scheme.specs.Named.{item_of, has_name}
 

@@ -1,8 +1,7 @@
 -- Schemes with the first of their attributes outside the key are schemes.
-use Rattle.std.proofs.Common.{◌≡◌, ℕ, zero, suc, arith, ◌+◌, ◌<◌, ◌≤◌, false, List, [], ◌∷◌, ◌++◌, append_assoc, length, get_or, take, drop, map, slice_get, option_map, Some, refl, sym, ap, subst, ◌∙◌}
+use Rattle.std.proofs.Common.{◌≡◌, ℕ, zero, suc, arith, ◌+◌, ◌<◌, ◌≤◌, false, List, [], ◌∷◌, ◌++◌, append_assoc, length, get_or, take, drop, map, slice_get, option_map, Some, refl, sym, ap, subst, ◌∙◌, bytes_eq, take-append-drop}
 use Rattle.std.specs.List.{AllZip, AllByRecursion, IsDistinct}
-use Rattle.std.specs.Str.{bytes_eq}
-use Rattle.std.proofs.lemmas.List.{take-append-drop, drop_more}
+use Rattle.std.proofs.lemmas.List.{drop_more}
 use Rattle.mls_lattice.specs.Policy.{Name, Policy, AreNames}
 use Rattle.mls_scheme.specs.declared.attributes.Column.{Column}
 use Rattle.mls_scheme.specs.Named.{has_name}

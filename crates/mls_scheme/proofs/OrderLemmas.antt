@@ -1,10 +1,10 @@
 -- The orders of values and of places are total, and only equal ones tie.
-use Rattle.std.proofs.Common.{◌≡◌, ◌↔◌, Bool, true, refl, ap, subst}
+use Rattle.std.proofs.Common.{◌≡◌, ◌↔◌, Bool, true, refl, ap, subst, nat_cmp, is_eq}
 use Rattle.std.specs.declared.cmp.Ordering.{Ordering}
 use Rattle.std.specs.declared.cmp.Ordering.TheVariants.{Less, Equal, Greater}
 use Rattle.std.specs.Cmp.{IsTotalOrder}
 use Rattle.std.specs.Cmp.Lexicographic.{slice_cmp}
-use Rattle.std.specs.Ordering.{nat_cmp, ordering_then, is_eq, eq_by_cmp}
+use Rattle.std.specs.Ordering.{ordering_then, eq_by_cmp}
 use Rattle.std.specs.FinMap.{IsAntisymmetric, slice_cmp-IsAntisymmetric, nat_cmp-IsAntisymmetric, int_cmp-IsAntisymmetric}
 use Rattle.std.proofs.lemmas.Cmp.{tied_itself}
 use Rattle.mls_scheme.specs.declared.value.Value.{Value}

@@ -1,10 +1,7 @@
 -- Reading gives the schemes that the document says, and refuses no others.
-use Rattle.std.proofs.Common.{◌≡◌, ◌≢◌, ℕ, ◌<◌, Bool, true, false, cond, nat_eq, nat_lt, List, [], ◌∷◌, ◌++◌, length, map, Option, None, Some, Result, Ok, Err, refl, sym, ap, ◌∙◌, inl, inr, arith, subst}
-use Rattle.std.specs.Prelude.{◌⊎◌, IfOk, codes}
-use Rattle.std.specs.List.{AllByRecursion, AllZip, IsDistinct, position}
-use Rattle.std.specs.Str.{bytes_eq}
-use Rattle.std.proofs.lemmas.List.{append-nil}
-use Rattle.std.proofs.lemmas.Bool.{eqb-true, ltb-true, eq-eqb, and_parts, and_from}
+use Rattle.std.proofs.Common.{◌≡◌, ◌≢◌, ℕ, ◌<◌, Bool, true, false, cond, nat_eq, nat_lt, List, [], ◌∷◌, ◌++◌, length, map, Option, None, Some, Result, Ok, Err, refl, sym, ap, ◌∙◌, inl, inr, arith, subst, ◌⊎◌, IfOk, codes, position, bytes_eq, append-nil, eqb-true, ltb-true, eq-eqb}
+use Rattle.std.specs.List.{AllByRecursion, AllZip, IsDistinct}
+use Rattle.std.proofs.lemmas.Bool.{and_parts, and_from}
 use Rattle.toml.specs.Data.{Data, array, table, Items, no_items, Members, get_member, string}
 use Rattle.mls_lattice.specs.declared.failed.Failed.{Failed}
 use Rattle.mls_lattice.specs.declared.failed.Failed.TheVariants as failed

@@ -1,8 +1,7 @@
 -- Relations and attributes, by number and by name.
-use Rattle.std.proofs.Common.{◌≡◌, ℕ, ◌<◌, true, List, ◌++◌, length, map, get_or, Some, option_map, slice_get, refl, sym, ap, subst, ◌∙◌}
+use Rattle.std.proofs.Common.{◌≡◌, ℕ, ◌<◌, true, List, ◌++◌, length, map, get_or, Some, option_map, slice_get, refl, sym, ap, subst, ◌∙◌, position, bytes_eq}
 use Rattle.std.proofs.Recursive.{every_back}
-use Rattle.std.specs.List.{IsDistinct, position}
-use Rattle.std.specs.Str.{bytes_eq}
+use Rattle.std.specs.List.{IsDistinct}
 use Rattle.std.proofs.lemmas.List.{map-append}
 use Rattle.std.proofs.lemmas.List.Elements.{All-from_recursion}
 use Rattle.std.proofs.lemmas.Option.{same_Some, slice_get-get_or}

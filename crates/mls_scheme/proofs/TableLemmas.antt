@@ -1,9 +1,7 @@
 -- Tables by look-up: every proof on tables goes by these equations.
-use Rattle.std.proofs.Common.{◌≡◌, Bool, true, false, cond, List, [], ◌∷◌, Some, None, map, refl, sym, ap, ◌∙◌, subst, ◌&&◌}
+use Rattle.std.proofs.Common.{◌≡◌, Bool, true, false, cond, List, [], ◌∷◌, Some, None, map, refl, sym, ap, ◌∙◌, subst, ◌&&◌, is_lt, option_map}
 use Rattle.std.specs.FinMap.{same_map, get, insert, retain_keys, entries, entries_sorted, get-entries, get-insert, get-retain_keys, get-from_sorted, find, is_sorted}
 use Rattle.std.specs.FinMap.Entries.{below_all}
-use Rattle.std.specs.Ordering.{is_lt}
-use Rattle.std.specs.Option.{option_map}
 use lib.Dec.{T as IsSo}
 use Rattle.mls_scheme.specs.declared.tuple.Element.{Element}
 use Rattle.mls_scheme.specs.Table.{place_cmp, Table, change}

@@ -1,6 +1,6 @@
 -- Older schemes, of which only the canonical text is left, and how later schemes extend them.
-use Rattle.std.specs.Prelude.{◌≡◌, ◌≢◌, ℕ, ◌≤◌, true, List, [], ◌∷◌, ◌++◌, length, take, drop, codes}
-use Rattle.std.specs.List.{AllByRecursion, AllZip, flat_map}
+use Rattle.std.specs.Prelude.{◌≡◌, ◌≢◌, ℕ, ◌≤◌, true, List, [], ◌∷◌, ◌++◌, length, take, drop, codes, flat_map}
+use Rattle.std.specs.List.{AllByRecursion, AllZip}
 use Rattle.mls_lattice.specs.Labels.{Labels, below}
 use Rattle.mls_lattice.specs.Policy.{Policy, labels_of}
 use Rattle.mls_lattice.specs.declared.version.Version.{Version}

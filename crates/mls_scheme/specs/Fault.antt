@@ -6,7 +6,9 @@ use Rattle.mls_lattice.specs.declared.fault.FieldFault.TheVariants as field
 use Rattle.mls_scheme.specs.declared.fault.FileFault.{FileFault}
 use Rattle.mls_scheme.specs.declared.fault.FileFault.TheVariants as file
 use Rattle.mls_scheme.specs.declared.fault.SchemeFault.{SchemeFault}
-use Rattle.mls_scheme.specs.declared.fault.SchemeFault.TheVariants.{NotToml, MissingField, WrongKind, Repeated, UnknownName, TooMany, BadName, EmptyInterval, Memory, NoKey, KeyIntervals}
+use Rattle.mls_scheme.specs.declared.fault.SchemeFault.TheVariants.{NotToml, MissingField, WrongKind, Repeated}
+use Rattle.mls_scheme.specs.declared.fault.SchemeFault.TheVariants.{UnknownName, TooMany, BadName, EmptyInterval}
+use Rattle.mls_scheme.specs.declared.fault.SchemeFault.TheVariants.{Memory, NoKey, KeyIntervals}
 use Rattle.mls_scheme.specs.declared.fault.TheConstants.{WORDS}
 
 abbrev pub code_of : SchemeFault → ℕ

@@ -1,7 +1,6 @@
 -- Lists of things that are found by name.
-use Rattle.std.specs.Prelude.{Bool, List, String, string_bytes}
+use Rattle.std.specs.Prelude.{Bool, List, String, string_bytes, bytes_eq}
 use Rattle.std.specs.List.{list_any}
-use Rattle.std.specs.Str.{bytes_eq}
 use Rattle.mls_lattice.specs.Policy.{Name}
 
 abbrev pub item_of : {Z T : Type 0} → String Z × T → Name × T

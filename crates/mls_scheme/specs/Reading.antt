@@ -1,13 +1,14 @@
 -- What the fields of schemes say, or the first fault.
-use Rattle.std.specs.Prelude.{ℕ, Bool, true, ◌&&◌, nat_eq, List, [], ◌∷◌, ◌++◌, codes, if◌then◌else◌, ◌==◌, Result, Ok, Err, ok_or, position}
+use Rattle.std.specs.Prelude.{ℕ, Bool, true, ◌&&◌, nat_eq, List, [], ◌∷◌, ◌++◌, codes, if◌then◌else◌, ◌==◌, Result, Ok}
+use Rattle.std.specs.Prelude.{Err, ok_or, position, bytes_eq}
 use Rattle.std.specs.List.{list_any}
-use Rattle.std.specs.Str.{bytes_eq}
 use Rattle.toml.specs.Data.{Data, Items, no_items, item, Members, get_member}
 use Rattle.mls_lattice.specs.declared.fault.FieldFault.TheVariants.{Repeated, UnknownName, EmptyInterval}
 use Rattle.mls_lattice.specs.Labels.{below}
 use Rattle.mls_lattice.specs.Policy.{Name, Policy, Named, labels_of}
 use Rattle.mls_lattice.specs.declared.version.Version.{Version}
-use Rattle.mls_lattice.specs.Reading.{◌>>=◌, wanted, text_at, version_at, table_at, name_at, tables_at, optional, items_len, bounded, some_of}
+use Rattle.mls_lattice.specs.Reading.{◌>>=◌, wanted, text_at, version_at, table_at, name_at, tables_at, optional}
+use Rattle.mls_lattice.specs.Reading.{items_len, bounded, some_of}
 use Rattle.mls_scheme.specs.declared.fault.SchemeFault.{SchemeFault}
 use Rattle.mls_scheme.specs.declared.fault.FileFault.{FileFault}
 use Rattle.mls_scheme.specs.declared.fault.FileFault.TheVariants.{Field, NoKey, KeyIntervals}

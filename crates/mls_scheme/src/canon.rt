@@ -1,6 +1,6 @@
 //! The canonical text.
-ghost use Rattle.std.specs.Prelude.{◌≡◌, ◌<◌, ◌++◌, length, string_bytes, OnOk};
-ghost use Rattle.std.specs.List.{AllByRecursion, flat_map};
+ghost use Rattle.std.specs.Prelude.{◌≡◌, ◌<◌, ◌++◌, length, string_bytes, OnOk, flat_map};
+ghost use Rattle.std.specs.List.{AllByRecursion};
 ghost use Rattle.mls_scheme.specs.Scheme.{IsAmongLabels, IsUnder, AreUnder};
 ghost use Rattle.mls_scheme.specs.Canon.{attribute_line, head_lines, relation_lines};
 

@@ -3,7 +3,8 @@ ghost use Rattle.std.specs.Prelude.{◌<◌, IfOk, length};
 ghost use Rattle.toml.specs.View.{view, items_view, table_view};
 ghost use Rattle.mls_lattice.specs.Reading.{Shows, table_at, version_at};
 ghost use Rattle.mls_scheme.specs.declared.fault.FileFault.TheVariants.{Field};
-ghost use Rattle.mls_scheme.specs.Reading.{lift, name_field, text_field, kind_named, label_named, label_field, key_items, other_items, relation_items};
+ghost use Rattle.mls_scheme.specs.Reading.{lift, name_field, text_field, kind_named, label_named, label_field};
+ghost use Rattle.mls_scheme.specs.Reading.{key_items, other_items, relation_items};
 
 use crate::fault::FileFault;
 use crate::value::Kind;

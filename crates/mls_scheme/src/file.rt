@@ -1,5 +1,5 @@
 //! Files of schemes.
-ghost use Rattle.std.specs.Prelude.{◌≡◌, ◌≢◌, ◌↔◌, ◌++◌, List, length, codes, string_bytes, Err, IfOk, IfErr, IsUtf8, OnOk};
+ghost use Rattle.std.specs.Prelude.{◌≡◌, ◌≢◌, ◌↔◌, ◌++◌, List, length, string_bytes, Err, IfOk, IfErr, IsUtf8, OnOk};
 ghost use Rattle.toml.specs.Data.{Members};
 ghost use Rattle.mls_lattice.specs.ReadsPolicy.{IsDocument};
 ghost use Rattle.mls_lattice.specs.Policy.{labels_of};

@@ -1,5 +1,5 @@
 //! Keys and values from bytes, which are read from left to right.
-ghost use Rattle.std.specs.Prelude.{◌≡◌, ◌≤◌, ◌++◌, List, ℕ, [], length, drop, IfOk, Ok};
+ghost use Rattle.std.specs.Prelude.{◌≡◌, ◌++◌, List, ℕ, [], length, drop, IfOk, Ok};
 ghost use Rattle.std.specs.Int.{w32};
 ghost use Rattle.mls_scheme.specs.declared.value.Value.{Value as SpecValue};
 ghost use Rattle.mls_scheme.specs.Spelling.{value_spelling, key_spelling, HasSpelling, IsSpelledKey};

@@ -1,6 +1,6 @@
 //! Lists of things that are found by place and by name.
-ghost use Rattle.std.specs.Prelude.{◌≡◌, ◌==◌, ◌<◌, ◌++◌, [], ◌∷◌, false, length, position, slice_get, string_bytes, Some, IfSome, OnOk, option_map};
-ghost use Rattle.std.specs.Str.{bytes_eq};
+ghost use Rattle.std.specs.Prelude.{◌≡◌, ◌==◌, ◌<◌, ◌++◌, [], ◌∷◌, false, length, position, slice_get, string_bytes};
+ghost use Rattle.std.specs.Prelude.{Some, IfSome, OnOk, option_map, bytes_eq};
 ghost use Rattle.mls_scheme.specs.Named.{item_of, has_name};
 
 use indexmap::IndexMap;

@@ -3,7 +3,8 @@ ghost use Rattle.std.specs.Prelude.{◌≡◌, ◌++◌, [], false, IfOk, string
 ghost use Rattle.toml.specs.View.{view, items_view, table_view};
 ghost use Rattle.mls_scheme.specs.Named.{item_of, has_name};
 ghost use Rattle.mls_lattice.specs.Reading.{Shows, Gives};
-ghost use Rattle.mls_scheme.specs.Reading.{column_at, attribute_at, has_key_interval, key_at, other_at, gather, attributes_at, has_relation, scheme_at, file_at};
+ghost use Rattle.mls_scheme.specs.Reading.{column_at, attribute_at, has_key_interval, key_at, other_at, gather};
+ghost use Rattle.mls_scheme.specs.Reading.{attributes_at, has_relation, scheme_at, file_at};
 
 use crate::attributes::{Attributes, Column};
 use crate::fault::FileFault;

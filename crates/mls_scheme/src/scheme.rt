@@ -1,7 +1,6 @@
 //! Schemes: relations, their attributes and the intervals of these.
-ghost use Rattle.std.specs.Prelude.{◌≡◌, ◌<◌, ◌≤◌, ℕ, List, length, position, None, IfOk, IfSome};
+ghost use Rattle.std.specs.Prelude.{◌≡◌, ◌<◌, ◌≤◌, ℕ, List, length, position, None, IfOk, IfSome, bytes_eq};
 ghost use Rattle.std.specs.List.{AllZip};
-ghost use Rattle.std.specs.Str.{bytes_eq};
 ghost use Rattle.mls_scheme.specs.Scheme.{Scheme as Relation, scheme_of, IsScheme, AreSchemes, AreUnder};
 ghost use Rattle.mls_scheme.specs.Extending.{scheme_before, schemes_before, Extends};
 

@@ -1,8 +1,6 @@
 -- Values against attributes, value by value.
-use Rattle.std.proofs.Common.{◌≡◌, ℕ, min, ◌<◌, ◌+◌, true, false, List, [], ◌∷◌, length, get_or, drop, Option, Some, None, refl, sym, ap, ◌∙◌, arith}
-use Rattle.std.specs.Prelude.{option_map}
-use Rattle.std.specs.List.{slice_get}
-use Rattle.std.proofs.lemmas.List.{drop_more, drop-drop, length-drop, get_or_default, get_or-drop}
+use Rattle.std.proofs.Common.{◌≡◌, ℕ, min, ◌<◌, ◌+◌, true, false, List, [], ◌∷◌, length, get_or, drop, Option, Some, None, refl, sym, ap, ◌∙◌, arith, option_map, slice_get, drop-drop, length-drop, get_or-drop}
+use Rattle.std.proofs.lemmas.List.{drop_more, get_or_default}
 use Rattle.mls_scheme.specs.declared.value.Value.{Value}
 use Rattle.mls_scheme.specs.declared.attributes.Column.{Column}
 use Rattle.mls_scheme.specs.Value.{fits_kind}

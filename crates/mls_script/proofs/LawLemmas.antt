@@ -1,9 +1,7 @@
 -- A script that is read tells its events.
-use Rattle.std.proofs.Common.{◌≡◌, ◌≢◌, ℕ, ◌<◌, ◌+◌, Bool, true, false, List, [], ◌∷◌, ◌++◌, length, Option, Some, None, Result, Ok, Err, inl, inr, refl, sym, ap, ◌∙◌, subst, arith, append_assoc, cond, ◌==◌}
-use Rattle.std.specs.Prelude.{IfOk, option_to_list}
-use Rattle.std.specs.List.{flat_map, filter_map, AllByRecursion}
-use Rattle.std.proofs.lemmas.Bool.{cases_Bool, eqb-true, lt-ltb}
-use Rattle.std.proofs.lemmas.List.{append-nil}
+use Rattle.std.proofs.Common.{◌≡◌, ◌≢◌, ℕ, ◌<◌, ◌+◌, Bool, true, false, List, [], ◌∷◌, ◌++◌, length, Option, Some, None, Result, Ok, Err, inl, inr, refl, sym, ap, ◌∙◌, subst, arith, append_assoc, cond, ◌==◌, IfOk, option_to_list, flat_map, filter_map, eqb-true, lt-ltb, append-nil}
+use Rattle.std.specs.List.{AllByRecursion}
+use Rattle.std.proofs.lemmas.Bool.{cases_Bool}
 use Rattle.std.proofs.lemmas.List.Elements.{filter_map-append}
 use Rattle.mls_lattice.specs.Policy.{Policy}
 use Rattle.mls_lattice.specs.Reading.{◌>>=◌}
@@ -59,13 +57,11 @@ module _ (policy : Policy) (schemes : Schemes) where
   parts_rise Open = (omega arith, tt)
   parts_rise Close = tt
   parts_rise Audit = tt
-  parts_rise View = (omega arith, (omega arith, tt))
-  parts_rise Count = (omega arith, (omega arith, tt))
   parts_rise Dump = (omega arith, tt)
   parts_rise Insert = (omega arith, (omega arith, (omega arith, tt)))
   parts_rise Update = (omega arith, (omega arith, (omega arith, (omega arith, (omega arith, tt)))))
   parts_rise Delete = (omega arith, (omega arith, (omega arith, tt)))
-  parts_rise Call = (omega arith, (omega arith, tt))
+  parts_rise _ = (omega arith, (omega arith, tt))
 
   -- what a query says that stands behind the parts of a verb
   record TailFound (v : Verb) (d : Draft) (q : Query) (l r : Left) : Type 0 where
@@ -113,15 +109,7 @@ module _ (policy : Policy) (schemes : Schemes) where
   -- the draft that an event is told by says the same
   tokens_kept : (v : Verb) (d : Draft) (q : Query) → event_tokens policy schemes (event_of v d q) ≡ parts_tokens policy schemes d heads ++ Word (verb_word v) ∷ parts_tokens policy schemes d (parts_of v)
   tokens_kept Open d q = refl
-  tokens_kept Close d q = refl
-  tokens_kept Audit d q = refl
-  tokens_kept View d q = refl
-  tokens_kept Count d q = refl
-  tokens_kept Dump d q = refl
-  tokens_kept Insert d q = refl
-  tokens_kept Update d q = refl
-  tokens_kept Delete d q = refl
-  tokens_kept Call d q = refl
+  tokens_kept _ d q = refl
 
   -- an event that was read, from tokens of a text
   pub record EventFound (e : Event) (l r : Left) : Type 0 where

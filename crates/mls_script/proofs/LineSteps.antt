@@ -1,7 +1,5 @@
 -- A line part by part: its form and its names are read in one pass.
-use Rattle.std.proofs.Common.{◌≡◌, ℕ, ◌+◌, Bool, cond, List, [], ◌∷◌, length, Option, Some, None, Result, Ok, Err, inl, inr, refl, sym, ap, ◌∙◌}
-use Rattle.std.specs.Prelude.{option_map}
-use Rattle.std.specs.List.{slice_get}
+use Rattle.std.proofs.Common.{◌≡◌, ℕ, ◌+◌, Bool, cond, List, [], ◌∷◌, length, Option, Some, None, Result, Ok, Err, inl, inr, refl, sym, ap, ◌∙◌, option_map, slice_get}
 use Rattle.std.proofs.lemmas.Bool.{cases_Bool}
 use Rattle.mls_lattice.specs.Policy.{Policy}
 use Rattle.mls_lattice.specs.Reading.{◌>>=◌}
@@ -28,16 +26,6 @@ module _ (policy : Policy) (schemes : Schemes) where
 
   content_same : (p : Part) (looked : Drafted) (l : Left) → content_heard policy schemes p looked l ≡ heard (λ w. looked >>= λ d. draft_part policy schemes p w d) (written_at p l)
   unfolding content_heard written_at draft_part
-  content_same parts.Level looked l = refl
-  content_same parts.Session looked l = refl
-  content_same parts.Name looked l = refl
-  content_same parts.Relation looked l = refl
-  content_same parts.Key looked l = refl
-  content_same parts.Values looked l = refl
-  content_same parts.Arguments looked l = refl
-  content_same parts.At looked l = refl
-  content_same parts.Class looked l = refl
-  content_same parts.From looked l = refl
   content_same parts.Sets looked l = go looked (items_at pass_setting l)
     where
       go : (looked : Drafted) (items : Result (List Setting × Left) TokenFault) → heard (λ found. looked >>= λ d. found >>= λ s. Ok (record d { sets = s })) (heard (sets_from (drafted_scheme schemes looked) []) items)
@@ -45,6 +33,7 @@ module _ (policy : Policy) (schemes : Schemes) where
       go looked (Err e) = refl
       go (Ok d) (Ok x) = refl
       go (Err f) (Ok x) = refl
+  content_same _ looked l = refl
 
   part_same : (p : Part) (looked : Drafted) (l : Left) → part_heard policy schemes p looked l ≡ heard (λ w. looked >>= λ d. draft_part policy schemes p w d) (part_at p l)
   part_same p looked l = go (pass_word (part_word p) l)

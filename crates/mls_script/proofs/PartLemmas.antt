@@ -1,13 +1,11 @@
 -- What the parts of a line say is what was read, and fits.
-use Rattle.std.proofs.Common.{◌≡◌, ℕ, zero, suc, ◌<◌, ◌≤◌, true, false, List, [], ◌∷◌, ◌++◌, length, map, drop, Option, Some, None, Result, Ok, inl, inr, refl, sym, ap, ◌∙◌, subst, arith, append_assoc, cond, nat_lt}
+use Rattle.std.proofs.Common.{◌≡◌, ℕ, zero, suc, ◌<◌, ◌≤◌, true, false, List, [], ◌∷◌, ◌++◌, length, map, drop, Option, Some, None, Result, Ok, inl, inr, refl, sym, ap, ◌∙◌, subst, arith, append_assoc, cond, nat_lt, nat_eq, option_map, if◌then◌else◌, flat_map, position, slice_get, bytes_eq, ltb-true, lt-ltb, append-nil}
 use Rattle.std.proofs.SliceLists.{all_by_recursion_push}
-use Rattle.std.specs.Prelude.{nat_eq, option_map, if◌then◌else◌, ⊤}
+use Rattle.std.specs.Prelude.{⊤}
 use Rattle.std.specs.Cmp.{nat_eq_equiv}
-use Rattle.std.specs.List.{flat_map, AllByRecursion, IsDistinct, list_any, position, slice_get}
-use Rattle.std.specs.Str.{bytes_eq}
-use Rattle.std.proofs.lemmas.Bool.{cases_Bool, ltb-true, lt-ltb}
-use Rattle.std.proofs.SliceLists.{all_by_recursion_push}
-use Rattle.std.proofs.lemmas.List.{append-nil, map-append}
+use Rattle.std.specs.List.{AllByRecursion, IsDistinct, list_any}
+use Rattle.std.proofs.lemmas.Bool.{cases_Bool}
+use Rattle.std.proofs.lemmas.List.{map-append}
 use Rattle.std.proofs.lemmas.List.Quantifiers.{position-Some}
 use Rattle.std.proofs.lemmas.Map.Keys.{IsDistinct-push}
 use Rattle.std.proofs.lemmas.Slice.Eq.{bytes_eq-Decides}
@@ -185,47 +183,31 @@ sets_found schemes relation (Some scheme) (x ∷ xs) sets is some e =
 -- ---- what is written for a part
 
 abbrev pub written_tokens : (p : Part) → Written p → List Token
-written_tokens Level n = Word n.0 ∷ []
-written_tokens Session n = Word n.0 ∷ []
-written_tokens Named n = Word n.0 ∷ []
-written_tokens Relation n = Word n.0 ∷ []
 written_tokens Key l = list_tokens l.values
 written_tokens Values l = list_tokens l.values
 written_tokens Arguments l = list_tokens l.values
-written_tokens At n = Word n.0 ∷ []
-written_tokens Class n = Word n.0 ∷ []
-written_tokens From n = Word n.0 ∷ []
 written_tokens Settings ss = separated setting_tokens ss
+written_tokens _ n = Word n.0 ∷ []
 
 abbrev pub IsWritten : (p : Part) → Written p → Type 0
 IsWritten Level n = ⊤
 IsWritten Session n = is_name n.0 ≡ true
 IsWritten Named n = is_name n.0 ≡ true
-IsWritten Relation n = ⊤
-IsWritten Key l = ⊤
-IsWritten Values l = ⊤
-IsWritten Arguments l = ⊤
-IsWritten At n = ⊤
-IsWritten Class n = ⊤
-IsWritten From n = ⊤
 IsWritten Settings ss = 0 < length ss
+IsWritten _ _ = ⊤
 
 abbrev WrittenFound : (p : Part) → Left → Written p × Left → Type 0
 WrittenFound p l y = Passed (written_tokens p y.0) l y.1 × IsWritten p y.0
 
 written_found : (p : Part) (l : Left) (y : Written p × Left) → written_at p l ≡ Ok y → WrittenFound p l y
 unfolding written_at
-written_found Level l y e = ((name_found l y e).passed, tt)
 written_found Session l y e = ((name_found l y e).passed, (name_found l y e).name)
 written_found Named l y e = ((name_found l y e).passed, (name_found l y e).name)
-written_found Relation l y e = ((name_found l y e).passed, tt)
 written_found Key l y e = (list_found l y e, tt)
 written_found Values l y e = (list_found l y e, tt)
 written_found Arguments l y e = (list_found l y e, tt)
-written_found At l y e = ((name_found l y e).passed, tt)
-written_found Class l y e = ((name_found l y e).passed, tt)
-written_found From l y e = ((name_found l y e).passed, tt)
 written_found Settings l y e = let items = all_found pass_setting setting_tokens setting_found l y e in (items.passed, items.some)
+written_found _ l y e = ((name_found l y e).passed, tt)
 
 passed_word : (o : Option Name) (l r : Left) → pass_word o l ≡ Ok r → Passed (word_tokens o) l r
 passed_word None l r e = subst (λ x. Passed [] l x) (same_ok (pass_word None l) l r refl e) (passed_none l)
@@ -339,29 +321,11 @@ module _ (policy : Policy) (schemes : Schemes) where
 
   says_upto : (p : Part) (d : Draft) (ts : List Token) → Says p d ts → Says p (upto (suc (rank p)) d) ts
   says_upto Level d ts h = h
-  says_upto Session d ts h = h
-  says_upto Named d ts h = h
-  says_upto Relation d ts h = h
-  says_upto Key d ts h = h
-  says_upto Values d ts h = h
-  says_upto Arguments d ts h = h
-  says_upto At d ts h = h
-  says_upto Class d ts h = h
-  says_upto From d ts h = h
-  says_upto Settings d ts h = h
+  says_upto _ d ts h = h
 
   says_from : (p : Part) (d : Draft) (ts : List Token) → Says p (upto (suc (rank p)) d) ts → Says p d ts
   says_from Level d ts h = h
-  says_from Session d ts h = h
-  says_from Named d ts h = h
-  says_from Relation d ts h = h
-  says_from Key d ts h = h
-  says_from Values d ts h = h
-  says_from Arguments d ts h = h
-  says_from At d ts h = h
-  says_from Class d ts h = h
-  says_from From d ts h = h
-  says_from Settings d ts h = h
+  says_from _ d ts h = h
 
   -- what was put into a draft says what is written, and no field before is changed
   record PartDrafted (p : Part) (ts : List Token) (d e : Draft) : Type 0 where

@@ -1,9 +1,6 @@
 -- A query that is told is read.
-use Rattle.std.proofs.Common.{◌≡◌, ℕ, ◌<◌, Bool, true, false, ℤ, pos, List, [], ◌∷◌, ◌++◌, length, Option, Some, None, Result, Ok, inl, inr, refl, sym, ap, ◌∙◌, subst, cond}
-use Rattle.std.specs.Prelude.{codes, IfSome}
-use Rattle.std.specs.Str.{bytes_eq}
+use Rattle.std.proofs.Common.{◌≡◌, ℕ, ◌<◌, Bool, true, false, ℤ, pos, List, [], ◌∷◌, ◌++◌, length, Option, Some, None, Result, Ok, inl, inr, refl, sym, ap, ◌∙◌, subst, cond, codes, IfSome, bytes_eq, append-nil}
 use Rattle.std.proofs.lemmas.Bool.{cases_Bool}
-use Rattle.std.proofs.lemmas.List.{append-nil}
 use Rattle.mls_lattice.specs.Canon.{label_name}
 use Rattle.mls_lattice.specs.Policy.{Name, Policy, IsPolicy}
 use Rattle.mls_lattice.specs.Reading.{◌>>=◌}
@@ -45,11 +42,7 @@ first_with (c ∷ cs) s = cond (bytes_eq (sign_text s) (sign_text (comparison_si
 
 known_comparison : (c : Comparison) → first_with comparisons (comparison_sign c) ≡ Some c
 known_comparison compared.Equal = refl
-known_comparison compared.Unequal = refl
-known_comparison compared.Less = refl
-known_comparison compared.AtMost = refl
-known_comparison compared.Greater = refl
-known_comparison compared.AtLeast = refl
+known_comparison _ = refl
 
 comparison_read : (cs : List Comparison) (s : Sign) (c : Comparison) (us : List Token) (l : Left) → without_places l.placed ≡ Sign_token s ∷ us → first_with cs s ≡ Some c
     → Gets (comparison_among cs l) l (λ x. x ≡ c) us

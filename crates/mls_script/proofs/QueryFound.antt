@@ -1,6 +1,5 @@
 -- What a query says is what was read, and fits.
-use Rattle.std.proofs.Common.{◌≡◌, ℕ, ◌<◌, Bool, true, false, ℤ, pos, negsuc, List, [], ◌∷◌, ◌++◌, length, Option, Some, None, Result, Ok, Err, refl, sym, ap, subst}
-use Rattle.std.specs.Prelude.{codes, IfSome}
+use Rattle.std.proofs.Common.{◌≡◌, ℕ, ◌<◌, Bool, true, false, ℤ, pos, negsuc, List, [], ◌∷◌, ◌++◌, length, Option, Some, None, Result, Ok, Err, refl, sym, ap, subst, codes, IfSome}
 use Rattle.mls_lattice.specs.Policy.{Name, Policy}
 use Rattle.mls_lattice.specs.Reading.{◌>>=◌}
 use Rattle.mls_lattice.proofs.NamedLemmas.{label_found}
@@ -8,7 +7,7 @@ use Rattle.mls_lattice.proofs.ReadingLemmas.{ok_is, bind_ok}
 use Rattle.mls_scheme.specs.Scheme.{Schemes}
 use Rattle.mls_tokens.specs.declared.fault.TokenFault.{TokenFault}
 use Rattle.mls_tokens.specs.declared.token.Token.{Token}
-use Rattle.mls_tokens.specs.declared.token.Token.TheVariants.{Word, Int, Text, Sign}
+use Rattle.mls_tokens.specs.declared.token.Token.TheVariants.{Word, Int, Sign}
 use Rattle.mls_tokens.specs.declared.token.Placed.{Placed}
 use Rattle.mls_tokens.specs.Scanning.{Left, without_places}
 use Rattle.mls_tokens.specs.Passing.{left, is_word, is_sign, taken, pass_name}
@@ -108,10 +107,8 @@ abbrev NumberFound : Left → (ℤ × ℕ) × Left → Type 0
 NumberFound l x = Passed (Int x.0.0 ∷ []) l x.1
 
 number_is : (t : Token) (n : ℤ) → number_in t ≡ Some n → t ≡ Int n
-number_is (Word w) n e = absurd cc
 number_is (Int m) n e = let same : m ≡ n = cc in ap (λ (x : ℤ). Int x) same
-number_is (Text s) n e = absurd cc
-number_is (Sign s) n e = absurd cc
+number_is _ n e = absurd cc
 
 number_first : (t : Token) (ps : List Placed) (stop : TokenFault) (at : ℕ) (o : Option ℤ) (x : (ℤ × ℕ) × Left) → number_in t ≡ o → numbered at (left ps stop) o ≡ Ok x
     → NumberFound (left (record { token = t; at = at } ∷ ps) stop) x

@@ -1,10 +1,8 @@
 -- Lines and scripts that tell events are read as these.
-use Rattle.std.proofs.Common.{◌≡◌, ℕ, ◌<◌, ◌+◌, true, false, List, [], ◌∷◌, ◌++◌, length, Option, Some, None, Result, Ok, Err, inl, inr, refl, sym, ap, ◌∙◌, subst, append_assoc, cond}
-use Rattle.std.specs.Prelude.{option_map, option_to_list, IfErr, ⊤}
-use Rattle.std.specs.List.{flat_map, filter_map, AllByRecursion, slice_get}
-use Rattle.std.specs.Str.{bytes_eq}
-use Rattle.std.proofs.lemmas.Bool.{cases_Bool, lt-ltb}
-use Rattle.std.proofs.lemmas.List.{append-nil}
+use Rattle.std.proofs.Common.{◌≡◌, ℕ, ◌<◌, ◌+◌, true, false, List, [], ◌∷◌, ◌++◌, length, Option, Some, None, Result, Ok, Err, inl, inr, refl, sym, ap, ◌∙◌, subst, append_assoc, cond, option_map, option_to_list, IfErr, flat_map, filter_map, slice_get, bytes_eq, lt-ltb, append-nil}
+use Rattle.std.specs.Prelude.{⊤}
+use Rattle.std.specs.List.{AllByRecursion}
+use Rattle.std.proofs.lemmas.Bool.{cases_Bool}
 use Rattle.std.proofs.lemmas.List.Elements.{filter_map-append}
 use Rattle.std.proofs.lemmas.Option.{slice_get-get_or}
 use Rattle.mls_lattice.specs.Name.{is_name}
@@ -114,17 +112,10 @@ module _ (policy : Policy) (schemes : Schemes) (is_policy : IsPolicy policy) (ar
 
   -- a key, other values and new values stand behind their relation
   abbrev Knows : Part → Draft → Draft → Type 0
-  Knows Level d f = ⊤
-  Knows Session d f = ⊤
-  Knows Named d f = ⊤
-  Knows Relation d f = ⊤
   Knows Key d f = (f.relation ≡ d.relation) × (d.relation < length schemes)
   Knows Values d f = (f.relation ≡ d.relation) × (d.relation < length schemes)
-  Knows Arguments d f = ⊤
-  Knows At d f = ⊤
-  Knows Class d f = ⊤
-  Knows From d f = ⊤
   Knows Settings d f = (f.relation ≡ d.relation) × (d.relation < length schemes)
+  Knows _ d f = ⊤
 
   abbrev KnowsAll : List Part → Draft → Draft → Type 0
   KnowsAll [] d f = ⊤
@@ -174,16 +165,7 @@ module _ (policy : Policy) (schemes : Schemes) (is_policy : IsPolicy policy) (ar
   -- parts begin with a word, and no part begins with a comma
   no_comma : (p : Part) (d : Draft) (us : List Token) → NotNext (is_sign Comma) (part_tokens policy schemes d p ++ us)
   no_comma Level d us = refl
-  no_comma Session d us = refl
-  no_comma Named d us = refl
-  no_comma Relation d us = refl
-  no_comma Key d us = refl
-  no_comma Values d us = refl
-  no_comma Arguments d us = refl
-  no_comma At d us = refl
-  no_comma Class d us = refl
-  no_comma From d us = refl
-  no_comma Settings d us = refl
+  no_comma _ d us = refl
 
   parts_no_comma : (ps : List Part) (d : Draft) (us : List Token) → NotNext (is_sign Comma) us → NotNext (is_sign Comma) (parts_tokens policy schemes d ps ++ us)
   parts_no_comma [] d us h = h
@@ -208,15 +190,7 @@ first_with (x ∷ xs) w = cond (bytes_eq w (verb_word x)) (Some x) (first_with x
 
 known_verb : (x : Verb) → first_with verbs (verb_word x) ≡ Some x
 known_verb v.Open = refl
-known_verb v.Close = refl
-known_verb v.Audit = refl
-known_verb v.View = refl
-known_verb v.Count = refl
-known_verb v.Dump = refl
-known_verb v.Insert = refl
-known_verb v.Update = refl
-known_verb v.Delete = refl
-known_verb v.Call = refl
+known_verb _ = refl
 
 verb_read : (xs : List Verb) (w : Name) (x : Verb) (us : List Token) (l : Left) → without_places l.placed ≡ Word w ∷ us → first_with xs w ≡ Some x → Gets (verb_among xs l) l (λ y. y ≡ x) us
 verb_read [] w x us l e first = absurd cc
@@ -313,13 +287,8 @@ module _ (policy : Policy) (schemes : Schemes) where
 
     -- no query begins with a comma
     tail_no_comma : (c : Command) (ts : List Token) → TellsTail policy schemes c ts → NotNext (is_sign Comma) ts
-    tail_no_comma (commands.Open user) ts tells = subst (NotNext (is_sign Comma)) (sym tells) tt
-    tail_no_comma commands.Close ts tells = subst (NotNext (is_sign Comma)) (sym tells) tt
-    tail_no_comma commands.Audit ts tells = subst (NotNext (is_sign Comma)) (sym tells) tt
     tail_no_comma (commands.View relation label query counts) ts tells = subst (NotNext (is_sign Comma)) (sym tells.tokens) (query_no_comma policy schemes relation query tells.behind tells.test)
-    tail_no_comma (commands.Dump relation) ts tells = subst (NotNext (is_sign Comma)) (sym tells) tt
-    tail_no_comma (commands.Write relation write) ts tells = subst (NotNext (is_sign Comma)) (sym tells) tt
-    tail_no_comma (commands.Call tx args) ts tells = subst (NotNext (is_sign Comma)) (sym tells) tt
+    tail_no_comma _ ts tells = subst (NotNext (is_sign Comma)) (sym tells) tt
 
     abbrev head_tokens : Event → List Token
     head_tokens e = parts_tokens policy schemes (drafted e) heads

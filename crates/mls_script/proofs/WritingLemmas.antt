@@ -1,12 +1,10 @@
 -- Lines of events are read back.
-use Rattle.std.proofs.Common.{◌≡◌, ◌≢◌, ℕ, ◌<◌, Bool, true, false, nat_le, List, [], ◌∷◌, ◌++◌, length, map, codes, slice_index, Option, Some, None, ℤ, refl, sym, ap, ◌∙◌, subst, append_assoc, append-nil, inl, inr, arith}
-use Rattle.std.specs.Prelude.{FitsSigned, not}
-use Rattle.std.specs.Int.{w64}
-use Rattle.std.specs.List.{flat_map, filter_map, list_all, AllByRecursion}
+use Rattle.std.proofs.Common.{◌≡◌, ◌≢◌, ℕ, ◌<◌, Bool, true, false, nat_le, List, [], ◌∷◌, ◌++◌, length, map, codes, slice_index, Option, Some, None, ℤ, refl, sym, ap, ◌∙◌, subst, append_assoc, append-nil, inl, inr, arith, FitsSigned, not, w64, flat_map, filter_map, leb-true}
+use Rattle.std.specs.List.{list_all, AllByRecursion}
 use Rattle.std.specs.Char.{is_ascii_digit}
 use Rattle.std.specs.Fmt.{signed_decimal}
 use Rattle.std.specs.Str.{all_ascii_digits}
-use Rattle.std.proofs.lemmas.Bool.{and_parts, leb-true, not-true, cases_Bool}
+use Rattle.std.proofs.lemmas.Bool.{and_parts, not-true, cases_Bool}
 use Rattle.mls_lattice.specs.Name.{is_name, is_name_byte}
 use Rattle.mls_lattice.specs.Policy.{Name, Policy, IsPolicy}
 use Rattle.mls_lattice.specs.Canon.{label_name}
@@ -14,7 +12,7 @@ use Rattle.mls_lattice.proofs.NamedLemmas.{label_is_name}
 use Rattle.mls_scheme.specs.declared.value.Value.{Value}
 use Rattle.mls_scheme.specs.declared.value.Value.TheVariants as values
 use Rattle.mls_scheme.specs.Value.{fits_kind}
-use Rattle.mls_scheme.specs.declared.write.Write.TheVariants.{Insert, Update, Delete}
+use Rattle.mls_scheme.specs.declared.write.Write.TheVariants.{Insert, Update}
 use Rattle.mls_scheme.specs.Scheme.{Attribute, Scheme, Schemes, IsScheme, AreSchemes, scheme_of, other_of}
 use Rattle.mls_scheme.specs.Fits.{HaveKinds}
 use Rattle.mls_scheme.proofs.KindLemmas.{kind-spelled}
@@ -31,7 +29,7 @@ use Rattle.mls_translang.proofs.NumberLemmas.{int_spelled}
 use Rattle.mls_translang.proofs.SpelledLemmas.{named, word_spelled}
 use Rattle.mls_script.specs.declared.event.Event.{Event}
 use Rattle.mls_script.specs.declared.event.Command.{Command}
-use Rattle.mls_script.specs.declared.event.Command.TheVariants.{Open, Close, Audit, View, Dump, Write, Call}
+use Rattle.mls_script.specs.declared.event.Command.TheVariants.{View, Write}
 use Rattle.mls_script.specs.Event.{Sets, SetsFit, HasSomeKind, CommandFits, EventFits}
 use Rattle.mls_script.specs.Tokens.{relation_name, value_token, list_tokens, set_tokens, event_tokens}
 use Rattle.mls_script.specs.QueryTokens.{TellsTail}
@@ -298,11 +296,6 @@ module _ (policy : Policy) (schemes : Schemes) (is_policy : IsPolicy policy) (ar
 
   module _ (level : ℕ) (session : Name) (within : level < length policy.labels) (is : is_name session ≡ true) where
     line_written : (c : Command) → CommandFits policy schemes c → is_writable_command c ≡ true → IsWritten (event_tokens policy schemes (event level session c)) (line_text policy schemes (event level session c))
-    line_written (Open user) fits h = absurd cc
-    line_written Close fits h = absurd cc
-    line_written Audit fits h = absurd cc
-    line_written (View relation label query counts) fits h = absurd cc
-    line_written (Dump relation) fits h = absurd cc
     line_written (Write relation (Insert key values)) fits h =
         let p = and_parts (are_writable key) (are_writable values) h in
         let head = Word (codes "insert") ∷ Word (relation_name schemes relation) ∷ Word (codes "key") ∷ list_tokens key in
@@ -326,17 +319,11 @@ module _ (policy : Policy) (schemes : Schemes) (is_policy : IsPolicy policy) (ar
         (keyed_written (codes "update") relation key (word_spelled (codes "update") refl refl refl) fits.0 fits.1.0 p.0)
         (labelled (codes "class") key_class (Word (codes "from") ∷ Word (label_name policy.labels from) ∷ changes) from_end (word_spelled (codes "class") refl refl refl) fits.1.1
         (labelled (codes "from") from changes set_end (word_spelled (codes "from") refl refl refl) fits.1.2 (sets_behind relation sets fits.0 fits.1.3 p.1)))))
-    line_written (Write relation (Delete key key_class)) fits h = absurd cc
-    line_written (Call tx args) fits h = absurd cc
+    line_written _ fits h = absurd cc
 
   none_behind : (c : Command) → is_writable_command c ≡ true → TellsTail policy schemes c []
-  none_behind (Open user) h = refl
-  none_behind Close h = refl
-  none_behind Audit h = refl
   none_behind (View relation label query counts) h = absurd cc
-  none_behind (Dump relation) h = refl
-  none_behind (Write relation write) h = refl
-  none_behind (Call tx args) h = refl
+  none_behind _ h = refl
 
   -- ---- all lines
 

@@ -1,7 +1,8 @@
 -- The numbers and names of the causes for which scripts are refused.
 use Rattle.std.specs.Prelude.{ℕ, List, ◌-◌, [], map, get_or}
 use Rattle.mls_script.specs.declared.fault.ScriptCause.{ScriptCause}
-use Rattle.mls_script.specs.declared.fault.ScriptCause.TheVariants.{Token, Expected, UnknownName, Kind, Repeated, Depth, TooLong, Memory, Unterminated}
+use Rattle.mls_script.specs.declared.fault.ScriptCause.TheVariants.{Token, Expected, UnknownName, Kind, Repeated, Depth}
+use Rattle.mls_script.specs.declared.fault.ScriptCause.TheVariants.{TooLong, Memory, Unterminated}
 use Rattle.mls_script.specs.declared.fault.LineFault.{LineFault}
 use Rattle.mls_script.specs.declared.fault.ScriptFault.{ScriptFault}
 use Rattle.mls_script.specs.declared.fault.TheConstants.{WORDS}

@@ -8,9 +8,11 @@ use Rattle.mls_script.specs.declared.event.Command.{Command}
 use Rattle.mls_script.specs.declared.event.Command.TheVariants as commands
 use Rattle.mls_script.specs.declared.draft.Draft.{Draft}
 use Rattle.mls_script.specs.declared.grammar.Verb.{Verb}
-use Rattle.mls_script.specs.declared.grammar.Verb.TheVariants.{Open, Close, Audit, View, Count, Dump, Insert, Update, Delete, Call}
+use Rattle.mls_script.specs.declared.grammar.Verb.TheVariants.{Open, Close, Audit, View, Count, Dump, Insert, Update}
+use Rattle.mls_script.specs.declared.grammar.Verb.TheVariants.{Delete, Call}
 use Rattle.mls_script.specs.declared.grammar.Part.{Part}
-use Rattle.mls_script.specs.declared.grammar.Part.TheVariants.{Level, Session, Name, Relation, Key, Values, Arguments, At, Class, From, Sets}
+use Rattle.mls_script.specs.declared.grammar.Part.TheVariants.{Name, Relation, Key, Values, Arguments}
+use Rattle.mls_script.specs.declared.grammar.Part.TheVariants.{At, Class, From, Sets}
 
 abbrev pub verbs : List Verb
 verbs = Open ∷ Close ∷ Audit ∷ View ∷ Count ∷ Dump ∷ Insert ∷ Update ∷ Delete ∷ Call ∷ []
@@ -41,17 +43,13 @@ parts_of Call = Name ∷ Arguments ∷ []
 
 -- the word before a part, if it has one
 abbrev pub part_word : Part → Option (List ℕ)
-part_word Level = None
-part_word Session = None
-part_word Name = None
-part_word Relation = None
 part_word Key = Some (codes "key")
 part_word Values = Some (codes "values")
-part_word Arguments = None
 part_word At = Some (codes "at")
 part_word Class = Some (codes "class")
 part_word From = Some (codes "from")
 part_word Sets = Some (codes "set")
+part_word _ = None
 
 -- ---- what the parts say
 

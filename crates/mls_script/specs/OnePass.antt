@@ -1,7 +1,7 @@
 -- The two passes over a line in one: what a part says is held against policy and schemes as soon as its form is read, and
 -- the first fault of names and kinds waits until the form of the line is read.
-use Rattle.std.specs.Prelude.{◌≡◌, ℕ, ◌+◌, Bool, if◌then◌else◌, List, [], ◌∷◌, ◌++◌, length, Option, Some, None, option_map, Result, Ok, Err}
-use Rattle.std.specs.List.{slice_get}
+use Rattle.std.specs.Prelude.{◌≡◌, ℕ, ◌+◌, Bool, if◌then◌else◌, List, [], ◌∷◌, ◌++◌, length, Option, Some, None}
+use Rattle.std.specs.Prelude.{option_map, Result, Ok, Err, slice_get}
 use Rattle.mls_lattice.specs.Policy.{Name, Policy}
 use Rattle.mls_lattice.specs.Reading.{◌>>=◌}
 use Rattle.mls_scheme.specs.declared.value.Value.{Value}
@@ -21,7 +21,8 @@ use Rattle.mls_script.specs.Event.{Sets}
 use Rattle.mls_script.specs.Fault.{line_fault}
 use Rattle.mls_script.specs.Grammar.{verbs, parts_of, part_word, blank}
 use Rattle.mls_script.specs.ReadQuery.{form_of, heard, tail_at, label_named}
-use Rattle.mls_script.specs.Reading.{PlacedValue, items_at, pass_list, pass_setting, pass_word, verb_among, heads, held, relation_named, set_in, sets_from, Drafted, drafted_relation, event_from}
+use Rattle.mls_script.specs.Reading.{PlacedValue, items_at, pass_list, pass_setting, pass_word, verb_among, heads, held}
+use Rattle.mls_script.specs.Reading.{relation_named, set_in, sets_from, Drafted, drafted_relation, event_from}
 
 abbrev pub push_value : Listed → PlacedValue → Listed
 push_value l v = record l { values = l.values ++ v.0 ∷ []; places = l.places ++ v.1 ∷ [] }

@@ -1,7 +1,8 @@
 -- What a script says, or its first fault: line by line, on a line first its form, then its names and kinds.
-use Rattle.std.specs.Prelude.{◌≡◌, ℕ, zero, suc, ◌+◌, Bool, true, false, ◌==◌, nat_eq, nat_lt, if◌then◌else◌, List, [], ◌∷◌, ◌++◌, map, length, drop, slice_index_or, codes, Option, Some, None, option_map, option_to_list, Result, Ok, Err, ⊤}
-use Rattle.std.specs.List.{position, slice_get, list_any}
-use Rattle.std.specs.Str.{bytes_eq}
+use Rattle.std.specs.Prelude.{◌≡◌, ℕ, zero, suc, ◌+◌, Bool, true, false, ◌==◌, nat_eq, nat_lt, if◌then◌else◌, List, []}
+use Rattle.std.specs.Prelude.{◌∷◌, ◌++◌, map, length, drop, slice_index_or, codes, Option, Some, None, option_map}
+use Rattle.std.specs.Prelude.{option_to_list, Result, Ok, Err, ⊤, position, slice_get, bytes_eq}
+use Rattle.std.specs.List.{list_any}
 use Rattle.mls_lattice.specs.Policy.{Name, Policy}
 use Rattle.mls_lattice.specs.Reading.{◌>>=◌, GivesUnless}
 use Rattle.mls_scheme.specs.declared.value.Value.{Value}
@@ -15,7 +16,8 @@ use Rattle.mls_tokens.specs.declared.token.Token.TheVariants.{Word, Int, Text, S
 use Rattle.mls_tokens.specs.declared.token.Placed.{Placed}
 use Rattle.mls_tokens.specs.declared.sign.Sign.TheVariants.{LeftParen, RightParen, Comma, Equals}
 use Rattle.mls_tokens.specs.Scanning.{Left, fault_at, tokens_at}
-use Rattle.mls_tokens.specs.Passing.{left, refused, is_word, is_sign, taken, pass, PlacedName, pass_name, has_ended, pass_end}
+use Rattle.mls_tokens.specs.Passing.{left, refused, is_word, is_sign, taken, pass, PlacedName, pass_name, has_ended}
+use Rattle.mls_tokens.specs.Passing.{pass_end}
 use Rattle.mls_script.specs.declared.event.Event.{Event}
 use Rattle.mls_script.specs.declared.fault.ScriptCause.TheVariants.{UnknownName, Kind, Repeated, Memory, Unterminated}
 use Rattle.mls_script.specs.declared.fault.LineFault.{LineFault}
@@ -104,17 +106,11 @@ Written _ = PlacedName
 
 -- behind its word
 unfoldable pub written_at : (p : Part) → Left → Result (Written p × Left) TokenFault
-written_at parts.Level l = pass_name l
-written_at parts.Session l = pass_name l
-written_at parts.Name l = pass_name l
-written_at parts.Relation l = pass_name l
 written_at parts.Key l = pass_list l
 written_at parts.Values l = pass_list l
 written_at parts.Arguments l = pass_list l
-written_at parts.At l = pass_name l
-written_at parts.Class l = pass_name l
-written_at parts.From l = pass_name l
 written_at parts.Sets l = items_at pass_setting l
+written_at _ l = pass_name l
 
 abbrev pub pass_word : Option Name → Left → Result Left TokenFault
 pass_word None l = Ok l

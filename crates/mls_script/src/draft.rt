@@ -1,6 +1,6 @@
 //! What the parts of a line say.
 ghost use Rattle.std.specs.Prelude.{◌≡◌};
-ghost use Rattle.mls_script.specs.Grammar.{blank, command_of, event_of};
+ghost use Rattle.mls_script.specs.Grammar.{blank, event_of};
 
 use crate::event::{Command, Event};
 use crate::grammar::Verb;

@@ -3,7 +3,8 @@ ghost use Rattle.std.specs.Prelude.{◌≡◌, ◌<◌, [], length, IfOk, IfErr,
 ghost use Rattle.mls_tokens.specs.declared.fault.TokenCause.TheVariants.{Memory};
 ghost use Rattle.mls_tokens.specs.Scanning.{Reads};
 ghost use Rattle.mls_script.specs.ReadQuery.{heard};
-ghost use Rattle.mls_script.specs.Reading.{value_of_token, pass_value, items_at, listed, values_at, pass_list, pass_setting, sets_from};
+ghost use Rattle.mls_script.specs.Reading.{value_of_token, pass_value, items_at, listed, values_at, pass_list};
+ghost use Rattle.mls_script.specs.Reading.{pass_setting, sets_from};
 ghost use Rattle.mls_script.specs.OnePass.{push_value, push_set};
 
 use crate::fault::LineFault;

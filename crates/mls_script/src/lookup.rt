@@ -1,9 +1,11 @@
 //! The second pass: names and values, held against policy and schemes.
 ghost use Rattle.std.specs.Prelude.{◌≡◌, ◌<◌, length, nat_eq, map, option_map, slice_index_or, Ok, IfOk, IfSome};
-ghost use Rattle.std.specs.List.{list_any, slice_get};
+ghost use Rattle.std.specs.Prelude.{slice_get};
+ghost use Rattle.std.specs.List.{list_any};
 ghost use Rattle.mls_script.specs.declared.grammar.Part.TheVariants as parts;
 ghost use Rattle.mls_script.specs.ReadQuery.{onward, label_named};
-ghost use Rattle.mls_script.specs.OnePass.{attributes_of, put_label, put_name, put_values, with_values, Holds, drafted_scheme};
+ghost use Rattle.mls_script.specs.OnePass.{attributes_of, put_label, put_name, put_values, with_values, Holds};
+ghost use Rattle.mls_script.specs.OnePass.{drafted_scheme};
 ghost use Rattle.mls_script.specs.Reading.{misfit, held, drafted_relation, relation_named, place_at, set_at, set_in};
 
 use crate::draft::Draft;

@@ -1,10 +1,10 @@
 //! What stands behind the label of a view: which of its rows are asked for. It is no part of the grammar: any
 //! part of a query may be missing, and an owned tree in the draft would make the proof of each part dearer.
-ghost use Rattle.std.specs.Prelude.{◌≡◌, ◌<◌, length, option_map, IfSome};
-ghost use Rattle.std.specs.Option.{unwrap_or};
+ghost use Rattle.std.specs.Prelude.{◌≡◌, ◌<◌, length, IfSome, unwrap_or};
 ghost use Rattle.mls_tokens.specs.Scanning.{Reads};
 ghost use Rattle.mls_script.specs.QueryTokens.{comparison_sign};
-ghost use Rattle.mls_script.specs.ReadQuery.{Gives, comparison_among, class_at, pass_number, first_at, where_at, nothing_asked, query_at, tail_at, class_from, first_from, test_from, query_from};
+ghost use Rattle.mls_script.specs.ReadQuery.{Gives, comparison_among, class_at, pass_number, first_at, where_at};
+ghost use Rattle.mls_script.specs.ReadQuery.{query_at, tail_at, class_from, first_from, test_from, query_from};
 
 use crate::fault::{LineFault, ScriptCause};
 use crate::grammar::Verb;

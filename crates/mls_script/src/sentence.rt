@@ -1,7 +1,9 @@
 //! A line, part by part: its form, and what its names and values say.
 ghost use Rattle.std.specs.Prelude.{◌≡◌, Ok};
 ghost use Rattle.mls_tokens.specs.Scanning.{Reads};
-ghost use Rattle.mls_script.specs.OnePass.{label_heard, name_heard, relation_heard, list_heard, arguments_heard, sets_heard, content_heard, part_heard, parts_heard, order_heard, sentence_heard, told_heard};
+ghost use Rattle.mls_script.specs.OnePass.{label_heard, name_heard, relation_heard, list_heard, arguments_heard};
+ghost use Rattle.mls_script.specs.OnePass.{sets_heard, content_heard, part_heard, parts_heard, order_heard};
+ghost use Rattle.mls_script.specs.OnePass.{sentence_heard, told_heard};
 ghost use Rattle.mls_script.specs.Reading.{pass_word, verb_among, event_from};
 ghost use Rattle.mls_script.specs.ReadQuery.{Gives};
 ghost use Rattle.mls_script.specs.Grammar.{part_word, verbs};

@@ -1,9 +1,8 @@
 -- One event of a run, and a run up to an event.
-use Rattle.std.proofs.Common.{◌≡◌, ℕ, ◌+◌, ◌-◌, ◌<◌, ◌≤◌, ◌&&◌, ◌||◌, Bool, true, false, not, cond, List, [], ◌∷◌, ◌++◌, Option, None, length, take, get_or, refl, sym, ap, ◌∙◌, subst, append_assoc, arith}
+use Rattle.std.proofs.Common.{◌≡◌, ℕ, ◌+◌, ◌-◌, ◌<◌, ◌≤◌, ◌&&◌, ◌||◌, Bool, true, false, not, cond, List, [], ◌∷◌, ◌++◌, Option, None, length, take, get_or, refl, sym, ap, ◌∙◌, subst, append_assoc, arith, is_some}
 use Rattle.std.specs.Io.KnownBytes.{Appends}
 use Rattle.std.proofs.KnownBytes.{Appends-nil, Appends-trans}
 use Rattle.std.proofs.lemmas.List.{take_more}
-use Rattle.std.specs.Prelude.{is_some}
 use Rattle.mls_filterview.specs.declared.base.BaseFault.{BaseFault}
 use Rattle.mls_filterview.specs.declared.base.BaseFault.TheVariants as faults
 use Rattle.mls_filterview.specs.Calls.{IsServed}
@@ -20,13 +19,13 @@ use Rattle.mls_machine.proofs.LineLemmas.{nothing_heard, end_more, printed_more}
 use Rattle.mls_machine.proofs.ReplyLemmas.{step_known}
 use Rattle.mls_script.specs.declared.run_fault.RunCause.{RunCause}
 use Rattle.mls_script.specs.declared.run_fault.RunFault.{RunFault}
-use Rattle.mls_script.specs.declared.run_fault.RunCause.TheVariants.{Store, Memory, Write}
+use Rattle.mls_script.specs.declared.run_fault.RunCause.TheVariants.{Store, Memory}
 use Rattle.mls_sessions.specs.declared.engine.Engine.{Engine}
 use Rattle.mls_sessions.specs.declared.notice.Notice.{Notice}
 use Rattle.mls_sessions.specs.Cause.{cause_of}
 use Rattle.mls_sessions.specs.Sessions.{site_of}
 use Rattle.mls_sessions.specs.Engine.{site, world_of, IsEngineReady, IsEngineStep, IsKept}
-use Rattle.mls_sessions.specs.Run.{is_done, are_done, printed_to, world_after, IsStopped, IsPart, answer_text, IsAnswered, IsHalted}
+use Rattle.mls_sessions.specs.Run.{is_done, are_done, printed_to, world_after, IsStopped, answer_text, IsAnswered, IsHalted}
 use Rattle.mls_sessions.proofs.StepLemmas.{entries_known}
 
 -- ---- one event
@@ -53,13 +52,6 @@ module _ {B : Type 0} (state : B → State) (old new : Engine B) (audience : Aud
     module _ (kept : new.site ≡ old.site) (bytes : List ℕ) (is : bytes ≡ reply_shows (site new) audience event r) where
       text_is : bytes ≡ answer_text (site old) audience first event a b first
       text_is = is ∙ (λ i. reply_shows (site_of (kept i)) audience event (h.reply i))
-
-      pub halted_unwritten : IsPart a b bytes → IsHalted (site old) audience first event a b (world_of state new) Write true
-      halted_unwritten p = record {
-        reply = record { part = p.part; rest = p.rest; appends = p.appends; whole = p.whole ∙ text_is };
-        none = λ x. absurd (x refl);
-        world = h.world;
-      }
 
       pub answered : Appends a b bytes → IsAnswered (site old) audience first event a b (world_of state new)
       answered p = record { bytes = subst (Appends a b) text_is p; world = h.world }

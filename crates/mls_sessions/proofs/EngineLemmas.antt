@@ -1,6 +1,5 @@
 -- What each way through a step does is the machine's step, and the engine keeps what it holds.
-use Rattle.std.proofs.Common.{◌≡◌, ℕ, Bool, false, List, length, Option, Some, None, Result, Ok, Err, refl, sym, ap, ◌∙◌, subst, Vec, Global, arith}
-use Rattle.std.specs.Prelude.{IfOk, IfErr, OnErr}
+use Rattle.std.proofs.Common.{◌≡◌, ℕ, Bool, false, List, length, Option, Some, None, Result, Ok, Err, refl, sym, ap, ◌∙◌, subst, Vec, Global, arith, IfOk, IfErr, OnErr}
 use Rattle.mls_filterview.specs.declared.base.BaseFault.{BaseFault}
 use Rattle.mls_filterview.specs.declared.base.BaseFault.TheVariants as faults
 use Rattle.mls_filterview.specs.Calls.{IsServed}
@@ -20,7 +19,7 @@ use Rattle.mls_certcheck.specs.declared.stored.Stored.{Stored}
 use Rattle.mls_certcheck.specs.declared.stored.Stored.TheVariants.{Certified, Plain}
 use Rattle.mls_machine.specs.Denying.{stored_named, call_denial}
 use Rattle.mls_machine.specs.declared.reply.Reply.{Reply}
-use Rattle.mls_machine.specs.declared.reply.Reply.TheVariants.{Opened, Closed, Rows, Dumped, Wrote, Ran, Entries, Denied}
+use Rattle.mls_machine.specs.declared.reply.Reply.TheVariants.{Closed, Rows, Dumped}
 use Rattle.mls_machine.specs.Known.{HasKnownNumbers}
 use Rattle.mls_machine.specs.Output.{ReplyIsKnown}
 use Rattle.mls_certcheck.specs.Site.{Site, site_labels}
@@ -96,14 +95,9 @@ none_from (Some d) h = absurd (h d refl)
 
 -- what can be printed has known numbers
 pub numbers_known : (policy : Policy) (r : Reply) → ReplyIsKnown policy r → HasKnownNumbers policy r
-numbers_known policy (Opened user) h = h
-numbers_known policy Closed h = h
 numbers_known policy (Rows tuples) h = tt
 numbers_known policy (Dumped tuples) h = tt
-numbers_known policy (Wrote o) h = h
-numbers_known policy (Ran run) h = h
-numbers_known policy (Entries es) h = h
-numbers_known policy (Denied d) h = h
+numbers_known policy _ h = h
 
 -- ---- engines
 

@@ -1,6 +1,5 @@
 -- What runs leave of an engine and of its base, put together.
-use Rattle.std.proofs.Common.{◌≡◌, ℕ, ◌<◌, ◌≤◌, Result, Ok, Err, IfErr, refl, sym, ◌∙◌, subst, arith}
-use Rattle.std.specs.Prelude.{IsErrAnd}
+use Rattle.std.proofs.Common.{◌≡◌, ℕ, ◌<◌, ◌≤◌, Result, Ok, Err, IfErr, refl, sym, ◌∙◌, subst, arith, IsErrAnd}
 use Rattle.mls_filterview.specs.Content.{State}
 use Rattle.mls_script.specs.declared.run_fault.RunCause.TheVariants.{Store, Memory}
 use Rattle.mls_script.specs.declared.run_fault.RunFault.{RunFault}

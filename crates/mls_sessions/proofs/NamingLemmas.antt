@@ -1,6 +1,5 @@
 -- Names in entries.
-use Rattle.std.proofs.Common.{◌≡◌, true, Result, Ok, Err, sym, subst}
-use Rattle.std.specs.Prelude.{OnOk}
+use Rattle.std.proofs.Common.{◌≡◌, true, Result, Ok, Err, sym, subst, OnOk}
 use Rattle.mls_lattice.specs.Name.{is_name}
 use Rattle.mls_lattice.specs.Policy.{Name}
 use Rattle.mls_lattice.proofs.NameLemmas.{name-short}

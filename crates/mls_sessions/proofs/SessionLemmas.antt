@@ -1,8 +1,5 @@
 -- Sessions: a list with one more or without one, and what an event of no open session is answered.
-use Rattle.std.proofs.Common.{◌≡◌, ℕ, ◌<◌, Bool, true, false, not, cond, List, [], ◌∷◌, ◌++◌, Option, Some, None, Result, Ok, Err, refl, sym, ap, ◌∙◌, subst, true≢false, eqb-true}
-use Rattle.std.specs.Prelude.{is_some, nat_eq, ◌&&◌, ◌||◌}
-use Rattle.std.specs.List.{filter}
-use Rattle.std.specs.Str.{bytes_eq}
+use Rattle.std.proofs.Common.{◌≡◌, ℕ, ◌<◌, Bool, true, false, not, cond, List, [], ◌∷◌, ◌++◌, Option, Some, None, Result, Ok, Err, refl, sym, ap, ◌∙◌, subst, true≢false, eqb-true, is_some, nat_eq, ◌&&◌, ◌||◌, filter, bytes_eq}
 use Rattle.std.proofs.lemmas.Bool.{and_parts}
 use Rattle.std.proofs.lemmas.Slice.Eq.{bytes_eq-Decides}
 use Rattle.mls_lattice.specs.Labels.{below}
@@ -29,9 +26,7 @@ none_found false user r h = (refl, h)
 
 swapped : (a b : Bool) (x y z : Option ℕ) → (a ≡ true → b ≡ true → ⊥) → cond a x (cond b y z) ≡ cond b y (cond a x z)
 swapped true true x y z h = absurd (h refl refl)
-swapped true false x y z h = refl
-swapped false true x y z h = refl
-swapped false false x y z h = refl
+swapped _ _ x y z h = refl
 
 -- two sessions of one level and name
 both_named : (level : ℕ) (name : Name) (r s : Session) → is_named level name r ≡ true → is_named level name s ≡ true → is_named s.level s.name r ≡ true
@@ -63,12 +58,10 @@ held_if false xs ys level name = refl
 -- a session of the level and the name is asked for where that is asked for which it has, and the other way round
 one_less : (named held asked : Bool) (user : ℕ) (new old : Option ℕ) → (named ≡ true → held ≡ true → asked ≡ true) → (asked ≡ true → held ≡ true → named ≡ true)
     → new ≡ cond asked None old → cond (not named) (cond held (Some user) new) new ≡ cond asked None (cond held (Some user) old)
-one_less true held true user new old p q h = h
 one_less true true false user new old p q h = absurd (true≢false (sym (p refl refl)))
-one_less true false false user new old p q h = h
 one_less false true true user new old p q h = absurd (true≢false (sym (q refl refl)))
-one_less false false true user new old p q h = h
 one_less false held false user new old p q h = ap (cond held (Some user)) h
+one_less _ _ _ user new old p q h = h
 
 module _ (level : ℕ) (name : Name) where
   abbrev asked : ℕ → Name → Bool
@@ -131,12 +124,7 @@ module _ (site : Site) (event : Event) where
 
   not_opening : (w : World) (command : Command) → ((name : Name) → command ≡ commands.Open name → ⊥) → outside command w ≡ turned_away w NoSession
   not_opening w (commands.Open name) other = absurd (other name refl)
-  not_opening w commands.Close other = refl
-  not_opening w commands.Audit other = refl
-  not_opening w (commands.View relation label query counts) other = refl
-  not_opening w (commands.Dump relation) other = refl
-  not_opening w (commands.Write relation wr) other = refl
-  not_opening w (commands.Call name args) other = refl
+  not_opening w _ other = refl
 
   module _ (old : List Session) where
     abbrev held : Database → List Entry → World

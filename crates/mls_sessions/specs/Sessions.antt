@@ -1,7 +1,6 @@
 -- What a run is under, and the open sessions.
-use Rattle.std.specs.Prelude.{◌≡◌, ℕ, Bool, ◌&&◌, if◌then◌else◌, nat_eq, ◌<◌, List, [], ◌∷◌, Some, None}
+use Rattle.std.specs.Prelude.{◌≡◌, ℕ, Bool, ◌&&◌, if◌then◌else◌, nat_eq, ◌<◌, List, [], ◌∷◌, Some, None, bytes_eq}
 use Rattle.std.specs.List.{AllByRecursion}
-use Rattle.std.specs.Str.{bytes_eq}
 use Rattle.mls_lattice.specs.Policy.{Name}
 use Rattle.mls_scheme.specs.Table.{Database}
 use Rattle.mls_audit.specs.declared.entry.Entry.{Entry}

@@ -1,6 +1,6 @@
 -- An audit list that is turned over a base: its entries are written, and then it is empty.
-use Rattle.std.specs.Prelude.{◌≡◌, ◌≢◌, ℕ, ◌<◌, ◌≤◌, ◌⊎◌, true, false, IfErr, OnOk, OnErr, List, [], ◌++◌, length, Option}
-use Rattle.std.specs.Prelude.{Result, Ok, Err}
+use Rattle.std.specs.Prelude.{◌≡◌, ◌≢◌, ℕ, ◌<◌, ◌≤◌, ◌⊎◌, true, false, IfErr, OnOk, OnErr, List, [], ◌++◌, length}
+use Rattle.std.specs.Prelude.{Option, Result, Ok, Err}
 use Rattle.mls_lattice.specs.Policy.{Policy, labels_of}
 use Rattle.mls_filterview.specs.Content.{Content, State, begun_change}
 use Rattle.mls_filterview.specs.declared.base.BaseFault.{BaseFault}

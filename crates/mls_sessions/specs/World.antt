@@ -1,6 +1,5 @@
 -- The world that content and open sessions are.
-use Rattle.std.specs.Prelude.{ℕ, if◌then◌else◌, nat_lt, List, length, Option, Some, None, Result, Ok, Err}
-use Rattle.std.specs.List.{filter_map}
+use Rattle.std.specs.Prelude.{ℕ, if◌then◌else◌, nat_lt, List, length, Option, Some, None, Result, Ok, Err, filter_map}
 use Rattle.mls_filterview.specs.Content.{Content}
 use Rattle.mls_audit.specs.declared.entry.Entry.{Entry}
 use Rattle.mls_scheme.specs.declared.key_fault.KeyFault.{KeyFault}

@@ -4,7 +4,8 @@ ghost use Rattle.std.specs.List.{AllByRecursion, list_any};
 ghost use Rattle.mls_scheme.specs.Scheme.{scheme_of};
 ghost use Rattle.mls_script.specs.Event.{IsWriteOf, CommandFits};
 ghost use Rattle.mls_certcheck.specs.Site.{AreRead};
-ghost use Rattle.mls_machine.specs.Denying.{first_denial, clearance_of, exceed, lacks_rights_on, lacks, access_denials, write_denials};
+ghost use Rattle.mls_machine.specs.Denying.{first_denial, clearance_of, exceed, lacks_rights_on, lacks, access_denials};
+ghost use Rattle.mls_machine.specs.Denying.{write_denials};
 ghost use Rattle.mls_sessions.specs.Denying.{denial_in};
 ghost use Rattle.mls_sessions.specs.Sessions.{site_of};
 

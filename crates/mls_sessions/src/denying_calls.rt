@@ -3,7 +3,8 @@ ghost use Rattle.std.specs.Prelude.{◌≡◌, ◌<◌, ◌&&◌, not, nat_eq, l
 ghost use Rattle.std.specs.List.{AllByRecursion};
 ghost use Rattle.mls_lattice.specs.Labels.{below};
 ghost use Rattle.mls_certcheck.specs.Site.{site_labels, AreRead};
-ghost use Rattle.mls_machine.specs.Denying.{first_denial, trusted_of, lie_outside, stored_named, call_denials, call_denial};
+ghost use Rattle.mls_machine.specs.Denying.{first_denial, trusted_of, lie_outside, stored_named, call_denials};
+ghost use Rattle.mls_machine.specs.Denying.{call_denial};
 ghost use Rattle.mls_sessions.specs.Sessions.{site_of};
 
 use crate::arguments::are_wrong;

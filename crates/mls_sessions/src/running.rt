@@ -1,6 +1,6 @@
 //! Runs: events answered in order, and their replies written, whole or what one reader may see of them.
 ghost use Rattle.std.specs.Prelude.{◌≡◌, ◌≢◌, ℕ, ◌<◌, ◌||◌, true, not, length, take, is_some, IfOk, IfErr, OnOk};
-ghost use Rattle.std.specs.Option.{IfSome};
+ghost use Rattle.std.specs.Prelude.{IfSome};
 ghost use Rattle.mls_script.specs.Event.{EventFits};
 ghost use Rattle.mls_machine.specs.Machine.{step};
 ghost use Rattle.mls_machine.specs.Output.{ReplyIsKnown};

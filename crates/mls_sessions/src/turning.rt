@@ -1,6 +1,5 @@
 //! An audit list that is turned: its entries are written, and then it is empty.
-ghost use Rattle.std.specs.Prelude.{◌≡◌, ◌<◌, true, false, length, IfOk};
-ghost use Rattle.std.specs.Option.{IfSome};
+ghost use Rattle.std.specs.Prelude.{◌≡◌, ◌<◌, true, false, length, IfOk, IfSome};
 ghost use Rattle.std.specs.Io.KnownBytes.{Appends};
 ghost use Rattle.mls_sessions.specs.Turning.{turned_text, list_text, HasTurned, IsListed, IsEmptied};
 ghost use Rattle.mls_sessions.specs.World.{entries_in};

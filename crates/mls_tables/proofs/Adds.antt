@@ -1,7 +1,5 @@
 -- What adding a row comes to, in each table.
-use Rattle.std.proofs.Common.{◌≡◌, ap, subst, subst₂, ◌∙◌, ℕ, ℤ, pos, List, [], ◌∷◌, ◌++◌, suc, map, length, Bool, true, false, cond, Ok, Err, Result, OnOk, refl}
-use Rattle.std.specs.List.{flat_map}
-use Rattle.std.proofs.lemmas.List.{append-nil, append_assoc}
+use Rattle.std.proofs.Common.{◌≡◌, ap, subst, subst₂, ◌∙◌, ℕ, ℤ, pos, List, [], ◌∷◌, ◌++◌, suc, map, length, Bool, true, false, cond, Ok, Err, Result, OnOk, refl, flat_map, append-nil, append_assoc}
 use Rattle.sqlite.specs.declared.types.Value.{Value}
 use Rattle.sqlite.specs.declared.types.Value.TheVariants.{Null, Int, Text, Blob}
 use Rattle.sqlite.specs.declared.error.Error.{Error}

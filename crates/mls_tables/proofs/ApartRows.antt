@@ -1,7 +1,7 @@
 -- Rows of different rowids, in any order: what an edit leaves, up to the order.
-use Rattle.std.proofs.Common.{◌≡◌, inl, inr, List, [], ◌∷◌, false, Less, Equal, Greater, Ordering, refl, sym, ap, ◌∙◌, IsPermutation, true≢false, arith}
+use Rattle.std.proofs.Common.{◌≡◌, inl, inr, List, [], ◌∷◌, false, Less, Equal, Greater, Ordering, refl, sym, ap, ◌∙◌, IsPermutation, true≢false, arith, is_eq}
 use Rattle.std.specs.List.{AllByRecursion}
-use Rattle.std.specs.Ordering.{is_eq, match_ordering, ordering_reverse}
+use Rattle.std.specs.Ordering.{match_ordering, ordering_reverse}
 use Rattle.sqlite_trees.proofs.TreeLemmas.{all-put_row}
 use Rattle.std.proofs.lemmas.Bool.{or_parts}
 use Rattle.std.proofs.lemmas.Cmp.{tied_back}

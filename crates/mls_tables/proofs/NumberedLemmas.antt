@@ -1,6 +1,5 @@
 -- Entries whose numbers rise by one are the list that they are a permutation of.
-use Rattle.std.proofs.Common.{◌≡◌, inl, inr, ℕ, suc, ◌+◌, ◌<◌, ℤ, ◌+ℤ◌, pos, List, [], ◌∷◌, map, filter, length, nat_lt, Bool, true, false, IsPermutation, refl, sym, ap, subst, subst₂, ◌∙◌, arith}
-use Rattle.std.specs.Ordering.{int_eq}
+use Rattle.std.proofs.Common.{◌≡◌, inl, inr, ℕ, suc, ◌+◌, ◌<◌, ℤ, ◌+ℤ◌, pos, List, [], ◌∷◌, map, filter, length, nat_lt, Bool, true, false, IsPermutation, refl, sym, ap, subst, subst₂, ◌∙◌, arith, int_eq}
 use Rattle.std.proofs.lemmas.Bool.{and_parts, and_from, cases_Bool}
 use Rattle.std.proofs.lemmas.Bool.Decides.{nat_tests}
 use Rattle.std.proofs.lemmas.Int.{ints}

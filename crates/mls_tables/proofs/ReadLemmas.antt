@@ -1,6 +1,5 @@
 -- Calls that read the four tables, one after another and in a transaction.
-use Rattle.std.proofs.Common.{◌≡◌, Ok, Err, Result, IfOk, OnOk, sym, subst, ◌∙◌}
-use Rattle.std.specs.Prelude.{IsErrAnd}
+use Rattle.std.proofs.Common.{◌≡◌, Ok, Err, Result, IfOk, OnOk, sym, subst, ◌∙◌, IsErrAnd}
 use Rattle.sqlite.specs.Effect.{Database}
 use Rattle.sqlite.specs.State.{State, IsUnchanged}
 use Rattle.sqlite.proofs.Callers.{unchanged_then}

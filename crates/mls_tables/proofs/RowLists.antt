@@ -1,7 +1,6 @@
 -- The rows that are left where some are taken out.
-use Rattle.std.proofs.Common.{◌≡◌, inl, inr, ℤ, List, [], ◌∷◌, filter, not, Bool, true, false, Less, Equal, Greater, Ordering, refl, sym, ap, ◌∙◌, IsTrue, IsPermutation, true≢false}
+use Rattle.std.proofs.Common.{◌≡◌, inl, inr, ℤ, List, [], ◌∷◌, filter, not, Bool, true, false, Less, Equal, Greater, Ordering, refl, sym, ap, ◌∙◌, IsTrue, IsPermutation, true≢false, is_eq}
 use Rattle.std.specs.List.{AllByRecursion, list_any}
-use Rattle.std.specs.Ordering.{is_eq}
 use Rattle.std.proofs.lemmas.Bool.{cases_Bool}
 use Rattle.std.proofs.lemmas.Cmp.{tied_itself}
 use Rattle.sqlite_value.proofs.OrderLemmas.{value_cmp_total}

@@ -1,17 +1,13 @@
 -- What SQL's tests on the columns of a row say of the row as plain data.
-use Rattle.std.proofs.Common.{◌≡◌, ℕ, ◌<◌, ◌≤◌, ◌*◌, ◌^◌, ◌%◌, zero, suc, not, cond, pos, negsuc, List, [], ◌∷◌, Bool, true, false, ◌&&◌, nat_eq, refl, sym, ap, ◌∙◌, true≢false, arith}
-use Rattle.std.specs.Prelude.{bit_and, int_lt, nat_lt}
-use Rattle.std.specs.Int.{w64, bit_at, cast_signed, cast_unsigned, int_bit_and, int_shl}
+use Rattle.std.proofs.Common.{◌≡◌, ℕ, ◌<◌, ◌≤◌, ◌*◌, ◌^◌, ◌%◌, zero, suc, not, cond, pos, negsuc, List, [], ◌∷◌, Bool, true, false, ◌&&◌, nat_eq, refl, sym, ap, ◌∙◌, true≢false, arith, bit_and, int_lt, nat_lt, w64, bytes_eq, is_eq, int_cmp, int_eq, ltb-true, ltb-false}
+use Rattle.std.specs.Int.{bit_at, cast_signed, cast_unsigned, int_bit_and, int_shl}
 use Rattle.std.specs.Int.Bits.{and_zero_r}
 use Rattle.std.proofs.Math.Pow.{pow-lt, pow_pos}
 use Rattle.std.proofs.Math.Nat.{mod-eq_of_lt}
-use Rattle.std.proofs.lemmas.Int.{of_z-to_z}
+use Rattle.std.proofs.lemmas.Int.{of_z-to_z, ints}
 use Rattle.std.proofs.lemmas.Nat.Bits.{and_pow, bit_at-lt, bit_at_above}
-use Rattle.std.specs.Str.{bytes_eq}
-use Rattle.std.specs.Ordering.{is_eq, int_cmp, int_eq}
-use Rattle.std.proofs.lemmas.Bool.{and_parts, false_from_ne_true, ltb-true, ltb-false}
+use Rattle.std.proofs.lemmas.Bool.{and_parts, false_from_ne_true}
 use Rattle.std.proofs.lemmas.Bool.Decides.{nat_tests}
-use Rattle.std.proofs.lemmas.Int.{ints}
 use Rattle.std.proofs.lemmas.Map.Text.{is_eq-slice_cmp}
 use Rattle.sqlite_value.specs.declared.value.Value.{Value}
 use Rattle.sqlite_value.specs.declared.value.Value.TheVariants.{Null, Int, Real, Text, Blob}

@@ -1,5 +1,6 @@
 -- Which tables are adopted, and what is read of them.
-use Rattle.std.specs.Prelude.{◌≡◌, ◌≢◌, ◌⊎◌, ℕ, ◌^◌, ◌<◌, ℤ, pos, true, false, int_lt, List, [], ◌∷◌, ◌++◌, Bool, map, IsTrue, IsUtf8, IsPermutation, Result, Vec, IfOk, IfErr, OnOk, OnErr}
+use Rattle.std.specs.Prelude.{◌≡◌, ◌≢◌, ◌⊎◌, ℕ, ◌^◌, ◌<◌, ℤ, pos, true, false, int_lt, List, [], ◌∷◌, ◌++◌, Bool, map}
+use Rattle.std.specs.Prelude.{IsTrue, IsUtf8, IsPermutation, Result, Vec, IfOk, IfErr, OnOk, OnErr}
 use Rattle.std.specs.List.{AllByRecursion}
 use Rattle.std.specs.declared.alloc.Global.{Global}
 use Rattle.sqlite_value.specs.declared.value.Value.{Value}
@@ -19,7 +20,8 @@ use Rattle.mls_tables.specs.declared.rows.MetaRow.{MetaRow}
 use Rattle.mls_tables.specs.declared.adopting.AllRows.{AllRows}
 use Rattle.mls_tables.specs.declared.adopting.AdoptFault.{AdoptFault}
 use Rattle.mls_tables.specs.declared.adopting.AdoptFault.TheVariants.{BadRows}
-use Rattle.mls_tables.specs.Rows.{Tables, tables_of, meta_of, node_columns, cell_columns, audit_columns, meta_columns, is_node_row, is_cell_row, is_audit_row, is_meta_row}
+use Rattle.mls_tables.specs.Rows.{Tables, tables_of, meta_of, node_columns, cell_columns, audit_columns, meta_columns}
+use Rattle.mls_tables.specs.Rows.{is_node_row, is_cell_row, is_audit_row, is_meta_row}
 use Rattle.mls_tables.specs.Schema.{HasTables}
 use Rattle.mls_tables.specs.Statements.{AreRows, HasSettled}
 

@@ -1,5 +1,6 @@
 -- The four tables, as SQL defines them.
-use Rattle.std.specs.Prelude.{◌≡◌, ◌==◌, nat_lt, Bool, true, false, [], ◌∷◌, length, take, drop, Some, None, codes, List, ℕ}
+use Rattle.std.specs.Prelude.{◌≡◌, ◌==◌, nat_lt, Bool, true, false, [], ◌∷◌, length, take, drop, Some, None, codes}
+use Rattle.std.specs.Prelude.{List, ℕ}
 use Rattle.std.specs.List.{AllByRecursion, list_all}
 use Rattle.sqlite.specs.declared.types.Value.TheVariants.{Null}
 use Rattle.sqlite.specs.Collation.TheVariants.{Binary}

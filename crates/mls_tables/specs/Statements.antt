@@ -1,5 +1,6 @@
 -- What the statements do to the four tables.
-use Rattle.std.specs.Prelude.{◌≡◌, ◌⊎◌, ℕ, Bool, true, false, not, if◌then◌else◌, List, [], ◌∷◌, ◌++◌, filter, IsTrue, IsPermutation, Result, Vec, IfOk, OnOk, OnErr}
+use Rattle.std.specs.Prelude.{◌≡◌, ◌⊎◌, ℕ, Bool, true, false, not, if◌then◌else◌, List, [], ◌∷◌, ◌++◌, filter, IsTrue}
+use Rattle.std.specs.Prelude.{IsPermutation, Result, Vec, IfOk, OnOk, OnErr}
 use Rattle.std.specs.List.{AllByRecursion}
 use Rattle.std.specs.Ordering.{is_eq}
 use Rattle.std.specs.declared.alloc.Global.{Global}
@@ -14,7 +15,8 @@ use Rattle.mls_tables.specs.declared.rows.CellRow.{CellRow}
 use Rattle.mls_tables.specs.declared.rows.AuditRow.{AuditRow}
 use Rattle.mls_tables.specs.declared.rows.MetaRow.{MetaRow}
 use Rattle.mls_tables.specs.declared.rows.TupleKey.{TupleKey}
-use Rattle.mls_tables.specs.Rows.{Tables, tables_of, described, first_meta, is_node, is_cell, is_cell_in, is_node_row, is_cell_row, is_audit_row, is_meta_row}
+use Rattle.mls_tables.specs.Rows.{Tables, tables_of, described, first_meta, is_node, is_cell, is_cell_in, is_node_row}
+use Rattle.mls_tables.specs.Rows.{is_cell_row, is_audit_row, is_meta_row}
 use Rattle.mls_tables.specs.Schema.{HasTables, IsMade}
 
 -- no two rows have one rowid

@@ -9,7 +9,8 @@ ghost use Rattle.mls_tables.specs.Rows.{is_meta_row};
 ghost use Rattle.mls_tables.specs.Schema.{HasTables};
 ghost use Rattle.mls_tables.specs.Statements.{AreRows};
 ghost use Rattle.mls_tables.specs.Store.{HasEnded};
-ghost use Rattle.mls_tables.specs.Adopting.{Blames, AreRead, HasRows, HasReadRows, IsReadDescription, HasDescription, IsDescribed, HasRead, IsAdopted, ReadsTables, IsReading};
+ghost use Rattle.mls_tables.specs.Adopting.{Blames, AreRead, HasRows, HasReadRows, IsReadDescription, HasDescription};
+ghost use Rattle.mls_tables.specs.Adopting.{IsDescribed, HasRead, IsAdopted, ReadsTables, IsReading};
 
 use crate::rows::{AuditRow, CellRow, MetaRow, NodeRow};
 use crate::statements::schema::has_tables;

@@ -4,9 +4,12 @@ ghost use Rattle.std.specs.List.{AllByRecursion};
 ghost use Rattle.sqlite_value.specs.Order.{Row as SqlRow, column};
 ghost use Rattle.sqlite_trees.specs.View.{is_int};
 ghost use Rattle.sqlite_rules.specs.Edit.{id_in};
-ghost use Rattle.mls_tables.specs.Rows.{nat_in, blob_in, text_in, is_nat, is_blob, is_text, shown_node, shows_node, shown_cell, shows_cell, shown_entry, shows_entry, shown_meta, shows_meta, are_numbered};
+ghost use Rattle.mls_tables.specs.Rows.{nat_in, blob_in, text_in, is_nat, is_blob, is_text, shown_node, shows_node};
+ghost use Rattle.mls_tables.specs.Rows.{shown_cell, shows_cell, shown_entry, shows_entry, shown_meta, shows_meta};
+ghost use Rattle.mls_tables.specs.Rows.{are_numbered};
 ghost use Rattle.mls_tables.specs.Pattern.{shown_bytes};
-ghost use Rattle.mls_tables.specs.Adopting.{IsNumber, IsInteger, IsBytes, IsText, ReadsNode, ReadsCell, ReadsEntry, ReadsMeta, Refutes};
+ghost use Rattle.mls_tables.specs.Adopting.{IsNumber, IsInteger, IsBytes, IsText, ReadsNode, ReadsCell, ReadsEntry};
+ghost use Rattle.mls_tables.specs.Adopting.{ReadsMeta, Refutes};
 
 use crate::rows::{AuditRow, CellRow, MetaRow, NodeRow};
 use mls_lattice::{Items, Str};

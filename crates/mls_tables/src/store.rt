@@ -1,14 +1,18 @@
 //! The four tables over a connection, with the rows of the last commit.
-ghost use Rattle.std.specs.Prelude.{◌≡◌, ◌≢◌, ◌↔◌, ◌+◌, ◌≤◌, true, false, map, filter, ℕ, IsTrue, IfOk, IfErr, IsPermutation};
+ghost use Rattle.std.specs.Prelude.{◌≡◌, ◌≢◌, ◌↔◌, ◌+◌, ◌≤◌, true, false, map, filter, IsTrue, IfOk, IfErr};
+ghost use Rattle.std.specs.Prelude.{IsPermutation};
 ghost use Rattle.sqlite.specs.State.{HasCleanDisk};
 ghost use Rattle.sqlite.specs.Held.{state};
 ghost use Rattle.sqlite.specs.declared.error.Error.TheVariants.{SqliteFailure};
 ghost use Rattle.sqlite.specs.declared.error.ErrorCode.TheVariants.{OutOfMemory};
 ghost use Rattle.mls_tables.specs.declared.rows.CellRow.{CellRow as SpecCell};
-ghost use Rattle.mls_tables.specs.Rows.{Tables, tables_of, described, is_node_at, is_node_among, is_node, is_cell_at, is_cell_among, is_cell_in, cell_beside};
+ghost use Rattle.mls_tables.specs.Rows.{Tables, tables_of, described, is_node_at, is_node_among, is_node, is_cell_at};
+ghost use Rattle.mls_tables.specs.Rows.{is_cell_among, is_cell_in, cell_beside};
 ghost use Rattle.mls_tables.specs.Schema.{no_schema};
-ghost use Rattle.mls_tables.specs.Statements.{IsSchemaReady, AddsNode, DropsNode, AddsCells, SetsCell, DropsCells, AddsEntry, ClearsEntries, IsOne, has_key_of, HasSettled};
-ghost use Rattle.mls_tables.specs.Store.{IsClean, IsStoreFault, IsStoreTurn, IsStoreWrite, IsStoreQuery, HasEnded, HasFallen};
+ghost use Rattle.mls_tables.specs.Statements.{IsSchemaReady, AddsNode, DropsNode, AddsCells, SetsCell, DropsCells};
+ghost use Rattle.mls_tables.specs.Statements.{AddsEntry, ClearsEntries, IsOne, has_key_of, HasSettled};
+ghost use Rattle.mls_tables.specs.Store.{IsClean, IsStoreFault, IsStoreTurn, IsStoreWrite, IsStoreQuery, HasEnded};
+ghost use Rattle.mls_tables.specs.Store.{HasFallen};
 
 use crate::remembered::GhostStore;
 use crate::rows::{AuditRow, CellRow, NodeRow, OwnCell, TupleKey};

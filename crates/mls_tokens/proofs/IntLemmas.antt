@@ -1,12 +1,11 @@
 -- Numbers in a text.
-use Rattle.std.proofs.Common.{◌≡◌, ◌≢◌, ℕ, ◌<◌, ◌^◌, ℤ, Bool, true, false, ◌||◌, ◌==◌, List, [], ◌∷◌, length, get_or, slice_index, take, drop, arith, refl, sym, ap, ◌∙◌, inl, inr, IsTrue, nat_lt, nat_le, one-add}
-use Rattle.std.specs.Prelude.{Result, Ok, Err, MatchResult}
-use Rattle.std.specs.Str.{IsAscii, all_ascii_digits}
+use Rattle.std.proofs.Common.{◌≡◌, ◌≢◌, ℕ, ◌<◌, ◌^◌, ℤ, Bool, true, false, ◌||◌, ◌==◌, List, [], ◌∷◌, length, get_or, slice_index, take, drop, arith, refl, sym, ap, ◌∙◌, inl, inr, IsTrue, nat_lt, nat_le, one-add, Result, Ok, Err, MatchResult, IsAscii, w64, eqb-true, lt-ltb, le-leb, leb-true, ltb-true}
+use Rattle.std.specs.Str.{all_ascii_digits}
 use Rattle.std.specs.Str.Parse.{digits_value, ParsesSigned}
-use Rattle.std.specs.Int.{w64, IsInRange}
+use Rattle.std.specs.Int.{IsInRange}
 use Rattle.std.specs.List.{prefix_len}
 use Rattle.std.specs.Char.{is_ascii_digit}
-use Rattle.std.proofs.lemmas.Bool.{cases_Bool, eqb-true, lt-ltb, le-leb, leb-true, ltb-true, false_from_ne_true}
+use Rattle.std.proofs.lemmas.Bool.{cases_Bool, false_from_ne_true}
 use Rattle.std.proofs.lemmas.Bool.Decides.{nat_tests}
 use Rattle.std.proofs.lemmas.Str.Parse.{IsNumeralModel, numerals_by_value, tells_all_ascii_digits, parse_signed_minus, parse_signed_plain, not_in_digits}
 use Rattle.mls_tokens.specs.declared.fault.ScanFault.TheVariants.{Token as BadToken}

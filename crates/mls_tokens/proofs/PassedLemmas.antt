@@ -9,10 +9,10 @@ use Rattle.mls_tokens.specs.declared.fault.TokenCause.{TokenCause}
 use Rattle.mls_tokens.specs.declared.fault.TokenCause.TheVariants as causes
 use Rattle.mls_tokens.specs.declared.fault.TokenFault.{TokenFault}
 use Rattle.mls_tokens.specs.declared.token.Token.{Token}
-use Rattle.mls_tokens.specs.declared.token.Token.TheVariants.{Word, Int, Text, Sign as Sign_token}
+use Rattle.mls_tokens.specs.declared.token.Token.TheVariants.{Word, Sign as Sign_token}
 use Rattle.mls_tokens.specs.declared.token.Placed.{Placed}
 use Rattle.mls_tokens.specs.declared.sign.Sign.{Sign}
-use Rattle.mls_tokens.specs.declared.sign.Sign.TheVariants.{Becomes, Differs, AtMost, AtLeast, LeftParen, RightParen, LeftBrace, RightBrace, Comma, Semicolon, Colon, Dot, Equals, Less, Greater, Plus, Minus, Times}
+use Rattle.mls_tokens.specs.declared.sign.Sign.TheVariants.{Becomes}
 use Rattle.mls_tokens.specs.Sign.{sign_text, sign_goes_on, leading_sign}
 use Rattle.mls_tokens.specs.Scanning.{Left, without_places}
 use Rattle.mls_tokens.specs.Passing.{left, is_word, is_sign, take_first, taken, or_refused, pass, PlacedName, name_of_token, named_first, pass_name_of, pass_name, is_expected, over_with}
@@ -39,23 +39,7 @@ passed_shorter ts l r h =
 
 ends_at_end : (s : Sign) → sign_goes_on s 0 ≡ false
 ends_at_end Becomes = refl
-ends_at_end Differs = refl
-ends_at_end AtMost = refl
-ends_at_end AtLeast = refl
-ends_at_end LeftParen = refl
-ends_at_end RightParen = refl
-ends_at_end LeftBrace = refl
-ends_at_end RightBrace = refl
-ends_at_end Comma = refl
-ends_at_end Semicolon = refl
-ends_at_end Colon = refl
-ends_at_end Dot = refl
-ends_at_end Equals = refl
-ends_at_end Less = refl
-ends_at_end Greater = refl
-ends_at_end Plus = refl
-ends_at_end Minus = refl
-ends_at_end Times = refl
+ends_at_end _ = refl
 
 signs_is : (x y : Sign × List ℕ) (o : Option (Sign × List ℕ)) → o ≡ Some x → o ≡ Some y → x ≡ y
 signs_is x y o p q = cc
@@ -98,9 +82,7 @@ or_found (Some y) l x e = ap (λ z. Some z) (ok_is y x e)
 
 word_is : (w : List ℕ) (t : Token) → is_word w t ≡ true → t ≡ Word w
 word_is w (Word s) h = ap (λ (x : List ℕ). Word x) ((bytes_eq-Decides s w).0 h)
-word_is w (Int n) h = absurd cc
-word_is w (Text s) h = absurd cc
-word_is w (Sign_token s) h = absurd cc
+word_is w _ h = absurd cc
 
 pub word_taken : (w : List ℕ) (l : Left) (x : ℕ × Left) → taken (is_word w) l ≡ Some x → Passed (Word w ∷ []) l x.1
 word_taken w l x e = let h = taken_found (is_word w) l x.0 x.1 e in subst (λ t. Passed (t ∷ []) l x.1) (word_is w h.0 h.1) h.2
@@ -109,10 +91,8 @@ pub word_found : (w : List ℕ) (l : Left) (x : ℕ × Left) → pass (is_word w
 word_found w l x e = word_taken w l x (or_found (taken (is_word w) l) l x e)
 
 sign_is : (s : Sign) (t : Token) → is_sign s t ≡ true → t ≡ Sign_token s
-sign_is s (Word w) h = absurd cc
-sign_is s (Int n) h = absurd cc
-sign_is s (Text w) h = absurd cc
 sign_is s (Sign_token t) h = ap (λ (x : Sign). Sign_token x) (sign_once t s ((bytes_eq-Decides (sign_text t) (sign_text s)).0 h))
+sign_is s _ h = absurd cc
 
 pub sign_taken : (s : Sign) (l : Left) (x : ℕ × Left) → taken (is_sign s) l ≡ Some x → Passed (Sign_token s ∷ []) l x.1
 sign_taken s l x e = let h = taken_found (is_sign s) l x.0 x.1 e in subst (λ t. Passed (t ∷ []) l x.1) (sign_is s h.0 h.1) h.2
@@ -128,9 +108,7 @@ named_is (Word w) s e =
       | inl named ↦ let same : w ≡ s = let h = rw named at e in cc in (ap (λ (x : List ℕ). Word x) same, ap is_name (sym same) ∙ named)
       | inr other ↦ absurd (let h = rw other at e in cc)
     ]
-named_is (Int n) s e = absurd cc
-named_is (Text w) s e = absurd cc
-named_is (Sign_token w) s e = absurd cc
+named_is _ s e = absurd cc
 
 -- a name was passed, in these tokens
 pub record NameFound (ts : List ℕ → List Token) (l : Left) (x : PlacedName × Left) : Type 0 where
@@ -157,10 +135,8 @@ name_found l x e = name_of_found l.placed l.stop x e
 -- ---- the end
 
 expected_is : (c : TokenCause) → is_expected c ≡ true → c ≡ causes.Expected
-expected_is causes.Token e = absurd cc
 expected_is causes.Expected e = refl
-expected_is causes.TooLong e = absurd cc
-expected_is causes.Memory e = absurd cc
+expected_is _ e = absurd cc
 
 pub over_is : (ps : List Placed) (stop : TokenFault) → over_with ps stop ≡ true → (without_places ps ≡ []) × (stop.cause ≡ causes.Expected)
 over_is [] stop e = (refl, expected_is stop.cause e)

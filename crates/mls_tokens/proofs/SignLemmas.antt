@@ -1,14 +1,12 @@
 -- Signs: what is found at the front is the sign that stands there.
-use Rattle.std.proofs.Common.{◌≡◌, ℕ, Bool, true, false, ◌&&◌, ◌||◌, ◌==◌, not, List, [], ◌∷◌, ◌++◌, length, slice_index, take, drop, Some, inl, inr, refl, sym, ap, ◌∙◌, subst, arith, ◌<◌}
-use Rattle.std.specs.Prelude.{nat_eq}
+use Rattle.std.proofs.Common.{◌≡◌, ℕ, Bool, true, false, ◌&&◌, ◌||◌, ◌==◌, not, List, [], ◌∷◌, ◌++◌, length, slice_index, take, drop, Some, inl, inr, refl, sym, ap, ◌∙◌, subst, arith, ◌<◌, nat_eq, take-append-drop}
 use Rattle.std.specs.List.{starts_with}
 use Rattle.std.specs.Char.{is_ascii_alphabetic, is_ascii_digit}
 use Rattle.std.proofs.lemmas.Bool.{cases_Bool, or_parts}
 use Rattle.std.proofs.lemmas.Option.{same_Some}
 use Rattle.std.proofs.lemmas.Slice.Eq.{bytes_eq-Decides}
-use Rattle.std.proofs.lemmas.List.{take-append-drop}
 use Rattle.mls_tokens.specs.declared.sign.Sign.{Sign}
-use Rattle.mls_tokens.specs.declared.sign.Sign.TheVariants.{Becomes, Differs, AtMost, AtLeast, LeftParen, RightParen, LeftBrace, RightBrace, Comma, Semicolon, Colon, Dot, Equals, Less, Greater, Plus, Minus, Times}
+use Rattle.mls_tokens.specs.declared.sign.Sign.TheVariants.{Becomes, Differs, AtMost, AtLeast, Colon, Less, Greater, Minus}
 use Rattle.mls_tokens.specs.Text.{is_blank}
 use Rattle.mls_tokens.specs.Scanning.{starts_int}
 use Rattle.mls_tokens.specs.Sign.{sign_text, sign_goes_on, signs, first_sign, leading_sign}
@@ -63,21 +61,9 @@ behind_greater (c ∷ cs) h = and_true (nat_eq 61 c) h
 
 -- and what follows it does not go on with it
 pub sign_ends : (bytes : List ℕ) (s : Sign) (rest : List ℕ) → leading_sign bytes ≡ Some (s, rest) → starts_int bytes ≡ false → sign_goes_on s (slice_index rest 0) ≡ false
-sign_ends bytes Becomes rest e plain = refl
-sign_ends bytes Differs rest e plain = refl
-sign_ends bytes AtMost rest e plain = refl
-sign_ends bytes AtLeast rest e plain = refl
-sign_ends bytes LeftParen rest e plain = refl
-sign_ends bytes RightParen rest e plain = refl
-sign_ends bytes LeftBrace rest e plain = refl
-sign_ends bytes RightBrace rest e plain = refl
-sign_ends bytes Comma rest e plain = refl
-sign_ends bytes Semicolon rest e plain = refl
 sign_ends bytes Colon rest e plain =
     let one = not_before Becomes (drop 1 signs) bytes Colon rest (λ e. absurd cc) e in
     behind_colon rest (subst (λ x. begins Becomes x ≡ false) (sign_parts bytes Colon rest e) one.0)
-sign_ends bytes Dot rest e plain = refl
-sign_ends bytes Equals rest e plain = refl
 sign_ends bytes Less rest e plain =
     let one = not_before Becomes (drop 1 signs) bytes Less rest (λ e. absurd cc) e in
     let two = not_before Differs (drop 2 signs) bytes Less rest (λ e. absurd cc) one.1 in
@@ -90,78 +76,28 @@ sign_ends bytes Greater rest e plain =
     let three = not_before AtMost (drop 3 signs) bytes Greater rest (λ e. absurd cc) two.1 in
     let four = not_before AtLeast (drop 4 signs) bytes Greater rest (λ e. absurd cc) three.1 in
     behind_greater rest (subst (λ x. begins AtLeast x ≡ false) (sign_parts bytes Greater rest e) four.0)
-sign_ends bytes Plus rest e plain = refl
 sign_ends bytes Minus rest e plain = behind_minus (subst (λ x. starts_int x ≡ false) (sign_parts bytes Minus rest e) plain)
   where
     behind_minus : starts_int (45 ∷ rest) ≡ false → is_ascii_digit (slice_index rest 0) ≡ false
     behind_minus h = h
-sign_ends bytes Times rest e plain = refl
+sign_ends bytes _ rest e plain = refl
 
 -- ---- what stands there is found
 
 pub sign_again : (s : Sign) (rest : List ℕ) → sign_goes_on s (slice_index rest 0) ≡ false → leading_sign (sign_text s ++ rest) ≡ Some (s, rest)
-sign_again Becomes rest ends = refl
-sign_again Differs rest ends = refl
-sign_again AtMost rest ends = refl
-sign_again AtLeast rest ends = refl
-sign_again LeftParen rest ends = refl
-sign_again RightParen rest ends = refl
-sign_again LeftBrace rest ends = refl
-sign_again RightBrace rest ends = refl
-sign_again Comma rest ends = refl
-sign_again Semicolon rest ends = refl
-sign_again Colon [] ends = refl
 sign_again Colon (c ∷ cs) ends = rw ends refl
-sign_again Dot rest ends = refl
-sign_again Equals rest ends = refl
-sign_again Less [] ends = refl
 sign_again Less (c ∷ cs) ends = let off = or_parts (nat_eq 62 c) (nat_eq 61 c) ends in rw (off.0, off.1) refl
-sign_again Greater [] ends = refl
 sign_again Greater (c ∷ cs) ends = rw ends refl
-sign_again Plus rest ends = refl
-sign_again Minus rest ends = refl
-sign_again Times rest ends = refl
+sign_again _ _ ends = refl
 
 pub sign_some : (s : Sign) → 0 < length (sign_text s)
 sign_some Becomes = omega arith
-sign_some Differs = omega arith
-sign_some AtMost = omega arith
-sign_some AtLeast = omega arith
-sign_some LeftParen = omega arith
-sign_some RightParen = omega arith
-sign_some LeftBrace = omega arith
-sign_some RightBrace = omega arith
-sign_some Comma = omega arith
-sign_some Semicolon = omega arith
-sign_some Colon = omega arith
-sign_some Dot = omega arith
-sign_some Equals = omega arith
-sign_some Less = omega arith
-sign_some Greater = omega arith
-sign_some Plus = omega arith
-sign_some Minus = omega arith
-sign_some Times = omega arith
+sign_some _ = omega arith
 
 -- with these bytes begins a sign, and nothing else
 abbrev pub are_sign_bytes : ℕ → ℕ → Bool
 are_sign_bytes b c = not (is_ascii_alphabetic b || is_ascii_digit b || is_blank b || b == 34 || b == 35 || (b == 45 && is_ascii_digit c))
 
 pub sign_bytes : (s : Sign) (rest : List ℕ) → sign_goes_on s (slice_index rest 0) ≡ false → are_sign_bytes (slice_index (sign_text s ++ rest) 0) (slice_index (sign_text s ++ rest) 1) ≡ true
-sign_bytes Becomes rest ends = refl
-sign_bytes Differs rest ends = refl
-sign_bytes AtMost rest ends = refl
-sign_bytes AtLeast rest ends = refl
-sign_bytes LeftParen rest ends = refl
-sign_bytes RightParen rest ends = refl
-sign_bytes LeftBrace rest ends = refl
-sign_bytes RightBrace rest ends = refl
-sign_bytes Comma rest ends = refl
-sign_bytes Semicolon rest ends = refl
-sign_bytes Colon rest ends = refl
-sign_bytes Dot rest ends = refl
-sign_bytes Equals rest ends = refl
-sign_bytes Less rest ends = refl
-sign_bytes Greater rest ends = refl
-sign_bytes Plus rest ends = refl
 sign_bytes Minus rest ends = rw ends refl
-sign_bytes Times rest ends = refl
+sign_bytes _ rest ends = refl

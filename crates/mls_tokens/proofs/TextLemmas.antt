@@ -1,6 +1,5 @@
 -- Texts between quotes.
-use Rattle.std.proofs.Common.{◌≡◌, ℕ, List, Ok, Err, refl}
-use Rattle.std.specs.Prelude.{IsUtf8}
+use Rattle.std.proofs.Common.{◌≡◌, ℕ, List, Ok, Err, refl, IsUtf8}
 use Rattle.std.specs.Str.{is_utf8}
 use Rattle.std.proofs.lemmas.Str.{is_utf8-from_IsUtf8, IsUtf8-from_is_utf8}
 use Rattle.std.proofs.lemmas.Bool.{false_from_ne_true}

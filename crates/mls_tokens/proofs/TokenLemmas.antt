@@ -1,19 +1,15 @@
 -- What is scanned is what the relation says.
-use Rattle.std.proofs.Common.{◌≡◌, ℕ, zero, suc, ◌<◌, ◌≤◌, ◌^◌, Bor, ℤ, pos, neg_ℤ, Bool, true, false, ◌==◌, nat_lt, nat_le, cond, List, [], ◌∷◌, ◌++◌, length, slice_index, take, drop, Option, Some, None, Result, Ok, Err, ◌⊎◌, inl, inr, refl, sym, ap, ◌∙◌, subst, arith, one-add, append_assoc}
-use Rattle.std.specs.Prelude.{FitsSigned, IfOk, IsUtf8}
-use Rattle.std.specs.Int.{w64}
-use Rattle.std.specs.List.{prefix_len, AllByRecursion, flat_map}
+use Rattle.std.proofs.Common.{◌≡◌, ℕ, zero, suc, ◌<◌, ◌≤◌, ◌^◌, Bor, ℤ, pos, neg_ℤ, Bool, true, false, ◌==◌, nat_lt, nat_le, cond, List, [], ◌∷◌, ◌++◌, length, slice_index, take, drop, Option, Some, None, Result, Ok, Err, ◌⊎◌, inl, inr, refl, sym, ap, ◌∙◌, subst, arith, one-add, append_assoc, FitsSigned, IfOk, IsUtf8, w64, flat_map, ltb-false, leb-true, ltb-true, eqb-true, take-append-drop, length-append, length-take, append-nil}
+use Rattle.std.specs.List.{prefix_len, AllByRecursion}
 use Rattle.std.specs.Char.{is_ascii_alphabetic, is_ascii_digit}
 use Rattle.std.specs.Str.{all_ascii_digits, is_utf8}
 use Rattle.std.specs.Str.Parse.{digits_value}
 use Rattle.std.proofs.lemmas.Str.{IsUtf8-from_is_utf8}
-use Rattle.std.proofs.lemmas.Bool.{cases_Bool, ltb-false, leb-true, ltb-true, eqb-true}
+use Rattle.std.proofs.lemmas.Bool.{cases_Bool}
 use Rattle.std.proofs.lemmas.Bool.Decides.{nat_tests}
-use Rattle.std.proofs.lemmas.List.{take-append-drop, length-append, length-take, append-nil}
 use Rattle.mls_lattice.specs.Name.{is_name_byte}
-use Rattle.mls_lattice.specs.Reading.{◌>>=◌}
+use Rattle.mls_lattice.specs.Reading.{◌>>=◌, Gives}
 use Rattle.mls_lattice.specs.declared.failed.Failed.{Failed}
-use Rattle.mls_lattice.specs.Reading.{Gives}
 use Rattle.mls_tokens.specs.declared.fault.ScanFault.{ScanFault}
 use Rattle.mls_tokens.specs.declared.fault.ScanFault.TheVariants.{Token as BadToken, TooLong}
 use Rattle.mls_tokens.specs.declared.token.Token.{Token}

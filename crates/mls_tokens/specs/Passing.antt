@@ -1,6 +1,6 @@
 -- The tokens that are left, passed one after another: what is taken, or the fault where the next may not stand.
 use Rattle.std.specs.Prelude.{ℕ, Bool, true, false, List, [], ◌∷◌, Option, Some, None, Result, Ok, Err, if◌then◌else◌}
-use Rattle.std.specs.Str.{bytes_eq}
+use Rattle.std.specs.Prelude.{bytes_eq}
 use Rattle.mls_lattice.specs.Name.{is_name}
 use Rattle.mls_tokens.specs.declared.fault.TokenCause.{TokenCause}
 use Rattle.mls_tokens.specs.declared.fault.TokenCause.TheVariants.{Token as BadToken, Expected, TooLong, Memory}

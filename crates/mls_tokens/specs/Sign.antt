@@ -1,9 +1,12 @@
 -- Signs: how each is written, and which stands at the front of bytes.
-use Rattle.std.specs.Prelude.{ℕ, Bool, false, ◌||◌, nat_eq, List, [], ◌∷◌, codes, length, drop, Option, Some, None, if◌then◌else◌}
+use Rattle.std.specs.Prelude.{ℕ, Bool, false, ◌||◌, nat_eq, List, [], ◌∷◌, codes, length, drop, Option, Some, None}
+use Rattle.std.specs.Prelude.{if◌then◌else◌}
 use Rattle.std.specs.List.{starts_with}
 use Rattle.std.specs.Char.{is_ascii_digit}
 use Rattle.mls_tokens.specs.declared.sign.Sign.{Sign}
-use Rattle.mls_tokens.specs.declared.sign.Sign.TheVariants.{Becomes, Differs, AtMost, AtLeast, LeftParen, RightParen, LeftBrace, RightBrace, Comma, Semicolon, Colon, Dot, Equals, Less, Greater, Plus, Minus, Times}
+use Rattle.mls_tokens.specs.declared.sign.Sign.TheVariants.{Becomes, Differs, AtMost, AtLeast, LeftParen, RightParen}
+use Rattle.mls_tokens.specs.declared.sign.Sign.TheVariants.{LeftBrace, RightBrace, Comma, Semicolon, Colon, Dot, Equals}
+use Rattle.mls_tokens.specs.declared.sign.Sign.TheVariants.{Less, Greater, Plus, Minus, Times}
 
 abbrev pub sign_text : Sign → List ℕ
 sign_text Becomes = codes ":="
@@ -27,24 +30,11 @@ sign_text Times = codes "*"
 
 -- whether a byte right behind a sign makes another token of it: a minus right before a digit belongs to the number
 abbrev pub sign_goes_on : Sign → ℕ → Bool
-sign_goes_on Becomes b = false
-sign_goes_on Differs b = false
-sign_goes_on AtMost b = false
-sign_goes_on AtLeast b = false
-sign_goes_on LeftParen b = false
-sign_goes_on RightParen b = false
-sign_goes_on LeftBrace b = false
-sign_goes_on RightBrace b = false
-sign_goes_on Comma b = false
-sign_goes_on Semicolon b = false
 sign_goes_on Colon b = nat_eq 61 b
-sign_goes_on Dot b = false
-sign_goes_on Equals b = false
 sign_goes_on Less b = nat_eq 62 b || nat_eq 61 b
 sign_goes_on Greater b = nat_eq 61 b
-sign_goes_on Plus b = false
 sign_goes_on Minus b = is_ascii_digit b
-sign_goes_on Times b = false
+sign_goes_on _ b = false
 
 -- ---- the sign at the front
 

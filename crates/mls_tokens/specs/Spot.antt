@@ -1,6 +1,6 @@
 -- Where a byte of a text stands.
-use Rattle.std.specs.Prelude.{ℕ, ◌+◌, ◌==◌, List, take, reverse}
-use Rattle.std.specs.List.{count_by, prefix_len}
+use Rattle.std.specs.Prelude.{ℕ, ◌+◌, ◌==◌, List, take, reverse, count_by}
+use Rattle.std.specs.List.{prefix_len}
 use Rattle.mls_tokens.specs.declared.spots.Spot.{Spot}
 use Rattle.mls_tokens.specs.Text.{is_no_feed}
 

@@ -1,5 +1,6 @@
 -- Rows of cells in columns: each column is as wide as its widest cell.
-use Rattle.std.specs.Prelude.{ℕ, ◌+◌, ◌-◌, max, false, if◌then◌else◌, List, [], ◌∷◌, ◌++◌, length, slice_index, chars, codes}
+use Rattle.std.specs.Prelude.{ℕ, ◌+◌, ◌-◌, max, false, if◌then◌else◌, List, [], ◌∷◌, ◌++◌, length, slice_index, chars}
+use Rattle.std.specs.Prelude.{codes}
 use Rattle.std.specs.Str.{is_utf8}
 use Rattle.std.proofs.Math.ListN.{replicate}
 use Rattle.unicode_width.specs.Width.{str_width}

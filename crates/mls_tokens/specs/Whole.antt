@@ -1,6 +1,5 @@
 -- Texts of parts.
-use Rattle.std.specs.Prelude.{ℕ, List, [], ◌∷◌, ◌++◌}
-use Rattle.std.specs.Fmt.{decimal}
+use Rattle.std.specs.Prelude.{ℕ, List, [], ◌∷◌, ◌++◌, decimal}
 use Rattle.mls_tokens.specs.declared.piece.Piece.{Piece}
 use Rattle.mls_tokens.specs.declared.piece.Piece.TheVariants.{Text, Number}
 

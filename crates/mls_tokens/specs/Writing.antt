@@ -1,6 +1,6 @@
 -- Names and texts, as they are written.
 use Rattle.std.specs.Prelude.{ℕ, ◌/◌, ◌%◌, ◌+◌, Bool, ◌==◌, ◌||◌, nat_lt, if◌then◌else◌, List, [], ◌∷◌, ◌++◌, codes}
-use Rattle.std.specs.List.{flat_map}
+use Rattle.std.specs.Prelude.{flat_map}
 
 abbrev pub is_control : ℕ → Bool
 is_control b = nat_lt b 32 || b == 127

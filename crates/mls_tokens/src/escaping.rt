@@ -1,7 +1,8 @@
 //! Texts without control characters.
 ghost use Rattle.std.specs.Prelude.{◌≡◌, ◌<◌, ◌++◌, OnOk, IfOk};
 ghost use Rattle.mls_tokens.specs.Writing.{hex_digit};
-ghost use Rattle.mls_tokens.specs.Screen.{is_hidden, is_c1, hex_escape, pending, written, escaped, EscapedTextsAreHarmless};
+ghost use Rattle.mls_tokens.specs.Screen.{is_hidden, is_c1, hex_escape, pending, written, escaped};
+ghost use Rattle.mls_tokens.specs.Screen.{EscapedTextsAreHarmless};
 
 use std::alloc::{AllocError, Global};
 

@@ -1,5 +1,5 @@
 //! Texts between quotes.
-ghost use Rattle.std.specs.Prelude.{◌≡◌, [], false};
+ghost use Rattle.std.specs.Prelude.{[], false};
 ghost use Rattle.mls_lattice.specs.Reading.{Shows, Gives};
 ghost use Rattle.mls_tokens.specs.Scanning.{text_at, utf8_of, leading_quoted};
 

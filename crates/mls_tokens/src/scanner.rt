@@ -1,5 +1,5 @@
 //! The token at the front of bytes.
-ghost use Rattle.std.specs.Prelude.{◌≡◌, ◌<◌, length, IfOk};
+ghost use Rattle.std.specs.Prelude.{◌<◌, length, IfOk};
 ghost use Rattle.mls_lattice.specs.Reading.{Gives};
 ghost use Rattle.mls_tokens.specs.Scanning.{leading_word, leading_token};
 

@@ -1,6 +1,6 @@
 //! Where a byte of a text stands.
-ghost use Rattle.std.specs.Prelude.{◌≡◌, ◌≤◌, ◌==◌, length, reverse, take};
-ghost use Rattle.std.specs.List.{count_by, prefix_len};
+ghost use Rattle.std.specs.Prelude.{◌≡◌, ◌≤◌, ◌==◌, length, reverse, take, count_by};
+ghost use Rattle.std.specs.List.{prefix_len};
 ghost use Rattle.mls_tokens.specs.Text.{is_no_feed};
 ghost use Rattle.mls_tokens.specs.Spot.{spot_at};
 

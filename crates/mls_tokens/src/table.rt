@@ -1,7 +1,6 @@
 //! Rows of cells, in columns.
-ghost use Rattle.std.specs.Prelude.{◌≡◌, ◌++◌, codes, slice_index, OnOk, IfOk};
+ghost use Rattle.std.specs.Prelude.{◌≡◌, ◌++◌, codes, slice_index, OnOk, IfOk, flat_map};
 ghost use Rattle.std.proofs.Math.ListN.{replicate};
-ghost use Rattle.std.specs.List.{flat_map};
 ghost use Rattle.mls_tokens.specs.Table.{columns, wider, padding, padded, ruled};
 
 use crate::push_str;

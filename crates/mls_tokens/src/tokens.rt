@@ -2,7 +2,8 @@
 ghost use Rattle.std.specs.Prelude.{◌≡◌, ◌<◌, ◌^◌, [], ◌∷◌, length, option_map, IfOk, IfErr, IfSome, IsNone};
 ghost use Rattle.mls_tokens.specs.declared.fault.TokenCause.TheVariants.{Memory};
 ghost use Rattle.mls_tokens.specs.Scanning.{Reads, next_placed, tokens_at};
-ghost use Rattle.mls_tokens.specs.Passing.{left, refused, is_word, is_sign, taken, pass, pass_name, has_ended, pass_end};
+ghost use Rattle.mls_tokens.specs.Passing.{left, refused, is_word, is_sign, taken, pass, pass_name, has_ended};
+ghost use Rattle.mls_tokens.specs.Passing.{pass_end};
 
 use crate::fault::{TokenCause, TokenFault};
 use crate::gap::after_gap;

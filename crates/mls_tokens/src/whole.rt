@@ -1,5 +1,5 @@
 //! Writes, each of which is whole or has failed.
-ghost use Rattle.std.specs.Prelude.{◌≡◌, OnOk};
+ghost use Rattle.std.specs.Prelude.{OnOk};
 ghost use Rattle.std.specs.Io.KnownBytes.{Appends};
 ghost use Rattle.mls_tokens.specs.Whole.{piece_text, pieces_text};
 

@@ -1,8 +1,8 @@
 //! Names, numbers and texts, as they are written.
-ghost use Rattle.std.specs.Prelude.{◌≡◌, ◌<◌, ◌++◌, OnOk};
+ghost use Rattle.std.specs.Prelude.{◌≡◌, ◌<◌, ◌++◌, OnOk, flat_map};
 ghost use Rattle.std.specs.Fmt.{signed_decimal};
-ghost use Rattle.std.specs.List.{flat_map};
-ghost use Rattle.mls_tokens.specs.Writing.{is_control, is_escaped, hex_digit, printable_byte, printable, quoted_byte, quoted};
+ghost use Rattle.mls_tokens.specs.Writing.{is_control, is_escaped, hex_digit, printable_byte, printable, quoted_byte};
+ghost use Rattle.mls_tokens.specs.Writing.{quoted};
 
 use std::alloc::{AllocError, Global};
 

@@ -1,7 +1,6 @@
 -- Blocks, a statement at a time.
-use Rattle.std.proofs.Common.{◌≡◌, ℕ, ◌+◌, ◌<◌, ◌≤◌, ◌==◌, List, [], ◌∷◌, ◌++◌, codes, length, get_or, drop, refl, sym, ap, ◌∙◌, append_assoc, subst, arith}
-use Rattle.std.proofs.lemmas.List.{append-nil, drop_more}
-use Rattle.std.proofs.lemmas.Bool.{ne_eqb}
+use Rattle.std.proofs.Common.{◌≡◌, ℕ, ◌+◌, ◌<◌, ◌≤◌, ◌==◌, List, [], ◌∷◌, ◌++◌, codes, length, get_or, drop, refl, sym, ap, ◌∙◌, append_assoc, subst, arith, append-nil, ne_eqb}
+use Rattle.std.proofs.lemmas.List.{drop_more}
 use Rattle.mls_lattice.specs.Policy.{Policy}
 use Rattle.mls_scheme.specs.Scheme.{Schemes}
 use Rattle.mls_tokens.specs.declared.token.Token.{Token}
@@ -19,21 +18,15 @@ use Rattle.mls_translang.proofs.LayoutLemmas.{puts-append}
 
 -- the first statement and the rest
 pub own_more : (s : Scope) (x : Stmt) (rest : List Stmt) → BlockIsOwn s (block_of (x ∷ rest)) → BlockIsOwn s (block_of (x ∷ [])) × BlockIsOwn s (block_of rest)
-own_more s (stmt.Assign v e) rest h = ((h.0, tt), h.1)
 own_more s (stmt.If guard one other) rest h = ((h.0, h.1, h.2, tt), h.3)
 own_more s (stmt.For row relation label body) rest h = ((h.0, h.1, tt), h.2)
-own_more s (stmt.Write relation w writing outcome) rest h = ((h.0, tt), h.1)
-own_more s (stmt.Release e to into) rest h = ((h.0, tt), h.1)
-own_more s (stmt.Emit e label) rest h = ((h.0, tt), h.1)
+own_more s _ rest h = ((h.0, tt), h.1)
 
 module _ (policy : Policy) (schemes : Schemes) (hi : ℕ) (s : Scope) where
   pub fits_more : (x : Stmt) (rest : List Stmt) → BlockFits policy schemes hi s (block_of (x ∷ rest)) → BlockFits policy schemes hi s (block_of (x ∷ [])) × BlockFits policy schemes hi s (block_of rest)
-  fits_more (stmt.Assign v e) rest h = ((h.0, tt), h.1)
   fits_more (stmt.If guard one other) rest h = ((h.0, h.1, h.2, tt), h.3)
   fits_more (stmt.For row relation label body) rest h = ((h.0, h.1, h.2, tt), h.3)
-  fits_more (stmt.Write relation w writing outcome) rest h = ((h.0, tt), h.1)
-  fits_more (stmt.Release e to into) rest h = ((h.0, tt), h.1)
-  fits_more (stmt.Emit e label) rest h = ((h.0, tt), h.1)
+  fits_more _ rest h = ((h.0, tt), h.1)
 
 -- ---- tokens
 
@@ -67,12 +60,9 @@ pub record IsLeft (p : Place) (left : List Stmt) (out : Laid) (block : Block) (f
   pub size : statements (block_of left) ≤ statements block
 
 statements_more : (x : Stmt) (rest : List Stmt) → statements (block_of (x ∷ rest)) ≡ statements (block_of (x ∷ [])) + statements (block_of rest)
-statements_more (stmt.Assign v e) rest = refl
 statements_more (stmt.If guard one other) rest = omega arith
 statements_more (stmt.For row relation label body) rest = omega arith
-statements_more (stmt.Write relation w writing outcome) rest = refl
-statements_more (stmt.Release e to into) rest = refl
-statements_more (stmt.Emit e label) rest = refl
+statements_more _ rest = refl
 
 -- ---- the statement at a place
 

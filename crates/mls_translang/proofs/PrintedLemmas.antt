@@ -1,7 +1,7 @@
 -- The printed text of a transaction is its tokens.
-use Rattle.std.proofs.Common.{◌≡◌, ℕ, true, List, [], ◌∷◌, ◌++◌, map, codes, refl, arith}
+use Rattle.std.proofs.Common.{◌≡◌, ℕ, true, List, [], ◌∷◌, ◌++◌, map, codes, refl, arith, flat_map}
 use Rattle.std.proofs.Recursive.{every_front, every_back}
-use Rattle.std.specs.List.{AllByRecursion, flat_map}
+use Rattle.std.specs.List.{AllByRecursion}
 use Rattle.mls_lattice.specs.Name.{is_name}
 use Rattle.mls_lattice.specs.Policy.{Name, AreNames, Policy, IsPolicy}
 use Rattle.mls_scheme.specs.declared.value.Kind.{Kind}

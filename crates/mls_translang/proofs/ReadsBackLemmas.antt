@@ -1,11 +1,10 @@
 -- Tokens that are laid out are read back.
-use Rattle.std.proofs.Common.{◌≡◌, ℕ, suc, zero, ◌-◌, nat_eq, Bool, true, false, cond, List, [], ◌∷◌, ◌++◌, map, codes, slice_index, refl, ap, inl}
-use Rattle.std.specs.List.{AllByRecursion, flat_map}
+use Rattle.std.proofs.Common.{◌≡◌, ℕ, suc, zero, ◌-◌, nat_eq, Bool, true, false, cond, List, [], ◌∷◌, ◌++◌, map, codes, slice_index, refl, ap, inl, flat_map, bytes_eq}
+use Rattle.std.specs.List.{AllByRecursion}
 use Rattle.std.specs.Char.{is_ascii_digit}
-use Rattle.std.specs.Str.{bytes_eq}
 use Rattle.mls_lattice.specs.Name.{is_name_byte}
 use Rattle.mls_tokens.specs.declared.token.Token.{Token}
-use Rattle.mls_tokens.specs.declared.token.Token.TheVariants.{Word, Int, Text, Sign}
+use Rattle.mls_tokens.specs.declared.token.Token.TheVariants.{Word, Int, Sign}
 use Rattle.mls_tokens.specs.declared.sign.Sign.TheVariants as sign
 use Rattle.mls_tokens.specs.Text.{goes_on, is_blank, IsPiece, IsGap, AreTokens}
 use Rattle.mls_translang.specs.declared.layout.Before.{Before}
@@ -24,25 +23,11 @@ Quiet b = (is_name_byte b ≡ false) × (is_ascii_digit b ≡ false) × (nat_eq 
 quiet : (t : Token) (b : ℕ) → Quiet b → goes_on t b ≡ false
 quiet (Word s) b q = q.0
 quiet (Int n) b q = q.1
-quiet (Text s) b q = refl
-quiet (Sign sign.Becomes) b q = refl
-quiet (Sign sign.Differs) b q = refl
-quiet (Sign sign.AtMost) b q = refl
-quiet (Sign sign.AtLeast) b q = refl
-quiet (Sign sign.LeftParen) b q = refl
-quiet (Sign sign.RightParen) b q = refl
-quiet (Sign sign.LeftBrace) b q = refl
-quiet (Sign sign.RightBrace) b q = refl
-quiet (Sign sign.Comma) b q = refl
-quiet (Sign sign.Semicolon) b q = refl
 quiet (Sign sign.Colon) b q = q.2
-quiet (Sign sign.Dot) b q = refl
-quiet (Sign sign.Equals) b q = refl
 quiet (Sign sign.Less) b q = rw q.3 q.2
 quiet (Sign sign.Greater) b q = q.2
-quiet (Sign sign.Plus) b q = refl
 quiet (Sign sign.Minus) b q = q.1
-quiet (Sign sign.Times) b q = refl
+quiet _ b q = refl
 
 spaced : (t : Token) → goes_on t 32 ≡ false
 spaced t = quiet t 32 (refl, refl, refl, refl)
@@ -54,26 +39,12 @@ behind t (Word s) d rest = choice (bytes_eq s (codes "else"))
     choice : (b : Bool) → goes_on t (slice_index (gap d Other (cond b side.Else side.Apart) ++ (s ++ rest)) 0) ≡ false
     choice true = spaced t
     choice false = spaced t
-behind t (Int n) d rest = spaced t
-behind t (Text s) d rest = spaced t
-behind t (Sign sign.Becomes) d rest = spaced t
-behind t (Sign sign.Differs) d rest = spaced t
-behind t (Sign sign.AtMost) d rest = spaced t
-behind t (Sign sign.AtLeast) d rest = spaced t
-behind t (Sign sign.LeftParen) d rest = spaced t
 behind t (Sign sign.RightParen) d rest = quiet t 41 (refl, refl, refl, refl)
-behind t (Sign sign.LeftBrace) d rest = spaced t
-behind t (Sign sign.RightBrace) d rest = spaced t
 behind t (Sign sign.Comma) d rest = quiet t 44 (refl, refl, refl, refl)
 behind t (Sign sign.Semicolon) d rest = quiet t 59 (refl, refl, refl, refl)
 behind t (Sign sign.Colon) d rest = quiet t 58 (refl, refl, refl, refl)
 behind t (Sign sign.Dot) d rest = quiet t 46 (refl, refl, refl, refl)
-behind t (Sign sign.Equals) d rest = spaced t
-behind t (Sign sign.Less) d rest = spaced t
-behind t (Sign sign.Greater) d rest = spaced t
-behind t (Sign sign.Plus) d rest = spaced t
-behind t (Sign sign.Minus) d rest = spaced t
-behind t (Sign sign.Times) d rest = spaced t
+behind t _ d rest = spaced t
 
 behind_all : (t : Token) (d : ℕ) (ts : List Token) → goes_on t (slice_index (laid d Other ts) 0) ≡ false
 behind_all t d [] = quiet t 10 (refl, refl, refl, refl)
@@ -82,25 +53,11 @@ behind_all t d (u ∷ ts) = behind t u d (laid (depth_after d u) (before_of u) t
 ends : (t : Token) (d : ℕ) (ts : List Token) → goes_on t (slice_index (laid d (before_of t) ts) 0) ≡ false
 ends (Word s) d ts = behind_all (Word s) d ts
 ends (Int n) d ts = behind_all (Int n) d ts
-ends (Text s) d ts = refl
-ends (Sign sign.Becomes) d ts = refl
-ends (Sign sign.Differs) d ts = refl
-ends (Sign sign.AtMost) d ts = refl
-ends (Sign sign.AtLeast) d ts = refl
-ends (Sign sign.LeftParen) d ts = refl
-ends (Sign sign.RightParen) d ts = refl
-ends (Sign sign.LeftBrace) d ts = refl
-ends (Sign sign.RightBrace) d ts = refl
-ends (Sign sign.Comma) d ts = refl
-ends (Sign sign.Semicolon) d ts = refl
 ends (Sign sign.Colon) d ts = behind_all (Sign sign.Colon) d ts
-ends (Sign sign.Dot) d ts = refl
-ends (Sign sign.Equals) d ts = refl
 ends (Sign sign.Less) d ts = behind_all (Sign sign.Less) d ts
 ends (Sign sign.Greater) d ts = behind_all (Sign sign.Greater) d ts
-ends (Sign sign.Plus) d ts = refl
 ends (Sign sign.Minus) d ts = behind_all (Sign sign.Minus) d ts
-ends (Sign sign.Times) d ts = refl
+ends _ d ts = refl
 
 -- ---- gaps are blank
 
@@ -117,23 +74,18 @@ indent_blank zero = tt
 indent_blank (suc n) = joined (indent n) (codes "  ") (indent_blank n) (refl, (refl, tt))
 
 line_blank : (d : ℕ) (s : Side) → AreBlank (new_line d s)
-line_blank d side.Tight = (refl, indent_blank d)
-line_blank d side.Else = (refl, indent_blank d)
 line_blank d side.Closing = (refl, indent_blank (d - 1))
-line_blank d side.Apart = (refl, indent_blank d)
+line_blank d _ = (refl, indent_blank d)
 
 gap_blank : (d : ℕ) (b : Before) (s : Side) → AreBlank (gap d b s)
 gap_blank d Nothing s = tt
 gap_blank d Opening s = tt
 gap_blank d LineEnd s = line_blank d s
 gap_blank d Brace side.Tight = line_blank d side.Tight
-gap_blank d Brace side.Else = (refl, tt)
 gap_blank d Brace side.Closing = line_blank d side.Closing
 gap_blank d Brace side.Apart = line_blank d side.Apart
 gap_blank d Other side.Tight = tt
-gap_blank d Other side.Else = (refl, tt)
-gap_blank d Other side.Closing = (refl, tt)
-gap_blank d Other side.Apart = (refl, tt)
+gap_blank d _ _ = (refl, tt)
 
 abbrev one : ℕ → List ℕ
 one b = b ∷ []

@@ -1,9 +1,8 @@
 -- The tokens of a transaction are spelled as they are written.
-use Rattle.std.proofs.Common.{◌≡◌, ℕ, zero, suc, ◌<◌, nat_le, Bool, true, List, [], ◌∷◌, ◌++◌, codes, length, slice_index, Option, Some, None, refl, arith}
-use Rattle.std.specs.Option.{IfSome}
-use Rattle.std.specs.List.{AllByRecursion, flat_map, list_all}
+use Rattle.std.proofs.Common.{◌≡◌, ℕ, zero, suc, ◌<◌, nat_le, Bool, true, List, [], ◌∷◌, ◌++◌, codes, length, slice_index, Option, Some, None, refl, arith, IfSome, flat_map, leb-true}
+use Rattle.std.specs.List.{AllByRecursion, list_all}
 use Rattle.std.specs.Char.{is_ascii_alphabetic}
-use Rattle.std.proofs.lemmas.Bool.{and_parts, leb-true}
+use Rattle.std.proofs.lemmas.Bool.{and_parts}
 use Rattle.mls_lattice.specs.Name.{is_name, is_name_byte}
 use Rattle.mls_lattice.specs.Policy.{Name}
 use Rattle.mls_lattice.specs.Canon.{label_name}
@@ -85,17 +84,9 @@ value_spelled (values.Int n) h = int_spelled n h
 value_spelled (values.Text s) h = (refl, h)
 
 operator_spelled : (op : Operator) → IsSpelled (operator_token op)
-operator_spelled operators.Plus = refl
-operator_spelled operators.Minus = refl
-operator_spelled operators.Times = refl
-operator_spelled operators.Equal = refl
-operator_spelled operators.Unequal = refl
-operator_spelled operators.Less = refl
-operator_spelled operators.AtMost = refl
-operator_spelled operators.Greater = refl
-operator_spelled operators.AtLeast = refl
 operator_spelled operators.And = word_spelled (codes "and") refl refl refl
 operator_spelled operators.Or = word_spelled (codes "or") refl refl refl
+operator_spelled _ = refl
 
 module _ (p : Place) (h : HasNames p) where
   pub expr_spelled : (e : Expr) → HasOwn p.scope e → ExprFits p.schemes p.scope e → AreSpelled (expr_tokens p e)
@@ -211,9 +202,7 @@ braced_spelled ts h = (refl, both ts _ h (refl, tt))
 
 else_spelled : (other : Block) (ts : List Token) → AreSpelled ts → AreSpelled (else_tokens other ts)
 else_spelled End ts h = tt
-else_spelled (Do stmt rest) ts h = (word_spelled (codes "else") refl refl refl, h)
-else_spelled (If guard one other rest) ts h = (word_spelled (codes "else") refl refl refl, h)
-else_spelled (For row relation label body rest) ts h = (word_spelled (codes "else") refl refl refl, h)
+else_spelled _ ts h = (word_spelled (codes "else") refl refl refl, h)
 
 pub block_spelled : (b : Block) (p : Place) → HasNames p → BlockIsOwn p.scope b → BlockFits p.policy p.schemes p.hi p.scope b → AreSpelled (block_tokens p b)
 block_spelled End p h own fits = tt

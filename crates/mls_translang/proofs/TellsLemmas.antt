@@ -1,8 +1,6 @@
 -- The printed text of a transaction tells it.
-use Rattle.std.proofs.Common.{List, [], ◌∷◌, refl, sym, inl, inr, arith}
-use Rattle.std.proofs.lemmas.List.{append-nil}
+use Rattle.std.proofs.Common.{List, [], ◌∷◌, refl, sym, inl, inr, arith, append-nil, bytes_eq}
 use Rattle.std.specs.List.{IsDistinct}
-use Rattle.std.specs.Str.{bytes_eq}
 use Rattle.mls_lattice.specs.Policy.{Name}
 use Rattle.mls_tokens.specs.declared.token.Token.{Token}
 use Rattle.mls_translang.specs.Tree.{Block, End, Do, If, For, is_end}
@@ -12,9 +10,7 @@ use Rattle.mls_translang.proofs.PrintedLemmas.{prints_are_tokens}
 
 other_told : (other : Block) (told : List Token → Type 0) (ts : List Token) → told ts → TellsOther (is_end other) told (else_tokens other (braced ts))
 other_told End told ts h = inl (refl, refl)
-other_told (Do stmt rest) told ts h = inr (ts, refl, h)
-other_told (If guard one other rest) told ts h = inr (ts, refl, h)
-other_told (For row relation label body rest) told ts h = inr (ts, refl, h)
+other_told _ told ts h = inr (ts, refl, h)
 
 block_told : (b : Block) (p : Place) → TellsBlock p b (block_tokens p b)
 block_told End p = refl

@@ -1,7 +1,7 @@
 -- An expression as a list of marks, each behind its operands.
-use Rattle.std.specs.Prelude.{◌≡◌, ℕ, ◌+◌, List, [], ◌∷◌, ◌++◌}
+use Rattle.std.specs.Prelude.{◌≡◌, ℕ, ◌+◌, List, [], ◌∷◌, ◌++◌, refl}
 use Rattle.std.specs.Coded.{Coded, code_by}
-use Rattle.std.proofs.Common.{refl, sym, ap, ◌∙◌, append_assoc}
+use Rattle.std.proofs.Common.{sym, ap, ◌∙◌, append_assoc}
 use Rattle.std.proofs.lemmas.List.{append-nil}
 use Rattle.mls_scheme.specs.declared.value.Value.{Value}
 use Rattle.mls_translang.specs.declared.operator.Operator.{Operator}
@@ -54,16 +54,12 @@ top_of [] = Null
 top_of (e ∷ es) = e
 
 pub built-marks : (e : Expr) (ms : List Mark) (es : List Expr) → built (marks e ++ ms) es ≡ built ms (e ∷ es)
-built-marks (Known v) ms es = refl
-built-marks Null ms es = refl
-built-marks (Var i) ms es = refl
-built-marks (Param i) ms es = refl
-built-marks (Field d i) ms es = refl
 built-marks (No e) ms es = ap (λ l. built l es) (append_assoc (marks e) (A_not ∷ []) ms) ∙ built-marks e (A_not ∷ ms) es
 built-marks (Op op left right) ms es =
     ap (λ l. built l es) (append_assoc (marks left) _ ms ∙ ap (λ l. marks left ++ l) (append_assoc (marks right) (An_op op ∷ []) ms))
     ∙ built-marks left (marks right ++ An_op op ∷ ms) es
     ∙ built-marks right (An_op op ∷ ms) (left ∷ es)
+built-marks _ ms es = refl
 
 pub read_back : (e : Expr) → top_of (built (marks e) []) ≡ e
 read_back e = ap (λ l. top_of (built l [])) (sym (append-nil (marks e))) ∙ ap top_of (built-marks e [] [])

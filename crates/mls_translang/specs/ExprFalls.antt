@@ -9,9 +9,4 @@ use Rattle.mls_translang.specs.declared.expr.Expr.TheDeep.{deep-Term}
 
 pub falls : (t : Term) → max (deep-Term t) 0 ≤ expr_size (expr_of t)
 falls (term.Known v) = omega arith
-falls term.Null = omega arith
-falls (term.Variable i) = omega arith
-falls (term.Parameter i) = omega arith
-falls (term.Field d i) = omega arith
-falls (term.Not e) = omega arith
-falls (term.Op op left right) = omega arith
+falls _ = omega arith

@@ -1,11 +1,11 @@
 -- A transaction was read under a policy and schemes: declared names, and numbers of operands.
-use Rattle.std.specs.Prelude.{◌≡◌, ℕ, ◌+◌, ◌<◌, ◌≤◌, true, false, nat_eq, List, map, length}
+use Rattle.std.specs.Prelude.{◌≡◌, ℕ, ◌+◌, ◌<◌, ◌≤◌, true, false, nat_eq, List, map, length, bytes_eq}
 use Rattle.std.specs.List.{AllByRecursion, IsDistinct, list_any}
-use Rattle.std.specs.Str.{bytes_eq}
 use Rattle.mls_lattice.specs.Labels.{below}
 use Rattle.mls_lattice.specs.Policy.{Policy, labels_of}
 use Rattle.mls_scheme.specs.Scheme.{Attribute, Scheme, Schemes, scheme_of}
-use Rattle.mls_translang.specs.Tree.{Expr, Field, No, Op, Writing, Insert, Update, Delete, Stmt, Assign, Write_at, Release, Emit, Block, End, Do, If, For}
+use Rattle.mls_translang.specs.Tree.{Expr, Field, No, Op, Writing, Insert, Update, Delete, Stmt, Assign, Write_at}
+use Rattle.mls_translang.specs.Tree.{Release, Emit, Block, End, Do, If, For}
 use Rattle.mls_translang.specs.Scope.{Scope, in_loop, row_at}
 use Rattle.mls_translang.specs.Tx.{Tx, scope_of}
 use Rattle.mls_translang.specs.Kinds.{BlockKinds}

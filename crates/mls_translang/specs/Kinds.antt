@@ -1,6 +1,5 @@
 -- Kinds of expressions, under schemes.
-use Rattle.std.specs.Prelude.{◌≡◌, ℕ, ◌-◌, true, if◌then◌else◌, nat_lt, List, length, Some, slice_index_or}
-use Rattle.std.specs.Option.{IfSome}
+use Rattle.std.specs.Prelude.{◌≡◌, ℕ, ◌-◌, true, if◌then◌else◌, nat_lt, List, length, Some, slice_index_or, IfSome}
 use Rattle.std.specs.List.{AllByRecursion, AllZip}
 use Rattle.mls_scheme.specs.Scheme.{Attribute, Scheme, Schemes, scheme_of, other_of, no_attribute}
 use Rattle.mls_scheme.specs.Value.{is_kind}
@@ -8,7 +7,8 @@ use Rattle.mls_scheme.specs.declared.value.Kind.{Kind}
 use Rattle.mls_scheme.specs.declared.value.Kind.TheVariants as kinds
 use Rattle.mls_translang.specs.declared.operator.Operator.{Operator}
 use Rattle.mls_translang.specs.declared.operator.Operator.TheVariants as operators
-use Rattle.mls_translang.specs.Tree.{Expr, Known, Null, Var, Param, Field, No, Op, Writing, Insert, Update, Delete, Stmt, Assign, Write_at, Release, Emit, Block, End, Do, If, For}
+use Rattle.mls_translang.specs.Tree.{Expr, Known, Null, Var, Param, Field, No, Op, Writing, Insert, Update, Delete}
+use Rattle.mls_translang.specs.Tree.{Stmt, Assign, Write_at, Release, Emit, Block, End, Do, If, For}
 use Rattle.mls_translang.specs.Scope.{Scope, in_loop, row_at, kind_of_var, kind_of_param}
 
 -- what an expression gives: a value of a kind or null, or a truth value

@@ -1,6 +1,6 @@
 -- Which transactions a text tells, with no word of how it is read.
-use Rattle.std.specs.Prelude.{◌≡◌, ℕ, Bool, true, List, [], ◌∷◌, ◌++◌, codes, ◌⊎◌}
-use Rattle.std.specs.List.{AllByRecursion, flat_map}
+use Rattle.std.specs.Prelude.{◌≡◌, ℕ, Bool, true, List, [], ◌∷◌, ◌++◌, codes, ◌⊎◌, flat_map}
+use Rattle.std.specs.List.{AllByRecursion}
 use Rattle.mls_lattice.specs.Policy.{Policy, IsPolicy}
 use Rattle.mls_scheme.specs.Scheme.{Schemes, AreSchemes}
 use Rattle.mls_tokens.specs.declared.token.Token.{Token}
@@ -9,7 +9,8 @@ use Rattle.mls_tokens.specs.Text.{AreTokens}
 use Rattle.mls_translang.specs.Tree.{Block, End, Do, If, For, is_end}
 use Rattle.mls_translang.specs.Tx.{Tx, IsTx}
 use Rattle.mls_translang.specs.Fits.{IsReadUnder, AreReadUnder}
-use Rattle.mls_translang.specs.Tokens.{Place, at_row, outermost, expr_tokens, stmt_tokens, for_tokens, braced, params_tokens, var_tokens, heading_tokens, printed}
+use Rattle.mls_translang.specs.Tokens.{Place, at_row, outermost, expr_tokens, stmt_tokens, for_tokens, braced}
+use Rattle.mls_translang.specs.Tokens.{params_tokens, var_tokens, heading_tokens, printed}
 
 -- the other block of an `if`: one with no statement may be left out or written
 abbrev pub TellsOther : Bool → (List Token → Type 0) → List Token → Type 0

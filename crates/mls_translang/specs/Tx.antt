@@ -1,9 +1,7 @@
 -- Transactions, and what holds of every one: names, counts, depths, and numbers of its own lists.
-use Rattle.std.specs.Prelude.{◌≡◌, ℕ, ◌+◌, ◌<◌, ◌≤◌, max, true, List, [], length, FitsSigned}
+use Rattle.std.specs.Prelude.{◌≡◌, ℕ, ◌+◌, ◌<◌, ◌≤◌, max, true, List, [], length, FitsSigned, IfSome, bytes_eq}
 use Rattle.std.specs.Int.{w64}
-use Rattle.std.specs.Option.{IfSome}
 use Rattle.std.specs.List.{AllByRecursion, IsDistinct}
-use Rattle.std.specs.Str.{bytes_eq}
 use Rattle.mls_lattice.specs.Name.{is_name}
 use Rattle.mls_lattice.specs.Policy.{Name}
 use Rattle.mls_scheme.specs.declared.value.Kind.{Kind}
@@ -12,7 +10,8 @@ use Rattle.mls_scheme.specs.declared.value.Value.TheVariants.{Int, Text}
 use Rattle.mls_tokens.specs.Text.{IsText}
 use Rattle.mls_translang.specs.declared.tx.Parameter.{Parameter}
 use Rattle.mls_translang.specs.Scope.{Scope, in_loop, names_in, IsFresh}
-use Rattle.mls_translang.specs.Tree.{Expr, Known, Null, Var, Param, Field, No, Op, Writing, Insert, Update, Delete, Stmt, Assign, Write_at, Release, Emit, Block, End, Do, If, For, statements}
+use Rattle.mls_translang.specs.Tree.{Expr, Known, Null, Var, Param, Field, No, Op, Writing, Insert, Update, Delete}
+use Rattle.mls_translang.specs.Tree.{Stmt, Assign, Write_at, Release, Emit, Block, End, Do, If, For, statements}
 
 -- lo and hi are numbers of labels
 pub record Tx : Type 0 where

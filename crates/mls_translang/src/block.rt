@@ -1,5 +1,5 @@
 //! Statements, and blocks of them, with their names as numbers.
-ghost use Rattle.std.specs.Prelude.{◌≡◌, ℕ, ◌<◌, ◌^◌, [], ◌∷◌};
+ghost use Rattle.std.specs.Prelude.{◌≡◌, ◌<◌, ◌^◌, [], ◌∷◌};
 ghost use Rattle.mls_translang.specs.Tree.{statements, is_end};
 ghost use Rattle.mls_translang.specs.Blocks.{block_of};
 

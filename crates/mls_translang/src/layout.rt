@@ -1,7 +1,8 @@
 //! Tokens, laid out as a text.
 ghost use Rattle.std.specs.Prelude.{◌≡◌, ◌++◌, OnOk, IfOk, codes};
 ghost use Rattle.mls_tokens.specs.declared.token.Token.TheVariants as token;
-ghost use Rattle.mls_translang.specs.Layout.{sign_side, word_side, sign_before, sign_depth, indent, new_line, gap, put, start};
+ghost use Rattle.mls_translang.specs.Layout.{sign_side, word_side, sign_before, sign_depth, indent, new_line, gap, put};
+ghost use Rattle.mls_translang.specs.Layout.{start};
 
 use mls_tokens::{Sign, push_int, push_quoted, push_str};
 use std::alloc::{AllocError, Global};

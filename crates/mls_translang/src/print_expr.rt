@@ -1,6 +1,6 @@
 //! The text of expressions.
-ghost use Rattle.std.specs.Prelude.{◌≡◌, ◌<◌, length, OnOk};
-ghost use Rattle.std.specs.List.{AllByRecursion, flat_map};
+ghost use Rattle.std.specs.Prelude.{◌≡◌, ◌<◌, length, OnOk, flat_map};
+ghost use Rattle.std.specs.List.{AllByRecursion};
 ghost use Rattle.mls_tokens.specs.declared.token.Token.TheVariants as token;
 ghost use Rattle.mls_translang.specs.Layout.{put, puts};
 ghost use Rattle.mls_scheme.specs.Scheme.{scheme_of};

@@ -1,6 +1,5 @@
 //! The text of statements that are no writes and hold no others.
-ghost use Rattle.std.specs.Prelude.{◌≡◌, ◌<◌, length, OnOk, [], ◌∷◌};
-ghost use Rattle.std.specs.Option.{IfSome};
+ghost use Rattle.std.specs.Prelude.{◌≡◌, ◌<◌, length, OnOk, [], ◌∷◌, IfSome};
 ghost use Rattle.mls_tokens.specs.declared.token.Token.TheVariants as token;
 ghost use Rattle.mls_translang.specs.Layout.{puts};
 ghost use Rattle.mls_translang.specs.Tx.{IsOwn};

@@ -1,10 +1,11 @@
 //! The text of transactions.
-ghost use Rattle.std.specs.Prelude.{◌≡◌, ◌<◌, ◌++◌, length, drop, OnOk, IfOk};
-ghost use Rattle.std.specs.List.{AllByRecursion, flat_map};
+ghost use Rattle.std.specs.Prelude.{◌≡◌, ◌<◌, ◌++◌, drop, OnOk, IfOk, flat_map};
+ghost use Rattle.std.specs.List.{AllByRecursion};
 ghost use Rattle.mls_translang.specs.Layout.{puts};
 ghost use Rattle.mls_translang.specs.Fits.{IsLabel, IsReadUnder};
 ghost use Rattle.mls_tokens.specs.Text.{comma_tokens, separated};
-ghost use Rattle.mls_translang.specs.Tokens.{param_tokens, params_tokens, var_tokens, heading_tokens, braced, block_tokens, outermost, tx_tokens, printed};
+ghost use Rattle.mls_translang.specs.Tokens.{param_tokens, params_tokens, var_tokens, heading_tokens, braced};
+ghost use Rattle.mls_translang.specs.Tokens.{block_tokens, outermost, tx_tokens, printed};
 
 use crate::layout::Printer;
 use crate::names::Names;

@@ -1,14 +1,14 @@
 //! The text of writes.
-ghost use Rattle.std.specs.Prelude.{◌≡◌, ◌<◌, length, OnOk, []};
-ghost use Rattle.std.specs.Option.{IfSome};
-ghost use Rattle.std.specs.List.{AllByRecursion, flat_map};
+ghost use Rattle.std.specs.Prelude.{◌≡◌, ◌<◌, length, OnOk, [], IfSome, flat_map};
+ghost use Rattle.std.specs.List.{AllByRecursion};
 ghost use Rattle.mls_scheme.specs.Scheme.{scheme_of};
 ghost use Rattle.mls_translang.specs.Layout.{puts};
 ghost use Rattle.mls_translang.specs.Tx.{IsOwn, StmtIsOwn};
 ghost use Rattle.mls_translang.specs.Fits.{IsLabel, ExprFits, StmtFits};
 ghost use Rattle.mls_translang.specs.Tree.{Write_at};
 ghost use Rattle.mls_tokens.specs.Text.{comma_tokens, separated};
-ghost use Rattle.mls_translang.specs.Tokens.{head_tokens, class_tokens, set_tokens, stmt_end, write_end, update_end, write_tokens};
+ghost use Rattle.mls_translang.specs.Tokens.{head_tokens, class_tokens, set_tokens, stmt_end, write_end, update_end};
+ghost use Rattle.mls_translang.specs.Tokens.{write_tokens};
 
 use crate::expr::Expr;
 use crate::layout::Printer;

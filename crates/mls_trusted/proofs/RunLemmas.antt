@@ -32,22 +32,14 @@ use Rattle.mls_trusted.specs.Frames.{around_of, progress_of, env_in, inside, May
 -- ---- the first statement and the rest
 
 kinds_more : (schemes : Schemes) (s : Scope) (x : Stmt) (rest : List Stmt) → BlockKinds schemes s (block_of (x ∷ rest)) → BlockKinds schemes s (block_of (x ∷ [])) × BlockKinds schemes s (block_of rest)
-kinds_more schemes s (stmt.Assign v e) rest h = ((h.0, tt), h.1)
 kinds_more schemes s (stmt.If guard one other) rest h = ((h.0, h.1, h.2, tt), h.3)
-kinds_more schemes s (stmt.For row relation label body) rest h = ((h.0, tt), h.1)
-kinds_more schemes s (stmt.Write relation w writing outcome) rest h = ((h.0, tt), h.1)
-kinds_more schemes s (stmt.Release e to into) rest h = ((h.0, tt), h.1)
-kinds_more schemes s (stmt.Emit e label) rest h = ((h.0, tt), h.1)
+kinds_more schemes s _ rest h = ((h.0, tt), h.1)
 
 module _ (ls : Labels) (schemes : Schemes) (args : List (Option Value)) (around : List Tuple) where
   run_more : (x : Stmt) (rest : List Stmt) (s : Progress) → run_block ls schemes args (block_of (x ∷ rest)) around s ≡ run_block ls schemes args (block_of rest) around (run_block ls schemes args (block_of (x ∷ [])) around s)
   unfolding run_block
   run_more (stmt.Assign v e) rest s = refl
-  run_more (stmt.If guard one other) rest s = refl
-  run_more (stmt.For row relation label body) rest s = refl
-  run_more (stmt.Write relation w writing outcome) rest s = refl
-  run_more (stmt.Release e to into) rest s = refl
-  run_more (stmt.Emit e label) rest s = refl
+  run_more _ rest s = refl
 
   pub run_none : (s : Progress) → s ≡ run_block ls schemes args End around s
   unfolding run_block

@@ -6,9 +6,7 @@ ghost use Rattle.mls_scheme.specs.Scheme.{scheme_of};
 ghost use Rattle.mls_filterview.specs.Calls.{IsRead};
 ghost use Rattle.mls_filterview.specs.View.{rows};
 ghost use Rattle.mls_translang.specs.Kinds.{field_of};
-ghost use Rattle.mls_certcheck.specs.Expressions.{value_of};
 ghost use Rattle.mls_certcheck.specs.Kinds.{RowKinds};
-ghost use Rattle.mls_queries.specs.Data.{datum_of};
 ghost use Rattle.mls_queries.specs.Views.{AreViews};
 ghost use Rattle.mls_trusted.specs.Frames.{MayLook};
 

@@ -1,5 +1,5 @@
 //! Statements that leave the database.
-ghost use Rattle.std.specs.Prelude.{◌≡◌, OnOk, [], ◌∷◌};
+ghost use Rattle.std.specs.Prelude.{OnOk};
 ghost use Rattle.mls_translang.specs.Tree.{Do, Assign, Release, Emit, End};
 ghost use Rattle.mls_trusted.specs.Frames.{around_of, IsFrame, MayRun, run_of, IsStep};
 

@@ -1,6 +1,5 @@
 -- What a call leaves is what the definition of its write says.
-use Rattle.std.proofs.Common.{◌≡◌, ℕ, true, zero, suc, ◌<◌, arith, List, [], ◌∷◌, length, Option, None, refl, sym, ap, ◌∙◌, subst}
-use Rattle.std.proofs.lemmas.Bool.{true≢false}
+use Rattle.std.proofs.Common.{◌≡◌, ℕ, true, zero, suc, ◌<◌, arith, List, [], ◌∷◌, length, Option, None, refl, sym, ap, ◌∙◌, subst, true≢false, ◌≤◌, Result, Ok, Err, IfOk, IfErr, IsErrOf}
 use Rattle.std.proofs.lemmas.List.{length-map, get_or-map}
 use Rattle.std.proofs.lemmas.Result.{on_ok_weaker, IfOk-weaker}
 use Rattle.mls_lattice.specs.Labels.{Labels, AreDistinct}
@@ -11,8 +10,6 @@ use Rattle.mls_scheme.specs.Table.{Table}
 use Rattle.mls_scheme.specs.declared.place.Place.{Place}
 use Rattle.mls_scheme.specs.Scheme.{Scheme, Schemes, scheme_of, IsUnder, AreUnder}
 use Rattle.mls_scheme.specs.Writes.{key_of}
-use Rattle.std.specs.Prelude.{◌≤◌, Result, Ok, Err, IfOk, IfErr}
-use Rattle.std.specs.Result.{IsErrOf}
 use Rattle.mls_filterview.specs.declared.base.BaseFault.{BaseFault}
 use Rattle.mls_filterview.specs.declared.base.BaseFault.TheVariants.{NotBegun, Begun}
 use Rattle.mls_filterview.specs.Calls.{begun_after, IsCall, IsChange, IsFault, IsServed, IsStep}

@@ -1,8 +1,6 @@
 -- The first refusal, where the tuple is there.
-use Rattle.std.proofs.Common.{◌≡◌, ℕ, Bool, true, cond, not, ◌&&◌, List, [], Option, sym}
-use Rattle.std.specs.Prelude.{is_some, is_none, nat_eq}
+use Rattle.std.proofs.Common.{◌≡◌, ℕ, Bool, true, cond, not, ◌&&◌, List, [], Option, sym, is_some, is_none, nat_eq, unwrap_or}
 use Rattle.std.specs.List.{list_any}
-use Rattle.std.specs.Option.{unwrap_or}
 use Rattle.mls_lattice.specs.Labels.{Labels, below}
 use Rattle.mls_lattice.proofs.LatticeLemmas.{below-refl}
 use Rattle.mls_scheme.specs.declared.tuple.Element.{Element}

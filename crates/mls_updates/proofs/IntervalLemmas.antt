@@ -1,8 +1,6 @@
 -- Intervals of attributes.
-use Rattle.std.proofs.Common.{◌≡◌, ℕ, zero, suc, true, false, ◌&&◌, List, [], ◌∷◌, Some, sym, ap, ◌∙◌, subst, arith, drop, length, ◌+◌, ◌<◌}
-use Rattle.std.specs.Prelude.{slice_get, slice_index_or}
+use Rattle.std.proofs.Common.{◌≡◌, ℕ, zero, suc, true, false, ◌&&◌, List, [], ◌∷◌, Some, sym, ap, ◌∙◌, subst, arith, drop, length, ◌+◌, ◌<◌, slice_get, slice_index_or, option_map}
 use Rattle.std.specs.List.{list_all, AllByRecursion}
-use Rattle.std.specs.Option.{option_map}
 use Rattle.std.proofs.lemmas.Option.{same_Some, none-some}
 use Rattle.mls_lattice.specs.Labels.{Labels}
 use Rattle.mls_scheme.specs.declared.attributes.Column.{Column}

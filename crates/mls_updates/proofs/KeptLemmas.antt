@@ -1,10 +1,8 @@
 -- The writes keep the stored form.
-use Rattle.std.proofs.Common.{◌≡◌, ℕ, ◌<◌, Bool, true, false, cond, not, ◌&&◌, List, [], ◌∷◌, length, Option, Some, None, refl, sym, ap, ◌∙◌, subst, inl, inr}
-use Rattle.std.specs.Prelude.{is_some, is_none, nat_eq, ◌⊎◌}
+use Rattle.std.proofs.Common.{◌≡◌, ℕ, ◌<◌, Bool, true, false, cond, not, ◌&&◌, List, [], ◌∷◌, length, Option, Some, None, refl, sym, ap, ◌∙◌, subst, inl, inr, is_some, is_none, nat_eq, ◌⊎◌, option_map, unwrap_or, true≢false, eqb-true, eq-eqb}
 use Rattle.std.specs.List.{list_any, list_all, AllByRecursion}
-use Rattle.std.specs.Option.{option_map, unwrap_or}
 use Rattle.std.specs.FinMap.{get, insert, retain_keys}
-use Rattle.std.proofs.lemmas.Bool.{true≢false, false≢true, cases_Bool, cond_both, cond-true, cond-false, and_parts, and_from, and_cases, eqb-true, eq-eqb, not-false, not-true, false_from_ne_true}
+use Rattle.std.proofs.lemmas.Bool.{false≢true, cases_Bool, cond_both, cond-true, cond-false, and_parts, and_from, and_cases, not-false, not-true, false_from_ne_true}
 use Rattle.std.proofs.lemmas.List.{get_or-map, length-map}
 use Rattle.mls_lattice.specs.Labels.{Labels, below, AreDistinct}
 use Rattle.mls_lattice.proofs.LatticeLemmas.{below-refl, below-trans, below-antisym}
@@ -18,6 +16,7 @@ use Rattle.mls_scheme.proofs.TableLemmas.{get_kept, get_change}
 use Rattle.mls_filterview.specs.Stored.{IsStored, IsStoredTuple, Occurs, AgreesBelow, with_class, is_entity}
 use Rattle.mls_filterview.proofs.EntityTests.{entity_decides}
 use Rattle.mls_filterview.proofs.AmongLemmas.{none_of}
+use Rattle.mls_filterview.proofs.MovedLemmas.{moved}
 use Rattle.mls_updates.specs.declared.outcome.Outcome.{Outcome}
 use Rattle.mls_updates.specs.declared.outcome.Outcome.TheVariants.{KeyNull}
 use Rattle.mls_updates.specs.Outcome.{is_done}
@@ -57,27 +56,12 @@ found_if ls w kc from o h =
     (some_if o p.0, q.0, q.1)
 
 module _ (ls : Labels) (n : ℕ) where
-  -- a stored tuple of T is one of S where the entity's tuples of its classes are found again
-  moved : (T S : Table) (p : Place) (es : List Element) → IsStoredTuple ls n T p es
-      → ((m : ℕ) (fs : List Element) → Occurs p es m → get T (with_class p m) ≡ Some fs → get S (with_class p m) ≡ Some fs)
-      → IsStoredTuple ls n S p es
-  moved T S p es st again = record {
-    count = st.count;
-    declared = st.declared;
-    above_key = st.above_key;
-    null_at_key = st.null_at_key;
-    comparable = st.comparable;
-    greatest = st.greatest;
-    own = st.own;
-    closed = λ m o. (let c = st.closed m o in (c.0, again m c.0 o c.1, c.2));
-  }
-
   -- ---- a tuple more
   kept_insert : (T : Table) (p : Place) (es : List Element) → IsStored ls n T → get T p ≡ None → IsStoredTuple ls n (insert T p es) p es → IsStored ls n (insert T p es)
   kept_insert T p es stored free new q fs h =
       elim (inserted_cases T p es q fs h) [
         | inl e ↦ subst (λ r. IsStoredTuple ls n (insert T p es) r fs) (sym e.0) (subst (λ xs. IsStoredTuple ls n (insert T p es) p xs) (sym e.1) new)
-        | inr old ↦ moved T (insert T p es) q fs (stored q fs old) (λ m gs o g. get_again T p es free (with_class q m) gs g)
+        | inr old ↦ moved ls n T (insert T p es) q fs (stored q fs old) (λ m gs o g. get_again T p es free (with_class q m) gs g)
       ]
 
   root_stored : (T : Table) (key : List Value) (w : ℕ) (values : List (Option Value)) → w < length ls → length values ≡ n
@@ -185,7 +169,7 @@ module _ (ls : Labels) (n : ℕ) where
   kept_delete T p stored q fs h =
       let k = kept_cases T (λ r. not (is_above ls p r)) q fs h in
       let st = stored q fs k.1 in
-      moved T (retain_keys T (λ r. not (is_above ls p r))) q fs st (λ m gs o g.
+      moved ls n T (retain_keys T (λ r. not (is_above ls p r))) q fs st (λ m gs o g.
       get_kept T (λ r. not (is_above ls p r)) (with_class q m)
       ∙ ap (λ b. cond (not b) (get T (with_class q m)) None) (stays q m (not-true _ k.0) (st.greatest m o))
       ∙ g)
@@ -214,7 +198,7 @@ module _ (ls : Labels) (n : ℕ) where
       by_entity : (es : List Element) → get T q ≡ Some es → (is_entity p q ≡ true) ⊎ (is_entity p q ≡ false) → IsStoredTuple ls n S q (f q es)
       by_entity es g (inr out) =
           subst (λ xs. IsStoredTuple ls n S q xs) (sym (cond-false _ (updated w sets es) es out))
-          (moved T S q es (stored q es g) (λ m fs o k. get_change f T (with_class q m) ∙ ap (option_map (f (with_class q m))) k
+          (moved ls n T S q es (stored q es g) (λ m fs o k. get_change f T (with_class q m) ∙ ap (option_map (f (with_class q m))) k
           ∙ ap Some (cond-false _ (updated w sets fs) fs out)))
       by_entity es g (inl in') =
           subst (λ xs. IsStoredTuple ls n S q xs) (sym (cond-true _ (updated w sets es) es in')) new

@@ -1,6 +1,5 @@
 -- Small writes: what they make of a tuple, and which refusal comes first.
-use Rattle.std.proofs.Common.{◌≡◌, ℕ, true, false, cond, not, ◌||◌, List, [], ◌∷◌, Option, Some, None, refl, ap}
-use Rattle.std.specs.Prelude.{codes}
+use Rattle.std.proofs.Common.{◌≡◌, ℕ, true, false, cond, not, ◌||◌, List, [], ◌∷◌, Option, Some, None, refl, ap, codes}
 use Rattle.std.proofs.lemmas.Bool.{and_from}
 use Rattle.mls_lattice.specs.Labels.{Labels, below}
 use Rattle.mls_lattice.proofs.LatticeLemmas.{below-refl}

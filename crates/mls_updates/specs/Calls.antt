@@ -1,7 +1,7 @@
 -- What the calls promise.
-use Rattle.std.specs.Prelude.{◌≡◌, ℕ, ◌<◌, true, ◌&&◌, not, if◌then◌else◌, List, [], length, Option, None, Result, IfOk, OnOk}
+use Rattle.std.specs.Prelude.{◌≡◌, ℕ, ◌<◌, true, ◌&&◌, not, if◌then◌else◌, List, [], length, Option, None, Result, IfOk}
+use Rattle.std.specs.Prelude.{OnOk, option_map, unwrap_or}
 use Rattle.std.specs.List.{AllByRecursion}
-use Rattle.std.specs.Option.{option_map, unwrap_or}
 use Rattle.std.specs.FinMap.{get, insert, retain_keys}
 use Rattle.mls_lattice.specs.Labels.{Labels, below}
 use Rattle.mls_scheme.specs.declared.value.Value.{Value}
@@ -16,7 +16,9 @@ use Rattle.mls_filterview.specs.Content.{State, with_relation}
 use Rattle.mls_updates.specs.declared.outcome.Outcome.{Outcome}
 use Rattle.mls_filterview.specs.Stored.{with_class, IsContent}
 use Rattle.mls_filterview.specs.Fragment.{classes}
-use Rattle.mls_updates.specs.Writes.{Key, Sets, Write, Insert, Update, Delete, WriteKinds, Written, written, write, first_refusal, root_refusals, drop_refusals, own_refusals, below_refusals, root, derived, update_in, is_above}
+use Rattle.mls_updates.specs.Writes.{Key, Sets, Write, Insert, Update, Delete, WriteKinds, Written, written, write}
+use Rattle.mls_updates.specs.Writes.{first_refusal, root_refusals, drop_refusals, own_refusals, below_refusals, root}
+use Rattle.mls_updates.specs.Writes.{derived, update_in, is_above}
 
 -- from s, a call answered o and left t: the outcome and the table of a relation are these
 pub record IsLeft (relation : ℕ) (written : Written) (s t : State) (o : Outcome) : Type 0 where

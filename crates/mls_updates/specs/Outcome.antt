@@ -1,7 +1,8 @@
 -- The numbers and names of outcomes.
 use Rattle.std.specs.Prelude.{ℕ, Bool, true, false, List, ◌-◌, [], map, get_or}
 use Rattle.mls_updates.specs.declared.outcome.Outcome.{Outcome}
-use Rattle.mls_updates.specs.declared.outcome.Outcome.TheVariants.{Done, KeyNull, Duplicate, NoTuple, NullAboveKey, Inherited, OutOfInterval, AlreadyDerived}
+use Rattle.mls_updates.specs.declared.outcome.Outcome.TheVariants.{Done, KeyNull, Duplicate, NoTuple, NullAboveKey}
+use Rattle.mls_updates.specs.declared.outcome.Outcome.TheVariants.{Inherited, OutOfInterval, AlreadyDerived}
 use Rattle.mls_updates.specs.declared.outcome.TheConstants.{WORDS}
 
 abbrev pub is_done : Outcome → Bool

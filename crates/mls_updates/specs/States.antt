@@ -1,8 +1,8 @@
 -- The content that a base over maps holds.
 use Rattle.std.proofs.Common.{true≢false}
-use Rattle.std.specs.Prelude.{◌≡◌, ℕ, false, is_some, List, [], Option, Some, None, refl}
+use Rattle.std.specs.Prelude.{◌≡◌, ℕ, false, is_some, List, [], Option, Some, None, refl, unwrap_or}
 use Rattle.std.specs.Ordering.{nat_cmp}
-use Rattle.std.specs.Option.{unwrap_or, option_map_or}
+use Rattle.std.specs.Option.{option_map_or}
 use Rattle.std.specs.BTreeMap.{BTreeMap, get}
 use Rattle.mls_scheme.specs.declared.tuple.Element.{Element}
 use Rattle.mls_scheme.specs.declared.place.Place.{Place}

@@ -1,7 +1,7 @@
 -- The three writes of a multilevel relation: what each does to the table, and its outcome.
-use Rattle.std.specs.Prelude.{◌≡◌, ℕ, ◌<◌, Bool, true, not, ◌&&◌, if◌then◌else◌, nat_eq, List, [], ◌∷◌, map, length, Option, is_some, is_none, ⊤}
-use Rattle.std.specs.List.{list_any, list_all, filter_map, enumerate_from, AllByRecursion}
-use Rattle.std.specs.Option.{unwrap_or}
+use Rattle.std.specs.Prelude.{◌≡◌, ℕ, ◌<◌, Bool, true, not, ◌&&◌, if◌then◌else◌, nat_eq, List, [], ◌∷◌, map, length}
+use Rattle.std.specs.Prelude.{Option, is_some, is_none, ⊤, filter_map, unwrap_or}
+use Rattle.std.specs.List.{list_any, list_all, enumerate_from, AllByRecursion}
 use Rattle.std.specs.FinMap.{get, insert, retain_keys}
 use Rattle.mls_lattice.specs.Labels.{Labels, below}
 use Rattle.mls_scheme.specs.declared.value.Value.{Value}
@@ -17,7 +17,8 @@ use Rattle.mls_scheme.specs.Scheme.{Scheme, other_of}
 use Rattle.mls_scheme.specs.Fits.{in_interval, HaveKinds}
 use Rattle.mls_filterview.specs.Stored.{is_entity}
 use Rattle.mls_updates.specs.declared.outcome.Outcome.{Outcome}
-use Rattle.mls_updates.specs.declared.outcome.Outcome.TheVariants.{Done, KeyNull, Duplicate, NoTuple, NullAboveKey, Inherited, OutOfInterval, AlreadyDerived}
+use Rattle.mls_updates.specs.declared.outcome.Outcome.TheVariants.{Done, KeyNull, Duplicate, NoTuple, NullAboveKey}
+use Rattle.mls_updates.specs.declared.outcome.Outcome.TheVariants.{Inherited, OutOfInterval, AlreadyDerived}
 use Rattle.mls_updates.specs.Outcome.{is_done}
 
 -- ---- what a write says

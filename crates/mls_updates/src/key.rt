@@ -1,6 +1,5 @@
 //! The key that a write names, and the places of its entity.
-ghost use Rattle.std.specs.Prelude.{◌≡◌, IfOk};
-ghost use Rattle.std.specs.List.{filter_map};
+ghost use Rattle.std.specs.Prelude.{◌≡◌, IfOk, filter_map};
 ghost use Rattle.mls_updates.specs.Writes.{has_null, place};
 
 use mls_lattice::{Items, LabelNo};

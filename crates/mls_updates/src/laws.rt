@@ -1,5 +1,6 @@
 //! The laws of writes, each the contract of a function.
-ghost use Rattle.mls_updates.specs.Laws.{WritesKeepForm, WritesKeepContent, HighWritesLeaveLow, LowWritesUseLow, HighWritesAreUnseen, LowWritesSeeLow, WritesChangeOneEntity};
+ghost use Rattle.mls_updates.specs.Laws.{WritesKeepForm, WritesKeepContent, HighWritesLeaveLow, LowWritesUseLow};
+ghost use Rattle.mls_updates.specs.Laws.{HighWritesAreUnseen, LowWritesSeeLow, WritesChangeOneEntity};
 
 /// Each write keeps the stored form.
 pub fn writes_keep_form()

@@ -1,6 +1,5 @@
 //! A tuple put together from its node, the cells of its class, and the tuples that there are.
-ghost use Rattle.std.specs.Prelude.{◌≡◌, IfOk, None};
-ghost use Rattle.std.specs.Option.{unwrap_or};
+ghost use Rattle.std.specs.Prelude.{◌≡◌, IfOk, None, unwrap_or};
 ghost use Rattle.std.specs.FinMap.{get};
 ghost use Rattle.mls_scheme.specs.Tuple.{at};
 ghost use Rattle.mls_filterview.specs.Stored.{with_class};

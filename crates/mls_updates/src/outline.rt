@@ -2,7 +2,7 @@
 //! attributes that the update sets. The outline of it has a class for each attribute, and values where the update sets one; the other values
 //! are read off the entity's tuples of those classes.
 ghost use Rattle.std.specs.Prelude.{◌≡◌, List, IfOk, OnOk, None};
-ghost use Rattle.std.specs.FinMap.{get, insert};
+ghost use Rattle.std.specs.FinMap.{insert};
 ghost use Rattle.mls_scheme.specs.declared.tuple.Element.{Element as SpecElement};
 ghost use Rattle.mls_filterview.specs.Content.{with_relation};
 ghost use Rattle.mls_filterview.specs.Calls.{IsStep};

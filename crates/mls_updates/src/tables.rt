@@ -1,6 +1,5 @@
 //! The tuples that a base holds: a map for each relation that was written to.
-ghost use Rattle.std.specs.Prelude.{◌≡◌, ℕ, nat_eq, false, IfOk, OnOk};
-ghost use Rattle.std.specs.Option.{option_map};
+ghost use Rattle.std.specs.Prelude.{◌≡◌, ℕ, nat_eq, false, IfOk, OnOk, option_map};
 ghost use Rattle.std.specs.FinMap.{get, insert, remove};
 ghost use Rattle.mls_scheme.specs.Table.{change};
 ghost use Rattle.mls_filterview.specs.Assembly.{table_of};

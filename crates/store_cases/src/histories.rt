@@ -1,7 +1,6 @@
 //! Two histories of runs over stores in files, and what a level is shown of them.
-ghost use Rattle.std.specs.Prelude.{◌<◌, ◌≤◌, length};
+ghost use Rattle.std.specs.Prelude.{◌<◌, ◌≤◌, length, IfSome};
 ghost use Rattle.std.specs.List.{AllByRecursion};
-ghost use Rattle.std.specs.Option.{IfSome};
 ghost use Rattle.mls_runs.specs.History.{IsPrepared};
 
 use crate::runs::run_of;

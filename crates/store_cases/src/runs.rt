@@ -1,6 +1,5 @@
 //! Runs over a base.
-ghost use Rattle.std.specs.Prelude.{◌≡◌, false, []};
-ghost use Rattle.std.specs.Option.{IfSome};
+ghost use Rattle.std.specs.Prelude.{◌≡◌, false, [], IfSome};
 ghost use Rattle.mls_lattice.specs.Policy.{labels_of};
 ghost use Rattle.mls_filterview.specs.Stored.{AreContent};
 ghost use Rattle.mls_audit.specs.Sound.{IsSoundContent};

@@ -1,12 +1,14 @@
 //! Statements on the table of cells. Its key has `attr` before `label`: the rows of an entity at a key class
 //! are looked up by what the key begins with, and those of a class are chosen among them.
-ghost use Rattle.std.specs.Prelude.{◌≡◌, ◌<◌, ◌≤◌, ◌+◌, ◌*◌, length, take, map, filter, IfOk, OnOk, OnErr, IsPermutation};
+ghost use Rattle.std.specs.Prelude.{◌≡◌, ◌<◌, ◌≤◌, ◌+◌, ◌*◌, length, take, map, filter, IfOk, OnOk, OnErr};
+ghost use Rattle.std.specs.Prelude.{IsPermutation};
 ghost use Rattle.sqlite.specs.State.{HasCleanDisk};
 ghost use Rattle.sqlite.specs.Held.{state};
 ghost use Rattle.sqlite.specs.Values.{bound};
 ghost use Rattle.mls_tables.specs.declared.rows.CellRow.{CellRow as SpecCell};
 ghost use Rattle.mls_tables.specs.Rows.{tables_of, is_cell_at, is_cell_among, is_cell_in, cell_beside, own_values};
-ghost use Rattle.mls_tables.specs.Statements.{IsSchemaReady, Changes, IsWrite, AreWrites, IsQuery, AddsCell, AddsCells, ClearsCells, SetsCell, DropsCells, IsOne, has_key_of, IsEnded};
+ghost use Rattle.mls_tables.specs.Statements.{IsSchemaReady, Changes, IsWrite, AreWrites, IsQuery, AddsCell, AddsCells};
+ghost use Rattle.mls_tables.specs.Statements.{ClearsCells, SetsCell, DropsCells, IsOne, has_key_of, IsEnded};
 
 use crate::rows::{CellRow, NodeRow, OwnCell, TupleKey};
 use crate::statements::streaming::select;

@@ -1,9 +1,11 @@
 //! Whether a database has the four tables.
-ghost use Rattle.std.specs.Prelude.{◌≡◌, ◌↔◌, true, false, [], ◌∷◌, None, Some, map, take, drop, IsTrue};
+ghost use Rattle.std.specs.Prelude.{◌≡◌, ◌↔◌, true, false, [], ◌∷◌, Some, map, take, drop, IsTrue};
 ghost use Rattle.std.specs.List.{list_all};
 ghost use Rattle.sqlite.specs.Held.{state};
 ghost use Rattle.sqlite_value.specs.Keys.{plain};
-ghost use Rattle.mls_tables.specs.Schema.{needed, by_rowid, by_index, node, cell, audit, meta, no_others, schema, has_no_reference, is_on_others, BeginsWithTables, HasTables, key_index, HasNoRules, IsByRowid, IsByIndex};
+ghost use Rattle.mls_tables.specs.Schema.{needed, by_rowid, by_index, node, cell, audit, meta, no_others, schema};
+ghost use Rattle.mls_tables.specs.Schema.{has_no_reference, is_on_others, BeginsWithTables, HasTables, key_index};
+ghost use Rattle.mls_tables.specs.Schema.{HasNoRules, IsByRowid, IsByIndex};
 
 use sqlite::{Alter, Connection};
 use sqlite_schema::code::Terms;

@@ -3,8 +3,10 @@ ghost use Rattle.std.specs.Prelude.{◌≡◌, true, [], ◌∷◌, map, IfOk, I
 ghost use Rattle.std.specs.List.{AllByRecursion};
 ghost use Rattle.sqlite.specs.Held.{state};
 ghost use Rattle.mls_tables.specs.declared.rows.MetaRow.{MetaRow as SpecMeta};
-ghost use Rattle.mls_tables.specs.Rows.{shown_meta, shows_meta, node_columns, cell_columns, audit_columns, is_node_row, is_cell_row, is_audit_row};
-ghost use Rattle.mls_tables.specs.Adopting.{AreNodes, AreCells, AreEntries, ReadsMeta, IsVersion, IsReadDescription, IsDescribed, IsWholeTable, ReadsTables};
+ghost use Rattle.mls_tables.specs.Rows.{shown_meta, shows_meta, node_columns, cell_columns, audit_columns, is_node_row};
+ghost use Rattle.mls_tables.specs.Rows.{is_cell_row, is_audit_row};
+ghost use Rattle.mls_tables.specs.Adopting.{AreNodes, AreCells, AreEntries, ReadsMeta, IsVersion, IsReadDescription};
+ghost use Rattle.mls_tables.specs.Adopting.{IsDescribed, IsWholeTable, ReadsTables};
 
 use crate::adopting::AdoptFault;
 use crate::decode::rows_from;

@@ -1,5 +1,4 @@
-use Rattle.std.proofs.Common.{◌≡◌, ◌++◌, string_bytes}
-use Rattle.std.specs.List.{flat_map}
+use Rattle.std.proofs.Common.{◌≡◌, ◌++◌, string_bytes, flat_map}
 use Rattle.case_tables.specs.Lines.{indented_line}
 use Rattle.case_tables.proofs.block.indent.Given as goal
 

@@ -1,5 +1,4 @@
-use Rattle.std.proofs.Common.{ℕ, List, [], get_or, codes, sym, ◌∙◌}
-use Rattle.std.specs.Borrow.{Bor}
+use Rattle.std.proofs.Common.{ℕ, List, [], get_or, codes, sym, ◌∙◌, Bor}
 use Rattle.std.proofs.lemmas.Str.Pattern.{starts_text}
 use Rattle.case_tables.specs.Lines.{is_inner}
 use Rattle.case_tables.proofs.LineLemmas.{stops, goes}

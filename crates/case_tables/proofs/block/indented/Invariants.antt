@@ -1,5 +1,4 @@
-use Rattle.std.proofs.Common.{◌≡◌, ◌++◌, take, drop}
-use Rattle.std.specs.List.{take_while}
+use Rattle.std.proofs.Common.{◌≡◌, ◌++◌, take, drop, take_while}
 use Rattle.case_tables.specs.Lines.{is_inner}
 use Rattle.case_tables.proofs.block.indented.Given as goal
 

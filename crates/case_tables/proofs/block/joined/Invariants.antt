@@ -1,5 +1,4 @@
-use Rattle.std.proofs.Common.{◌≡◌, string_bytes, take}
-use Rattle.std.specs.List.{flat_map}
+use Rattle.std.proofs.Common.{◌≡◌, string_bytes, take, flat_map}
 use Rattle.case_tables.specs.Lines.{inner_of, ended}
 use Rattle.case_tables.proofs.block.joined.Given as goal
 

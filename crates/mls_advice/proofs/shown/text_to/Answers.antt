@@ -1,4 +1,4 @@
-use Rattle.std.proofs.Common.{◌≡◌, sym, ◌∙◌, append_assoc, append-nil, rules}
+use Rattle.std.proofs.Common.{sym, ◌∙◌, append_assoc, append-nil}
 use Rattle.std.proofs.lemmas.Str.{IsUtf8-past_char}
 use Rattle.mls_advice.proofs.ExcerptLemmas.{shown_step, shown_over}
 use Rattle.mls_advice.proofs.shown.text_to.Goals as goal

@@ -1,5 +1,4 @@
-use Rattle.std.proofs.Common.{◌≡◌, ◌++◌, take, string_bytes}
-use Rattle.std.specs.List.{flat_map}
+use Rattle.std.proofs.Common.{◌≡◌, ◌++◌, take, string_bytes, flat_map}
 use Rattle.mls_certcheck.specs.Spelling.{byte_text}
 use Rattle.mls_certcheck.proofs.writing.cats_to.Given as goal
 

@@ -1,5 +1,5 @@
-use Rattle.std.proofs.Common.{◌≡◌, ◌++◌, take, string_bytes}
-use Rattle.std.specs.List.{flat_map, AllByRecursion}
+use Rattle.std.proofs.Common.{◌≡◌, ◌++◌, take, string_bytes, flat_map}
+use Rattle.std.specs.List.{AllByRecursion}
 use Rattle.mls_certcheck.specs.Spelling.{spaced_label, IsLabel}
 use Rattle.mls_certcheck.proofs.writing.labels_to.Given as goal
 

@@ -1,5 +1,5 @@
-use Rattle.std.proofs.Common.{◌≡◌, ◌++◌, take, string_bytes}
-use Rattle.std.specs.List.{flat_map, AllByRecursion}
+use Rattle.std.proofs.Common.{◌≡◌, ◌++◌, take, string_bytes, flat_map}
+use Rattle.std.specs.List.{AllByRecursion}
 use Rattle.mls_certcheck.specs.Spelling.{row_line, AreLabels}
 use Rattle.mls_certcheck.proofs.writing.rows_to.Given as goal
 

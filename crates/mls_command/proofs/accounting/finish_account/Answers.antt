@@ -1,5 +1,4 @@
-use Rattle.std.proofs.Common.{◌++◌, [], Result, Ok, Err, refl, sym, subst}
-use Rattle.std.proofs.lemmas.List.{append-nil}
+use Rattle.std.proofs.Common.{◌++◌, [], Result, Ok, Err, refl, sym, subst, append-nil}
 use Rattle.mls_host.specs.declared.ending.Ending.{Ending}
 use Rattle.mls_host.specs.declared.stop.Stop.{Stop}
 use Rattle.mls_host.specs.Deed.{deed, end_text}

@@ -1,5 +1,4 @@
-use Rattle.std.proofs.Common.{◌≡◌, List, Option, Some, None, subst}
-use Rattle.std.specs.Prelude.{option_map}
+use Rattle.std.proofs.Common.{◌≡◌, List, Option, subst, option_map}
 use Rattle.std.proofs.KnownBytes.{Appends-nil}
 use Rattle.clap.specs.Words.{Text}
 use Rattle.mls_host.specs.Hosting.{hosted, IsAppended, IsTold}

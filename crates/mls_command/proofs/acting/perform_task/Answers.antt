@@ -7,7 +7,6 @@ use Rattle.mls_host.specs.Deed.{deed}
 use Rattle.mls_host.specs.Hosting.{hosted, IsAppended, IsTold}
 use Rattle.mls_host.specs.Reading.{HasUser}
 use Rattle.mls_host.specs.declared.ending.Ending.TheVariants.{Well}
-use Rattle.mls_host.specs.declared.reason.Reason.TheVariants.{Memory}
 use Rattle.mls_host.proofs.HostingLemmas.{told_nothing}
 use Rattle.mls_host.proofs.StoppingLemmas.{untouched}
 use Rattle.mls_command.specs.Certifying.{IsCertified}

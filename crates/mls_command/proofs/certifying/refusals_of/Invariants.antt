@@ -1,5 +1,4 @@
-use Rattle.std.proofs.Common.{◌≡◌, take, string_bytes}
-use Rattle.std.specs.List.{flat_map}
+use Rattle.std.proofs.Common.{◌≡◌, take, string_bytes, flat_map}
 use Rattle.mls_command.specs.Certifying.{refusal_of}
 use Rattle.mls_command.proofs.certifying.refusals_of.Given as goal
 

@@ -1,5 +1,5 @@
-use Rattle.std.proofs.Common.{◌≡◌, take, string_bytes}
-use Rattle.std.specs.List.{flat_map, list_any}
+use Rattle.std.proofs.Common.{◌≡◌, take, string_bytes, flat_map}
+use Rattle.std.specs.List.{list_any}
 use Rattle.mls_command.specs.Checking.{line_of, verdict_of, is_refused}
 use Rattle.mls_command.proofs.checking.verdicts_of.Given as goal
 

@@ -1,5 +1,4 @@
-use Rattle.std.proofs.Common.{◌≡◌, string_bytes, refl, sym, subst}
-use Rattle.std.specs.Result.{IsOkAnd}
+use Rattle.std.proofs.Common.{◌≡◌, string_bytes, refl, sym, subst, IsOkAnd}
 use Rattle.std.proofs.KnownBytes.{Appends-nil}
 use Rattle.mls_host.specs.Deed.{deed}
 use Rattle.mls_host.specs.declared.reason.Reason.TheVariants.{Memory}

@@ -1,4 +1,4 @@
-use Rattle.std.proofs.Common.{List, ℕ, Option, Result, Ok, Err, IfOk, sym, subst, subst₂}
+use Rattle.std.proofs.Common.{List, ℕ, Option, sym, subst, subst₂}
 use Rattle.mls_fragments.specs.declared.open_fault.OpenFault.{OpenFault}
 use Rattle.mls_explain.specs.Diagnosis.{IsDiagnosis}
 use Rattle.mls_command.specs.Looking.{IsSight, hidden, shown}

@@ -1,6 +1,5 @@
-use Rattle.std.proofs.Common.{◌≡◌, suc, false, List, length, sym, ◌∙◌, subst, arith}
-use Rattle.std.specs.List.{AllByRecursion, Contains}
-use Rattle.std.proofs.lemmas.Bool.{eqb-true}
+use Rattle.std.proofs.Common.{◌≡◌, suc, false, List, length, sym, ◌∙◌, subst, arith, Contains, eqb-true}
+use Rattle.std.specs.List.{AllByRecursion}
 use Rattle.mls_labeller.specs.Flows.{body_lines}
 use Rattle.mls_explain.specs.Steps.{steps}
 use Rattle.mls_explain.specs.declared.search.Tail.{Tail}

@@ -1,6 +1,4 @@
-use Rattle.std.proofs.Common.{◌≡◌, take, codes, ◌++◌, [], string_bytes}
-use Rattle.std.specs.Prelude.{if◌then◌else◌}
-use Rattle.std.specs.List.{flat_map}
+use Rattle.std.proofs.Common.{◌≡◌, take, codes, ◌++◌, [], string_bytes, if◌then◌else◌, flat_map}
 use Rattle.mls_lattice.specs.Lattice.{pair_of}
 use Rattle.mls_explain.specs.Telling.{is_named}
 use Rattle.mls_explain.proofs.naming.names_of.Given as goal

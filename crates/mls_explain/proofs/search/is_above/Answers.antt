@@ -1,5 +1,4 @@
-use Rattle.std.proofs.Common.{ap, ◌∙◌}
-use Rattle.std.specs.Prelude.{not}
+use Rattle.std.proofs.Common.{ap, ◌∙◌, not}
 use Rattle.mls_lattice.specs.Lattice.{◌⊑◌}
 use Rattle.mls_certcheck.proofs.LabelLemmas.{test_dominates}
 use Rattle.mls_explain.specs.Chains.{is_above}

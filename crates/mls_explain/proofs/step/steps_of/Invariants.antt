@@ -1,5 +1,4 @@
-use Rattle.std.proofs.Common.{◌≡◌, take}
-use Rattle.std.specs.List.{flat_map}
+use Rattle.std.proofs.Common.{◌≡◌, take, flat_map}
 use Rattle.mls_explain.specs.Steps.{steps_in}
 use Rattle.mls_explain.proofs.step.steps_of.Given as goal
 

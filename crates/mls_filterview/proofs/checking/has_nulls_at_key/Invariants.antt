@@ -1,5 +1,4 @@
-use Rattle.std.proofs.Common.{◌≡◌, ◌||◌, drop}
-use Rattle.std.specs.Prelude.{is_some, nat_eq}
+use Rattle.std.proofs.Common.{◌≡◌, ◌||◌, drop, is_some, nat_eq}
 use Rattle.std.specs.List.{list_all}
 use Rattle.mls_filterview.proofs.checking.has_nulls_at_key.Given as goal
 

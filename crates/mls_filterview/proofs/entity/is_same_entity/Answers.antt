@@ -1,5 +1,4 @@
-use Rattle.std.proofs.Common.{sym, ◌∙◌}
-use Rattle.std.proofs.lemmas.Bool.{eqb-true, eq-eqb, true≢false}
+use Rattle.std.proofs.Common.{sym, ◌∙◌, eqb-true, eq-eqb, true≢false}
 use Rattle.mls_filterview.proofs.EntityTests.{key_decides, class_decides}
 use Rattle.mls_filterview.proofs.entity.is_same_entity.Goals as goal
 

@@ -1,4 +1,4 @@
-use Rattle.std.specs.List.{filter}
+use Rattle.std.proofs.Common.{filter}
 use Rattle.mls_filterview.specs.Entities.{is_before, is_behind}
 use Rattle.mls_filterview.proofs.FilteredLemmas.{filter_step}
 use Rattle.mls_filterview.proofs.mending.put_own.Goals as goal

@@ -1,5 +1,4 @@
-use Rattle.std.proofs.Common.{◌≡◌, ◌++◌}
-use Rattle.std.specs.List.{filter}
+use Rattle.std.proofs.Common.{◌≡◌, ◌++◌, filter}
 use Rattle.mls_filterview.specs.Entities.{is_before, is_behind}
 use Rattle.mls_filterview.proofs.mending.put_own.Given as goal
 

@@ -1,5 +1,4 @@
-use Rattle.std.proofs.Common.{◌≡◌, ◌∙◌, suc, ap, length, arith}
-use Rattle.std.specs.List.{flat_map}
+use Rattle.std.proofs.Common.{◌≡◌, ◌∙◌, suc, ap, length, arith, flat_map}
 use Rattle.std.proofs.lemmas.List.{length-map}
 use Rattle.mls_lattice.specs.Policy.{labels_of}
 use Rattle.mls_filterview.specs.Reach.{numbers, of_reach}

@@ -1,5 +1,4 @@
-use Rattle.std.proofs.Common.{◌≡◌, ◌++◌}
-use Rattle.std.specs.List.{flat_map}
+use Rattle.std.proofs.Common.{◌≡◌, ◌++◌, flat_map}
 use Rattle.mls_filterview.specs.Fragment.{cells_of}
 use Rattle.mls_filterview.proofs.splitting.cells_of.Given as goal
 

@@ -1,5 +1,4 @@
-use Rattle.std.proofs.Common.{◌≡◌, ◌++◌, map}
-use Rattle.std.specs.List.{filter, flat_map}
+use Rattle.std.proofs.Common.{◌≡◌, ◌++◌, map, filter, flat_map}
 use Rattle.mls_filterview.specs.Fragment.{node_of, cells_of, is_of_any}
 use Rattle.mls_filterview.proofs.tuple_map.fragment_of.Given as goal
 

@@ -1,5 +1,4 @@
-use Rattle.std.proofs.Common.{◌≡◌, rules, sym, ap, ◌∙◌, arith}
-use Rattle.std.specs.Prelude.{slice_set}
+use Rattle.std.proofs.Common.{◌≡◌, rules, sym, ap, ◌∙◌, arith, slice_set}
 use Rattle.std.proofs.lemmas.Bool.{cond-true, cond-false}
 use Rattle.std.proofs.lemmas.List.Elements.{same_from_all_zip}
 use Rattle.mls_filterview.specs.Fragment.{set_from}

@@ -1,6 +1,4 @@
-use Rattle.std.proofs.Common.{sym, subst, arith, take}
-use Rattle.std.specs.List.{All, Contains}
-use Rattle.std.proofs.lemmas.List.{take_all}
+use Rattle.std.proofs.Common.{sym, subst, arith, take, All, Contains, take_all}
 use Rattle.std.proofs.lemmas.List.Elements.{All-contains, All-weaker, All-more}
 use Rattle.mls_labeller.proofs.range.union.Goals as goal
 

@@ -1,5 +1,4 @@
-use Rattle.std.proofs.Common.{take}
-use Rattle.std.specs.List.{All, Contains}
+use Rattle.std.proofs.Common.{take, All, Contains}
 use Rattle.mls_scheme.specs.declared.value.Value.{Value}
 use Rattle.mls_labeller.proofs.range.union.Given as goal
 

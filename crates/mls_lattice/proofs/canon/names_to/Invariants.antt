@@ -1,5 +1,4 @@
-use Rattle.std.proofs.Common.{◌≡◌, ◌++◌, drop, string_bytes}
-use Rattle.std.specs.List.{flat_map}
+use Rattle.std.proofs.Common.{◌≡◌, ◌++◌, drop, string_bytes, flat_map}
 use Rattle.mls_lattice.specs.Lattice.{cats_of}
 use Rattle.mls_lattice.specs.Canon.{spaced, names_of}
 use Rattle.mls_lattice.proofs.canon.names_to.Given as goal

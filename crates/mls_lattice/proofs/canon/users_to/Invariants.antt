@@ -1,5 +1,4 @@
-use Rattle.std.proofs.Common.{◌≡◌, ◌++◌, take, map, string_bytes}
-use Rattle.std.specs.List.{flat_map}
+use Rattle.std.proofs.Common.{◌≡◌, ◌++◌, take, map, string_bytes, flat_map}
 use Rattle.mls_lattice.specs.Policy.{named}
 use Rattle.mls_lattice.specs.Canon.{user_line}
 use Rattle.mls_lattice.proofs.canon.users_to.Given as goal

@@ -1,5 +1,4 @@
-use Rattle.std.proofs.Common.{◌≡◌, ◌++◌, take}
-use Rattle.std.specs.List.{flat_map}
+use Rattle.std.proofs.Common.{◌≡◌, ◌++◌, take, flat_map}
 use Rattle.mls_lattice.specs.Policy.{named}
 use Rattle.mls_lattice.specs.Canon.{label_line}
 use Rattle.mls_lattice.proofs.extending.labels_before.Given as goal

@@ -1,5 +1,4 @@
-use Rattle.std.proofs.Common.{◌≡◌, ◌++◌, List, ℕ, take, codes}
-use Rattle.std.specs.List.{flat_map}
+use Rattle.std.proofs.Common.{◌≡◌, ◌++◌, List, ℕ, take, codes, flat_map}
 use Rattle.mls_lattice.proofs.extending.names_before.Given as goal
 
 abbrev pub invariant-loop-place : goal.invariant-loop-place

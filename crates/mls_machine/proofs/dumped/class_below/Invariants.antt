@@ -1,6 +1,4 @@
-use Rattle.std.proofs.Common.{◌≡◌, ◌<◌, length, drop, not}
-use Rattle.std.specs.Prelude.{nat_eq}
-use Rattle.std.specs.List.{filter}
+use Rattle.std.proofs.Common.{◌≡◌, ◌<◌, length, drop, not, nat_eq, filter}
 use Rattle.mls_lattice.specs.Policy.{labels_of}
 use Rattle.mls_filterview.specs.Filtering.{greatest_from}
 use Rattle.mls_machine.specs.Dumping.{class_below}

@@ -1,5 +1,4 @@
-use Rattle.std.proofs.Common.{◌≡◌, ◌++◌, take, codes}
-use Rattle.std.specs.List.{flat_map}
+use Rattle.std.proofs.Common.{◌≡◌, ◌++◌, take, codes, flat_map}
 use Rattle.mls_machine.specs.Dumping.{dump_event}
 use Rattle.mls_machine.specs.Output.{front, script_text}
 use Rattle.mls_machine.specs.Under.{site_under}

@@ -1,5 +1,4 @@
-use Rattle.std.proofs.Common.{◌≡◌, ◌++◌, take}
-use Rattle.std.specs.List.{flat_map}
+use Rattle.std.proofs.Common.{◌≡◌, ◌++◌, take, flat_map}
 use Rattle.mls_machine.specs.Output.{cell_entry}
 use Rattle.mls_machine.proofs.printing_rows.push_elements.Given as goal
 

@@ -1,5 +1,4 @@
-use Rattle.std.proofs.Common.{◌++◌, ◌∙◌, sym, ap, cond, codes}
-use Rattle.std.specs.Fmt.{decimal}
+use Rattle.std.proofs.Common.{◌++◌, ◌∙◌, sym, ap, cond, codes, decimal}
 use Rattle.std.proofs.lemmas.Result.{IfOk-weaker}
 use Rattle.mls_updates.specs.Outcome.{code_of, word_of}
 use Rattle.mls_machine.proofs.replies.outcome_text.Goals as goal

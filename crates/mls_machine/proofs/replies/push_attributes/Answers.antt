@@ -1,5 +1,4 @@
-use Rattle.std.proofs.Common.{◌++◌, ℕ, List, ap, ◌∙◌, append_assoc}
-use Rattle.std.specs.Prelude.{codes}
+use Rattle.std.proofs.Common.{◌++◌, ℕ, List, ap, ◌∙◌, append_assoc, codes}
 use Rattle.mls_machine.proofs.PrintingSteps.{names_more}
 use Rattle.mls_machine.proofs.replies.push_attributes.Goals as goal
 

@@ -1,5 +1,4 @@
-use Rattle.std.proofs.Common.{◌≡◌, ◌++◌, take, codes}
-use Rattle.std.specs.List.{flat_map}
+use Rattle.std.proofs.Common.{◌≡◌, ◌++◌, take, codes, flat_map}
 use Rattle.mls_machine.proofs.replies.push_attributes.Given as goal
 
 abbrev pub invariant-loop-place : goal.invariant-loop-place

@@ -1,5 +1,4 @@
-use Rattle.std.proofs.Common.{◌≡◌, ◌++◌, take}
-use Rattle.std.specs.List.{flat_map}
+use Rattle.std.proofs.Common.{◌≡◌, ◌++◌, take, flat_map}
 use Rattle.mls_machine.specs.Seen.{seen_item}
 use Rattle.mls_machine.proofs.shown.push_seen.Given as goal
 

@@ -1,5 +1,4 @@
-use Rattle.std.proofs.Common.{◌++◌, ℕ, List, ◌∙◌, ap, codes}
-use Rattle.std.specs.List.{flat_map}
+use Rattle.std.proofs.Common.{◌++◌, ℕ, List, ◌∙◌, ap, codes, flat_map}
 use Rattle.mls_tokens.specs.Table.{ruled}
 use Rattle.mls_machine.specs.Output.{front}
 use Rattle.mls_machine.proofs.PrintingSteps.{item_parts}

@@ -1,6 +1,4 @@
-use Rattle.std.proofs.Common.{rules, ◌≡◌, ◌++◌, subst}
-use Rattle.std.specs.Prelude.{OnOk}
-use Rattle.std.specs.List.{flat_map}
+use Rattle.std.proofs.Common.{rules, ◌≡◌, ◌++◌, subst, OnOk, flat_map}
 use Rattle.mls_machine.specs.Output.{on_line, table_title, table_row}
 use Rattle.mls_machine.proofs.TableSteps.{table_parts}
 use Rattle.mls_machine.proofs.table.push_table.Goals as goal

@@ -1,5 +1,4 @@
-use Rattle.std.proofs.Common.{◌≡◌, ◌++◌, take, codes}
-use Rattle.std.specs.List.{flat_map}
+use Rattle.std.proofs.Common.{◌≡◌, ◌++◌, take, codes, flat_map}
 use Rattle.mls_machine.specs.Turning.{turn_line}
 use Rattle.mls_machine.proofs.turning.push_turn_lines.Given as goal
 

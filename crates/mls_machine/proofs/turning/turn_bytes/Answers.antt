@@ -1,5 +1,4 @@
-use Rattle.std.proofs.Common.{◌≡◌, ◌++◌, ◌∙◌, codes, rules}
-use Rattle.std.specs.List.{flat_map}
+use Rattle.std.proofs.Common.{◌≡◌, ◌++◌, ◌∙◌, codes, rules, flat_map}
 use Rattle.mls_machine.specs.Turning.{turn_line}
 use Rattle.mls_machine.proofs.TurningLemmas.{lines_printed}
 use Rattle.mls_machine.proofs.turning.turn_bytes.Goals as goal

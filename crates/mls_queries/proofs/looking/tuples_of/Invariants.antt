@@ -1,5 +1,4 @@
-use Rattle.std.proofs.Common.{◌≡◌, ◌++◌, map, length}
-use Rattle.std.specs.List.{filter}
+use Rattle.std.proofs.Common.{◌≡◌, ◌++◌, map, length, filter}
 use Rattle.mls_scheme.specs.Table.{tuple_at}
 use Rattle.mls_queries.specs.Parts.{has_known}
 use Rattle.mls_queries.proofs.looking.tuples_of.Given as goal

@@ -1,6 +1,4 @@
-use Rattle.std.proofs.Common.{sym, ap, ◌∙◌, subst}
-use Rattle.std.specs.Prelude.{slice_index_or}
-use Rattle.std.specs.List.{filter}
+use Rattle.std.proofs.Common.{sym, ap, ◌∙◌, subst, slice_index_or, filter}
 use Rattle.mls_lattice.specs.Policy.{labels_of}
 use Rattle.mls_filterview.specs.Rules.{no_tuple}
 use Rattle.mls_queries.specs.Query.{is_wanted, highest_of}

@@ -1,4 +1,4 @@
-use Rattle.std.specs.Option.{unwrap_or}
+use Rattle.std.proofs.Common.{unwrap_or}
 use Rattle.mls_lattice.specs.Policy.{labels_of}
 use Rattle.mls_queries.specs.Views.{no_place}
 use Rattle.mls_queries.proofs.ViewsLemmas.{Turned}

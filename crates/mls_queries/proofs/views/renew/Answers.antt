@@ -1,5 +1,4 @@
-use Rattle.std.proofs.Common.{◌≡◌, sym, ap, ◌∙◌, inl, inr}
-use Rattle.std.specs.Option.{unwrap_or}
+use Rattle.std.proofs.Common.{◌≡◌, sym, ap, ◌∙◌, inl, inr, unwrap_or}
 use Rattle.lru.specs.LruCache.{lru_cache, put_entries}
 use Rattle.mls_queries.specs.Views.{same_key, noted, no_place}
 use Rattle.mls_queries.proofs.ViewsLemmas.{Entry, the_last, popped, put_again}

@@ -1,5 +1,4 @@
-use Rattle.std.proofs.Common.{rules, ◌≡◌}
-use Rattle.std.specs.Bool.{Decides}
+use Rattle.std.proofs.Common.{rules, ◌≡◌, Decides}
 use Rattle.std.proofs.lemmas.Slice.Eq.{slice_eq-Decides}
 use Rattle.mls_tables.specs.declared.rows.NodeRow.{NodeRow}
 use Rattle.mls_rows.proofs.RowOrderLemmas.{node_cmp, node_total, node_exact}

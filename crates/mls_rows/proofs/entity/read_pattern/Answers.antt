@@ -1,5 +1,4 @@
-use Rattle.std.proofs.Common.{◌∙◌, List, ℕ, map, filter, subst, ap, IsPermutation}
-use Rattle.std.specs.Prelude.{slice_get}
+use Rattle.std.proofs.Common.{◌∙◌, List, ℕ, map, filter, subst, ap, IsPermutation, slice_get}
 use Rattle.mls_tables.specs.Rows.{is_node}
 use Rattle.mls_rows.proofs.ShownLemmas.{shows_pattern}
 use Rattle.mls_rows.proofs.entity.read_pattern.Goals as goal

@@ -1,5 +1,5 @@
-use Rattle.std.proofs.Common.{◌≡◌, ◌+◌, length, map, sym, ap, subst, ◌∙◌}
-use Rattle.std.proofs.lemmas.List.{length-map, length-append, map-append}
+use Rattle.std.proofs.Common.{◌≡◌, ◌+◌, length, map, sym, ap, subst, ◌∙◌, length-append}
+use Rattle.std.proofs.lemmas.List.{length-map, map-append}
 use Rattle.mls_rows.specs.Finding.{IsAssembled, AreAssembled}
 use Rattle.mls_rows.proofs.FindingLemmas.{at_last}
 use Rattle.mls_rows.proofs.finding.tables_of.Goals as goal

@@ -1,8 +1,6 @@
-use Rattle.std.proofs.Common.{rules, ◌<◌, ◌^◌, ◌||◌, sym, ap, ◌∙◌, subst, inl, inr}
-use Rattle.std.specs.Prelude.{nat_eq}
+use Rattle.std.proofs.Common.{rules, ◌<◌, ◌^◌, ◌||◌, sym, ap, ◌∙◌, subst, inl, inr, nat_eq, take_all}
 use Rattle.std.specs.List.{list_any}
 use Rattle.std.proofs.lemmas.Bool.{cases_lt}
-use Rattle.std.proofs.lemmas.List.{take_all}
 use Rattle.std.proofs.lemmas.List.Folds.{list_any_more}
 use Rattle.mls_rows.proofs.BitLemmas.{one_bit, high_bit, label_small}
 use Rattle.mls_rows.proofs.reading.bits_of.Goals as goal

@@ -1,5 +1,4 @@
-use Rattle.std.proofs.Common.{◌≡◌, ◌<◌, ℕ, take}
-use Rattle.std.specs.Prelude.{nat_eq}
+use Rattle.std.proofs.Common.{◌≡◌, ◌<◌, ℕ, take, nat_eq}
 use Rattle.std.specs.List.{list_any}
 use Rattle.mls_tables.specs.Rows.{has_bit}
 use Rattle.mls_rows.proofs.reading.bits_of.Given as goal

@@ -1,5 +1,4 @@
-use Rattle.std.proofs.Common.{◌≡◌, map, filter, take}
-use Rattle.std.specs.Prelude.{nat_eq}
+use Rattle.std.proofs.Common.{◌≡◌, map, filter, take, nat_eq}
 use Rattle.std.specs.List.{AllByRecursion}
 use Rattle.mls_rows.specs.Holding.{cell_row, IsSpelledCell}
 use Rattle.mls_rows.proofs.reading.cells_of_relation.Given as goal

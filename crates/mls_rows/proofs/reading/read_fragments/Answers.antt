@@ -1,5 +1,4 @@
-use Rattle.std.proofs.Common.{◌≡◌, ◌∙◌, sym, map, filter, subst, ap, IsPermutation}
-use Rattle.std.specs.Prelude.{nat_eq}
+use Rattle.std.proofs.Common.{◌≡◌, ◌∙◌, sym, map, filter, subst, ap, IsPermutation, nat_eq}
 use Rattle.std.specs.List.{AllByRecursion}
 use Rattle.mls_tables.specs.Rows.{is_node_among, is_cell_among}
 use Rattle.mls_rows.specs.Finding.{IsNodeRow, IsCellRow}

@@ -3,19 +3,20 @@ use Rattle.mls_host.specs.Hosting.{hosted, IsAppended}
 use Rattle.mls_host.specs.Causes.{IsBarred}
 use Rattle.mls_certcheck.specs.Site.{site_of}
 use Rattle.mls_host.proofs.StoppingLemmas.{untouched, caused_at, caused_from_memory}
-use Rattle.mls_runs.proofs.DeskEndLemmas.{desk_from_memory, desk_from_store}
+use Rattle.mls_runs.specs.Desk.{IsDesk}
+use Rattle.mls_runs.proofs.RunningLemmas.{from_memory, from_store}
 use Rattle.mls_runs.proofs.desks.desk_over_store.Goals as goal
 
 pub returns-in-None-clause-ends : goal.returns-in-None-clause-ends
 returns-in-None-clause-ends g c =
-    desk_from_memory (hosted g.H.Host.hosting g.L.TypedLines.echo c.args.host.now c.args.host.now) c.args.file.now (site_of c.args.policy.now c.args.file.now.schemes c.args.stored) (g.L.TypedLines.remaining c.args.lines.now) (g.L.TypedLines.remaining c.desk_in_memory.new.lines) (g.L.TypedLines.breaks c.desk_in_memory.new.lines)
-    (IsAppended g.W.Write.contents c.args.out.now c.desk_in_memory.new.out)
+    from_memory (hosted g.H.Host.hosting g.L.TypedLines.echo c.args.host.now c.args.host.now) c.args.file.now c.args.policy.now
+    (IsDesk g.L.TypedLines.echo (site_of c.args.policy.now c.args.file.now.schemes c.args.stored) (g.L.TypedLines.remaining c.args.lines.now) (g.L.TypedLines.remaining c.desk_in_memory.new.lines) (g.L.TypedLines.breaks c.desk_in_memory.new.lines) (IsAppended g.W.Write.contents c.args.out.now c.desk_in_memory.new.out))
     (λ store reason. IsBarred (g.H.Host.hosting c.args.host.now) c.args.policy.now c.args.file.now store reason × IsAppended g.W.Write.contents c.args.out.now c.desk_in_memory.new.out []) c.args.store c.desk_in_memory.result c.in-None.is c.desk_in_memory.ensures.ends
 
 pub returns-in-Some-clause-ends : goal.returns-in-Some-clause-ends
 returns-in-Some-clause-ends g c =
-    desk_from_store (hosted g.H.Host.hosting g.L.TypedLines.echo c.args.host.now c.desk_in_store.new.host) c.args.file.now (site_of c.args.policy.now c.args.file.now.schemes c.args.stored) (g.L.TypedLines.remaining c.args.lines.now) (g.L.TypedLines.remaining c.desk_in_store.new.lines) (g.L.TypedLines.breaks c.desk_in_store.new.lines)
-    (IsAppended g.W.Write.contents c.args.out.now c.desk_in_store.new.out)
+    from_store (hosted g.H.Host.hosting g.L.TypedLines.echo c.args.host.now c.desk_in_store.new.host) c.args.file.now c.args.policy.now
+    (IsDesk g.L.TypedLines.echo (site_of c.args.policy.now c.args.file.now.schemes c.args.stored) (g.L.TypedLines.remaining c.args.lines.now) (g.L.TypedLines.remaining c.desk_in_store.new.lines) (g.L.TypedLines.breaks c.desk_in_store.new.lines) (IsAppended g.W.Write.contents c.args.out.now c.desk_in_store.new.out))
     (λ store reason. IsBarred (g.H.Host.hosting c.args.host.now) c.args.policy.now c.args.file.now store reason × IsAppended g.W.Write.contents c.args.out.now c.desk_in_store.new.out []) c.args.store c.desk_in_store.result c.in-Some.path c.in-Some.is c.desk_in_store.ensures.ends
 
 pub returns-in-None-clause-caused : goal.returns-in-None-clause-caused

@@ -1,5 +1,4 @@
-use Rattle.std.proofs.Common.{◌≡◌, ◌+◌, false, ◌||◌, Ok, Err, not, refl, sym, ap, ◌∙◌, subst, rules}
-use Rattle.std.specs.Prelude.{is_some}
+use Rattle.std.proofs.Common.{◌≡◌, ◌+◌, false, ◌||◌, Ok, Err, not, refl, sym, ap, ◌∙◌, subst, rules, is_some}
 use Rattle.mls_sessions.specs.Sessions.{site_of}
 use Rattle.mls_sessions.specs.Engine.{site, world_of, Continues}
 use Rattle.mls_host.specs.Ending.{ending_if}

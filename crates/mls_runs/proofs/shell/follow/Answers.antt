@@ -1,6 +1,5 @@
-use Rattle.std.proofs.Common.{not, subst}
+use Rattle.std.proofs.Common.{not, subst, is_some}
 use Rattle.std.proofs.lemmas.Result.{on_ok_weaker}
-use Rattle.std.specs.Prelude.{is_some}
 use Rattle.mls_sessions.specs.Run.{are_done}
 use Rattle.mls_sessions.specs.Engine.{site, world_of}
 use Rattle.mls_runs.specs.Shell.{audience_at, events_of, FateFits}

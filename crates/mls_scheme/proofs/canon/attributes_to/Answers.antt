@@ -1,6 +1,4 @@
-use Rattle.std.proofs.Common.{ap, ◌∙◌, ◌++◌, ◌<◌, ◌≤◌, List, ℕ, length, string_bytes, subst}
-use Rattle.std.specs.List.{flat_map}
-use Rattle.std.proofs.lemmas.List.{take_all}
+use Rattle.std.proofs.Common.{ap, ◌∙◌, ◌++◌, ◌<◌, ◌≤◌, List, ℕ, length, string_bytes, subst, flat_map, take_all}
 use Rattle.mls_scheme.specs.Canon.{attribute_line}
 use Rattle.mls_scheme.proofs.CanonLemmas.{column_among, lines_more}
 use Rattle.mls_scheme.proofs.canon.attributes_to.Goals as goal

@@ -1,5 +1,4 @@
-use Rattle.std.proofs.Common.{◌≡◌, ◌++◌, take, string_bytes}
-use Rattle.std.specs.List.{flat_map}
+use Rattle.std.proofs.Common.{◌≡◌, ◌++◌, take, string_bytes, flat_map}
 use Rattle.mls_scheme.specs.Canon.{relation_lines}
 use Rattle.mls_scheme.proofs.canon.relations_to.Given as goal
 

@@ -1,5 +1,4 @@
-use Rattle.std.proofs.Common.{◌≡◌, ◌≢◌, ◌++◌, append_assoc, ℕ, List, [], codes, take, refl, sym, ap, ◌∙◌, subst}
-use Rattle.std.specs.List.{flat_map}
+use Rattle.std.proofs.Common.{◌≡◌, ◌≢◌, ◌++◌, append_assoc, ℕ, List, [], codes, take, refl, sym, ap, ◌∙◌, subst, flat_map}
 use Rattle.mls_lattice.proofs.ExtendingLemmas.{begin-stopped}
 use Rattle.mls_scheme.specs.Scheme.{Attribute}
 use Rattle.mls_scheme.specs.Canon.{attribute_line}

@@ -1,5 +1,4 @@
-use Rattle.std.proofs.Common.{◌≡◌, ◌++◌, take, codes}
-use Rattle.std.specs.List.{flat_map}
+use Rattle.std.proofs.Common.{◌≡◌, ◌++◌, take, codes, flat_map}
 use Rattle.mls_scheme.specs.Canon.{attribute_line}
 use Rattle.mls_scheme.proofs.extending.attributes_before.Given as goal
 

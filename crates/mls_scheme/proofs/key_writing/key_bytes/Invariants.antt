@@ -1,5 +1,5 @@
-use Rattle.std.proofs.Common.{◌≡◌, ◌∷◌, length, take}
-use Rattle.std.specs.List.{flat_map, AllByRecursion}
+use Rattle.std.proofs.Common.{◌≡◌, ◌∷◌, length, take, flat_map}
+use Rattle.std.specs.List.{AllByRecursion}
 use Rattle.mls_scheme.specs.Spelling.{value_spelling, IsValue}
 use Rattle.mls_scheme.proofs.key_writing.key_bytes.Given as goal
 

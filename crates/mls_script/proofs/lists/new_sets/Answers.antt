@@ -1,5 +1,4 @@
-use Rattle.std.proofs.Common.{rules, ◌≡◌, ◌<◌, [], length, Some, Result, Ok, sym, subst}
-use Rattle.std.specs.Prelude.{option_map}
+use Rattle.std.proofs.Common.{rules, ◌≡◌, ◌<◌, [], length, Some, Result, Ok, sym, subst, option_map}
 use Rattle.mls_tokens.specs.declared.sign.Sign.TheVariants.{Comma}
 use Rattle.mls_tokens.specs.Passing.{is_sign, taken}
 use Rattle.mls_script.specs.declared.fault.LineFault.{LineFault}

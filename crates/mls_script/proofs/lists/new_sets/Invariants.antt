@@ -1,5 +1,4 @@
-use Rattle.std.proofs.Common.{length, []}
-use Rattle.std.specs.Prelude.{option_map}
+use Rattle.std.proofs.Common.{length, [], option_map}
 use Rattle.mls_script.specs.ReadQuery.{heard}
 use Rattle.mls_script.specs.Reading.{items_at, pass_setting, sets_from}
 use Rattle.mls_script.specs.OnePass.{push_set}

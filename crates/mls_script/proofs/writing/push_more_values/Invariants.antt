@@ -1,5 +1,4 @@
-use Rattle.std.proofs.Common.{◌≡◌, ◌++◌, take}
-use Rattle.std.specs.List.{flat_map}
+use Rattle.std.proofs.Common.{◌≡◌, ◌++◌, take, flat_map}
 use Rattle.mls_script.specs.Writing.{cell_text, behind_comma}
 use Rattle.mls_script.proofs.writing.push_more_values.Given as goal
 

@@ -1,5 +1,4 @@
-use Rattle.std.proofs.Common.{◌≡◌, List, option_map, arith, sym, ap, ◌∙◌}
-use Rattle.std.specs.List.{slice_get}
+use Rattle.std.proofs.Common.{◌≡◌, List, option_map, arith, sym, ap, ◌∙◌, slice_get}
 use Rattle.std.proofs.lemmas.Grind.{common_steps}
 use Rattle.std.proofs.lemmas.Option.{same_Some, slice_get-get_or}
 use Rattle.mls_scheme.specs.Scheme.{Attribute, other_of, no_attribute}

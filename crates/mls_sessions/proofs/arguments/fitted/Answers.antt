@@ -1,5 +1,4 @@
-use Rattle.std.proofs.Common.{◌++◌, ◌+◌, drop, sym, ap, ◌∙◌}
-use Rattle.std.specs.Prelude.{option_map, slice_get}
+use Rattle.std.proofs.Common.{◌++◌, ◌+◌, drop, sym, ap, ◌∙◌, option_map, slice_get}
 use Rattle.mls_machine.specs.Denying.{fitted}
 use Rattle.mls_sessions.proofs.ArgumentLemmas.{Params, fitted_more}
 use Rattle.mls_sessions.proofs.arguments.fitted.Goals as goal

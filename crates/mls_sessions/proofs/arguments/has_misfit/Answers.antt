@@ -1,5 +1,4 @@
-use Rattle.std.proofs.Common.{sym, ap, ◌∙◌}
-use Rattle.std.specs.Prelude.{option_map, slice_get}
+use Rattle.std.proofs.Common.{sym, ap, ◌∙◌, option_map, slice_get}
 use Rattle.mls_sessions.proofs.ArgumentLemmas.{Params, wrong_here, wrong_more}
 use Rattle.mls_sessions.proofs.arguments.has_misfit.Goals as goal
 

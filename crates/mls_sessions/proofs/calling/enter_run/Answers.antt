@@ -1,8 +1,7 @@
-use Rattle.std.proofs.Common.{ap, ◌∙◌}
+use Rattle.std.proofs.Common.{ap, ◌∙◌, map}
 use Rattle.std.proofs.lemmas.Result.{on_ok_weaker}
 use Rattle.mls_audit.specs.declared.entry.Entry.TheVariants.{Called}
 use Rattle.mls_lattice.specs.Canon.{user_name}
-use Rattle.std.specs.Prelude.{map}
 use Rattle.mls_machine.specs.Machine.{release_entry}
 use Rattle.mls_sessions.specs.Sessions.{site_of}
 use Rattle.mls_sessions.specs.Calling.{with_entries}

@@ -1,5 +1,4 @@
-use Rattle.std.proofs.Common.{◌≡◌, ◌==◌, drop}
-use Rattle.std.specs.Prelude.{bit_and, map}
+use Rattle.std.proofs.Common.{◌≡◌, ◌==◌, drop, bit_and, map}
 use Rattle.std.specs.List.{list_any}
 use Rattle.mls_sessions.proofs.denying.has_any.Given as goal
 

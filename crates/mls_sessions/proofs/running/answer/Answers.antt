@@ -1,5 +1,4 @@
-use Rattle.std.proofs.Common.{◌||◌, not, sym, ap, ◌∙◌, subst}
-use Rattle.std.specs.Prelude.{is_some}
+use Rattle.std.proofs.Common.{◌||◌, not, sym, ap, ◌∙◌, subst, is_some}
 use Rattle.mls_script.specs.declared.run_fault.RunFault.{RunFault}
 use Rattle.mls_sessions.specs.Engine.{site, world_of}
 use Rattle.mls_sessions.specs.Run.{is_done, IsHalted}

@@ -1,5 +1,4 @@
-use Rattle.std.proofs.Common.{◌≡◌, refl, sym, ap, cond, ◌∙◌, length, true, false}
-use Rattle.std.specs.Prelude.{chars}
+use Rattle.std.proofs.Common.{◌≡◌, refl, sym, ap, cond, ◌∙◌, length, true, false, chars}
 use Rattle.std.specs.Str.{is_utf8}
 use Rattle.std.proofs.lemmas.Str.{IsUtf8-from_is_utf8, is_utf8-from_IsUtf8}
 use Rattle.unicode_width.specs.Width.{str_width}

@@ -1,5 +1,4 @@
-use Rattle.std.proofs.Common.{◌≡◌, ◌++◌, take}
-use Rattle.std.specs.List.{flat_map}
+use Rattle.std.proofs.Common.{◌≡◌, ◌++◌, take, flat_map}
 use Rattle.mls_tokens.specs.Writing.{quoted_byte}
 use Rattle.mls_tokens.proofs.writing.push_inside.Given as goal
 

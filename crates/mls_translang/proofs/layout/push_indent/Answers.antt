@@ -1,5 +1,4 @@
-use Rattle.std.proofs.Common.{◌++◌, codes, sym, ap, ◌∙◌, append_assoc}
-use Rattle.std.proofs.lemmas.List.{append-nil}
+use Rattle.std.proofs.Common.{◌++◌, codes, sym, ap, ◌∙◌, append_assoc, append-nil}
 use Rattle.mls_translang.specs.Layout.{indent}
 use Rattle.mls_translang.proofs.LayoutLemmas.{indent-more}
 use Rattle.mls_translang.proofs.layout.push_indent.Goals as goal

@@ -1,5 +1,4 @@
-use Rattle.std.proofs.Common.{◌≡◌, drop}
-use Rattle.std.specs.List.{flat_map}
+use Rattle.std.proofs.Common.{◌≡◌, drop, flat_map}
 use Rattle.mls_translang.specs.Layout.{puts}
 use Rattle.mls_translang.specs.Tokens.{var_tokens}
 use Rattle.mls_translang.proofs.print_tx.vars_to.Given as goal

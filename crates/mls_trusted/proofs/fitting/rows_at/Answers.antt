@@ -1,7 +1,5 @@
-use Rattle.std.proofs.Common.{◌≡◌, Bool, false, length, [], sym, ◌∙◌, subst}
-use Rattle.std.specs.Prelude.{IsTrue}
+use Rattle.std.proofs.Common.{◌≡◌, Bool, false, length, [], sym, ◌∙◌, subst, IsTrue, true≢false}
 use Rattle.std.specs.List.{AllByRecursion}
-use Rattle.std.proofs.lemmas.Bool.{true≢false}
 use Rattle.mls_scheme.specs.Scheme.{Scheme, scheme_of}
 use Rattle.mls_certcheck.specs.Kinds.{RowKinds}
 use Rattle.mls_certcheck.proofs.KindLemmas.{rows_kinds}

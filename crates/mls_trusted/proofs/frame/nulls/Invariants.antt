@@ -1,5 +1,4 @@
-use Rattle.std.proofs.Common.{◌≡◌, ℕ, None, length}
-use Rattle.std.specs.Prelude.{slice_index_or}
+use Rattle.std.proofs.Common.{◌≡◌, ℕ, None, length, slice_index_or}
 use Rattle.mls_trusted.proofs.frame.nulls.Given as goal
 
 abbrev pub invariant-loop-place : goal.invariant-loop-place

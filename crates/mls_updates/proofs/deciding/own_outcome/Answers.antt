@@ -1,5 +1,4 @@
-use Rattle.std.proofs.Common.{not, true, false, refl, sym, ap, ◌∙◌}
-use Rattle.std.specs.Prelude.{is_some, nat_eq, slice_index_or}
+use Rattle.std.proofs.Common.{not, true, false, refl, sym, ap, ◌∙◌, is_some, nat_eq, slice_index_or}
 use Rattle.std.specs.List.{list_any}
 use Rattle.mls_lattice.specs.Policy.{labels_of}
 use Rattle.mls_updates.proofs.DecidingLemmas.{own_passed}

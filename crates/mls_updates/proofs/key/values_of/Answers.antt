@@ -1,6 +1,4 @@
-use Rattle.std.proofs.Common.{[], ◌∷◌, ◌++◌, sym, ap, ◌∙◌}
-use Rattle.std.specs.List.{filter_map}
-use Rattle.std.proofs.lemmas.List.{take_all}
+use Rattle.std.proofs.Common.{[], ◌∷◌, ◌++◌, sym, ap, ◌∙◌, filter_map, take_all}
 use Rattle.mls_updates.proofs.KeyLemmas.{key_none, key_some}
 use Rattle.mls_updates.proofs.key.values_of.Goals as goal
 

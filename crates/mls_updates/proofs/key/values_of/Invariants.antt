@@ -1,5 +1,4 @@
-use Rattle.std.proofs.Common.{◌≡◌, take}
-use Rattle.std.specs.List.{filter_map}
+use Rattle.std.proofs.Common.{◌≡◌, take, filter_map}
 use Rattle.mls_updates.proofs.key.values_of.Given as goal
 
 abbrev pub invariant-loop-value : goal.invariant-loop-value

@@ -1,7 +1,6 @@
-use Rattle.std.proofs.Common.{ℕ, ◌+◌, [], ◌∷◌, ◌++◌, None, drop, refl, sym, ap, ◌∙◌}
-use Rattle.std.specs.Option.{unwrap_or}
+use Rattle.std.proofs.Common.{ℕ, ◌+◌, [], ◌∷◌, ◌++◌, None, drop, refl, sym, ap, ◌∙◌, unwrap_or, append-nil}
 use Rattle.std.specs.FinMap.{get}
-use Rattle.std.proofs.lemmas.List.{append-nil, drop_all}
+use Rattle.std.proofs.lemmas.List.{drop_all}
 use Rattle.mls_scheme.specs.declared.tuple.Element.{Element}
 use Rattle.mls_filterview.specs.Stored.{with_class}
 use Rattle.mls_filterview.specs.Assembly.{elements_from, value_held}

@@ -1,5 +1,5 @@
-use Rattle.std.proofs.Common.{ℕ, ◌+◌, [], ◌∷◌, ◌++◌, None, drop, refl, sym, ap, ◌∙◌}
-use Rattle.std.proofs.lemmas.List.{append-nil, drop_all}
+use Rattle.std.proofs.Common.{ℕ, ◌+◌, [], ◌∷◌, ◌++◌, None, drop, refl, sym, ap, ◌∙◌, append-nil}
+use Rattle.std.proofs.lemmas.List.{drop_all}
 use Rattle.mls_scheme.specs.declared.tuple.Element.{Element}
 use Rattle.mls_updates.specs.Steps.{outline}
 use Rattle.mls_updates.specs.Writes.{set_element}

@@ -1,5 +1,4 @@
-use Rattle.std.proofs.Common.{◌≡◌, cond, None, ◌&&◌, sym, ap, ◌∙◌}
-use Rattle.std.specs.Option.{option_map}
+use Rattle.std.proofs.Common.{◌≡◌, cond, None, ◌&&◌, sym, ap, ◌∙◌, option_map}
 use Rattle.std.specs.FinMap.{get}
 use Rattle.std.proofs.lemmas.Result.{IfOk-weaker}
 use Rattle.mls_lattice.specs.Labels.{below}

@@ -1,5 +1,5 @@
-use Rattle.std.proofs.Common.{[], ◌∷◌, ◌++◌, map, take, Option, sym, ap, ◌∙◌}
-use Rattle.std.proofs.lemmas.List.{take_all, map_more}
+use Rattle.std.proofs.Common.{[], ◌∷◌, ◌++◌, map, take, Option, sym, ap, ◌∙◌, take_all}
+use Rattle.std.proofs.lemmas.List.{map_more}
 use Rattle.mls_scheme.specs.declared.value.Value.{Value}
 use Rattle.mls_scheme.specs.declared.tuple.Element.{Element}
 use Rattle.mls_updates.specs.Writes.{root}

@@ -1,6 +1,4 @@
-use Rattle.std.proofs.Common.{◌≡◌, not, length, Some, sym, ap, ◌∙◌, subst}
-use Rattle.std.specs.Prelude.{slice_get}
-use Rattle.std.specs.Option.{option_map}
+use Rattle.std.proofs.Common.{◌≡◌, not, length, Some, sym, ap, ◌∙◌, subst, slice_get, option_map}
 use Rattle.mls_lattice.specs.Policy.{labels_of}
 use Rattle.mls_scheme.specs.Scheme.{column_of}
 use Rattle.mls_scheme.specs.Fits.{in_column}

@@ -1,5 +1,4 @@
-use Rattle.std.proofs.Common.{◌≡◌, ℕ, zero, suc, ◌<◌, ◌+◌, ◌-◌, [], ◌∷◌, length, drop, get_or, Option, sym, ap, ◌∙◌, subst, arith}
-use Rattle.std.specs.Prelude.{IfSome}
+use Rattle.std.proofs.Common.{◌≡◌, ℕ, zero, suc, ◌<◌, ◌+◌, ◌-◌, [], ◌∷◌, length, drop, get_or, Option, sym, ap, ◌∙◌, subst, arith, IfSome}
 use Rattle.std.specs.List.{AllByRecursion}
 use Rattle.mls_scheme.specs.declared.value.Value.{Value}
 use Rattle.mls_scheme.specs.Spelling.{HasSpelling}

@@ -1,5 +1,4 @@
-use Rattle.std.proofs.Common.{◌∷◌, ◌++◌, [], Some, sym, ap, ◌∙◌}
-use Rattle.std.specs.Option.{option_map}
+use Rattle.std.proofs.Common.{◌∷◌, ◌++◌, [], Some, sym, ap, ◌∙◌, option_map}
 use Rattle.mls_filterview.specs.Fragment.{node_of, cells_of}
 use Rattle.mls_filterview.proofs.PlaceLemmas.{node_there, cells_there, entity_part}
 use Rattle.mls_updates.specs.States.{tables_of}

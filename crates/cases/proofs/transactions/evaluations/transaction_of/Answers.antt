@@ -1,5 +1,4 @@
-use Rattle.std.proofs.Common.{◌≡◌, ◌++◌, rules}
-use Rattle.std.specs.Option.{option_to_list}
+use Rattle.std.proofs.Common.{◌≡◌, ◌++◌, rules, option_to_list}
 use Rattle.mls_translang.specs.Fits.{IsReadUnder}
 use Rattle.cases.proofs.StartLemmas.{last_holds}
 use Rattle.cases.proofs.transactions.evaluations.transaction_of.Goals as goal

@@ -1,5 +1,4 @@
-use Rattle.std.proofs.Common.{◌≡◌, Some, sym, ap, ◌∙◌}
-use Rattle.std.specs.Prelude.{option_map, slice_get}
+use Rattle.std.proofs.Common.{◌≡◌, Some, sym, ap, ◌∙◌, option_map, slice_get}
 use Rattle.std.specs.List.{list_all}
 use Rattle.mls_certcheck.specs.Lines.{within_ends}
 use Rattle.mls_certcheck.specs.Checks.{holds}

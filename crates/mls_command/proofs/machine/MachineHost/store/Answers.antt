@@ -1,7 +1,6 @@
-use Rattle.std.proofs.Common.{◌≡◌, ◌↔◌, ℕ, List, Result, IfOk, sym, subst}
-use Rattle.std.specs.Prelude.{MatchOption}
+use Rattle.std.proofs.Common.{IfOk, sym, subst, MatchOption}
 use Rattle.mls_fragments.specs.Again.{FindsHoldings}
-use Rattle.mls_fragments.specs.Holdings.{Holdings, IsTakenOf}
+use Rattle.mls_fragments.specs.Holdings.{IsTakenOf}
 use Rattle.mls_command.proofs.machine.MachineHost.store.Goals as goal
 
 -- before a run it keeps what the files held

@@ -1,5 +1,4 @@
-use Rattle.std.proofs.Common.{[], take, sym, ◌∙◌, subst, arith}
-use Rattle.std.proofs.lemmas.List.{take_all}
+use Rattle.std.proofs.Common.{[], take, sym, ◌∙◌, subst, arith, take_all}
 use Rattle.mls_explain.specs.Search.{IsRound}
 use Rattle.mls_explain.proofs.SearchLemmas.{up_to, round_none}
 use Rattle.mls_explain.proofs.search.Search.next.Goals as goal

@@ -1,5 +1,4 @@
-use Rattle.std.proofs.Common.{[], refl, sym, take, subst, arith}
-use Rattle.std.proofs.lemmas.List.{take_all}
+use Rattle.std.proofs.Common.{[], refl, sym, take, subst, arith, take_all}
 use Rattle.mls_explain.specs.Chains.{IsBroken}
 use Rattle.mls_explain.specs.Search.{IsUnderway}
 use Rattle.mls_explain.proofs.SearchLemmas.{up_to, start_none, start_other, start_more}

@@ -1,5 +1,5 @@
-use Rattle.std.proofs.Common.{[], ◌∷◌, ◌++◌, List, refl, sym, ap, ◌∙◌, subst}
-use Rattle.std.specs.List.{AllByRecursion, Contains}
+use Rattle.std.proofs.Common.{[], ◌∷◌, ◌++◌, List, refl, sym, ap, ◌∙◌, subst, Contains}
+use Rattle.std.specs.List.{AllByRecursion}
 use Rattle.mls_explain.specs.declared.search.Tail.{Tail}
 use Rattle.mls_explain.specs.Search.{longer, IsAt, IsTaken, IsRound}
 use Rattle.mls_explain.proofs.SearchLemmas.{round_taken, round_left}

@@ -1,5 +1,5 @@
-use Rattle.std.proofs.Common.{◌≡◌, ◌++◌, drop, string_bytes}
-use Rattle.std.specs.List.{flat_map, enumerate_from}
+use Rattle.std.proofs.Common.{◌≡◌, ◌++◌, drop, string_bytes, flat_map}
+use Rattle.std.specs.List.{enumerate_from}
 use Rattle.mls_explain.specs.Telling.{variable_line, variable_lines}
 use Rattle.mls_explain.proofs.teller.Teller.variables_to.Given as goal
 

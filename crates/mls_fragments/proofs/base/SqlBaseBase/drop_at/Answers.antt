@@ -1,5 +1,4 @@
-use Rattle.std.proofs.Common.{None, refl, sym, subst}
-use Rattle.std.specs.Prelude.{◌≢◌}
+use Rattle.std.proofs.Common.{None, refl, sym, subst, ◌≢◌}
 use Rattle.std.specs.FinMap.{get}
 use Rattle.mls_filterview.specs.Fragment.{IsAlone}
 use Rattle.mls_tables.specs.Store.{IsClean}

@@ -1,6 +1,6 @@
 use Rattle.std.proofs.Common.{◌≡◌, false, if◌then◌else◌, ap, ◌∙◌}
 use Rattle.sqlite.specs.Files.{file_state}
-use Rattle.mls_filterview.specs.Content.{State, no_content}
+use Rattle.mls_filterview.specs.Content.{no_content}
 use Rattle.mls_fragments.specs.Based.{BaseState, state_of}
 use Rattle.mls_rows.specs.Changes.{content_of}
 use Rattle.mls_fragments.proofs.HoldingsLemmas.{new_base_has}

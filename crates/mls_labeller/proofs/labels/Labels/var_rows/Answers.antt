@@ -1,6 +1,6 @@
-use Rattle.std.proofs.Common.{◌≡◌, ℕ, ◌+◌, ◌-◌, ◌<◌, ◌++◌, ◌∷◌, [], length, get_or, take, drop, sym, ap, ◌∙◌, arith}
+use Rattle.std.proofs.Common.{◌≡◌, ℕ, ◌+◌, ◌-◌, ◌<◌, ◌++◌, ◌∷◌, [], length, get_or, take, drop, sym, ap, ◌∙◌, arith, length-drop}
 use Rattle.std.proofs.lemmas.Grind.{get_or_after_one}
-use Rattle.std.proofs.lemmas.List.{take_more, length-map, length-drop}
+use Rattle.std.proofs.lemmas.List.{take_more, length-map}
 use Rattle.mls_labeller.specs.Rising.{rows_of}
 use Rattle.mls_labeller.proofs.labels.Labels.var_rows.Goals as goal
 

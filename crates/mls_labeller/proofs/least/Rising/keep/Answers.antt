@@ -1,5 +1,4 @@
-use Rattle.std.proofs.Common.{◌<◌, length, sym, ap, subst, ◌∙◌, arith}
-use Rattle.std.proofs.lemmas.Bool.{true≢false}
+use Rattle.std.proofs.Common.{◌<◌, length, sym, ap, subst, ◌∙◌, arith, true≢false}
 use Rattle.mls_lattice.specs.Lattice.{Dominates}
 use Rattle.mls_lattice.proofs.LatticeLemmas.{Dominates-trans}
 use Rattle.mls_certcheck.specs.Rules.{after}

@@ -1,6 +1,6 @@
-use Rattle.std.proofs.Common.{take, get_or, ◌∷◌, [], sym, subst, arith}
+use Rattle.std.proofs.Common.{take, get_or, ◌∷◌, [], sym, subst, arith, take_all}
 use Rattle.std.specs.List.{AllByRecursion}
-use Rattle.std.proofs.lemmas.List.{take_all, take_more}
+use Rattle.std.proofs.lemmas.List.{take_more}
 use Rattle.mls_lattice.specs.Lattice.{Dominates, pair_of}
 use Rattle.mls_certcheck.specs.Rules.{Claim, slot_label, IsOver}
 use Rattle.mls_certcheck.specs.declared.flow.Slot.{Slot}

@@ -1,5 +1,4 @@
-use Rattle.std.proofs.Common.{◌≡◌, ℕ, ◌<◌, ◌^◌, [], true, length, get_or, sym, subst, ap, ◌∙◌, arith}
-use Rattle.std.proofs.lemmas.Bool.{true≢false}
+use Rattle.std.proofs.Common.{◌≡◌, ℕ, ◌<◌, ◌^◌, [], true, length, get_or, sym, subst, ap, ◌∙◌, arith, true≢false}
 use Rattle.mls_lattice.specs.Lattice.{Dominates, pair_of, join}
 use Rattle.mls_certcheck.specs.Rules.{slot_label}
 use Rattle.mls_labeller.specs.Rising.{rows_of, claim_at, cell, Rises}

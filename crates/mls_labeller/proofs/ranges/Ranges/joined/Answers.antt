@@ -1,5 +1,4 @@
-use Rattle.std.proofs.Common.{◌≡◌, ℕ, zero, suc, ◌+◌, List, [], ◌∷◌, ◌++◌, sym, ap, ◌∙◌, subst, length, length-append}
-use Rattle.std.specs.Prelude.{slice_index_or}
+use Rattle.std.proofs.Common.{◌≡◌, ℕ, zero, suc, ◌+◌, List, [], ◌∷◌, ◌++◌, sym, ap, ◌∙◌, subst, length, length-append, slice_index_or}
 use Rattle.mls_labeller.specs.declared.range.Range.{Range}
 use Rattle.mls_labeller.specs.Ranges.{Holds, Includes, any_value, Wider}
 use Rattle.mls_labeller.proofs.ranges.Ranges.joined.Goals as goal

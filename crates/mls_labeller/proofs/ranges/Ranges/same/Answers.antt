@@ -1,6 +1,5 @@
-use Rattle.std.proofs.Common.{◌≡◌, Bool, List, Option, None, Some, refl, ap, rules}
-use Rattle.std.specs.Prelude.{◌&&◌}
-use Rattle.std.specs.Bool.{beq, Decides}
+use Rattle.std.proofs.Common.{◌≡◌, Bool, List, Option, None, Some, refl, ap, rules, ◌&&◌, Decides}
+use Rattle.std.specs.Bool.{beq}
 use Rattle.std.specs.Option.{option_eq}
 use Rattle.std.specs.Cmp.{booleans_Decides}
 use Rattle.std.proofs.lemmas.Bool.Decides.{Decides-and}

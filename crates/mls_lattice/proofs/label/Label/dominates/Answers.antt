@@ -1,5 +1,4 @@
-use Rattle.std.proofs.Common.{eq-eqb}
-use Rattle.std.proofs.lemmas.Bool.{eqb-true}
+use Rattle.std.proofs.Common.{eq-eqb, eqb-true}
 use Rattle.mls_lattice.proofs.CategoryLemmas.{within_by_and, and_by_within}
 use Rattle.mls_lattice.proofs.label.Label.dominates.Goals as goal
 

@@ -1,5 +1,4 @@
-use Rattle.std.proofs.Common.{List, ◌∷◌, ap, subst, ◌∙◌}
-use Rattle.std.proofs.lemmas.List.{take_all}
+use Rattle.std.proofs.Common.{List, ◌∷◌, ap, subst, ◌∙◌, take_all}
 use Rattle.mls_translang.specs.declared.row.LoopRow.{LoopRow}
 use Rattle.mls_translang.specs.Tokens.{Place}
 use Rattle.mls_parser.specs.Names.{IsPlace}

@@ -1,5 +1,4 @@
-use Rattle.std.proofs.Common.{◌≡◌, sym, ap, ◌∙◌, subst}
-use Rattle.std.proofs.lemmas.Bool.{true≢false}
+use Rattle.std.proofs.Common.{◌≡◌, sym, ap, ◌∙◌, subst, true≢false}
 use Rattle.mls_lattice.specs.Policy.{labels_of}
 use Rattle.mls_updates.specs.Writes.{named}
 use Rattle.mls_queries.specs.Views.{kept_in, AreFollowed}

@@ -1,5 +1,4 @@
-use Rattle.std.proofs.Common.{option_map, not, refl, ap, ◌∙◌, subst, sym}
-use Rattle.std.specs.Prelude.{MatchOption}
+use Rattle.std.proofs.Common.{option_map, not, refl, ap, ◌∙◌, subst, sym, MatchOption}
 use Rattle.sqlite.specs.Held.{state}
 use Rattle.sqlite.specs.Steps.{over_memory}
 use Rattle.sqlite.proofs.Callers.{memory_is_clean}

@@ -1,7 +1,5 @@
-use Rattle.std.proofs.Common.{◌≡◌, List, map, take, sym, ap, ◌∙◌, subst, arith}
+use Rattle.std.proofs.Common.{◌≡◌, List, map, take, sym, ap, ◌∙◌, subst, arith, bytes_eq, take_all}
 use Rattle.std.specs.List.{IsDistinct}
-use Rattle.std.specs.Str.{bytes_eq}
-use Rattle.std.proofs.lemmas.List.{take_all}
 use Rattle.mls_lattice.proofs.NamedLemmas.{distinct_behind}
 use Rattle.mls_scheme.specs.Scheme.{Attribute, Scheme, IsScheme}
 use Rattle.mls_scheme.specs.Extending.{scheme_before}

@@ -212,7 +212,7 @@ module _ (p : Place) (n : HasNames p) where
           rest = t.rest;
           room = 15;
           before = None;
-          is = first_test p s t.value s.0 t.rest t.is;
+          is = first_test p s t.value (s.0, t.rest) t.is;
           same = t.holds;
           enough = omega arith;
           unmixed = refl;
@@ -235,7 +235,7 @@ module _ (p : Place) (n : HasNames p) where
           rest = t.rest;
           room = g.room - 1;
           before = Some op;
-          is = g.is ∙ tests_more p g.before g.value (s.0, g.rest) g.room op o.at t.value both s.0 s.0 t.rest some next refl (sym quiet);
+          is = g.is ∙ tests_more p g.before g.value (s.0, g.rest) g.room op o.at t.value both (s.0, t.rest) (s.0, t.rest) some next refl (λ i. (sym quiet i, t.rest));
           same = subst (λ x. IsAgain Truth x both) (sym is) (parts.made g.value t.value o.at g.same t.holds);
           enough = (let z = g.enough in omega (arith, z, some));
           unmixed = j.same;

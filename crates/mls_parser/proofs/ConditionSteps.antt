@@ -1,5 +1,5 @@
 -- Conditions, test by test.
-use Rattle.std.proofs.Common.{◌≡◌, ℕ, zero, suc, ◌-◌, ◌<◌, Bool, true, false, List, [], ◌∷◌, ◌++◌, Option, Some, None, Ok, Err, inl, inr, refl, sym, ap, ◌∙◌, arith, codes, option_map, if◌then◌else◌, bytes_eq}
+use Rattle.std.proofs.Common.{◌≡◌, ℕ, zero, suc, ◌-◌, ◌<◌, Bool, true, false, List, [], ◌∷◌, Option, Some, None, Ok, Err, inl, inr, refl, sym, ap, ◌∙◌, arith, codes, option_map, if◌then◌else◌, bytes_eq}
 use Rattle.std.proofs.lemmas.Bool.{cases_Bool}
 use Rattle.mls_lattice.specs.Reading.{◌>>=◌}
 use Rattle.mls_tokens.specs.declared.fault.TokenFault.{TokenFault}
@@ -17,7 +17,7 @@ use Rattle.mls_translang.specs.declared.operator.Operator.TheVariants.{Equal, Un
 use Rattle.mls_translang.specs.Tokens.{Place}
 use Rattle.mls_parser.specs.declared.fault.PlacedFault.{PlacedFault}
 use Rattle.mls_parser.specs.declared.given.Given.{Given}
-use Rattle.mls_parser.specs.Noted.{State}
+use Rattle.mls_parser.specs.Noted.{State, note}
 use Rattle.mls_parser.specs.ReadCondition.{comparison_of, joiner_of, take_known, taken_as, between, between_faults, test_at, next_test_at, with_next, tests_from, tests_at}
 
 -- ---- operators
@@ -148,9 +148,9 @@ module _ (p : Place) where
   unfolding tests_at
   first_err s f is = ap (λ r. r >>= λ t. tests_from p 15 None t.0 t.1) is
 
-  pub first_test : (s : State) (g : Given) (fs : List PlacedFault) (l : Left) → test_at p s ≡ Ok (g, (fs, l)) → tests_at p s ≡ tests_from p 15 None g (fs, l)
+  pub first_test : (s : State) (g : Given) (t : State) → test_at p s ≡ Ok (g, t) → tests_at p s ≡ tests_from p 15 None g t
   unfolding tests_at
-  first_test s g fs l is = ap (λ x. x >>= λ t. tests_from p 15 None t.0 t.1) is
+  first_test s g t is = ap (λ x. x >>= λ t. tests_from p 15 None t.0 t.1) is
 
   module _ (before : Option Operator) (g : Given) (s : State) where
     pub tests_err : (room : ℕ) (f : PlacedFault) → next_test_at p room before s ≡ Err f → tests_from p room before g s ≡ Err f
@@ -163,13 +163,13 @@ module _ (p : Place) where
     tests_end zero t is = ap (λ r. r >>= λ x. Ok (g, x.1)) is
     tests_end (suc room) t is = ap (λ r. r >>= with_next (λ op whole t. tests_from p room (Some op) whole t) g) is
 
-    pub tests_more : (room : ℕ) (op : Operator) (at : ℕ) (test whole : Given) (fs gs : List PlacedFault) (l : Left) → 0 < room → next_test_at p room before s ≡ Ok (Some ((op, at), test), (fs, l))
-        → whole ≡ between g (op, at) test → gs ≡ fs ++ between_faults g (op, at) test → tests_from p room before g s ≡ tests_from p (room - 1) (Some op) whole (gs, l)
+    pub tests_more : (room : ℕ) (op : Operator) (at : ℕ) (test whole : Given) (t r : State) → 0 < room → next_test_at p room before s ≡ Ok (Some ((op, at), test), t)
+        → whole ≡ between g (op, at) test → r ≡ note (between_faults g (op, at) test) t → tests_from p room before g s ≡ tests_from p (room - 1) (Some op) whole r
     unfolding tests_from
-    tests_more zero op at test whole fs gs l some is made noted = absurd (omega arith)
-    tests_more (suc room) op at test whole fs gs l some is made noted =
+    tests_more zero op at test whole t r some is made noted = absurd (omega arith)
+    tests_more (suc room) op at test whole t r some is made noted =
         let less : room ≡ suc room - 1 = omega arith in
         ap (λ r. r >>= with_next (λ op whole t. tests_from p room (Some op) whole t) g) is
-        ∙ (λ i. tests_from p (less i) (Some op) (sym made i) (sym noted i, l))
+        ∙ (λ i. tests_from p (less i) (Some op) (sym made i) (sym noted i))
 
 pub ruleset condition_steps = (first_err, first_test, tests_err, tests_end, tests_more)

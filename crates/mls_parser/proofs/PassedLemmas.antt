@@ -1,5 +1,5 @@
 -- The tokens that were passed, and the faults that were noted before.
-use Rattle.std.proofs.Common.{◌≡◌, ℕ, true, List, [], ◌∷◌, ◌++◌, Option, Some, None, option_map, Result, Ok, Err, refl, sym, ap, subst}
+use Rattle.std.proofs.Common.{◌≡◌, ℕ, ◌<◌, true, List, [], ◌∷◌, ◌++◌, length, Option, Some, None, option_map, Result, Ok, Err, refl, sym, ap, subst}
 use Rattle.std.specs.List.{AllByRecursion}
 use Rattle.mls_lattice.specs.Name.{is_name}
 use Rattle.mls_lattice.specs.Policy.{Name}
@@ -12,7 +12,7 @@ use Rattle.mls_tokens.specs.declared.sign.Sign.{Sign as Mark}
 use Rattle.mls_tokens.specs.Scanning.{Left}
 use Rattle.mls_tokens.specs.Text.{Spells}
 use Rattle.mls_tokens.specs.Passing.{left, is_word, is_sign, taken, pass, PlacedName, pass_name}
-use Rattle.mls_tokens.proofs.PassedLemmas.{Passed, passed_more, word_taken as word_passes, word_found as word_passed, sign_taken as sign_passes, sign_found as sign_passed, NameFound, alone, name_found as name_passed}
+use Rattle.mls_tokens.proofs.PassedLemmas.{Passed, passed_more, word_taken as word_passes, word_found as word_passed, sign_taken as sign_passes, sign_found as sign_passed, taken_shorter, NameFound, alone, name_found as name_passed}
 use Rattle.mls_parser.specs.declared.fault.PlacedFault.{PlacedFault}
 use Rattle.mls_parser.specs.declared.words.Head.{Head}
 use Rattle.mls_parser.specs.Noted.{State, in_state, token, behind, takes_sign, takes_word, sign_at, word_at, name_at, name_behind}
@@ -50,6 +50,9 @@ behind_ok fs (Some y) x e =
 
 pub sign_taken : (m : Mark) (s : State) (x : ℕ × State) → takes_sign m s ≡ Some x → Quiet (Sign m ∷ []) s x.1
 sign_taken m s x e = let h = behind_ok s.0 (taken (is_sign m) s.1) x e in record { passed = sign_passes m s.1 (x.0, x.1.1) h.0; faults = h.1 }
+
+pub takes_shorter : (m : Mark) (s : State) (at : ℕ) (t : State) → takes_sign m s ≡ Some (at, t) → length t.1.placed < length s.1.placed
+takes_shorter m s at t e = taken_shorter (is_sign m) s.1 at t.1 (behind_ok s.0 (taken (is_sign m) s.1) (at, t) e).0
 
 pub word_taken : (w : Name) (s : State) (x : ℕ × State) → takes_word w s ≡ Some x → Quiet (Word w ∷ []) s x.1
 word_taken w s x e = let h = behind_ok s.0 (taken (is_word w) s.1) x e in record { passed = word_passes w s.1 (x.0, x.1.1) h.0; faults = h.1 }

@@ -1,9 +1,7 @@
 -- Statements of a block, one by one.
-use Rattle.std.proofs.Common.{◌≡◌, ℕ, zero, suc, ◌-◌, ◌<◌, ◌≤◌, ◌==◌, Bool, false, List, [], ◌∷◌, ◌++◌, Option, Some, None, option_map, Ok, Err, refl, sym, ap, ◌∙◌, arith, ne_eqb, if◌then◌else◌}
+use Rattle.std.proofs.Common.{◌≡◌, ℕ, zero, suc, ◌-◌, ◌<◌, ◌≤◌, ◌==◌, Bool, false, List, [], ◌∷◌, ◌++◌, Option, Some, None, Ok, Err, refl, sym, ap, ◌∙◌, arith, ne_eqb, if◌then◌else◌}
 use Rattle.mls_lattice.specs.Reading.{◌>>=◌}
 use Rattle.mls_tokens.specs.declared.sign.Sign.TheVariants.{RightBrace}
-use Rattle.mls_tokens.specs.Scanning.{Left}
-use Rattle.mls_tokens.specs.Passing.{is_sign, taken}
 use Rattle.mls_translang.specs.declared.block.Stmt.{Stmt}
 use Rattle.mls_translang.specs.declared.block.Stmt.TheVariants as stmts
 use Rattle.mls_translang.specs.Blocks.{block_of}
@@ -12,7 +10,7 @@ use Rattle.mls_translang.specs.Tree.{Expr, Block}
 use Rattle.mls_parser.specs.declared.fault.PlacedFault.{PlacedFault}
 use Rattle.mls_parser.specs.declared.fault.TextCause.TheVariants.{Depth}
 use Rattle.mls_parser.specs.Fault.{fault}
-use Rattle.mls_parser.specs.Noted.{State, Read, token, behind}
+use Rattle.mls_parser.specs.Noted.{State, Read, token, takes_sign}
 use Rattle.mls_parser.specs.Words.{opening_of, pass_known}
 use Rattle.mls_parser.specs.ReadBlock.{Counted, braced, other_at, blocks_at, guard_at, loop_head_at, if_at, for_at, opened, end_or, stmts_from, stmts_with, stmts_at, stmt_at}
 
@@ -56,34 +54,34 @@ module _ (inner : Place → ℕ → State → Counted Block) (p : Place) (count 
 
 module _ (d : ℕ) (p : Place) (first : ℕ) (start : State) where
   -- what is left to read, behind the statements that were read, is the whole
-  pub record StmtsSoFar (front : List Stmt) (count : ℕ) (fs : List PlacedFault) (l : Left) : Type 0 where
+  pub record StmtsSoFar (front : List Stmt) (count : ℕ) (s : State) : Type 0 where
     pub most : ℕ
     pub enough : 1000 - count ≤ most
     pub few : count ≤ 1000
     pub behind : first ≤ count
-    pub same : stmts_at d p first start ≡ stmts_from (stmt_at d p) (suc most) front count (fs, l)
+    pub same : stmts_at d p first start ≡ stmts_from (stmt_at d p) (suc most) front count s
 
-  pub stmts_none : first ≤ 1000 → StmtsSoFar [] first start.0 start.1
+  pub stmts_none : first ≤ 1000 → StmtsSoFar [] first start
   unfolding stmts_with
   stmts_none few = record { most = 1000 - first; enough = omega arith; few = few; behind = omega arith; same = stmts_is d p first start }
 
-  module _ (front : List Stmt) (count : ℕ) (fs : List PlacedFault) (l : Left) (h : StmtsSoFar front count fs l) where
-    onward : (o : Option (ℕ × Left)) → taken (is_sign RightBrace) l ≡ o
-        → stmts_at d p first start ≡ end_or (stmt_at d p) (λ xs c r. stmts_from (stmt_at d p) h.most xs c r) front count (fs, l) (option_map (behind fs) o)
+  module _ (front : List Stmt) (count : ℕ) (s : State) (h : StmtsSoFar front count s) where
+    onward : (o : Option (ℕ × State)) → takes_sign RightBrace s ≡ o
+        → stmts_at d p first start ≡ end_or (stmt_at d p) (λ xs c r. stmts_from (stmt_at d p) h.most xs c r) front count s o
     unfolding stmts_from
-    onward o e = h.same ∙ ap (λ z. end_or (stmt_at d p) (λ xs c r. stmts_from (stmt_at d p) h.most xs c r) front count (fs, l) (option_map (behind fs) z)) e
+    onward o e = h.same ∙ ap (λ z. end_or (stmt_at d p) (λ xs c r. stmts_from (stmt_at d p) h.most xs c r) front count s z) e
 
-    pub stmts_end : (at : ℕ) (r : Left) → taken (is_sign RightBrace) l ≡ Some (at, r) → stmts_at d p first start ≡ Ok ((block_of front, count), (fs, r))
+    pub stmts_end : (at : ℕ) (r : State) → takes_sign RightBrace s ≡ Some (at, r) → stmts_at d p first start ≡ Ok ((block_of front, count), r)
     stmts_end at r e = onward (Some (at, r)) e
 
-    module _ (off : taken (is_sign RightBrace) l ≡ None) where
-      pub stmts_err : (e : PlacedFault) → stmt_at d p count (fs, l) ≡ Err e → stmts_at d p first start ≡ Err e
+    module _ (off : takes_sign RightBrace s ≡ None) where
+      pub stmts_err : (e : PlacedFault) → stmt_at d p count s ≡ Err e → stmts_at d p first start ≡ Err e
       stmts_err e is = onward None off ∙ ap (λ r. r >>= λ x. stmts_from (stmt_at d p) h.most (front ++ x.0.0 ∷ []) x.0.1 x.1) is
 
-      pub stmts_more : (x : Stmt) (c : ℕ) (gs : List PlacedFault) (r : Left) → stmt_at d p count (fs, l) ≡ Ok ((x, c), (gs, r)) → count < c → c ≤ 1000 → StmtsSoFar (front ++ x ∷ []) c gs r
-      stmts_more x c gs r is more few = step h.most h.enough (onward None off ∙ ap (λ r. r >>= λ x. stmts_from (stmt_at d p) h.most (front ++ x.0.0 ∷ []) x.0.1 x.1) is)
+      pub stmts_more : (x : Stmt) (c : ℕ) (r : State) → stmt_at d p count s ≡ Ok ((x, c), r) → count < c → c ≤ 1000 → StmtsSoFar (front ++ x ∷ []) c r
+      stmts_more x c r is more few = step h.most h.enough (onward None off ∙ ap (λ r. r >>= λ x. stmts_from (stmt_at d p) h.most (front ++ x.0.0 ∷ []) x.0.1 x.1) is)
         where
-          step : (most : ℕ) → 1000 - count ≤ most → stmts_at d p first start ≡ stmts_from (stmt_at d p) most (front ++ x ∷ []) c (gs, r) → StmtsSoFar (front ++ x ∷ []) c gs r
+          step : (most : ℕ) → 1000 - count ≤ most → stmts_at d p first start ≡ stmts_from (stmt_at d p) most (front ++ x ∷ []) c r → StmtsSoFar (front ++ x ∷ []) c r
           step zero enough same = absurd (omega arith)
           step (suc most) enough same = record { most = most; enough = omega arith; few = few; behind = (let b = h.behind in omega (arith, b)); same = same }
 

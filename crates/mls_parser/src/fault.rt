@@ -1,6 +1,6 @@
-ghost use Rattle.std.specs.Prelude.{◌≡◌, ◌++◌, OnOk};
+ghost use Rattle.std.specs.Prelude.{◌≡◌};
 ghost use Rattle.mls_parser.specs.declared.fault.TextCause.TheVariants.{Memory};
-ghost use Rattle.mls_parser.specs.Fault.{fault, code_of, word_of, unless, is_before, sooner, least, in_text, lifted};
+ghost use Rattle.mls_parser.specs.Fault.{fault, code_of, word_of, is_before, sooner, least, in_text, lifted};
 
 use mls_lattice::words;
 use mls_tokens::{TokenCause, TokenFault, spot_at};
@@ -135,21 +135,6 @@ impl PlacedFault {
     {
         self.at < other.at || self.at == other.at && self.cause.code() < other.cause.code()
     }
-}
-
-/// Notes a fault, unless a test holds.
-pub(crate) fn note(
-    faults: &mut Vec<PlacedFault>,
-    holds: bool,
-    at: usize,
-    cause: TextCause,
-) -> Result<(), AllocError>
-    ensures { OnOk result (faults.new.items ≡ faults.old.items ++ unless holds at cause) }
-{
-    if !holds {
-        faults.push(PlacedFault { at, cause })?;
-    }
-    Ok(())
 }
 
 /// The fault of a form.

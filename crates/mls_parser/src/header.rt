@@ -6,13 +6,13 @@ ghost use Rattle.mls_parser.specs.ReadList.{items_at};
 ghost use Rattle.mls_parser.specs.ReadTx.{kept, param_behind, next_param, params_at, var_behind, next_var, vars_at};
 
 use crate::context::{label, label_or_first};
-use crate::fault::{PlacedFault, TextCause, ill_formed, note};
+use crate::fault::{PlacedFault, TextCause, ill_formed};
 use crate::limits::MAX_NAMES;
 use crate::names::Name;
-use crate::words::{name_behind, pass_kind};
+use crate::reader::Reader;
 use mls_lattice::Policy;
 use mls_scheme::{Kind, Named};
-use mls_tokens::{Sign, Tokens};
+use mls_tokens::Sign;
 use mls_translang::Parameter;
 use std::alloc::{AllocError, Global};
 
@@ -37,25 +37,19 @@ fn keep<T: Drop>(named: &mut Named<T>, name: Name, item: T) -> Result<(), AllocE
 #[tactic(auto, unfolding(crate::specs::ReadTx::param_behind))]
 fn param(
     policy: &Policy,
-    tokens: &mut Tokens,
-    faults: &mut Vec<PlacedFault>,
+    reader: &mut Reader,
     params: &mut Named<Parameter>,
     name: Name,
 ) -> Result<(), PlacedFault>
-    ensures exact { Gives (λ _. (params.new, (faults.new.items, tokens.new))) result
-        (param_behind policy.now params.old (name.0, name.1) (faults.old.items, tokens.old)) }
+    ensures exact { Gives (λ _. (params.new, reader.new)) result
+        (param_behind policy.now params.old (name.0, name.1) reader.old) }
     ensures few { OnOk result (length params.new ≤ length params.old + 1) }
 {
-    tokens.sign(Sign::Colon)?;
-    let (kind, _) = pass_kind(tokens)?;
-    let of = name_behind(tokens, "at")?;
-    note(faults, !has(params, &name), name.1, TextCause::Repeated)?;
-    note(
-        faults,
-        label(policy, &of).is_some(),
-        of.1,
-        TextCause::UnknownName,
-    )?;
+    reader.sign(Sign::Colon)?;
+    let (kind, _) = reader.kind()?;
+    let of = reader.name_behind("at")?;
+    reader.note(!has(params, &name), name.1, TextCause::Repeated)?;
+    reader.note(label(policy, &of).is_some(), of.1, TextCause::UnknownName)?;
     let label = label_or_first(policy, &of);
     keep(params, name, Parameter { kind, label })?;
     Ok(())
@@ -65,21 +59,20 @@ fn param(
 #[tactic(auto, unfolding(crate::specs::ReadTx::next_param))]
 fn next_param(
     policy: &Policy,
-    tokens: &mut Tokens,
-    faults: &mut Vec<PlacedFault>,
+    reader: &mut Reader,
     params: &mut Named<Parameter>,
     count: usize,
 ) -> Result<(), PlacedFault>
-    ensures exact { Gives (λ _. ((params.new, count + 1), (faults.new.items, tokens.new))) result
-        (next_param policy.now (params.old, count) (faults.old.items, tokens.old)) }
+    ensures exact { Gives (λ _. ((params.new, count + 1), reader.new)) result
+        (next_param policy.now (params.old, count) reader.old) }
     ensures few { OnOk result (length params.new ≤ length params.old + 1) }
     ensures room { OnOk result (count < 64) }
 {
-    let name = tokens.name()?;
+    let name = reader.name()?;
     if count >= MAX_NAMES {
         return Err(ill_formed(name.1, TextCause::TooLong));
     }
-    param(policy, tokens, faults, params, name)
+    param(policy, reader, params, name)
 }
 
 /// Parameters, one or more with a comma between each two.
@@ -87,19 +80,17 @@ fn next_param(
 fn some_params(
     alloc: Global,
     policy: &Policy,
-    tokens: &mut Tokens,
-    faults: &mut Vec<PlacedFault>,
+    reader: &mut Reader,
 ) -> Result<(Named<Parameter>, usize), PlacedFault>
-    ensures exact { Gives (λ x. ((x.0, x.1), (faults.new.items, tokens.new))) result
-        (items_at (next_param policy.now) ([], 0) (faults.old.items, tokens.old)) }
+    ensures exact { Gives (λ x. ((x.0, x.1), reader.new)) result (items_at (next_param policy.now) ([], 0) reader.old) }
     ensures few { IfOk result (λ x. length x.0 ≤ 64) }
 {
     let mut params = Named::new(alloc);
     let mut count = 0;
     loop {
-        next_param(policy, tokens, faults, &mut params, count)?;
+        next_param(policy, reader, &mut params, count)?;
         count += 1;
-        if tokens.takes_sign(Sign::Comma).is_none() {
+        if reader.takes_sign(Sign::Comma).is_none() {
             return Ok((params, count));
         }
     }
@@ -110,18 +101,17 @@ fn some_params(
 pub(crate) fn params(
     alloc: Global,
     policy: &Policy,
-    tokens: &mut Tokens,
-    faults: &mut Vec<PlacedFault>,
+    reader: &mut Reader,
 ) -> Result<Named<Parameter>, PlacedFault>
-    ensures exact { Gives (λ ps. (ps, (faults.new.items, tokens.new))) result (params_at policy.now (faults.old.items, tokens.old)) }
+    ensures exact { Gives (λ ps. (ps, reader.new)) result (params_at policy.now reader.old) }
     ensures few { IfOk result (λ ps. length ps ≤ 64) }
 {
-    tokens.sign(Sign::LeftParen)?;
-    if tokens.takes_sign(Sign::RightParen).is_some() {
+    reader.sign(Sign::LeftParen)?;
+    if reader.takes_sign(Sign::RightParen).is_some() {
         return Ok(Named::new(alloc));
     }
-    let (params, _) = some_params(alloc, policy, tokens, faults)?;
-    tokens.sign(Sign::RightParen)?;
+    let (params, _) = some_params(alloc, policy, reader)?;
+    reader.sign(Sign::RightParen)?;
     Ok(params)
 }
 
@@ -129,20 +119,18 @@ pub(crate) fn params(
 #[tactic(auto, unfolding(crate::specs::ReadTx::var_behind))]
 fn var(
     params: &Named<Parameter>,
-    tokens: &mut Tokens,
-    faults: &mut Vec<PlacedFault>,
+    reader: &mut Reader,
     vars: &mut Named<Kind>,
 ) -> Result<(), PlacedFault>
-    ensures exact { Gives (λ _. (vars.new, (faults.new.items, tokens.new))) result
-        (var_behind params.now vars.old (faults.old.items, tokens.old)) }
+    ensures exact { Gives (λ _. (vars.new, reader.new)) result (var_behind params.now vars.old reader.old) }
     ensures few { OnOk result (length vars.new ≤ length vars.old + 1) }
 {
-    let name = tokens.name()?;
-    tokens.sign(Sign::Colon)?;
-    let (kind, _) = pass_kind(tokens)?;
-    tokens.sign(Sign::Semicolon)?;
+    let name = reader.name()?;
+    reader.sign(Sign::Colon)?;
+    let (kind, _) = reader.kind()?;
+    reader.sign(Sign::Semicolon)?;
     let again = has(params, &name) || has(vars, &name);
-    note(faults, !again, name.1, TextCause::Repeated)?;
+    reader.note(!again, name.1, TextCause::Repeated)?;
     keep(vars, name, kind)?;
     Ok(())
 }
@@ -151,24 +139,23 @@ fn var(
 #[tactic(auto, unfolding(crate::specs::ReadTx::next_var))]
 fn next_var(
     params: &Named<Parameter>,
-    tokens: &mut Tokens,
-    faults: &mut Vec<PlacedFault>,
+    reader: &mut Reader,
     vars: &mut Named<Kind>,
     count: usize,
 ) -> Result<Option<usize>, PlacedFault>
-    ensures exact { Gives (λ x. (option_map (λ n. (vars.new, n)) x, (faults.new.items, tokens.new))) result
-        (next_var params.now (vars.old, count) (faults.old.items, tokens.old)) }
+    ensures exact { Gives (λ x. (option_map (λ n. (vars.new, n)) x, reader.new)) result
+        (next_var params.now (vars.old, count) reader.old) }
     ensures few { OnOk result (length vars.new ≤ length vars.old + 1) }
     ensures counted { IfOk result (λ x. IfSome x (λ n. (count < 64) × (n ≡ count + 1))) }
     ensures stays { IfOk result (λ x. IsNone x → vars.new ≡ vars.old) }
 {
-    let Some(at) = tokens.takes_word("var") else {
+    let Some(at) = reader.takes_word("var") else {
         return Ok(None);
     };
     if count >= MAX_NAMES {
         return Err(ill_formed(at, TextCause::TooLong));
     }
-    var(params, tokens, faults, vars)?;
+    var(params, reader, vars)?;
     Ok(Some(count + 1))
 }
 
@@ -177,15 +164,14 @@ fn next_var(
 pub(crate) fn vars(
     alloc: Global,
     params: &Named<Parameter>,
-    tokens: &mut Tokens,
-    faults: &mut Vec<PlacedFault>,
+    reader: &mut Reader,
 ) -> Result<Named<Kind>, PlacedFault>
-    ensures exact { Gives (λ vs. (vs, (faults.new.items, tokens.new))) result (vars_at params.now (faults.old.items, tokens.old)) }
+    ensures exact { Gives (λ vs. (vs, reader.new)) result (vars_at params.now reader.old) }
     ensures few { IfOk result (λ vs. length vs ≤ 64) }
 {
     let mut vars = Named::new(alloc);
     let mut count = 0;
-    while let Some(next) = next_var(params, tokens, faults, &mut vars, count)? {
+    while let Some(next) = next_var(params, reader, &mut vars, count)? {
         count = next;
     }
     Ok(vars)

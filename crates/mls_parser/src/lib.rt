@@ -19,6 +19,7 @@ mod read_expr;
 mod read_list;
 mod read_stmt;
 mod read_tx;
+mod reader;
 mod words;
 
 pub use fault::{PlacedFault, TextCause, TextFault};

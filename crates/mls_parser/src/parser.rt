@@ -10,8 +10,9 @@ ghost use Rattle.mls_parser.specs.Laws.{TellsNone};
 ghost use Rattle.mls_parser.specs.Parsing.{parsed, Gives, parse_at, IsParsed, IsJudged};
 
 use crate::draft::Draft;
-use crate::fault::{PlacedFault, TextFault, least};
+use crate::fault::{PlacedFault, TextFault};
 use crate::read_tx::transactions;
+use crate::reader::Reader;
 use mls_lattice::{Items, Policy};
 use mls_scheme::Schemes;
 use mls_tokens::Tokens;
@@ -48,10 +49,9 @@ fn placed(
     ensures exact { Gives result (parsed policy.now schemes.now bytes.now) }
     ensures told { IfOk result (λ xs. Tells policy.now schemes.now bytes.now xs) }
 {
-    let mut tokens = Tokens::new(alloc, bytes)?;
-    let mut faults = Vec::new(alloc);
-    let drafts = transactions(alloc, policy, schemes, &mut tokens, &mut faults)?;
-    match least(faults.as_slice()) {
+    let mut reader = Reader::new(alloc, Tokens::new(alloc, bytes)?);
+    let drafts = transactions(alloc, policy, schemes, &mut reader)?;
+    match reader.least() {
         Some(fault) => Err(fault),
         None => Ok(without_fault(alloc, drafts)?),
     }

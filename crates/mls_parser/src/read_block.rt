@@ -7,12 +7,13 @@ ghost use Rattle.mls_parser.specs.ReadBlock.{guard_at, loop_head_at, braced, oth
 ghost use Rattle.mls_parser.specs.ReadBlock.{content_at, stmt_at, stmts_at};
 
 use crate::context::Context;
-use crate::fault::{PlacedFault, TextCause, ill_formed, note};
+use crate::fault::{PlacedFault, TextCause, ill_formed};
 use crate::limits::MAX_STATEMENTS;
-use crate::words::{Opening, pass_opening};
+use crate::reader::Reader;
+use crate::words::Opening;
 use mls_lattice::{LabelNo, Str};
 use mls_scheme::RelNo;
-use mls_tokens::{Sign, Tokens};
+use mls_tokens::Sign;
 use mls_translang::{Block, Expr, LoopRow, Stmt};
 use std::alloc::{AllocError, Global};
 
@@ -58,40 +59,25 @@ impl Context<'_> {
 
     /// An expression that gives a truth value.
     #[tactic(auto, unfolding(crate::specs::ReadBlock::guard_at))]
-    fn guard(
-        &self,
-        alloc: Global,
-        tokens: &mut Tokens,
-        faults: &mut Vec<PlacedFault>,
-    ) -> Result<Expr, PlacedFault>
-        ensures { Gives (λ e. (e, (faults.new.items, tokens.new))) result (guard_at self.now (faults.old.items, tokens.old)) }
+    fn guard(&self, alloc: Global, reader: &mut Reader) -> Result<Expr, PlacedFault>
+        ensures { Gives (λ e. (e, reader.new)) result (guard_at self.now reader.old) }
     {
-        let given = self.whole(alloc, tokens, faults)?;
-        note(
-            faults,
-            given.gives.may_be_truth(),
-            given.at,
-            TextCause::Kind,
-        )?;
+        let given = self.whole(alloc, reader)?;
+        reader.note(given.gives.may_be_truth(), given.at, TextCause::Kind)?;
         Ok(given.expr)
     }
 
     /// The row of a loop, its relation and its label.
     #[tactic(auto, unfolding(crate::specs::ReadBlock::loop_head_at))]
-    fn loop_head(
-        &self,
-        tokens: &mut Tokens,
-        faults: &mut Vec<PlacedFault>,
-    ) -> Result<(Str, RelNo, LabelNo), PlacedFault>
-        ensures exact { Gives (λ x. ((x.0, x.1, x.2), (faults.new.items, tokens.new))) result
-            (loop_head_at self.now (faults.old.items, tokens.old)) }
+    fn loop_head(&self, reader: &mut Reader) -> Result<(Str, RelNo, LabelNo), PlacedFault>
+        ensures exact { Gives (λ x. ((x.0, x.1, x.2), reader.new)) result (loop_head_at self.now reader.old) }
         ensures within { IfOk result (λ x. x.1 < length self.now.schemes) }
     {
-        let name = tokens.name()?;
-        note(faults, !self.is_taken(&name), name.1, TextCause::Repeated)?;
-        tokens.word("in")?;
-        let relation = self.relation(tokens, faults)?;
-        let label = self.label_behind(tokens, faults, "at")?;
+        let name = reader.name()?;
+        reader.note(!self.is_taken(&name), name.1, TextCause::Repeated)?;
+        reader.word("in")?;
+        let relation = self.relation(reader)?;
+        let label = self.label_behind(reader, "at")?;
         Ok((name.0, relation, label))
     }
 
@@ -100,19 +86,18 @@ impl Context<'_> {
     fn braced(
         &self,
         alloc: Global,
-        tokens: &mut Tokens,
-        faults: &mut Vec<PlacedFault>,
+        reader: &mut Reader,
         depth: usize,
         count: usize,
     ) -> Result<(Block, usize), PlacedFault>
         requires shallow { length self.now.scope.rows + depth ≤ 16 }
         requires few { count ≤ 1000 }
-        ensures exact { Gives (λ x. ((x.0, x.1), (faults.new.items, tokens.new))) result
-            (braced (stmts_at depth) self.now count (faults.old.items, tokens.old)) }
+        ensures exact { Gives (λ x. ((x.0, x.1), reader.new)) result
+            (braced (stmts_at depth) self.now count reader.old) }
         ensures counted { IfOk result (λ x. (count ≤ x.1) × (x.1 ≤ 1000)) }
     {
-        tokens.sign(Sign::LeftBrace)?;
-        self.stmts(alloc, tokens, faults, depth, count)
+        reader.sign(Sign::LeftBrace)?;
+        self.stmts(alloc, reader, depth, count)
     }
 
     /// The other block of an `if`, or an empty one.
@@ -120,22 +105,21 @@ impl Context<'_> {
     fn other(
         &self,
         alloc: Global,
-        tokens: &mut Tokens,
-        faults: &mut Vec<PlacedFault>,
+        reader: &mut Reader,
         depth: usize,
         count: usize,
     ) -> Result<(Block, usize), PlacedFault>
         requires shallow { length self.now.scope.rows + depth ≤ 16 }
         requires few { count ≤ 1000 }
-        ensures exact { Gives (λ x. ((x.0, x.1), (faults.new.items, tokens.new))) result
-            (other_at (stmts_at depth) self.now count (faults.old.items, tokens.old)) }
+        ensures exact { Gives (λ x. ((x.0, x.1), reader.new)) result
+            (other_at (stmts_at depth) self.now count reader.old) }
         ensures counted { IfOk result (λ x. (count ≤ x.1) × (x.1 ≤ 1000)) }
     {
-        if tokens.takes_word("else").is_none() {
+        if reader.takes_word("else").is_none() {
             let stmts = Vec::new(alloc);
             return Ok((Block { stmts }, count));
         }
-        self.braced(alloc, tokens, faults, depth, count)
+        self.braced(alloc, reader, depth, count)
     }
 
     /// The blocks of an `if`.
@@ -144,19 +128,18 @@ impl Context<'_> {
     fn blocks(
         &self,
         alloc: Global,
-        tokens: &mut Tokens,
-        faults: &mut Vec<PlacedFault>,
+        reader: &mut Reader,
         depth: usize,
         count: usize,
     ) -> Result<((Block, Block), usize), PlacedFault>
         requires shallow { length self.now.scope.rows + depth ≤ 16 }
         requires few { count ≤ 1000 }
-        ensures exact { Gives (λ x. (((x.0.0, x.0.1), x.1), (faults.new.items, tokens.new))) result
-            (blocks_at (stmts_at depth) self.now count (faults.old.items, tokens.old)) }
+        ensures exact { Gives (λ x. (((x.0.0, x.0.1), x.1), reader.new)) result
+            (blocks_at (stmts_at depth) self.now count reader.old) }
         ensures counted { IfOk result (λ x. (count ≤ x.1) × (x.1 ≤ 1000)) }
     {
-        let (one, count) = self.braced(alloc, tokens, faults, depth, count)?;
-        let (other, count) = self.other(alloc, tokens, faults, depth, count)?;
+        let (one, count) = self.braced(alloc, reader, depth, count)?;
+        let (other, count) = self.other(alloc, reader, depth, count)?;
         Ok(((one, other), count))
     }
 
@@ -165,19 +148,18 @@ impl Context<'_> {
     fn if_stmt(
         &self,
         alloc: Global,
-        tokens: &mut Tokens,
-        faults: &mut Vec<PlacedFault>,
+        reader: &mut Reader,
         depth: usize,
         count: usize,
     ) -> Result<(Stmt, usize), PlacedFault>
         requires shallow { length self.now.scope.rows + depth ≤ 16 }
         requires few { count ≤ 1000 }
-        ensures exact { Gives (λ x. ((x.0, x.1), (faults.new.items, tokens.new))) result
-            (if_at (stmts_at depth) self.now count (faults.old.items, tokens.old)) }
+        ensures exact { Gives (λ x. ((x.0, x.1), reader.new)) result
+            (if_at (stmts_at depth) self.now count reader.old) }
         ensures counted { IfOk result (λ x. (count ≤ x.1) × (x.1 ≤ 1000)) }
     {
-        let guard = self.guard(alloc, tokens, faults)?;
-        let ((one, other), count) = self.blocks(alloc, tokens, faults, depth, count)?;
+        let guard = self.guard(alloc, reader)?;
+        let ((one, other), count) = self.blocks(alloc, reader, depth, count)?;
         Ok((Stmt::If { guard, one, other }, count))
     }
 
@@ -186,8 +168,7 @@ impl Context<'_> {
     fn body_of(
         &self,
         alloc: Global,
-        tokens: &mut Tokens,
-        faults: &mut Vec<PlacedFault>,
+        reader: &mut Reader,
         depth: usize,
         count: usize,
         row: &Str,
@@ -196,13 +177,13 @@ impl Context<'_> {
         requires shallow { length self.now.scope.rows + depth + 1 ≤ 16 }
         requires few { count ≤ 1000 }
         requires known { relation < length self.now.schemes }
-        ensures exact { Gives (λ x. ((x.0, x.1), (faults.new.items, tokens.new))) result
-            (braced (stmts_at depth) (at_row self.now row.now relation) count (faults.old.items, tokens.old)) }
+        ensures exact { Gives (λ x. ((x.0, x.1), reader.new)) result
+            (braced (stmts_at depth) (at_row self.now row.now relation) count reader.old) }
         ensures counted { IfOk result (λ x. (count ≤ x.1) × (x.1 ≤ 1000)) }
     {
         let rows = self.rows_inside(alloc, row, relation)?;
         let inside = (&*self).with_rows(&rows);
-        inside.braced(alloc, tokens, faults, depth, count)
+        inside.braced(alloc, reader, depth, count)
     }
 
     /// A loop behind its word.
@@ -210,19 +191,18 @@ impl Context<'_> {
     fn for_stmt(
         &self,
         alloc: Global,
-        tokens: &mut Tokens,
-        faults: &mut Vec<PlacedFault>,
+        reader: &mut Reader,
         depth: usize,
         count: usize,
     ) -> Result<(Stmt, usize), PlacedFault>
         requires shallow { length self.now.scope.rows + depth + 1 ≤ 16 }
         requires few { count ≤ 1000 }
-        ensures exact { Gives (λ x. ((x.0, x.1), (faults.new.items, tokens.new))) result
-            (for_at (stmts_at depth) self.now count (faults.old.items, tokens.old)) }
+        ensures exact { Gives (λ x. ((x.0, x.1), reader.new)) result
+            (for_at (stmts_at depth) self.now count reader.old) }
         ensures counted { IfOk result (λ x. (count ≤ x.1) × (x.1 ≤ 1000)) }
     {
-        let (row, relation, label) = self.loop_head(tokens, faults)?;
-        let (body, count) = self.body_of(alloc, tokens, faults, depth, count, &row, relation)?;
+        let (row, relation, label) = self.loop_head(reader)?;
+        let (body, count) = self.body_of(alloc, reader, depth, count, &row, relation)?;
         Ok((
             Stmt::For {
                 row,
@@ -239,8 +219,7 @@ impl Context<'_> {
     fn content(
         &self,
         alloc: Global,
-        tokens: &mut Tokens,
-        faults: &mut Vec<PlacedFault>,
+        reader: &mut Reader,
         depth: usize,
         count: usize,
         opening: Opening,
@@ -248,15 +227,15 @@ impl Context<'_> {
     ) -> Result<(Stmt, usize), PlacedFault>
         requires shallow { length self.now.scope.rows + depth + 1 ≤ 16 }
         requires few { count ≤ 1000 }
-        ensures exact { Gives (λ x. ((x.0, x.1), (faults.new.items, tokens.new))) result
-            (content_at (stmts_at depth) self.now opening at count (faults.old.items, tokens.old)) }
+        ensures exact { Gives (λ x. ((x.0, x.1), reader.new)) result
+            (content_at (stmts_at depth) self.now opening at count reader.old) }
         ensures counted { IfOk result (λ x. (count ≤ x.1) × (x.1 ≤ 1000)) }
     {
         match opening {
-            Opening::If => self.if_stmt(alloc, tokens, faults, depth, count),
-            Opening::For => self.for_stmt(alloc, tokens, faults, depth, count),
+            Opening::If => self.if_stmt(alloc, reader, depth, count),
+            Opening::For => self.for_stmt(alloc, reader, depth, count),
             Opening::Plain(form) => {
-                let stmt = self.plain(alloc, tokens, faults, form, at)?;
+                let stmt = self.plain(alloc, reader, form, at)?;
                 Ok((stmt, count))
             }
         }
@@ -268,24 +247,22 @@ impl Context<'_> {
     fn stmt(
         &self,
         alloc: Global,
-        tokens: &mut Tokens,
-        faults: &mut Vec<PlacedFault>,
+        reader: &mut Reader,
         depth: usize,
         count: usize,
     ) -> Result<(Stmt, usize), PlacedFault>
         requires { length self.now.scope.rows + depth ≤ 16 }
-        ensures exact { Gives (λ x. ((x.0, x.1), (faults.new.items, tokens.new))) result
-            (stmt_at depth self.now count (faults.old.items, tokens.old)) }
+        ensures exact { Gives (λ x. ((x.0, x.1), reader.new)) result (stmt_at depth self.now count reader.old) }
         ensures counted { IfOk result (λ x. (count < x.1) × (x.1 ≤ 1000)) }
     {
-        let (opening, at) = pass_opening(tokens)?;
+        let (opening, at) = reader.opening()?;
         if depth == 0 {
             return Err(ill_formed(at, TextCause::Depth));
         }
         if count >= MAX_STATEMENTS {
             return Err(ill_formed(at, TextCause::TooLong));
         }
-        self.content(alloc, tokens, faults, depth - 1, count + 1, opening, at)
+        self.content(alloc, reader, depth - 1, count + 1, opening, at)
     }
 
     /// Statements up to the brace that closes them, with `depth` of them inside one another at most.
@@ -294,21 +271,19 @@ impl Context<'_> {
     pub fn stmts(
         &self,
         alloc: Global,
-        tokens: &mut Tokens,
-        faults: &mut Vec<PlacedFault>,
+        reader: &mut Reader,
         depth: usize,
         count: usize,
     ) -> Result<(Block, usize), PlacedFault>
         requires shallow { length self.now.scope.rows + depth ≤ 16 }
         requires few { count ≤ 1000 }
-        ensures exact { Gives (λ x. ((x.0, x.1), (faults.new.items, tokens.new))) result
-            (stmts_at depth self.now count (faults.old.items, tokens.old)) }
+        ensures exact { Gives (λ x. ((x.0, x.1), reader.new)) result (stmts_at depth self.now count reader.old) }
         ensures counted { IfOk result (λ x. (count ≤ x.1) × (x.1 ≤ 1000)) }
     {
         let mut stmts = Vec::new(alloc);
         let mut count = count;
-        while tokens.takes_sign(Sign::RightBrace).is_none() {
-            let (next, so_far) = self.stmt(alloc, tokens, faults, depth, count)?;
+        while reader.takes_sign(Sign::RightBrace).is_none() {
+            let (next, so_far) = self.stmt(alloc, reader, depth, count)?;
             stmts.push(next)?;
             count = so_far;
         }

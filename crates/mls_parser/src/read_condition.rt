@@ -5,26 +5,27 @@ ghost use Rattle.std.specs.List.{IsDistinct};
 ghost use Rattle.mls_tokens.specs.Scanning.{without_places};
 ghost use Rattle.mls_parser.specs.declared.fault.TextCause.TheVariants.{Memory};
 ghost use Rattle.mls_parser.specs.Condition.{AreOfText, IsCondition, IsConditionOf, IsJudged};
-ghost use Rattle.mls_parser.specs.Noted.{Gives};
+ghost use Rattle.mls_parser.specs.Noted.{Gives, note};
 ghost use Rattle.mls_parser.specs.Parsing.{answer};
 ghost use Rattle.mls_parser.specs.ReadCondition.{comparison_of, joiner_of, taken_as, between, between_faults, test_at};
 ghost use Rattle.mls_parser.specs.ReadCondition.{are_mixed, past_most, next_test_at, tests_at, attribute_var, row_vars};
 ghost use Rattle.mls_parser.specs.ReadCondition.{as_fields, judged, noted_at, condition_at};
 ghost use Rattle.mls_parser.specs.Words.{pass_head};
-ghost use Rattle.mls_parser.specs.Fault.{least};
 
 use crate::context::Context;
-use crate::fault::{PlacedFault, TextCause, ill_formed, least, note};
+use crate::fault::{PlacedFault, TextCause, ill_formed};
 use crate::given::Given;
 use crate::inferred::operands_fit;
 use crate::limits::MAX_TESTS;
 use crate::read_expr::combined;
+use crate::reader::Reader;
 use crate::words::pass_head;
 use mls_lattice::{LabelNo, Policy, Str};
 use mls_scheme::{Attributes, Kind, Named, RelNo, Scheme, Schemes};
 use mls_tokens::{Sign, Tokens};
 use mls_translang::{Expr, LoopRow, Operator, Term};
 use std::alloc::{AllocError, Global};
+use std::mem;
 
 /// Passes a comparison if it is next, and gives its place too.
 #[tactic(auto, using(crate::proofs::ConditionSteps::comparison_steps))]
@@ -67,19 +68,18 @@ fn takes_joiner(tokens: &mut Tokens) -> Option<(Operator, usize)>
 /// Two parts with an operator between them. An operation with no parentheses has the place of its first token.
 fn between(
     alloc: Global,
-    faults: &mut Vec<PlacedFault>,
+    reader: &mut Reader,
     left: Given,
     operator: (Operator, usize),
     right: Given,
 ) -> Result<Given, PlacedFault>
     ensures new { IfOk result (λ g. g ≡ between left (operator.0, operator.1) right) }
-    ensures noted { OnOk result (faults.new.items
-        ≡ faults.old.items ++ between_faults left (operator.0, operator.1) right) }
+    ensures noted { OnOk result (reader.new ≡ note (between_faults left (operator.0, operator.1) right) reader.old) }
     ensures memory { IfErr result (λ e. e.cause ≡ Memory) }
 {
     let (operator, at) = operator;
     let fit = operands_fit(operator, left.gives, right.gives);
-    note(faults, fit, at, TextCause::Kind)?;
+    reader.note(fit, at, TextCause::Kind)?;
     combined(alloc, operator, left.expr, right.expr, left.at)
 }
 
@@ -106,21 +106,15 @@ fn past_most(tokens: &mut Tokens) -> PlacedFault
 impl Context<'_> {
     /// An expression, or two with a comparison between them.
     #[tactic(auto, unfolding(crate::specs::ReadCondition::test_at))]
-    fn test(
-        &self,
-        alloc: Global,
-        tokens: &mut Tokens,
-        faults: &mut Vec<PlacedFault>,
-    ) -> Result<Given, PlacedFault>
-        ensures { Gives (λ g. (g, (faults.new.items, tokens.new))) result
-            (test_at self.now (faults.old.items, tokens.old)) }
+    fn test(&self, alloc: Global, reader: &mut Reader) -> Result<Given, PlacedFault>
+        ensures { Gives (λ g. (g, reader.new)) result (test_at self.now reader.old) }
     {
-        let left = self.whole(alloc, tokens, faults)?;
-        let Some(operator) = takes_comparison(tokens) else {
+        let left = self.whole(alloc, reader)?;
+        let Some(operator) = takes_comparison(&mut reader.tokens) else {
             return Ok(left);
         };
-        let right = self.whole(alloc, tokens, faults)?;
-        between(alloc, faults, left, operator, right)
+        let right = self.whole(alloc, reader)?;
+        between(alloc, reader, left, operator, right)
     }
 
     /// The word that joins one test more, and this test, if there is one. There is room for so many, and one word
@@ -129,47 +123,40 @@ impl Context<'_> {
     fn next_test(
         &self,
         alloc: Global,
-        tokens: &mut Tokens,
-        faults: &mut Vec<PlacedFault>,
+        reader: &mut Reader,
         room: usize,
         before: Option<Operator>,
     ) -> Result<Option<((Operator, usize), Given)>, PlacedFault>
-        ensures exact { Gives (λ x. (option_map (λ y. ((y.0.0, y.0.1), y.1)) x, (faults.new.items, tokens.new))) result
-            (next_test_at self.now room before (faults.old.items, tokens.old)) }
+        ensures exact { Gives (λ x. (option_map (λ y. ((y.0.0, y.0.1), y.1)) x, reader.new)) result
+            (next_test_at self.now room before reader.old) }
         ensures within { IfOk result (λ x. IfSome x (λ _. 0 < room)) }
     {
-        let Some((operator, at)) = takes_joiner(tokens) else {
+        let Some((operator, at)) = takes_joiner(&mut reader.tokens) else {
             return Ok(None);
         };
         if are_mixed(before, operator) {
             return Err(ill_formed(at, TextCause::Expected));
         }
         if room == 0 {
-            return Err(past_most(tokens));
+            return Err(past_most(&mut reader.tokens));
         }
-        let next = self.test(alloc, tokens, faults)?;
+        let next = self.test(alloc, reader)?;
         Ok(Some(((operator, at), next)))
     }
 
     /// Tests with one word between each two.
     #[tactic(auto, using(crate::proofs::ConditionSteps::condition_steps))]
-    fn tests(
-        &self,
-        alloc: Global,
-        tokens: &mut Tokens,
-        faults: &mut Vec<PlacedFault>,
-    ) -> Result<Given, PlacedFault>
-        ensures { Gives (λ g. (g, (faults.new.items, tokens.new))) result
-            (tests_at self.now (faults.old.items, tokens.old)) }
+    fn tests(&self, alloc: Global, reader: &mut Reader) -> Result<Given, PlacedFault>
+        ensures { Gives (λ g. (g, reader.new)) result (tests_at self.now reader.old) }
     {
-        let mut whole = self.test(alloc, tokens, faults)?;
+        let mut whole = self.test(alloc, reader)?;
         let mut before = None;
         let mut room = MAX_TESTS - 1;
         loop {
-            let Some((operator, next)) = self.next_test(alloc, tokens, faults, room, before)? else {
+            let Some((operator, next)) = self.next_test(alloc, reader, room, before)? else {
                 return Ok(whole);
             };
-            whole = between(alloc, faults, whole, operator, next)?;
+            whole = between(alloc, reader, whole, operator, next)?;
             before = Some(operator.0);
             room -= 1;
         }
@@ -231,11 +218,10 @@ fn noted(
     policy: &Policy,
     schemes: &Schemes,
     relation: RelNo,
-    tokens: &mut Tokens,
-) -> Result<(Given, Vec<PlacedFault>), PlacedFault>
+    tokens: Tokens,
+) -> Result<(Given, Reader), PlacedFault>
     requires { relation < length schemes.now }
-    ensures { Gives (λ x. (x.0, (x.1.items, tokens.new))) result
-        (noted_at policy.now schemes.now relation tokens.old) }
+    ensures { Gives (λ x. (x.0, x.1)) result (noted_at policy.now schemes.now relation tokens) }
 {
     // a policy has some label
     let _count = policy.label_count();
@@ -254,15 +240,10 @@ fn noted(
         vars: &vars,
         rows: &rows,
     };
-    let mut faults = Vec::new(alloc);
-    let given = context.tests(alloc, tokens, &mut faults)?;
-    note(
-        &mut faults,
-        given.gives.may_be_truth(),
-        given.at,
-        TextCause::Kind,
-    )?;
-    Ok((given, faults))
+    let mut reader = Reader::new(alloc, tokens);
+    let given = context.tests(alloc, &mut reader)?;
+    reader.note(given.gives.may_be_truth(), given.at, TextCause::Kind)?;
+    Ok((given, reader))
 }
 
 /// The condition, or the least fault that was noted.
@@ -277,8 +258,12 @@ fn unless_noted(
     requires { relation < length schemes.now }
     ensures { Gives (λ r. (r, tokens.new)) result (condition_at policy.now schemes.now relation tokens.old) }
 {
-    let (mut given, faults) = noted(alloc, policy, schemes, relation, tokens)?;
-    match least(faults.as_slice()) {
+    // the reader has the tokens meanwhile
+    let all = mem::replace(tokens, Tokens::new(alloc, &[])?);
+    let (mut given, reader) = noted(alloc, policy, schemes, relation, all)?;
+    let least = reader.least();
+    *tokens = reader.tokens;
+    match least {
         Some(fault) => Ok(Err(fault)),
         None => {
             make_fields(&mut given.expr);

@@ -1,5 +1,5 @@
 //! Expressions, from the tokens that are left.
-ghost use Rattle.std.specs.Prelude.{◌≡◌, ◌<◌, ◌≤◌, ◌++◌, length, IfOk, OnOk, IfErr, IfSome};
+ghost use Rattle.std.specs.Prelude.{◌≡◌, ◌<◌, ◌≤◌, length, IfOk, OnOk, IfErr, IfSome};
 ghost use Rattle.mls_translang.specs.Exprs.{expr_of};
 ghost use Rattle.mls_translang.specs.Fits.{width};
 ghost use Rattle.mls_translang.specs.Tree.{No, Op};
@@ -7,18 +7,19 @@ ghost use Rattle.mls_parser.specs.declared.fault.TextCause.TheVariants.{Memory};
 ghost use Rattle.mls_parser.specs.declared.inferred.Inferred.TheVariants.{Truth};
 ghost use Rattle.mls_parser.specs.Infer.{given_by_operator};
 ghost use Rattle.mls_parser.specs.Names.{referent, row_named, row_scheme};
-ghost use Rattle.mls_parser.specs.Noted.{Gives, known};
+ghost use Rattle.mls_parser.specs.Noted.{Gives, known, note};
 ghost use Rattle.mls_parser.specs.ReadExpr.{given, refer, name_given, attribute_given, field_given, field_faults};
 ghost use Rattle.mls_parser.specs.ReadExpr.{named_at, term_at, second, negation_at, operation_at, expr_at, whole_at};
 
 use crate::context::Context;
-use crate::fault::{PlacedFault, TextCause, ill_formed, note};
+use crate::fault::{PlacedFault, TextCause, ill_formed};
 use crate::given::Given;
 use crate::inferred::{Inferred, given_by_operator, operands_fit};
 use crate::limits::MAX_DEPTH;
 use crate::names::{Name, Referent, attribute};
-use crate::words::{Head, pass_head, pass_operator};
-use mls_tokens::{Sign, Tokens};
+use crate::reader::Reader;
+use crate::words::Head;
+use mls_tokens::Sign;
 use mls_translang::{Expr, Operator, Term};
 use std::alloc::{AllocError, Global};
 
@@ -67,12 +68,12 @@ impl Context<'_> {
     }
 
     /// A name alone.
-    fn alone(&self, faults: &mut Vec<PlacedFault>, name: &Name) -> Result<Given, AllocError>
+    fn alone(&self, reader: &mut Reader, name: &Name) -> Result<Given, AllocError>
         ensures given { IfOk result (λ g. g ≡ name_given self.now name.now) }
-        ensures noted { OnOk result (faults.new.items ≡ faults.old.items ++ known (referent self.now name.now.0) name.now.1) }
+        ensures noted { OnOk result (reader.new ≡ note (known (referent self.now name.now.0) name.now.1) reader.old) }
     {
         let known = self.referent(name).is_some();
-        note(faults, known, name.1, TextCause::UnknownName)?;
+        reader.note(known, name.1, TextCause::UnknownName)?;
         Ok(Given {
             expr: Expr::from(self.refer(name)),
             gives: self.name_gives(name),
@@ -104,18 +105,13 @@ impl Context<'_> {
     }
 
     /// An attribute of a row.
-    fn field(
-        &self,
-        faults: &mut Vec<PlacedFault>,
-        row: &Name,
-        name: &Name,
-    ) -> Result<Given, AllocError>
+    fn field(&self, reader: &mut Reader, row: &Name, name: &Name) -> Result<Given, AllocError>
         ensures given { IfOk result (λ g. g ≡ field_given self.now row.now name.now (row_named self.now row.now.0)) }
-        ensures noted { OnOk result (faults.new.items
-            ≡ faults.old.items ++ field_faults self.now row.now name.now (row_named self.now row.now.0)) }
+        ensures noted { OnOk result (reader.new
+            ≡ note (field_faults self.now row.now name.now (row_named self.now row.now.0)) reader.old) }
     {
         let Some(depth) = self.row(row) else {
-            note(faults, false, row.1, TextCause::UnknownName)?;
+            reader.note(false, row.1, TextCause::UnknownName)?;
             return Ok(Given {
                 expr: Expr::from(Term::Null),
                 gives: Inferred::Unknown,
@@ -123,25 +119,19 @@ impl Context<'_> {
             });
         };
         let number = attribute(self.row_scheme(depth), name.0.as_str());
-        note(faults, number.is_some(), name.1, TextCause::UnknownName)?;
+        reader.note(number.is_some(), name.1, TextCause::UnknownName)?;
         Ok(self.attribute(row.1, depth, number))
     }
 
     /// The name, or an attribute of the row that it names.
-    fn named(
-        &self,
-        tokens: &mut Tokens,
-        faults: &mut Vec<PlacedFault>,
-        name: Name,
-    ) -> Result<Given, PlacedFault>
-        ensures { Gives (λ g. (g, (faults.new.items, tokens.new))) result
-            (named_at self.now (name.0, name.1) (faults.old.items, tokens.old)) }
+    fn named(&self, reader: &mut Reader, name: Name) -> Result<Given, PlacedFault>
+        ensures { Gives (λ g. (g, reader.new)) result (named_at self.now (name.0, name.1) reader.old) }
     {
-        if tokens.takes_sign(Sign::Dot).is_none() {
-            return Ok(self.alone(faults, &name)?);
+        if reader.takes_sign(Sign::Dot).is_none() {
+            return Ok(self.alone(reader, &name)?);
         }
-        let attribute = tokens.name()?;
-        Ok(self.field(faults, &name, &attribute)?)
+        let attribute = reader.name()?;
+        Ok(self.field(reader, &name, &attribute)?)
     }
 
     /// What stands behind a `not`, which stands at `at` and may stand inside fewer than `depth` others.
@@ -150,19 +140,17 @@ impl Context<'_> {
     fn negation(
         &self,
         alloc: Global,
-        tokens: &mut Tokens,
-        faults: &mut Vec<PlacedFault>,
+        reader: &mut Reader,
         depth: usize,
         at: usize,
     ) -> Result<Given, PlacedFault>
-        ensures { Gives (λ g. (g, (faults.new.items, tokens.new))) result
-            (negation_at self.now depth at (faults.old.items, tokens.old)) }
+        ensures { Gives (λ g. (g, reader.new)) result (negation_at self.now depth at reader.old) }
     {
         if depth == 0 {
             return Err(ill_formed(at, TextCause::Depth));
         }
-        let operand = self.expr(alloc, tokens, faults, depth - 1)?;
-        note(faults, operand.gives.may_be_truth(), at, TextCause::Kind)?;
+        let operand = self.expr(alloc, reader, depth - 1)?;
+        reader.note(operand.gives.may_be_truth(), at, TextCause::Kind)?;
         negated(alloc, operand.expr, at)
     }
 
@@ -171,16 +159,14 @@ impl Context<'_> {
     fn second(
         &self,
         alloc: Global,
-        tokens: &mut Tokens,
-        faults: &mut Vec<PlacedFault>,
+        reader: &mut Reader,
         depth: usize,
     ) -> Result<((Operator, usize), Given), PlacedFault>
-        ensures { Gives (λ x. (((x.0.0, x.0.1), x.1), (faults.new.items, tokens.new))) result
-            (second (expr_at self.now depth) (faults.old.items, tokens.old)) }
+        ensures { Gives (λ x. (((x.0.0, x.0.1), x.1), reader.new)) result (second (expr_at self.now depth) reader.old) }
     {
-        let operator = pass_operator(tokens)?;
-        let right = self.expr(alloc, tokens, faults, depth)?;
-        tokens.sign(Sign::RightParen)?;
+        let operator = reader.operator()?;
+        let right = self.expr(alloc, reader, depth)?;
+        reader.sign(Sign::RightParen)?;
         Ok((operator, right))
     }
 
@@ -190,37 +176,29 @@ impl Context<'_> {
     fn operation(
         &self,
         alloc: Global,
-        tokens: &mut Tokens,
-        faults: &mut Vec<PlacedFault>,
+        reader: &mut Reader,
         depth: usize,
         at: usize,
     ) -> Result<Given, PlacedFault>
-        ensures { Gives (λ g. (g, (faults.new.items, tokens.new))) result
-            (operation_at self.now depth at (faults.old.items, tokens.old)) }
+        ensures { Gives (λ g. (g, reader.new)) result (operation_at self.now depth at reader.old) }
     {
         if depth == 0 {
             return Err(ill_formed(at, TextCause::Depth));
         }
-        let left = self.expr(alloc, tokens, faults, depth - 1)?;
-        let ((operator, operator_at), right) = self.second(alloc, tokens, faults, depth - 1)?;
+        let left = self.expr(alloc, reader, depth - 1)?;
+        let ((operator, operator_at), right) = self.second(alloc, reader, depth - 1)?;
         let fit = operands_fit(operator, left.gives, right.gives);
-        note(faults, fit, operator_at, TextCause::Kind)?;
+        reader.note(fit, operator_at, TextCause::Kind)?;
         combined(alloc, operator, left.expr, right.expr, at)
     }
 
     /// An expression by its first token, whose `(` and `not` stand inside no more than `depth` others.
     #[cycle(expr)]
-    fn term(
-        &self,
-        alloc: Global,
-        tokens: &mut Tokens,
-        faults: &mut Vec<PlacedFault>,
-        depth: usize,
-    ) -> Result<Given, PlacedFault>
-        ensures { Gives (λ g. (g, (faults.new.items, tokens.new))) result
-            (term_at self.now (negation_at self.now depth) (operation_at self.now depth) (faults.old.items, tokens.old)) }
+    fn term(&self, alloc: Global, reader: &mut Reader, depth: usize) -> Result<Given, PlacedFault>
+        ensures { Gives (λ g. (g, reader.new)) result
+            (term_at self.now (negation_at self.now depth) (operation_at self.now depth) reader.old) }
     {
-        let (head, at) = pass_head(tokens)?;
+        let (head, at) = reader.head()?;
         match head {
             Head::Literal(value) => {
                 let gives = Inferred::Value(value.kind());
@@ -232,39 +210,26 @@ impl Context<'_> {
                 gives: Inferred::Null,
                 at,
             }),
-            Head::Name(text) => self.named(tokens, faults, (text, at)),
-            Head::Not => self.negation(alloc, tokens, faults, depth, at),
-            Head::Paren => self.operation(alloc, tokens, faults, depth, at),
+            Head::Name(text) => self.named(reader, (text, at)),
+            Head::Not => self.negation(alloc, reader, depth, at),
+            Head::Paren => self.operation(alloc, reader, depth, at),
         }
     }
 
     /// An expression whose `(` and `not` stand inside no more than `depth` others.
     #[cycle(expr)]
     #[tactic(auto, using(crate::proofs::ExprSteps::expr_steps))]
-    fn expr(
-        &self,
-        alloc: Global,
-        tokens: &mut Tokens,
-        faults: &mut Vec<PlacedFault>,
-        depth: usize,
-    ) -> Result<Given, PlacedFault>
-        ensures { Gives (λ g. (g, (faults.new.items, tokens.new))) result
-            (expr_at self.now depth (faults.old.items, tokens.old)) }
+    fn expr(&self, alloc: Global, reader: &mut Reader, depth: usize) -> Result<Given, PlacedFault>
+        ensures { Gives (λ g. (g, reader.new)) result (expr_at self.now depth reader.old) }
     {
-        self.term(alloc, tokens, faults, depth)
+        self.term(alloc, reader, depth)
     }
 
     /// An expression of a statement. An unknown name is noted, and may give anything.
     #[tactic(auto, unfolding(crate::specs::ReadExpr::whole_at))]
-    pub fn whole(
-        &self,
-        alloc: Global,
-        tokens: &mut Tokens,
-        faults: &mut Vec<PlacedFault>,
-    ) -> Result<Given, PlacedFault>
-        ensures { Gives (λ g. (g, (faults.new.items, tokens.new))) result
-            (whole_at self.now (faults.old.items, tokens.old)) }
+    pub fn whole(&self, alloc: Global, reader: &mut Reader) -> Result<Given, PlacedFault>
+        ensures { Gives (λ g. (g, reader.new)) result (whole_at self.now reader.old) }
     {
-        self.expr(alloc, tokens, faults, MAX_DEPTH)
+        self.expr(alloc, reader, MAX_DEPTH)
     }
 }

@@ -1,20 +1,21 @@
 //! Lists of expressions, and new values of attributes, from the tokens that are left.
-ghost use Rattle.std.specs.Prelude.{◌≡◌, ◌<◌, ◌++◌, [], nat_eq, map, slice_get, IfSome, OnOk};
+ghost use Rattle.std.specs.Prelude.{◌≡◌, ◌<◌, [], nat_eq, map, slice_get, IfSome, OnOk};
 ghost use Rattle.std.specs.List.{list_any};
 ghost use Rattle.mls_scheme.specs.Scheme.{IsScheme};
-ghost use Rattle.mls_parser.specs.Noted.{Gives};
+ghost use Rattle.mls_parser.specs.Noted.{Gives, note};
 ghost use Rattle.mls_parser.specs.ReadList.{fits_item, items_at, item_at, list_at, with_set, set_faults, set_at};
 ghost use Rattle.mls_parser.specs.ReadList.{sets_at};
 ghost use Rattle.mls_parser.specs.Names.{other_named};
 
 use crate::context::Context;
-use crate::fault::{PlacedFault, TextCause, note};
+use crate::fault::{PlacedFault, TextCause};
 use crate::given::Given;
 use crate::inferred::Inferred;
 use crate::names::{Name, other, other_kind};
+use crate::reader::Reader;
 use mls_lattice::Items;
 use mls_scheme::{Attributes, Scheme};
-use mls_tokens::{Sign, Tokens};
+use mls_tokens::Sign;
 use mls_translang::Expr;
 use std::alloc::{AllocError, Global};
 
@@ -44,31 +45,26 @@ fn is_set(sets: &[(usize, Expr)], number: usize) -> bool
 
 /// The faults of an attribute that gets a value, behind those before.
 fn note_set(
-    faults: &mut Vec<PlacedFault>,
+    reader: &mut Reader,
     scheme: &Scheme,
     front: &[(usize, Expr)],
     name: &Name,
     given: &Given,
 ) -> Result<(), AllocError>
     requires { IsScheme scheme.now }
-    ensures { OnOk result (faults.new.items
-        ≡ faults.old.items ++ set_faults scheme.now front.now name.now (other_named scheme.now name.now.0) given.now) }
+    ensures { OnOk result (reader.new
+        ≡ note (set_faults scheme.now front.now name.now (other_named scheme.now name.now.0) given.now) reader.old) }
 {
     match other(scheme, name) {
         Some(number) => {
             let again = is_set(front, number);
-            note(faults, !again, name.1, TextCause::Repeated)?;
+            reader.note(!again, name.1, TextCause::Repeated)?;
             let fits = given.gives.may_be(other_kind(scheme, number));
-            note(faults, fits, given.at, TextCause::Kind)
+            reader.note(fits, given.at, TextCause::Kind)
         }
         None => {
-            note(faults, false, name.1, TextCause::UnknownName)?;
-            note(
-                faults,
-                given.gives.may_be_value(),
-                given.at,
-                TextCause::Kind,
-            )
+            reader.note(false, name.1, TextCause::UnknownName)?;
+            reader.note(given.gives.may_be_value(), given.at, TextCause::Kind)
         }
     }
 }
@@ -94,17 +90,16 @@ impl Context<'_> {
     fn item(
         &self,
         alloc: Global,
-        tokens: &mut Tokens,
-        faults: &mut Vec<PlacedFault>,
+        reader: &mut Reader,
         attributes: &Attributes,
         front: &mut Vec<Expr>,
     ) -> Result<(), PlacedFault>
-        ensures { Gives (λ _. (front.new.items, (faults.new.items, tokens.new))) result
-            (item_at self.now attributes.now front.old.items (faults.old.items, tokens.old)) }
+        ensures { Gives (λ _. (front.new.items, reader.new)) result
+            (item_at self.now attributes.now front.old.items reader.old) }
     {
-        let given = self.whole(alloc, tokens, faults)?;
+        let given = self.whole(alloc, reader)?;
         let fits = fits_item(attributes, front.as_slice().len(), given.gives);
-        note(faults, fits, given.at, TextCause::Kind)?;
+        reader.note(fits, given.at, TextCause::Kind)?;
         front.push(given.expr)?;
         Ok(())
     }
@@ -114,17 +109,15 @@ impl Context<'_> {
     fn items(
         &self,
         alloc: Global,
-        tokens: &mut Tokens,
-        faults: &mut Vec<PlacedFault>,
+        reader: &mut Reader,
         attributes: &Attributes,
     ) -> Result<Vec<Expr>, PlacedFault>
-        ensures { Gives (λ v. (v.items, (faults.new.items, tokens.new))) result
-            (items_at (item_at self.now attributes.now) [] (faults.old.items, tokens.old)) }
+        ensures { Gives (λ v. (v.items, reader.new)) result (items_at (item_at self.now attributes.now) [] reader.old) }
     {
         let mut items = Vec::new(alloc);
         loop {
-            self.item(alloc, tokens, faults, attributes, &mut items)?;
-            if tokens.takes_sign(Sign::Comma).is_none() {
+            self.item(alloc, reader, attributes, &mut items)?;
+            if reader.takes_sign(Sign::Comma).is_none() {
                 return Ok(items);
             }
         }
@@ -135,22 +128,20 @@ impl Context<'_> {
     pub fn list(
         &self,
         alloc: Global,
-        tokens: &mut Tokens,
-        faults: &mut Vec<PlacedFault>,
+        reader: &mut Reader,
         attributes: &Attributes,
     ) -> Result<Items<Expr>, PlacedFault>
-        ensures { Gives (λ es. (es, (faults.new.items, tokens.new))) result
-            (list_at self.now attributes.now (faults.old.items, tokens.old)) }
+        ensures { Gives (λ es. (es, reader.new)) result (list_at self.now attributes.now reader.old) }
     {
-        tokens.sign(Sign::LeftParen)?;
-        if let Some(end) = tokens.takes_sign(Sign::RightParen) {
-            note(faults, attributes.len() == 0, end, TextCause::Kind)?;
+        reader.sign(Sign::LeftParen)?;
+        if let Some(end) = reader.takes_sign(Sign::RightParen) {
+            reader.note(attributes.len() == 0, end, TextCause::Kind)?;
             return Ok(Items::from(Vec::new(alloc)));
         }
-        let items = self.items(alloc, tokens, faults, attributes)?;
-        let end = tokens.sign(Sign::RightParen)?;
+        let items = self.items(alloc, reader, attributes)?;
+        let end = reader.sign(Sign::RightParen)?;
         let fits = items.as_slice().len() == attributes.len();
-        note(faults, fits, end, TextCause::Kind)?;
+        reader.note(fits, end, TextCause::Kind)?;
         Ok(Items::from(items))
     }
 
@@ -159,19 +150,18 @@ impl Context<'_> {
     fn set(
         &self,
         alloc: Global,
-        tokens: &mut Tokens,
-        faults: &mut Vec<PlacedFault>,
+        reader: &mut Reader,
         scheme: &Scheme,
         front: &mut Vec<(usize, Expr)>,
     ) -> Result<(), PlacedFault>
         requires { IsScheme scheme.now }
-        ensures { Gives (λ _. (front.new.items, (faults.new.items, tokens.new))) result
-            (set_at self.now scheme.now front.old.items (faults.old.items, tokens.old)) }
+        ensures { Gives (λ _. (front.new.items, reader.new)) result
+            (set_at self.now scheme.now front.old.items reader.old) }
     {
-        let name = tokens.name()?;
-        tokens.sign(Sign::Equals)?;
-        let given = self.whole(alloc, tokens, faults)?;
-        note_set(faults, scheme, front.as_slice(), &name, &given)?;
+        let name = reader.name()?;
+        reader.sign(Sign::Equals)?;
+        let given = self.whole(alloc, reader)?;
+        note_set(reader, scheme, front.as_slice(), &name, &given)?;
         with_set(front, other(scheme, &name), given.expr)?;
         Ok(())
     }
@@ -181,18 +171,16 @@ impl Context<'_> {
     pub fn sets(
         &self,
         alloc: Global,
-        tokens: &mut Tokens,
-        faults: &mut Vec<PlacedFault>,
+        reader: &mut Reader,
         scheme: &Scheme,
     ) -> Result<Items<(usize, Expr)>, PlacedFault>
         requires { IsScheme scheme.now }
-        ensures { Gives (λ xs. (xs, (faults.new.items, tokens.new))) result
-            (sets_at self.now scheme.now (faults.old.items, tokens.old)) }
+        ensures { Gives (λ xs. (xs, reader.new)) result (sets_at self.now scheme.now reader.old) }
     {
         let mut sets = Vec::new(alloc);
         loop {
-            self.set(alloc, tokens, faults, scheme, &mut sets)?;
-            if tokens.takes_sign(Sign::Comma).is_none() {
+            self.set(alloc, reader, scheme, &mut sets)?;
+            if reader.takes_sign(Sign::Comma).is_none() {
                 return Ok(Items::from(sets));
             }
         }

@@ -1,50 +1,46 @@
 //! Statements with no statement inside, from the tokens that are left, each behind what it begins with.
-ghost use Rattle.std.specs.Prelude.{◌≡◌, ◌<◌, ◌++◌, length, IfOk, OnOk};
+ghost use Rattle.std.specs.Prelude.{◌≡◌, ◌<◌, length, IfOk, OnOk};
 ghost use Rattle.mls_scheme.specs.Scheme.{IsScheme, scheme_of};
 ghost use Rattle.mls_parser.specs.Names.{label_named, variable_named};
-ghost use Rattle.mls_parser.specs.Noted.{Gives, known};
+ghost use Rattle.mls_parser.specs.Noted.{Gives, known, note};
 ghost use Rattle.mls_parser.specs.ReadBlock.{label, relation, variable, target_faults, label_behind, outcome_at};
 ghost use Rattle.mls_parser.specs.ReadBlock.{written_at, relation_at, keyed_at, assign_at, insert_at, classes_at};
 ghost use Rattle.mls_parser.specs.ReadBlock.{changes_at, update_at, delete_at, lower_behind, value_at, release_at};
 ghost use Rattle.mls_parser.specs.ReadBlock.{emit_at, plain_at};
 
 use crate::context::{Context, label, label_or_first, relation, relation_or_first};
-use crate::fault::{PlacedFault, TextCause, note};
+use crate::fault::{PlacedFault, TextCause};
 use crate::given::Given;
 use crate::inferred::Inferred;
 use crate::names::Name;
-use crate::words::{Plain, name_behind};
+use crate::reader::Reader;
+use crate::words::Plain;
 use mls_lattice::{Items, LabelNo};
 use mls_scheme::{Kind, RelNo, Scheme, Write};
-use mls_tokens::{Sign, Tokens};
+use mls_tokens::Sign;
 use mls_translang::{Expr, Stmt};
 use std::alloc::{AllocError, Global};
 
 impl Context<'_> {
     /// A label that is named, or the first.
-    fn label(&self, faults: &mut Vec<PlacedFault>, name: &Name) -> Result<LabelNo, AllocError>
+    fn label(&self, reader: &mut Reader, name: &Name) -> Result<LabelNo, AllocError>
         ensures exact { IfOk result (λ n. n ≡ label self.now name.now) }
         ensures within { IfOk result (λ n. n < length self.now.policy.labels) }
-        ensures noted { OnOk result (faults.new.items ≡ faults.old.items ++ known (label_named self.now.policy name.now.0) name.now.1) }
+        ensures noted { OnOk result (reader.new
+            ≡ note (known (label_named self.now.policy name.now.0) name.now.1) reader.old) }
     {
         let known = label(self.policy, name).is_some();
-        note(faults, known, name.1, TextCause::UnknownName)?;
+        reader.note(known, name.1, TextCause::UnknownName)?;
         Ok(label_or_first(self.policy, name))
     }
 
     /// A word, and a label behind it.
     #[tactic(auto, unfolding(crate::specs::ReadBlock::label_behind))]
-    pub fn label_behind(
-        &self,
-        tokens: &mut Tokens,
-        faults: &mut Vec<PlacedFault>,
-        word: &str,
-    ) -> Result<LabelNo, PlacedFault>
-        ensures { Gives (λ n. (n, (faults.new.items, tokens.new))) result
-            (label_behind self.now word.now (faults.old.items, tokens.old)) }
+    pub fn label_behind(&self, reader: &mut Reader, word: &str) -> Result<LabelNo, PlacedFault>
+        ensures { Gives (λ n. (n, reader.new)) result (label_behind self.now word.now reader.old) }
     {
-        let name = name_behind(tokens, word)?;
-        Ok(self.label(faults, &name)?)
+        let name = reader.name_behind(word)?;
+        Ok(self.label(reader, &name)?)
     }
 
     /// The number of a variable, or 0.
@@ -60,74 +56,55 @@ impl Context<'_> {
     }
 
     /// A variable that gets what an expression gives.
-    fn target(
-        &self,
-        faults: &mut Vec<PlacedFault>,
-        name: &Name,
-        gives: Inferred,
-    ) -> Result<u8, AllocError>
+    fn target(&self, reader: &mut Reader, name: &Name, gives: Inferred) -> Result<u8, AllocError>
         ensures exact { IfOk result (λ n. n ≡ variable self.now name.now) }
-        ensures noted { OnOk result (faults.new.items
-            ≡ faults.old.items ++ target_faults self.now name.now (variable_named self.now name.now.0) gives) }
+        ensures noted { OnOk result (reader.new
+            ≡ note (target_faults self.now name.now (variable_named self.now name.now.0) gives) reader.old) }
     {
         match self.variable(name) {
             Some(place) => {
                 let fits = gives.may_be(*self.vars.get(place));
-                note(faults, fits, name.1, TextCause::Kind)?;
+                reader.note(fits, name.1, TextCause::Kind)?;
             }
-            None => note(faults, false, name.1, TextCause::UnknownName)?,
+            None => reader.note(false, name.1, TextCause::UnknownName)?,
         }
         Ok(self.variable_or_first(name))
     }
 
     /// The variable of an outcome, if one is named, and the end of the statement.
     #[tactic(auto, unfolding(crate::specs::ReadBlock::outcome_at))]
-    fn outcome(
-        &self,
-        tokens: &mut Tokens,
-        faults: &mut Vec<PlacedFault>,
-    ) -> Result<Option<u8>, PlacedFault>
-        ensures { Gives (λ n. (n, (faults.new.items, tokens.new))) result (outcome_at self.now (faults.old.items, tokens.old)) }
+    fn outcome(&self, reader: &mut Reader) -> Result<Option<u8>, PlacedFault>
+        ensures { Gives (λ n. (n, reader.new)) result (outcome_at self.now reader.old) }
     {
-        if tokens.takes_word("as").is_none() {
-            tokens.sign(Sign::Semicolon)?;
+        if reader.takes_word("as").is_none() {
+            reader.sign(Sign::Semicolon)?;
             return Ok(None);
         }
-        let name = tokens.name()?;
-        let variable = self.target(faults, &name, Inferred::Value(Kind::Int))?;
-        tokens.sign(Sign::Semicolon)?;
+        let name = reader.name()?;
+        let variable = self.target(reader, &name, Inferred::Value(Kind::Int))?;
+        reader.sign(Sign::Semicolon)?;
         Ok(Some(variable))
     }
 
     /// Where a tuple is written, and the outcome.
     #[tactic(auto, unfolding(crate::specs::ReadBlock::written_at))]
-    fn written(
-        &self,
-        tokens: &mut Tokens,
-        faults: &mut Vec<PlacedFault>,
-    ) -> Result<(LabelNo, Option<u8>), PlacedFault>
-        ensures { Gives (λ x. ((x.0, x.1), (faults.new.items, tokens.new))) result
-            (written_at self.now (faults.old.items, tokens.old)) }
+    fn written(&self, reader: &mut Reader) -> Result<(LabelNo, Option<u8>), PlacedFault>
+        ensures { Gives (λ x. ((x.0, x.1), reader.new)) result (written_at self.now reader.old) }
     {
-        let at = self.label_behind(tokens, faults, "at")?;
-        let outcome = self.outcome(tokens, faults)?;
+        let at = self.label_behind(reader, "at")?;
+        let outcome = self.outcome(reader)?;
         Ok((at, outcome))
     }
 
     /// A relation that is named, or the first.
     #[tactic(auto, unfolding(crate::specs::ReadBlock::relation_at))]
-    pub fn relation(
-        &self,
-        tokens: &mut Tokens,
-        faults: &mut Vec<PlacedFault>,
-    ) -> Result<RelNo, PlacedFault>
-        ensures exact { Gives (λ n. (n, (faults.new.items, tokens.new))) result
-            (relation_at self.now (faults.old.items, tokens.old)) }
+    pub fn relation(&self, reader: &mut Reader) -> Result<RelNo, PlacedFault>
+        ensures exact { Gives (λ n. (n, reader.new)) result (relation_at self.now reader.old) }
         ensures within { IfOk result (λ n. n < length self.now.schemes) }
     {
-        let name = tokens.name()?;
+        let name = reader.name()?;
         let known = relation(self.schemes, &name).is_some();
-        note(faults, known, name.1, TextCause::UnknownName)?;
+        reader.note(known, name.1, TextCause::UnknownName)?;
         Ok(relation_or_first(self.schemes, &name))
     }
 
@@ -141,55 +118,37 @@ impl Context<'_> {
 
     /// The relation and the key of a write.
     #[tactic(auto, unfolding(crate::specs::ReadBlock::keyed_at))]
-    fn keyed(
-        &self,
-        alloc: Global,
-        tokens: &mut Tokens,
-        faults: &mut Vec<PlacedFault>,
-    ) -> Result<(RelNo, Items<Expr>), PlacedFault>
-        ensures exact { Gives (λ x. ((x.0, x.1), (faults.new.items, tokens.new))) result
-            (keyed_at self.now (faults.old.items, tokens.old)) }
+    fn keyed(&self, alloc: Global, reader: &mut Reader) -> Result<(RelNo, Items<Expr>), PlacedFault>
+        ensures exact { Gives (λ x. ((x.0, x.1), reader.new)) result (keyed_at self.now reader.old) }
         ensures within { IfOk result (λ x. x.0 < length self.now.schemes) }
     {
-        let relation = self.relation(tokens, faults)?;
-        tokens.word("key")?;
-        let key = self.list(alloc, tokens, faults, self.scheme(relation).keys())?;
+        let relation = self.relation(reader)?;
+        reader.word("key")?;
+        let key = self.list(alloc, reader, self.scheme(relation).keys())?;
         Ok((relation, key))
     }
 
     #[tactic(auto, unfolding(crate::specs::ReadBlock::assign_at))]
-    fn assign(
-        &self,
-        alloc: Global,
-        tokens: &mut Tokens,
-        faults: &mut Vec<PlacedFault>,
-        target: Name,
-    ) -> Result<Stmt, PlacedFault>
-        ensures { Gives (λ x. (x, (faults.new.items, tokens.new))) result
-            (assign_at self.now (target.0, target.1) (faults.old.items, tokens.old)) }
+    fn assign(&self, alloc: Global, reader: &mut Reader, target: Name) -> Result<Stmt, PlacedFault>
+        ensures { Gives (λ x. (x, reader.new)) result (assign_at self.now (target.0, target.1) reader.old) }
     {
-        tokens.sign(Sign::Becomes)?;
-        let given = self.whole(alloc, tokens, faults)?;
-        tokens.sign(Sign::Semicolon)?;
+        reader.sign(Sign::Becomes)?;
+        let given = self.whole(alloc, reader)?;
+        reader.sign(Sign::Semicolon)?;
         Ok(Stmt::Assign {
-            variable: self.target(faults, &target, given.gives)?,
+            variable: self.target(reader, &target, given.gives)?,
             value: given.expr,
         })
     }
 
     #[tactic(auto, unfolding(crate::specs::ReadBlock::insert_at))]
-    fn insert(
-        &self,
-        alloc: Global,
-        tokens: &mut Tokens,
-        faults: &mut Vec<PlacedFault>,
-    ) -> Result<Stmt, PlacedFault>
-        ensures { Gives (λ x. (x, (faults.new.items, tokens.new))) result (insert_at self.now (faults.old.items, tokens.old)) }
+    fn insert(&self, alloc: Global, reader: &mut Reader) -> Result<Stmt, PlacedFault>
+        ensures { Gives (λ x. (x, reader.new)) result (insert_at self.now reader.old) }
     {
-        let (relation, key) = self.keyed(alloc, tokens, faults)?;
-        tokens.word("values")?;
-        let values = self.list(alloc, tokens, faults, self.scheme(relation).others())?;
-        let (at, outcome) = self.written(tokens, faults)?;
+        let (relation, key) = self.keyed(alloc, reader)?;
+        reader.word("values")?;
+        let values = self.list(alloc, reader, self.scheme(relation).others())?;
+        let (at, outcome) = self.written(reader)?;
         Ok(Stmt::Write {
             relation,
             at,
@@ -200,17 +159,12 @@ impl Context<'_> {
 
     /// The key class of an update, the class of its tuple, and where it is written.
     #[tactic(auto, unfolding(crate::specs::ReadBlock::classes_at))]
-    fn classes(
-        &self,
-        tokens: &mut Tokens,
-        faults: &mut Vec<PlacedFault>,
-    ) -> Result<(LabelNo, LabelNo, LabelNo), PlacedFault>
-        ensures { Gives (λ x. ((x.0, x.1, x.2), (faults.new.items, tokens.new))) result
-            (classes_at self.now (faults.old.items, tokens.old)) }
+    fn classes(&self, reader: &mut Reader) -> Result<(LabelNo, LabelNo, LabelNo), PlacedFault>
+        ensures { Gives (λ x. ((x.0, x.1, x.2), reader.new)) result (classes_at self.now reader.old) }
     {
-        let key_class = self.label_behind(tokens, faults, "class")?;
-        let from = self.label_behind(tokens, faults, "from")?;
-        let at = self.label_behind(tokens, faults, "at")?;
+        let key_class = self.label_behind(reader, "class")?;
+        let from = self.label_behind(reader, "from")?;
+        let at = self.label_behind(reader, "at")?;
         Ok((key_class, from, at))
     }
 
@@ -219,32 +173,25 @@ impl Context<'_> {
     fn changes(
         &self,
         alloc: Global,
-        tokens: &mut Tokens,
-        faults: &mut Vec<PlacedFault>,
+        reader: &mut Reader,
         scheme: &Scheme,
     ) -> Result<(Items<(usize, Expr)>, Option<u8>), PlacedFault>
         requires { IsScheme scheme.now }
-        ensures { Gives (λ x. ((x.0, x.1), (faults.new.items, tokens.new))) result
-            (changes_at self.now scheme.now (faults.old.items, tokens.old)) }
+        ensures { Gives (λ x. ((x.0, x.1), reader.new)) result (changes_at self.now scheme.now reader.old) }
     {
-        tokens.word("set")?;
-        let sets = self.sets(alloc, tokens, faults, scheme)?;
-        let outcome = self.outcome(tokens, faults)?;
+        reader.word("set")?;
+        let sets = self.sets(alloc, reader, scheme)?;
+        let outcome = self.outcome(reader)?;
         Ok((sets, outcome))
     }
 
     #[tactic(auto, unfolding(crate::specs::ReadBlock::update_at))]
-    fn update(
-        &self,
-        alloc: Global,
-        tokens: &mut Tokens,
-        faults: &mut Vec<PlacedFault>,
-    ) -> Result<Stmt, PlacedFault>
-        ensures { Gives (λ x. (x, (faults.new.items, tokens.new))) result (update_at self.now (faults.old.items, tokens.old)) }
+    fn update(&self, alloc: Global, reader: &mut Reader) -> Result<Stmt, PlacedFault>
+        ensures { Gives (λ x. (x, reader.new)) result (update_at self.now reader.old) }
     {
-        let (relation, key) = self.keyed(alloc, tokens, faults)?;
-        let (key_class, from, at) = self.classes(tokens, faults)?;
-        let (sets, outcome) = self.changes(alloc, tokens, faults, self.scheme(relation))?;
+        let (relation, key) = self.keyed(alloc, reader)?;
+        let (key_class, from, at) = self.classes(reader)?;
+        let (sets, outcome) = self.changes(alloc, reader, self.scheme(relation))?;
         Ok(Stmt::Write {
             relation,
             at,
@@ -259,17 +206,12 @@ impl Context<'_> {
     }
 
     #[tactic(auto, unfolding(crate::specs::ReadBlock::delete_at))]
-    fn delete(
-        &self,
-        alloc: Global,
-        tokens: &mut Tokens,
-        faults: &mut Vec<PlacedFault>,
-    ) -> Result<Stmt, PlacedFault>
-        ensures { Gives (λ x. (x, (faults.new.items, tokens.new))) result (delete_at self.now (faults.old.items, tokens.old)) }
+    fn delete(&self, alloc: Global, reader: &mut Reader) -> Result<Stmt, PlacedFault>
+        ensures { Gives (λ x. (x, reader.new)) result (delete_at self.now reader.old) }
     {
-        let (relation, key) = self.keyed(alloc, tokens, faults)?;
-        let key_class = self.label_behind(tokens, faults, "class")?;
-        let (at, outcome) = self.written(tokens, faults)?;
+        let (relation, key) = self.keyed(alloc, reader)?;
+        let key_class = self.label_behind(reader, "class")?;
+        let (at, outcome) = self.written(reader)?;
         Ok(Stmt::Write {
             relation,
             at,
@@ -280,74 +222,48 @@ impl Context<'_> {
 
     /// A word, and behind it a label that the ceiling dominates.
     #[tactic(auto, unfolding(crate::specs::ReadBlock::lower_behind))]
-    fn lower_behind(
-        &self,
-        tokens: &mut Tokens,
-        faults: &mut Vec<PlacedFault>,
-        word: &str,
-    ) -> Result<LabelNo, PlacedFault>
-        ensures { Gives (λ n. (n, (faults.new.items, tokens.new))) result
-            (lower_behind self.now word.now (faults.old.items, tokens.old)) }
+    fn lower_behind(&self, reader: &mut Reader, word: &str) -> Result<LabelNo, PlacedFault>
+        ensures { Gives (λ n. (n, reader.new)) result (lower_behind self.now word.now reader.old) }
     {
-        let name = name_behind(tokens, word)?;
-        let label = self.label(faults, &name)?;
+        let name = reader.name_behind(word)?;
+        let label = self.label(reader, &name)?;
         let below = self.policy.dominates(self.hi, label);
-        note(faults, below, name.1, TextCause::LabelOrder)?;
+        reader.note(below, name.1, TextCause::LabelOrder)?;
         Ok(label)
     }
 
     /// An expression that gives a value.
     #[tactic(auto, unfolding(crate::specs::ReadBlock::value_at))]
-    fn value(
-        &self,
-        alloc: Global,
-        tokens: &mut Tokens,
-        faults: &mut Vec<PlacedFault>,
-    ) -> Result<Given, PlacedFault>
-        ensures { Gives (λ g. (g, (faults.new.items, tokens.new))) result (value_at self.now (faults.old.items, tokens.old)) }
+    fn value(&self, alloc: Global, reader: &mut Reader) -> Result<Given, PlacedFault>
+        ensures { Gives (λ g. (g, reader.new)) result (value_at self.now reader.old) }
     {
-        let given = self.whole(alloc, tokens, faults)?;
-        note(
-            faults,
-            given.gives.may_be_value(),
-            given.at,
-            TextCause::Kind,
-        )?;
+        let given = self.whole(alloc, reader)?;
+        reader.note(given.gives.may_be_value(), given.at, TextCause::Kind)?;
         Ok(given)
     }
 
     #[tactic(auto, unfolding(crate::specs::ReadBlock::release_at))]
-    fn release(
-        &self,
-        alloc: Global,
-        tokens: &mut Tokens,
-        faults: &mut Vec<PlacedFault>,
-    ) -> Result<Stmt, PlacedFault>
-        ensures { Gives (λ x. (x, (faults.new.items, tokens.new))) result (release_at self.now (faults.old.items, tokens.old)) }
+    fn release(&self, alloc: Global, reader: &mut Reader) -> Result<Stmt, PlacedFault>
+        ensures { Gives (λ x. (x, reader.new)) result (release_at self.now reader.old) }
     {
-        let given = self.value(alloc, tokens, faults)?;
-        let to = self.lower_behind(tokens, faults, "to")?;
-        let into = name_behind(tokens, "into")?;
-        tokens.sign(Sign::Semicolon)?;
+        let given = self.value(alloc, reader)?;
+        let to = self.lower_behind(reader, "to")?;
+        let into = reader.name_behind("into")?;
+        reader.sign(Sign::Semicolon)?;
         Ok(Stmt::Release {
             to,
-            into: self.target(faults, &into, given.gives)?,
+            into: self.target(reader, &into, given.gives)?,
             value: given.expr,
         })
     }
 
     #[tactic(auto, unfolding(crate::specs::ReadBlock::emit_at))]
-    fn emit(
-        &self,
-        alloc: Global,
-        tokens: &mut Tokens,
-        faults: &mut Vec<PlacedFault>,
-    ) -> Result<Stmt, PlacedFault>
-        ensures { Gives (λ x. (x, (faults.new.items, tokens.new))) result (emit_at self.now (faults.old.items, tokens.old)) }
+    fn emit(&self, alloc: Global, reader: &mut Reader) -> Result<Stmt, PlacedFault>
+        ensures { Gives (λ x. (x, reader.new)) result (emit_at self.now reader.old) }
     {
-        let given = self.value(alloc, tokens, faults)?;
-        let label = self.label_behind(tokens, faults, "at")?;
-        tokens.sign(Sign::Semicolon)?;
+        let given = self.value(alloc, reader)?;
+        let label = self.label_behind(reader, "at")?;
+        reader.sign(Sign::Semicolon)?;
         Ok(Stmt::Emit {
             value: given.expr,
             label,
@@ -358,21 +274,19 @@ impl Context<'_> {
     pub fn plain(
         &self,
         alloc: Global,
-        tokens: &mut Tokens,
-        faults: &mut Vec<PlacedFault>,
+        reader: &mut Reader,
         plain: Plain,
         at: usize,
     ) -> Result<Stmt, PlacedFault>
-        ensures { Gives (λ x. (x, (faults.new.items, tokens.new))) result
-            (plain_at self.now plain at (faults.old.items, tokens.old)) }
+        ensures { Gives (λ x. (x, reader.new)) result (plain_at self.now plain at reader.old) }
     {
         match plain {
-            Plain::Assign(name) => self.assign(alloc, tokens, faults, (name, at)),
-            Plain::Insert => self.insert(alloc, tokens, faults),
-            Plain::Update => self.update(alloc, tokens, faults),
-            Plain::Delete => self.delete(alloc, tokens, faults),
-            Plain::Release => self.release(alloc, tokens, faults),
-            Plain::Emit => self.emit(alloc, tokens, faults),
+            Plain::Assign(name) => self.assign(alloc, reader, (name, at)),
+            Plain::Insert => self.insert(alloc, reader),
+            Plain::Update => self.update(alloc, reader),
+            Plain::Delete => self.delete(alloc, reader),
+            Plain::Release => self.release(alloc, reader),
+            Plain::Emit => self.emit(alloc, reader),
         }
     }
 }

@@ -5,7 +5,7 @@ use Rattle.mls_parser.proofs.header.some_params.Given as goal
 
 abbrev pub invariant-loop-params : goal.invariant-loop-params
 invariant-loop-params l = record {
-  so_far : ItemsSoFar (next_param l.policy) ([], 0) (l.fn.faults.items, l.fn.tokens) (l.params, l.count) (l.faults.items, l.tokens);
+  so_far : ItemsSoFar (next_param l.policy) ([], 0) l.fn.reader (l.params, l.count) l.reader;
   few : length l.params ≤ l.count;
   most : l.count ≤ 64;
 }

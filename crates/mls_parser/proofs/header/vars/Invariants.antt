@@ -5,7 +5,7 @@ use Rattle.mls_parser.proofs.header.vars.Given as goal
 
 abbrev pub invariant-loop-vars : goal.invariant-loop-vars
 invariant-loop-vars l = record {
-  so_far : ThingsSoFar (next_var l.params) 65 ([], 0) (l.fn.faults.items, l.fn.tokens) (64 - l.count) (l.vars, l.count) l.faults.items l.tokens;
+  so_far : ThingsSoFar (next_var l.params) 65 ([], 0) l.fn.reader (64 - l.count) (l.vars, l.count) l.reader;
   few : length l.vars ≤ l.count;
   most : l.count ≤ 64;
 }

@@ -6,7 +6,7 @@ abbrev pub decreases-stmts-loop-alloc : goal.decreases-stmts-loop-alloc
 decreases-stmts-loop-alloc l = 1000 - l.count
 
 abbrev pub invariant-stmts-loop-alloc : goal.invariant-stmts-loop-alloc
-invariant-stmts-loop-alloc l = StmtsSoFar l.depth l.self l.initial.count (l.fn.faults.items, l.fn.tokens) l.stmts.items l.count l.faults.items l.tokens
+invariant-stmts-loop-alloc l = StmtsSoFar l.depth l.self l.initial.count l.fn.reader l.stmts.items l.count l.reader
 
 -- ---- how deep
 

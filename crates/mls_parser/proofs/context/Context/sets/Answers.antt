@@ -1,12 +1,12 @@
-use Rattle.std.proofs.Common.{rules, []}
+use Rattle.std.proofs.Common.{rules, ◌≡◌, true, [], is_some}
 use Rattle.mls_parser.specs.ReadList.{set_at}
-use Rattle.mls_parser.proofs.ItemSteps.{items_more, set_less}
+use Rattle.mls_parser.proofs.ItemSteps.{items_next, set_less}
 use Rattle.mls_parser.proofs.context.Context.sets.Goals as goal
 
 pub loop-sets-preserved : goal.loop-sets-preserved
 loop-sets-preserved c =
-    let more = items_more (set_at c.args.self.now c.args.scheme.now) [] (c.args.faults.now.items, c.args.tokens.now) c.loop-sets.sets.items (c.loop-sets.faults.items, c.loop-sets.tokens) c.loop-sets.invariant
-    c.set.new.front.items c.set.new.faults.items c.set.new.tokens c.in_ok-set.ensures in
-    let less = set_less c.args.self.now c.args.scheme.now c.loop-sets.sets.items (c.loop-sets.faults.items, c.loop-sets.tokens) c.set.new.front.items c.set.new.faults.items c.set.new.tokens in
     let is = c.in_ok-set.ensures in
-    search (rules, more, less, is)
+    let comma : is_some c.takes_sign.result ≡ true = search rules in
+    items_next (set_at c.args.self.now c.args.scheme.now) [] c.args.reader.now c.loop-sets.sets.items c.loop-sets.reader c.loop-sets.invariant
+    c.set.new.front.items c.set.new.reader is c.takes_sign.result c.takes_sign.new.self comma c.takes_sign.ensures.taken
+    (λ at e. set_less c.args.self.now c.args.scheme.now c.loop-sets.sets.items c.loop-sets.reader c.set.new.front.items c.set.new.reader c.takes_sign.new.self at is e)

@@ -7,4 +7,4 @@ decreases-loop-whole l = l.room
 
 -- what is left, behind the tests that were read, is the whole
 abbrev pub invariant-loop-whole : goal.invariant-loop-whole
-invariant-loop-whole l = tests_at l.self (l.fn.faults.items, l.fn.tokens) ≡ tests_from l.self l.room l.before l.whole (l.faults.items, l.tokens)
+invariant-loop-whole l = tests_at l.self l.fn.reader ≡ tests_from l.self l.room l.before l.whole l.reader

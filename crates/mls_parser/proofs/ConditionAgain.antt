@@ -24,7 +24,7 @@ use Rattle.mls_parser.specs.declared.given.Given.{Given}
 use Rattle.mls_parser.specs.Condition.{is_comparison, SpellsSide, SpellsTest, SpellsTests, SpellsCondition, EndsCondition, ConditionsAreRead}
 use Rattle.mls_parser.specs.Fault.{fault, least_from}
 use Rattle.mls_parser.specs.Infer.{may_be_truth}
-use Rattle.mls_parser.specs.Noted.{State, Read, note}
+use Rattle.mls_parser.specs.Noted.{State, Read, note, token}
 use Rattle.mls_parser.specs.Parsing.{answer}
 use Rattle.mls_parser.specs.ReadCondition.{comparison_of, joiner_of, take_known, behind_known, takes_known, between, between_faults, are_mixed, past_most, compared, test_at, joined, next_test_at, tests_from, tests_at, written_place, as_fields, judged, noted_at, condition_at}
 use Rattle.mls_parser.specs.ReadExpr.{whole_at}
@@ -187,7 +187,7 @@ module _ (p : Place) (n : HasNames p) where
   one_more op = test_at p op.1 >>= λ t. Ok (Some (op.0, t.0), t.1)
 
   abbrev or_mixed : Bool → Bool → (Operator × ℕ) × State → Read (Option ((Operator × ℕ) × Given))
-  or_mixed mixed full op = if mixed then Err (fault op.0.1 cause.Expected) else (if full then Err (past_most (pass_head op.1.1)) else one_more op)
+  or_mixed mixed full op = if mixed then Err (fault op.0.1 cause.Expected) else (if full then Err (past_most (token pass_head op.1)) else one_more op)
 
   next_again : (room : ℕ) (before : Option Operator) (s : State) (op : (Operator × ℕ) × State) (t : Given) (r : State) → 0 < room → are_mixed before op.0.0 ≡ false → takes_known joiner_of s ≡ Some op
       → test_at p op.1 ≡ Ok (t, r) → next_test_at p room before s ≡ Ok (Some (op.0, t), r)

@@ -25,7 +25,7 @@ use Rattle.mls_parser.specs.declared.given.Given.{Given}
 use Rattle.mls_parser.specs.Condition.{is_comparison, SpellsBetween, SpellsSide, SpellsTest, SpellsTests, SpellsCondition, TellsCondition, IsCondition, IsConditionOf, IsJudged}
 use Rattle.mls_parser.specs.Fault.{fault, least, IsLeast}
 use Rattle.mls_parser.specs.Infer.{may_be_truth, operands_fit}
-use Rattle.mls_parser.specs.Noted.{State, Read, note, Gives}
+use Rattle.mls_parser.specs.Noted.{State, Read, note, token, Gives}
 use Rattle.mls_parser.specs.Parsing.{answer}
 use Rattle.mls_parser.specs.ReadCondition.{comparison_of_sign, comparison_of, joiner_of, take_known, taken_as, behind_known, takes_known, between, between_faults, are_mixed, past_most, with_next, compared, test_at, joined, next_test_at, tests_from, tests_at, written_place, as_fields, judged, noted_at, condition_at}
 use Rattle.mls_parser.specs.ReadExpr.{whole_at}
@@ -215,10 +215,10 @@ module _ (p : Place) where
     where
       go : (o : Option ((Operator × ℕ) × State)) → takes_known joiner_of s ≡ o → joined p room before s o ≡ Ok x → NextFound room before s x
       go None is h = subst (NextFound room before s) (ok_is {E = PlacedFault} (None, s) x h) refl
-      go (Some op) is h = mixed (chosen (are_mixed before op.0.0) (refused_next (fault op.0.1 cause.Expected)) (if room == 0 then refused_next (past_most (pass_head op.1.1)) else one_more op) (Ok x) h)
+      go (Some op) is h = mixed (chosen (are_mixed before op.0.0) (refused_next (fault op.0.1 cause.Expected)) (if room == 0 then refused_next (past_most (token pass_head op.1)) else one_more op) (Ok x) h)
         where
           last : are_mixed before op.0.0 ≡ false
-              → (((room == 0) ≡ true) × (refused_next (past_most (pass_head op.1.1)) ≡ Ok x)) ⊎ (((room == 0) ≡ false) × (one_more op ≡ Ok x)) → NextFound room before s x
+              → (((room == 0) ≡ true) × (refused_next (past_most (token pass_head op.1)) ≡ Ok x)) ⊎ (((room == 0) ≡ false) × (one_more op ≡ Ok x)) → NextFound room before s x
           last plain (inl y) = absurd (let bad = y.1 in cc)
           last plain (inr n) =
               let t = bind_ok (test_at p op.1) (λ t. Ok (Some (op.0, t.0), t.1)) x n.1 in
@@ -234,9 +234,9 @@ module _ (p : Place) where
               })
 
           mixed : ((are_mixed before op.0.0 ≡ true) × (refused_next (fault op.0.1 cause.Expected) ≡ Ok x))
-              ⊎ ((are_mixed before op.0.0 ≡ false) × ((if room == 0 then refused_next (past_most (pass_head op.1.1)) else one_more op) ≡ Ok x)) → NextFound room before s x
+              ⊎ ((are_mixed before op.0.0 ≡ false) × ((if room == 0 then refused_next (past_most (token pass_head op.1)) else one_more op) ≡ Ok x)) → NextFound room before s x
           mixed (inl y) = absurd (let bad = y.1 in cc)
-          mixed (inr n) = last n.0 (chosen (room == 0) (refused_next (past_most (pass_head op.1.1))) (one_more op) (Ok x) n.1)
+          mixed (inr n) = last n.0 (chosen (room == 0) (refused_next (past_most (token pass_head op.1))) (one_more op) (Ok x) n.1)
 
   -- ---- all tests
 

@@ -10,7 +10,7 @@ use Rattle.mls_tokens.specs.declared.token.Token.TheVariants.{Word, Sign}
 use Rattle.mls_tokens.specs.declared.token.Placed.{Placed}
 use Rattle.mls_tokens.specs.declared.sign.Sign.{Sign as Mark}
 use Rattle.mls_tokens.specs.Scanning.{Left, without_places}
-use Rattle.mls_tokens.specs.Passing.{left, is_sign, is_word, pass_name}
+use Rattle.mls_tokens.specs.Passing.{left, is_sign, is_word}
 use Rattle.mls_tokens.proofs.NextLemmas.{next_is, NotNext, not_taken}
 use Rattle.mls_tokens.proofs.NextLemmas as tokens
 use Rattle.mls_parser.specs.declared.fault.PlacedFault.{PlacedFault}
@@ -100,7 +100,7 @@ name_gets name us s named e = state_gets s.0 (tokens.name_gets name us s.1 named
 
 -- a word, and a name behind it
 pub behind_gets : (w name : Name) (us : List Token) (s : State) → is_name name ≡ true → without_places s.1.placed ≡ Word w ∷ Word name ∷ us → Gets (name_behind w s) s (Is name) us
-behind_gets w name us s named e = state_gets s.0 (tokens.gets_more (λ x. pass_name x.1) (tokens.word_gets w (Word name ∷ us) s.1 e) (λ at m is t. tokens.name_gets name us m named t))
+behind_gets w name us s named e = gets_more (λ x. name_at x.1) (word_gets w (Word name ∷ us) s e) (λ at m is t. name_gets name us (s.0, m) named t)
 
 -- the next token, where it is taken
 pub record Took (o : Option (ℕ × State)) (s : State) (us : List Token) : Type 0 where

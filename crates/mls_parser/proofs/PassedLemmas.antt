@@ -1,5 +1,5 @@
 -- The tokens that were passed, and the faults that were noted before.
-use Rattle.std.proofs.Common.{◌≡◌, ℕ, ◌<◌, true, List, [], ◌∷◌, ◌++◌, length, Option, Some, None, option_map, Result, Ok, Err, refl, sym, ap, subst}
+use Rattle.std.proofs.Common.{◌≡◌, ℕ, ◌<◌, true, List, [], ◌∷◌, ◌++◌, length, Option, Some, None, option_map, Result, Ok, Err, refl, sym, ap, ◌∙◌, subst}
 use Rattle.std.specs.List.{AllByRecursion}
 use Rattle.mls_lattice.specs.Name.{is_name}
 use Rattle.mls_lattice.specs.Policy.{Name}
@@ -16,7 +16,7 @@ use Rattle.mls_tokens.proofs.PassedLemmas.{Passed, passed_more, word_taken as wo
 use Rattle.mls_parser.specs.declared.fault.PlacedFault.{PlacedFault}
 use Rattle.mls_parser.specs.declared.words.Head.{Head}
 use Rattle.mls_parser.specs.Noted.{State, in_state, token, behind, takes_sign, takes_word, sign_at, word_at, name_at, name_behind}
-use Rattle.mls_parser.specs.Words.{known, pass_known_of, pass_known, pass_head_of, pass_head, head_of, pass_name_behind}
+use Rattle.mls_parser.specs.Words.{known, pass_known_of, pass_known, pass_head_of, pass_head, head_of}
 
 -- ---- states
 
@@ -73,10 +73,10 @@ pub record BehindRead (w : Name) (s : State) (x : PlacedName × State) : Type 0 
 
 pub behind_found : (w : Name) (s : State) (x : PlacedName × State) → name_behind w s ≡ Ok x → BehindRead w s x
 behind_found w s x e =
-    let h = token_ok (pass_name_behind w) s x e in
-    let word = bind_ok (pass (is_word w) s.1) (λ y. pass_name y.1) (x.0, x.1.1) h.0 in
-    let name = name_passed word.0.1 (x.0, x.1.1) word.2 in
-    record { name = name.name; passed = passed_more (Word w ∷ []) (Word x.0.0 ∷ []) s.1 word.0.1 x.1.1 (word_passed w s.1 word.0 word.1) name.passed; faults = h.1 }
+    let b = bind_ok (word_at w s) (λ y. name_at y.1) x e in
+    let word = word_found w s b.0 b.1 in
+    let name = name_found b.0.1 x b.2 in
+    record { name = name.name.name; passed = passed_more (Word w ∷ []) (Word x.0.0 ∷ []) s.1 b.0.1.1 x.1.1 word.passed name.name.passed; faults = name.faults ∙ word.faults }
 
 -- ---- other tokens
 

@@ -1,6 +1,6 @@
 -- What is read from the tokens that are left, while faults of names and kinds are noted; or the fault of its form.
 use Rattle.std.specs.Prelude.{◌≡◌, ℕ, List, ◌++◌, Option, Result, Ok, Err, is_some, option_map}
-use Rattle.mls_lattice.specs.Reading.{GivesUnless}
+use Rattle.mls_lattice.specs.Reading.{◌>>=◌, GivesUnless}
 use Rattle.mls_tokens.specs.declared.fault.TokenFault.{TokenFault}
 use Rattle.mls_tokens.specs.declared.sign.Sign.{Sign}
 use Rattle.mls_tokens.specs.Scanning.{Left}
@@ -8,7 +8,6 @@ use Rattle.mls_tokens.specs.Passing.{is_sign, is_word, taken, pass, PlacedName, 
 use Rattle.mls_parser.specs.declared.fault.TextCause.TheVariants.{UnknownName, Memory}
 use Rattle.mls_parser.specs.declared.fault.PlacedFault.{PlacedFault}
 use Rattle.mls_parser.specs.Fault.{unless, lifted}
-use Rattle.mls_parser.specs.Words.{pass_name_behind}
 
 -- the faults that were noted, and what is left
 abbrev pub State : Type 0
@@ -52,7 +51,7 @@ name_at s = token pass_name s
 
 -- a word, and a name behind it
 abbrev pub name_behind : List ℕ → State → Read PlacedName
-name_behind word s = token (pass_name_behind word) s
+name_behind word s = word_at word s >>= λ w. name_at w.1
 
 -- ---- names
 

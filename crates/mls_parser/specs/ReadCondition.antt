@@ -24,9 +24,9 @@ use Rattle.mls_parser.specs.declared.fault.PlacedFault.{PlacedFault}
 use Rattle.mls_parser.specs.declared.fault.TextCause.TheVariants.{Expected, Kind as Wrong_kind, Depth}
 use Rattle.mls_parser.specs.declared.given.Given.{Given}
 use Rattle.mls_parser.specs.declared.words.Head.{Head}
-use Rattle.mls_parser.specs.Fault.{fault, unless, lifted, least}
+use Rattle.mls_parser.specs.Fault.{fault, unless, least}
 use Rattle.mls_parser.specs.Infer.{may_be_truth, operands_fit, given_by_operator}
-use Rattle.mls_parser.specs.Noted.{State, Read, note}
+use Rattle.mls_parser.specs.Noted.{State, Read, note, token}
 use Rattle.mls_parser.specs.Parsing.{answer}
 use Rattle.mls_parser.specs.ReadExpr.{given, whole_at}
 use Rattle.mls_parser.specs.ReadList.{tested}
@@ -89,9 +89,9 @@ are_mixed (Some Or) And = true
 are_mixed _ _ = false
 
 -- the fault of a test that may not stand here: where no expression begins it is that
-abbrev pub past_most : Result ((Head × ℕ) × Left) TokenFault → PlacedFault
+abbrev pub past_most : Read (Head × ℕ) → PlacedFault
 past_most (Ok h) = fault h.0.1 Depth
-past_most (Err f) = lifted f
+past_most (Err f) = f
 
 abbrev pub with_next : (Operator → Given → State → Read Given) → Given → Option ((Operator × ℕ) × Given) × State → Read Given
 with_next more g (None, s) = Ok (g, s)
@@ -111,7 +111,7 @@ module _ (p : Place) where
   joined room before s None = Ok (None, s)
   joined room before s (Some op) =
       if are_mixed before op.0.0 then Err (fault op.0.1 Expected)
-      else (if room == 0 then Err (past_most (pass_head op.1.1)) else (test_at op.1 >>= λ t. Ok (Some (op.0, t.0), t.1)))
+      else (if room == 0 then Err (past_most (token pass_head op.1)) else (test_at op.1 >>= λ t. Ok (Some (op.0, t.0), t.1)))
 
   -- one test more, if a word joins it to those before: there is room for so many, and one word stands between those
   unfoldable pub next_test_at : ℕ → Option Operator → State → Read (Option ((Operator × ℕ) × Given))

@@ -2,7 +2,6 @@
 use Rattle.std.specs.Prelude.{ℕ, List, [], ◌∷◌, codes, Option, Some, None, option_map, Result, Ok, Err, if◌then◌else◌}
 use Rattle.std.specs.Prelude.{bytes_eq}
 use Rattle.mls_lattice.specs.Name.{is_name}
-use Rattle.mls_lattice.specs.Reading.{◌>>=◌}
 use Rattle.mls_scheme.specs.declared.value.Kind.{Kind}
 use Rattle.mls_scheme.specs.declared.value.Kind.TheVariants as kinds
 use Rattle.mls_scheme.specs.declared.value.Value.TheVariants as values
@@ -14,7 +13,7 @@ use Rattle.mls_tokens.specs.declared.token.Placed.{Placed}
 use Rattle.mls_tokens.specs.declared.sign.Sign.{Sign}
 use Rattle.mls_tokens.specs.declared.sign.Sign.TheVariants as signs
 use Rattle.mls_tokens.specs.Scanning.{Left, fault_at}
-use Rattle.mls_tokens.specs.Passing.{left, refuse, is_word, pass, PlacedName, pass_name}
+use Rattle.mls_tokens.specs.Passing.{left, refuse}
 use Rattle.mls_translang.specs.declared.operator.Operator.{Operator}
 use Rattle.mls_translang.specs.declared.operator.Operator.TheVariants as operators
 use Rattle.mls_parser.specs.declared.words.Head.{Head}
@@ -119,7 +118,3 @@ pass_head_of (p ∷ ps) stop = known p.at (left ps stop) (head_of p.token)
 
 abbrev pub pass_head : Left → Result ((Head × ℕ) × Left) TokenFault
 pass_head l = pass_head_of l.placed l.stop
-
--- a word, and a name behind it
-abbrev pub pass_name_behind : List ℕ → Left → Result (PlacedName × Left) TokenFault
-pass_name_behind word l = pass (is_word word) l >>= λ x. pass_name x.1

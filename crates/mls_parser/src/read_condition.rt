@@ -5,7 +5,7 @@ ghost use Rattle.std.specs.List.{IsDistinct};
 ghost use Rattle.mls_tokens.specs.Scanning.{without_places};
 ghost use Rattle.mls_parser.specs.declared.fault.TextCause.TheVariants.{Memory};
 ghost use Rattle.mls_parser.specs.Condition.{AreOfText, IsCondition, IsConditionOf, IsJudged};
-ghost use Rattle.mls_parser.specs.Noted.{Gives, note};
+ghost use Rattle.mls_parser.specs.Noted.{Gives, note, token};
 ghost use Rattle.mls_parser.specs.Parsing.{answer};
 ghost use Rattle.mls_parser.specs.ReadCondition.{comparison_of, joiner_of, taken_as, between, between_faults, test_at};
 ghost use Rattle.mls_parser.specs.ReadCondition.{are_mixed, past_most, next_test_at, tests_at, attribute_var, row_vars};
@@ -19,7 +19,6 @@ use crate::inferred::operands_fit;
 use crate::limits::MAX_TESTS;
 use crate::read_expr::combined;
 use crate::reader::Reader;
-use crate::words::pass_head;
 use mls_lattice::{LabelNo, Policy, Str};
 use mls_scheme::{Attributes, Kind, Named, RelNo, Scheme, Schemes};
 use mls_tokens::{Sign, Tokens};
@@ -94,12 +93,12 @@ fn are_mixed(before: Option<Operator>, operator: Operator) -> bool
 }
 
 /// The fault of one test more than there may be.
-fn past_most(tokens: &mut Tokens) -> PlacedFault
-    ensures { result.cause ≢ Memory → result ≡ past_most (pass_head tokens.old) }
+fn past_most(reader: &mut Reader) -> PlacedFault
+    ensures { result.cause ≢ Memory → result ≡ past_most (token pass_head reader.old) }
 {
-    match pass_head(tokens) {
+    match reader.head() {
         Ok((_, at)) => ill_formed(at, TextCause::Depth),
-        Err(fault) => PlacedFault::from(fault),
+        Err(fault) => fault,
     }
 }
 
@@ -138,7 +137,7 @@ impl Context<'_> {
             return Err(ill_formed(at, TextCause::Expected));
         }
         if room == 0 {
-            return Err(past_most(&mut reader.tokens));
+            return Err(past_most(reader));
         }
         let next = self.test(alloc, reader)?;
         Ok(Some(((operator, at), next)))

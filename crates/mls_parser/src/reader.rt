@@ -6,9 +6,9 @@ ghost use Rattle.mls_parser.specs.Noted.{Gives, note, token, takes_sign, takes_w
 ghost use Rattle.mls_parser.specs.Noted.{name_behind};
 ghost use Rattle.mls_parser.specs.Words.{pass_head, pass_known, opening_of, operator_of, kind_of};
 
-use crate::fault::{PlacedFault, TextCause, least};
+use crate::fault::{PlacedFault, TextCause, ill_formed, least};
 use crate::names::Name;
-use crate::words::{Head, Opening, name_behind, pass_head, pass_kind, pass_opening, pass_operator};
+use crate::words::{Head, Opening, head_of, kind_of, opening_of, operator_of};
 use mls_scheme::Kind;
 use mls_tokens::{Sign, Tokens};
 use mls_translang::Operator;
@@ -106,34 +106,43 @@ impl Reader {
     pub fn name_behind(&mut self, word: &str) -> Result<Name, PlacedFault>
         ensures { Gives (λ x. ((x.0, x.1), self.new)) result (name_behind word.now self.old) }
     {
-        Ok(name_behind(&mut self.tokens, word)?)
+        self.word(word)?;
+        self.name()
     }
 
     /// Passes what an expression begins with, and gives its place too.
     pub fn head(&mut self) -> Result<(Head, usize), PlacedFault>
         ensures { Gives (λ x. ((x.0, x.1), self.new)) result (token pass_head self.old) }
     {
-        Ok(pass_head(&mut self.tokens)?)
+        let first = self.tokens.pop().ok_or(self.tokens.stop())?;
+        let head = head_of(first.token).ok_or(ill_formed(first.at, TextCause::Expected))?;
+        Ok((head, first.at))
     }
 
     /// Passes what a statement begins with, and gives its place too.
     pub fn opening(&mut self) -> Result<(Opening, usize), PlacedFault>
         ensures { Gives (λ x. ((x.0, x.1), self.new)) result (token (pass_known opening_of) self.old) }
     {
-        Ok(pass_opening(&mut self.tokens)?)
+        let first = self.tokens.pop().ok_or(self.tokens.refused())?;
+        let opening = opening_of(first.token).ok_or(ill_formed(first.at, TextCause::Expected))?;
+        Ok((opening, first.at))
     }
 
     /// Passes an operator, and gives its place too.
     pub fn operator(&mut self) -> Result<(Operator, usize), PlacedFault>
         ensures { Gives (λ x. ((x.0, x.1), self.new)) result (token (pass_known operator_of) self.old) }
     {
-        Ok(pass_operator(&mut self.tokens)?)
+        let first = self.tokens.pop().ok_or(self.tokens.refused())?;
+        let operator = operator_of(&first.token).ok_or(ill_formed(first.at, TextCause::Expected))?;
+        Ok((operator, first.at))
     }
 
     /// Passes the word of a kind, and gives its place too.
     pub fn kind(&mut self) -> Result<(Kind, usize), PlacedFault>
         ensures { Gives (λ x. ((x.0, x.1), self.new)) result (token (pass_known kind_of) self.old) }
     {
-        Ok(pass_kind(&mut self.tokens)?)
+        let first = self.tokens.pop().ok_or(self.tokens.refused())?;
+        let kind = kind_of(&first.token).ok_or(ill_formed(first.at, TextCause::Expected))?;
+        Ok((kind, first.at))
     }
 }

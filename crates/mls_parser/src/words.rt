@@ -1,14 +1,11 @@
 //! What single tokens are in a transaction.
 ghost use Rattle.std.specs.Prelude.{◌≡◌};
-ghost use Rattle.mls_tokens.specs.Scanning.{Reads, fault_at};
 ghost use Rattle.mls_parser.specs.Words.{head_of_word, head_of, plain_of_word, opening_of_word, opening_of};
 ghost use Rattle.mls_parser.specs.Words.{operator_of_sign, operator_of_word, operator_of, kind_of_word, kind_of};
-ghost use Rattle.mls_parser.specs.Words.{pass_known, pass_head, pass_name_behind};
 
-use crate::names::Name;
 use mls_lattice::{Str, is_name};
 use mls_scheme::{Kind, Value};
-use mls_tokens::{Sign, Token, TokenCause, TokenFault, Tokens};
+use mls_tokens::{Sign, Token};
 use mls_translang::Operator;
 
 /// What an expression begins with.
@@ -57,7 +54,8 @@ fn head_of_word(word: Str) -> Option<Head>
     }
 }
 
-fn head_of(token: Token) -> Option<Head>
+/// A token as what an expression begins with.
+pub(crate) fn head_of(token: Token) -> Option<Head>
     ensures { result ≡ head_of token }
 {
     match token {
@@ -109,7 +107,8 @@ fn opening_of_word(word: Str) -> Option<Opening>
     }
 }
 
-fn opening_of(token: Token) -> Option<Opening>
+/// A token as what a statement begins with.
+pub(crate) fn opening_of(token: Token) -> Option<Opening>
     ensures { result ≡ opening_of token }
 {
     match token {
@@ -148,7 +147,8 @@ fn operator_of_word(word: &str) -> Option<Operator>
     }
 }
 
-fn operator_of(token: &Token) -> Option<Operator>
+/// A token as an operator.
+pub(crate) fn operator_of(token: &Token) -> Option<Operator>
     ensures { result ≡ operator_of token.now }
 {
     match token {
@@ -171,81 +171,12 @@ fn kind_of_word(word: &str) -> Option<Kind>
     }
 }
 
-fn kind_of(token: &Token) -> Option<Kind>
+/// A token as the word of a kind.
+pub(crate) fn kind_of(token: &Token) -> Option<Kind>
     ensures { result ≡ kind_of token.now }
 {
     match token {
         Token::Word(word) => kind_of_word(word.as_str()),
         _ => None,
     }
-}
-
-/// The fault of a token that may not stand at its place.
-fn unexpected(at: usize) -> TokenFault
-    ensures { result ≡ fault_at at TokenCause.Expected }
-{
-    TokenFault {
-        at,
-        cause: TokenCause::Expected,
-    }
-}
-
-/// Passes what an expression begins with, and gives its place too.
-pub(crate) fn pass_head(tokens: &mut Tokens) -> Result<(Head, usize), TokenFault>
-    ensures { Reads (λ x. ((x.0, x.1), tokens.new)) result (pass_head tokens.old) }
-{
-    let Some(first) = tokens.pop() else {
-        return Err(tokens.stop());
-    };
-    match head_of(first.token) {
-        Some(head) => Ok((head, first.at)),
-        None => Err(unexpected(first.at)),
-    }
-}
-
-/// Passes what a statement begins with, and gives its place too.
-pub(crate) fn pass_opening(tokens: &mut Tokens) -> Result<(Opening, usize), TokenFault>
-    ensures { Reads (λ x. ((x.0, x.1), tokens.new)) result (pass_known opening_of tokens.old) }
-{
-    let Some(first) = tokens.pop() else {
-        return Err(tokens.refused());
-    };
-    match opening_of(first.token) {
-        Some(opening) => Ok((opening, first.at)),
-        None => Err(unexpected(first.at)),
-    }
-}
-
-/// Passes an operator, and gives its place too.
-pub(crate) fn pass_operator(tokens: &mut Tokens) -> Result<(Operator, usize), TokenFault>
-    ensures { Reads (λ x. ((x.0, x.1), tokens.new)) result (pass_known operator_of tokens.old) }
-{
-    let Some(first) = tokens.pop() else {
-        return Err(tokens.refused());
-    };
-    match operator_of(&first.token) {
-        Some(operator) => Ok((operator, first.at)),
-        None => Err(unexpected(first.at)),
-    }
-}
-
-/// Passes the word of a kind, and gives its place too.
-pub(crate) fn pass_kind(tokens: &mut Tokens) -> Result<(Kind, usize), TokenFault>
-    ensures { Reads (λ x. ((x.0, x.1), tokens.new)) result (pass_known kind_of tokens.old) }
-{
-    let Some(first) = tokens.pop() else {
-        return Err(tokens.refused());
-    };
-    match kind_of(&first.token) {
-        Some(kind) => Ok((kind, first.at)),
-        None => Err(unexpected(first.at)),
-    }
-}
-
-/// Passes a word, and a name behind it.
-pub(crate) fn name_behind(tokens: &mut Tokens, word: &str) -> Result<Name, TokenFault>
-    ensures { Reads (λ x. ((x.0, x.1), tokens.new)) result (pass_name_behind word.now tokens.old) }
-{
-    tokens.word(word)?;
-    tokens.name()
 }

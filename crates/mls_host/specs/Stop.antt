@@ -36,7 +36,11 @@ stop_text (Turned cause) = turned_text cause
 abbrev pub stop_status : Stop → ℕ
 stop_status (Before reason) = reason_status reason
 stop_status Unread = 1
-stop_status _ = 3
+stop_status (Run f) = 3
+stop_status NotClosed = 3
+stop_status Output = 3
+stop_status (Served cause) = 3
+stop_status (Turned cause) = 3
 
 -- ---- over a store
 

@@ -5,7 +5,8 @@ use Rattle.mls_lattice.specs.Policy.{Policy}
 use Rattle.mls_scheme.specs.declared.tuple.Element.{Element}
 use Rattle.mls_scheme.specs.declared.tuple.Tuple.{Tuple}
 use Rattle.mls_machine.specs.declared.reply.Reply.{Reply}
-use Rattle.mls_machine.specs.declared.reply.Reply.TheVariants.{Opened, Ran, Entries}
+use Rattle.mls_machine.specs.declared.reply.Reply.TheVariants.{Opened, Closed, Rows, Dumped, Wrote, Ran, Entries}
+use Rattle.mls_machine.specs.declared.reply.Reply.TheVariants.{Denied}
 use Rattle.mls_machine.specs.Output.{EntriesAreKnown, ItemsAreKnown}
 
 -- ---- classes, as a test
@@ -26,4 +27,8 @@ abbrev pub HasKnownNumbers : Policy → Reply → Type 0
 HasKnownNumbers policy (Opened user) = user < length policy.users
 HasKnownNumbers policy (Ran run) = ItemsAreKnown policy run.emitted × ItemsAreKnown policy run.released
 HasKnownNumbers policy (Entries es) = EntriesAreKnown policy es
-HasKnownNumbers policy _ = ⊤
+HasKnownNumbers policy Closed = ⊤
+HasKnownNumbers policy (Rows found) = ⊤
+HasKnownNumbers policy (Dumped ts) = ⊤
+HasKnownNumbers policy (Wrote o) = ⊤
+HasKnownNumbers policy (Denied d) = ⊤

@@ -14,7 +14,7 @@ use Rattle.mls_script.specs.declared.event.Command.{Command}
 use Rattle.mls_script.specs.declared.event.Command.TheVariants.{Call}
 use Rattle.mls_machine.specs.declared.form.Form.TheVariants.{Table}
 use Rattle.mls_machine.specs.declared.reply.Reply.{Reply}
-use Rattle.mls_machine.specs.declared.reply.Reply.TheVariants.{Opened, Closed, Wrote, Ran}
+use Rattle.mls_machine.specs.declared.reply.Reply.TheVariants.{Opened, Closed, Rows, Dumped, Wrote, Ran, Entries}
 use Rattle.mls_machine.specs.declared.reply.Reply.TheVariants.{Denied}
 use Rattle.mls_certcheck.specs.declared.stored.Stored.{Stored}
 use Rattle.mls_certcheck.specs.Stored.{tx_of}
@@ -30,7 +30,10 @@ ChangesNothing (Opened user) = ⊥
 ChangesNothing Closed = ⊥
 ChangesNothing (Wrote o) = is_done o ≡ false
 ChangesNothing (Ran run) = ⊥
-ChangesNothing _ = ⊤
+ChangesNothing (Rows found) = ⊤
+ChangesNothing (Dumped ts) = ⊤
+ChangesNothing (Entries es) = ⊤
+ChangesNothing (Denied d) = ⊤
 
 -- after such a reply the database and the sessions are as they were
 abbrev pub RefusalsChangeNothing : Type 0

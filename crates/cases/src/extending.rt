@@ -1,11 +1,9 @@
 //! Older policies and schemes, which policies and schemes extend.
-ghost use Rattle.std.specs.Prelude.{length};
-ghost use Rattle.mls_scheme.specs.Scheme.{AreUnder};
-
+use crate::sample::Sample;
 use crate::show::push_fault;
 use case_tables::{Case, Told, joined, unfolded};
 use mls_lattice::Policy;
-use mls_scheme::{Schemes, SchemesFile};
+use mls_scheme::SchemesFile;
 use std::alloc::Global;
 
 /// Adds how many labels of a policy are those of an old text.
@@ -36,10 +34,8 @@ fn push_counts(counts: &[usize], out: &mut Told) {
     }
 }
 
-fn tell_schemes(alloc: Global, policy: &Policy, schemes: &Schemes, old: &[u8], out: &mut Told)
-    requires { AreUnder (length policy.now.labels) schemes.now }
-{
-    match schemes.extends(alloc, policy, old) {
+fn tell_schemes(alloc: Global, sample: &Sample<'_>, old: &[u8], out: &mut Told) {
+    match sample.schemes.extends(alloc, sample.policy, old) {
         Ok(Some(counts)) => push_counts(&counts, out),
         Ok(None) => out.push("no"),
         Err(_) => out.fail(),
@@ -48,7 +44,13 @@ fn tell_schemes(alloc: Global, policy: &Policy, schemes: &Schemes, old: &[u8], o
 
 fn tell_schemes_in(alloc: Global, policy: &Policy, text: &str, old: &[u8], out: &mut Told) {
     match SchemesFile::read(alloc, policy, text.as_bytes()) {
-        Ok(file) => tell_schemes(alloc, policy, &file.schemes, old, out),
+        Ok(file) => {
+            let sample = Sample {
+                policy,
+                schemes: &file.schemes,
+            };
+            tell_schemes(alloc, &sample, old, out);
+        }
         Err(fault) => push_fault(fault.code(), fault.word(), out),
     }
 }
@@ -60,32 +62,21 @@ fn tell_schemes_below(alloc: Global, policy: &Policy, body: &[&str], old: &[u8],
     }
 }
 
-fn tell_old(
-    alloc: Global,
-    policy: &Policy,
-    schemes: &Schemes,
-    case: &Case<'_>,
-    old: &[u8],
-    out: &mut Told,
-)
-    requires { AreUnder (length policy.now.labels) schemes.now }
-{
+fn tell_old(alloc: Global, sample: &Sample<'_>, case: &Case<'_>, old: &[u8], out: &mut Told) {
     if case.head.starts_with("policy") {
-        tell_policy(alloc, policy, old, out);
+        tell_policy(alloc, sample.policy, old, out);
     } else if case.body.is_empty() {
-        tell_schemes(alloc, policy, schemes, old, out);
+        tell_schemes(alloc, sample, old, out);
     } else {
-        tell_schemes_below(alloc, policy, case.body, old, out);
+        tell_schemes_below(alloc, sample.policy, case.body, old, out);
     }
 }
 
 /// Tells of an old text in one line, after `policy` or `schemes`, whether it is extended, and what of the new one is old.
-pub fn tell(alloc: Global, policy: &Policy, schemes: &Schemes, case: &Case<'_>, out: &mut Told)
-    requires { AreUnder (length policy.now.labels) schemes.now }
-{
+pub fn tell(alloc: Global, sample: &Sample<'_>, case: &Case<'_>, out: &mut Told) {
     let line = case.head.split_once(' ').map_or("", |parts| parts.1);
     match unfolded(alloc, line) {
-        Ok(old) => tell_old(alloc, policy, schemes, case, &old, out),
+        Ok(old) => tell_old(alloc, sample, case, &old, out),
         Err(_) => out.fail(),
     }
     out.push(": ");

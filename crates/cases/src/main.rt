@@ -3,9 +3,6 @@
 //! command line, so that it is proved beside that.
 #![tactic(auto)]
 
-ghost use Rattle.std.specs.Prelude.{length};
-ghost use Rattle.mls_scheme.specs.Scheme.{AreUnder};
-
 mod certificates;
 mod documents;
 mod entries;
@@ -15,52 +12,48 @@ mod keys;
 mod limits;
 mod lookups;
 mod reads;
+mod sample;
 mod show;
 mod table;
 mod transactions;
 mod tuples;
 mod views;
 
+use crate::sample::Sample;
 use crate::table::{TABLES, Table, told};
 use mls_lattice::Policy;
-use mls_scheme::{Schemes, SchemesFile};
+use mls_scheme::SchemesFile;
 use std::fs;
 use std::io::{self, Error, ErrorKind, Write};
 
-fn tell_table(
-    rt: &HostRuntime,
-    policy: &Policy,
-    schemes: &Schemes,
-    file: &str,
-    table: Table,
-) -> io::Result<()>
-    requires { AreUnder (length policy.now.labels) schemes.now }
-{
+fn tell_table(rt: &HostRuntime, sample: &Sample<'_>, file: &str, table: Table) -> io::Result<()> {
     let text = fs::read_to_string(rt, file)?;
-    let told = told(rt.alloc(), policy, schemes, file, table, &text)?;
+    let told = told(rt.alloc(), sample, file, table, &text)?;
     rt.stdout().write_all(told.as_bytes())
 }
 
-fn tell_tables(rt: &HostRuntime, policy: &Policy, schemes: &Schemes) -> io::Result<()>
-    requires { AreUnder (length policy.now.labels) schemes.now }
-{
+fn tell_tables(rt: &HostRuntime, sample: &Sample<'_>) -> io::Result<()> {
     for &(file, table) in &TABLES {
-        tell_table(rt, policy, schemes, file, table)?;
+        tell_table(rt, sample, file, table)?;
     }
     Ok(())
 }
 
-fn tell_all(rt: &HostRuntime, policy: &Policy, schemes: &Schemes) -> io::Result<()>
-    requires { AreUnder (length policy.now.labels) schemes.now }
-{
-    tell_tables(rt, policy, schemes)?;
-    faults::tell_files(rt, policy, schemes)
+fn tell_all(rt: &HostRuntime, sample: &Sample<'_>) -> io::Result<()> {
+    tell_tables(rt, sample)?;
+    faults::tell_files(rt, sample)
 }
 
 fn tell_under(rt: &HostRuntime, policy: &Policy) -> io::Result<()> {
     let text = fs::read_to_string(rt, "schemes.toml")?;
     match SchemesFile::read(rt.alloc(), policy, text.as_bytes()) {
-        Ok(file) => tell_all(rt, policy, &file.schemes),
+        Ok(file) => {
+            let sample = Sample {
+                policy,
+                schemes: &file.schemes,
+            };
+            tell_all(rt, &sample)
+        }
         Err(_) => Err(Error::from(ErrorKind::InvalidData)),
     }
 }

@@ -1,12 +1,8 @@
 //! The tables, in the order in which they are told.
-ghost use Rattle.std.specs.Prelude.{length};
-ghost use Rattle.mls_scheme.specs.Scheme.{AreUnder};
-
+use crate::sample::Sample;
 use crate::transactions::{checks, evaluations, limits as text_limits, texts};
 use crate::{certificates, documents, entries, extending, keys, limits, lookups, reads, views};
 use case_tables::{Case, Told, case_at};
-use mls_lattice::Policy;
-use mls_scheme::Schemes;
 use std::alloc::{AllocError, Global};
 
 /// How a file is told.
@@ -67,82 +63,64 @@ pub static TABLES: [(&str, Table); 19] = [
 /// What is told of the cases of a table, under the sample policy and schemes.
 pub fn told(
     alloc: Global,
-    policy: &Policy,
-    schemes: &Schemes,
+    sample: &Sample<'_>,
     file: &str,
     table: Table,
     text: &str,
-) -> Result<String, AllocError>
-    requires { AreUnder (length policy.now.labels) schemes.now }
-{
+) -> Result<String, AllocError> {
     let lines: Vec<&str> = text.lines().collect(alloc)?;
     let mut out = Told::new(alloc);
     out.push("== ");
     out.push_line(file);
-    tell_lines(alloc, policy, schemes, table, &lines, &mut out);
+    tell_lines(alloc, sample, table, &lines, &mut out);
     out.finish()
 }
 
-fn tell_lines(
-    alloc: Global,
-    policy: &Policy,
-    schemes: &Schemes,
-    table: Table,
-    lines: &[&str],
-    out: &mut Told,
-)
-    requires { AreUnder (length policy.now.labels) schemes.now }
-{
+fn tell_lines(alloc: Global, sample: &Sample<'_>, table: Table, lines: &[&str], out: &mut Told) {
     match table {
-        Table::Each(subject) => tell_cases(alloc, policy, schemes, subject, lines, out),
-        Table::Checks => checks::tell_lines(alloc, policy, schemes, lines, out),
-        Table::Evaluations => evaluations::tell_lines(alloc, policy, schemes, lines, out),
+        Table::Each(subject) => tell_cases(alloc, sample, subject, lines, out),
+        Table::Checks => checks::tell_lines(alloc, sample, lines, out),
+        Table::Evaluations => evaluations::tell_lines(alloc, sample, lines, out),
     }
 }
 
 fn tell_cases(
     alloc: Global,
-    policy: &Policy,
-    schemes: &Schemes,
+    sample: &Sample<'_>,
     subject: Subject,
     lines: &[&str],
     out: &mut Told,
-)
-    requires { AreUnder (length policy.now.labels) schemes.now }
-{
+) {
     for at in 0..lines.len() {
         if let Some(case) = case_at(&lines[at..]) {
-            tell_case(alloc, policy, schemes, subject, &case, out);
+            tell_case(alloc, sample, subject, &case, out);
         }
     }
 }
 
 fn tell_case(
     alloc: Global,
-    policy: &Policy,
-    schemes: &Schemes,
+    sample: &Sample<'_>,
     subject: Subject,
     case: &Case<'_>,
     out: &mut Told,
-)
-    requires { AreUnder (length policy.now.labels) schemes.now }
-{
+) {
     match subject {
         Subject::Policies => documents::tell_policy(alloc, case.head, out),
-        Subject::Schemes => documents::tell_schemes(alloc, policy, case.head, out),
-        Subject::Documents => documents::tell(alloc, policy, case, out),
-        Subject::Extending => extending::tell(alloc, policy, schemes, case, out),
-        Subject::Limits => limits::tell(alloc, policy, case.head, out),
-        Subject::Lookups => lookups::tell(policy, case.head, out),
+        Subject::Schemes => documents::tell_schemes(alloc, sample.policy, case.head, out),
+        Subject::Documents => documents::tell(alloc, sample.policy, case, out),
+        Subject::Extending => extending::tell(alloc, sample, case, out),
+        Subject::Limits => limits::tell(alloc, sample.policy, case.head, out),
+        Subject::Lookups => lookups::tell(sample.policy, case.head, out),
         Subject::Keys => keys::tell(alloc, case.head, out),
-        Subject::Entries => entries::tell(alloc, policy, case, out),
-        Subject::Views => views::tell(alloc, policy, schemes, case, out),
-        Subject::Reads => reads::tell(alloc, policy, case, out),
+        Subject::Entries => entries::tell(alloc, sample.policy, case, out),
+        Subject::Views => views::tell(alloc, sample, case, out),
+        Subject::Reads => reads::tell(alloc, sample.policy, case, out),
         Subject::Certificates => certificates::tell(alloc, case.head, out),
-        Subject::Texts => texts::tell_line(alloc, policy, schemes, case.head, out),
-        Subject::TextLimits => text_limits::tell(alloc, policy, schemes, case.head, out),
+        Subject::Texts => texts::tell_line(alloc, sample, case.head, out),
+        Subject::TextLimits => text_limits::tell(alloc, sample, case.head, out),
         Subject::Prints | Subject::Labels | Subject::Labels2 | Subject::Ranges => {
-            texts::tell_block(alloc, policy, schemes, subject, case, out);
+            texts::tell_block(alloc, sample, subject, case, out);
         }
     }
 }

@@ -1,15 +1,15 @@
 //! Lists of tuples: what a level sees, which rule they break, which subsumes which, and their classes.
 ghost use Rattle.std.specs.Prelude.{length};
 ghost use Rattle.std.specs.List.{AllByRecursion};
-ghost use Rattle.mls_scheme.specs.Scheme.{AreUnder};
 ghost use Rattle.mls_scheme.specs.Tuple.{HasClassesBelow};
 
 use crate::lookups::push_label;
+use crate::sample::Sample;
 use crate::tuples::{label_of, push_tuples, tuples_of};
 use case_tables::{Case, Told};
 use mls_filterview::{Broken, filter, integrity, subsumes};
 use mls_lattice::Policy;
-use mls_scheme::{Schemes, Tuple, tuple_class};
+use mls_scheme::{Tuple, tuple_class};
 use std::alloc::Global;
 
 fn tell_filter(alloc: Global, policy: &Policy, level: &str, tuples: &[Tuple], out: &mut Told)
@@ -29,20 +29,13 @@ fn push_broken(broken: Broken, out: &mut Told) {
     out.note(growth);
 }
 
-fn tell_integrity(
-    policy: &Policy,
-    schemes: &Schemes,
-    relation: &str,
-    tuples: &[Tuple],
-    out: &mut Told,
-)
-    requires under { AreUnder (length policy.now.labels) schemes.now }
-    requires classes { AllByRecursion (HasClassesBelow (length policy.now.labels)) tuples.now }
+fn tell_integrity(sample: &Sample<'_>, relation: &str, tuples: &[Tuple], out: &mut Told)
+    requires { AllByRecursion (HasClassesBelow (length sample.now.policy.now.labels)) tuples.now }
 {
-    let Some(relation) = schemes.relation(relation) else {
+    let Some(relation) = sample.schemes.relation(relation) else {
         return out.push("  no relation\n");
     };
-    match integrity(policy, schemes.scheme(relation), tuples) {
+    match integrity(sample.policy, sample.schemes.scheme(relation), tuples) {
         None => out.push("  stored\n"),
         Some(broken) => push_broken(broken, out),
     }
@@ -73,34 +66,24 @@ fn tell_classes(policy: &Policy, tuples: &[Tuple], out: &mut Told)
     }
 }
 
-fn tell_tuples(
-    alloc: Global,
-    policy: &Policy,
-    schemes: &Schemes,
-    head: &str,
-    tuples: &[Tuple],
-    out: &mut Told,
-)
-    requires under { AreUnder (length policy.now.labels) schemes.now }
-    requires classes { AllByRecursion (HasClassesBelow (length policy.now.labels)) tuples.now }
+fn tell_tuples(alloc: Global, sample: &Sample<'_>, head: &str, tuples: &[Tuple], out: &mut Told)
+    requires { AllByRecursion (HasClassesBelow (length sample.now.policy.now.labels)) tuples.now }
 {
     let words = head.split_once(':').map_or(head, |parts| parts.0);
     let (kind, name) = words.split_once(' ').unwrap_or((words, ""));
     match kind {
-        "filter" => tell_filter(alloc, policy, name, tuples, out),
-        "integrity" => tell_integrity(policy, schemes, name, tuples, out),
+        "filter" => tell_filter(alloc, sample.policy, name, tuples, out),
+        "integrity" => tell_integrity(sample, name, tuples, out),
         "subsumes" => tell_subsumes(tuples, out),
-        _ => tell_classes(policy, tuples, out),
+        _ => tell_classes(sample.policy, tuples, out),
     }
 }
 
 /// Tells of lists of tuples: a case is `filter LABEL: title`, `integrity RELATION: title`, `subsumes: title` or `classes: title`.
-pub fn tell(alloc: Global, policy: &Policy, schemes: &Schemes, case: &Case<'_>, out: &mut Told)
-    requires { AreUnder (length policy.now.labels) schemes.now }
-{
+pub fn tell(alloc: Global, sample: &Sample<'_>, case: &Case<'_>, out: &mut Told) {
     out.push_line(case.head);
-    match tuples_of(alloc, policy, case.body) {
-        Some(tuples) => tell_tuples(alloc, policy, schemes, case.head, &tuples, out),
+    match tuples_of(alloc, sample.policy, case.body) {
+        Some(tuples) => tell_tuples(alloc, sample, case.head, &tuples, out),
         None => out.push("  no tuples\n"),
     }
 }

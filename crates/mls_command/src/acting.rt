@@ -44,7 +44,7 @@ fn perform_task<H: Host, W: Write, E: Write>(
     let store = job.files.store;
     match job.task {
         Task::ShowPolicy => {
-            let made = texts(alloc, &inputs.setting.policy, &inputs.setting.file);
+            let made = texts(alloc, &inputs.setting);
             print_made(made, out, err)
         }
         Task::Picture => {

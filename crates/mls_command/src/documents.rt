@@ -38,5 +38,5 @@ pub(crate) fn picture_of<H: Host>(
     ensures told { IfOk result (λ l. string_bytes l.told ≡ []) }
 {
     let ignored = ignored_of(alloc, host, documents)?;
-    pictured(alloc, &setting.policy, &setting.file.schemes, &ignored)
+    pictured(alloc, setting, &ignored)
 }

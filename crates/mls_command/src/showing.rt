@@ -1,6 +1,5 @@
 //! The canonical texts of a policy and its schemes, and what is told of them.
-ghost use Rattle.std.specs.Prelude.{◌≡◌, ◌++◌, [], length, string_bytes, IfOk};
-ghost use Rattle.mls_scheme.specs.Scheme.{AreUnder};
+ghost use Rattle.std.specs.Prelude.{◌≡◌, ◌++◌, [], string_bytes, IfOk};
 ghost use Rattle.mls_lattice.specs.Canon as lattice;
 ghost use Rattle.mls_scheme.specs.Canon as scheme;
 ghost use Rattle.mls_command.specs.Showing.{IsPictured};
@@ -8,35 +7,27 @@ ghost use Rattle.mls_host.specs.declared.ending.Ending.TheVariants.{Well};
 
 use crate::listing::Listing;
 use mls_advice::picture;
-use mls_host::{Ending, ending_if};
-use mls_lattice::Policy;
-use mls_scheme::{Schemes, SchemesFile};
+use mls_host::{Ending, Setting, ending_if};
 use std::alloc::{AllocError, Global};
 
 /// The canonical texts of a policy and its schemes.
-fn texts_of(alloc: Global, policy: &Policy, file: &SchemesFile) -> Result<Vec<u8>, AllocError>
-    requires { AreUnder (length policy.now.labels) file.now.schemes }
-    ensures { IfOk result (λ text. text.items ≡ lattice.canon_of policy.now ++ scheme.canon_of policy.now
-        file.now.version file.now.schemes) }
+fn texts_of(alloc: Global, setting: &Setting) -> Result<Vec<u8>, AllocError>
+    ensures { IfOk result (λ text. text.items ≡ lattice.canon_of setting.now.policy
+        ++ scheme.canon_of setting.now.policy setting.now.file.version setting.now.file.schemes) }
 {
-    let mut text = policy.canon(alloc)?;
-    text.append(&mut file.canon(alloc, policy)?)?;
+    let mut text = setting.policy.canon(alloc)?;
+    text.append(&mut setting.file.canon(alloc, &setting.policy)?)?;
     Ok(text)
 }
 
 /// The canonical texts, as they are printed.
-pub(crate) fn texts(
-    alloc: Global,
-    policy: &Policy,
-    file: &SchemesFile,
-) -> Result<Listing, AllocError>
-    requires { AreUnder (length policy.now.labels) file.now.schemes }
-    ensures text { IfOk result (λ l. l.text.items ≡ lattice.canon_of policy.now ++ scheme.canon_of policy.now
-        file.now.version file.now.schemes) }
+pub(crate) fn texts(alloc: Global, setting: &Setting) -> Result<Listing, AllocError>
+    ensures text { IfOk result (λ l. l.text.items ≡ lattice.canon_of setting.now.policy
+        ++ scheme.canon_of setting.now.policy setting.now.file.version setting.now.file.schemes) }
     ensures told { IfOk result (λ l. string_bytes l.told ≡ []) }
     ensures end { IfOk result (λ l. l.ending ≡ Well) }
 {
-    let text = texts_of(alloc, policy, file)?;
+    let text = texts_of(alloc, setting)?;
     Ok(Listing {
         text,
         told: String::new(alloc),
@@ -48,15 +39,13 @@ pub(crate) fn texts(
 /// reads, which end the command with 1.
 pub(crate) fn pictured(
     alloc: Global,
-    policy: &Policy,
-    schemes: &Schemes,
+    setting: &Setting,
     ignored: &str,
 ) -> Result<Listing, AllocError>
-    requires { AreUnder (length policy.now.labels) schemes.now }
     ensures text { IfOk result (λ l. IsPictured ignored.now l.text.items l.ending) }
     ensures told { IfOk result (λ l. string_bytes l.told ≡ []) }
 {
-    let mut text = picture(alloc, policy, schemes)?;
+    let mut text = picture(alloc, &setting.policy, &setting.file.schemes)?;
     text.push_str(ignored)?;
     Ok(Listing {
         text: text.into_bytes(),

@@ -27,7 +27,8 @@ use Rattle.mls_runs.specs.Running.{first_world}
 use Rattle.mls_runs.proofs.RunningLemmas.{end_weaker}
 use Rattle.mls_runs.specs.Shell.{events_in}
 use Rattle.mls_runs.specs.Desk.{IsService, IsDesk}
-use Rattle.mls_runs.specs.DeskRun.{IsDeskFrom, IsDeskRun}
+use Rattle.mls_runs.specs.DeskRun.{IsDeskRun}
+use Rattle.mls_runs.specs.Work.{IsOverStore}
 
 -- lines that are answered over a content, which is left as another
 pub desk_at : (echo : List ℕ → List ℕ) (site : Site) (sessions : Sessions) (first left : Content) (before after : Option (List ℕ)) (Broken : Type 0) (Wrote : List ℕ → Type 0) (end : Result Ending RunFault)
@@ -67,7 +68,7 @@ module _ (h : Hosted) (inputs : Inputs) (store : Option (List ℕ)) (Wrote : Lis
   abbrev Nothing : Reason → Type 0
   Nothing reason = IsNotBegun h.before inputs.setting.policy inputs.setting.file store reason × Wrote []
 
-  abbrev Ends : Result Ending Stop → Type 0
+  abbrev pub Ends : Result Ending Stop → Type 0
   Ends r = IsEnd (IsDeskRun h inputs store Wrote) Nothing r
 
   -- at the exit of a `?`
@@ -75,12 +76,13 @@ module _ (h : Hosted) (inputs : Inputs) (store : Option (List ℕ)) (Wrote : Lis
   desk_before r is wrote = carried Ends r (Before Memory) is (no_memory refl, wrote)
 
   module _ (stored : List Stored) (before after : Option (List ℕ)) (Broken : Type 0)
-      (stored_are : AreStoredWith inputs.setting.policy inputs.certificates inputs.transactions stored) (typed : h.before.types before) (broken : Broken → h.before.breaks) where
+      (stored_are : AreStoredWith inputs.setting.policy inputs.certificates inputs.transactions stored) (typed : h.before.types before) (broken : Broken → h.before.breaks)
+      (Still : Type 0) (still : Still → Wrote []) where
     abbrev at : Site
     at = site_of inputs.setting.policy inputs.setting.file.schemes stored
 
     abbrev Desks : Result Ending RunFault → Type 0
-    Desks = IsDeskFrom h before after Broken Wrote inputs.setting.file store at
+    Desks = IsOverStore h inputs.setting.policy inputs.setting.file store (IsDesk h.echo at before after Broken Wrote)
 
     desk_run : (end : Result Ending RunFault) → Desks end → IsDeskRun h inputs store Wrote end
     desk_run end k = record {
@@ -98,11 +100,11 @@ module _ (h : Hosted) (inputs : Inputs) (store : Option (List ℕ)) (Wrote : Lis
       };
     }
 
-    -- its store was barred, and nothing was written
+    -- its store was barred, and all is still as it was
     abbrev Barred : Reason → Type 0
-    Barred reason = IsBarred h.before inputs.setting.policy inputs.setting.file store reason × Wrote []
+    Barred reason = IsBarred h.before inputs.setting.policy inputs.setting.file store reason × Still
 
     pub desk_over_stored : (r : Result Ending Stop) → IsEnd Desks Barred r → Ends r
     desk_over_stored r k =
-        let g : (reason : Reason) → Barred reason → Nothing reason = λ reason n. (no_store n.0, n.1) in
+        let g : (reason : Reason) → Barred reason → Nothing reason = λ reason n. (no_store n.0, still n.1) in
         end_weaker Desks Barred (IsDeskRun h inputs store Wrote) Nothing desk_run g r k

@@ -1,28 +1,38 @@
 -- Runs over a content: where they begin, the lines of their events, what they leave, and how they end.
 use Rattle.std.proofs.Common.{◌≡◌, ℕ, List, Option, Some, None, Result, Ok, Err, OnOk, IfErr, IfSome, take, refl, sym, subst, Bor}
 use Rattle.std.specs.Io.KnownBytes.{Appends}
+use Rattle.std.specs.List.{AllByRecursion}
 use Rattle.mls_lattice.specs.Policy.{Policy}
 use Rattle.mls_scheme.specs.declared.file.SchemesFile.{SchemesFile}
 use Rattle.mls_filterview.specs.Content.{Content, no_content}
 use Rattle.mls_audit.specs.Sound.{IsSoundContent}
+use Rattle.mls_translang.specs.Fits.{IsReadUnder}
+use Rattle.mls_translang.specs.Tx.{Tx}
 use Rattle.mls_script.specs.declared.event.Event.{Event}
 use Rattle.mls_machine.specs.declared.form.Audience.{Audience}
-use Rattle.mls_certcheck.specs.Site.{Site}
+use Rattle.mls_certcheck.specs.Reading.{Block}
+use Rattle.mls_certcheck.specs.Site.{Site, site_of}
+use Rattle.mls_certcheck.specs.declared.stored.Stored.{Stored}
 use Rattle.mls_machine.specs.Machine.{World, Sessions}
 use Rattle.mls_machine.specs.Observation.{PassesOnlyReleasesDown, ShowsOnlyReleases}
 use Rattle.mls_machine.specs.Laws.{KeepsIntegrity}
 use Rattle.mls_machine.proofs.RunLemmas.{shows_only_releases}
 use Rattle.mls_script.specs.declared.run_fault.RunFault.{RunFault}
 use Rattle.mls_sessions.specs.World.{world_at}
+use Rattle.mls_sessions.specs.Engine.{MayServe}
 use Rattle.mls_sessions.specs.Run.{IsWhole, IsStopped as IsHalted, IsFaultOf}
 use Rattle.mls_host.specs.declared.host.CloseFault.{CloseFault}
+use Rattle.mls_host.specs.declared.job.Setting.{Setting}
+use Rattle.mls_host.specs.Storing.{AreStoredWith}
+use Rattle.mls_host.proofs.StoringLemmas.{stored_read, stored_certified}
 use Rattle.mls_host.specs.declared.stop.Stop.{Stop}
 use Rattle.mls_host.specs.declared.reason.Reason.{Reason}
 use Rattle.mls_host.specs.declared.stop.Stop.TheVariants.{Before, Run, NotClosed}
-use Rattle.mls_host.specs.Hosting.{Hosted, IsClean, IsOver}
+use Rattle.mls_host.specs.Hosting.{Hosted}
 use Rattle.mls_host.specs.Stop.{ended, IsEnd}
 use Rattle.mls_host.specs.Words.{named}
 use Rattle.mls_runs.specs.Running.{first_world, IsRun}
+use Rattle.mls_runs.specs.Work.{IsOverStore}
 
 -- what an engine's run comes to: its lines, its last world, and what is proved of it
 pub record IsEngineRun (site : Site) (audience : Audience) (v : World) (es : List Event) (before after : Option (List ℕ)) (new : World) (r : Result (Unit {0}) RunFault) : Type 0 where
@@ -57,6 +67,12 @@ run_at site audience sessions first left es before after (Err fault) sound h = r
   shown = shown_to site audience.reader (first_world site first) es h.secret;
 }
 
+-- ---- what may be served
+
+-- what is stored of transactions, with certificates
+pub may_serve : (s : Setting) (blocks : List Block) (txs : List Tx) (stored : List Stored) → AllByRecursion (IsReadUnder s.policy s.file.schemes) txs → AreStoredWith s.policy blocks txs stored → MayServe (site_of s.policy s.file.schemes stored)
+may_serve s blocks txs stored read h = record { under = s.under; read = stored_read s.policy s.file.schemes blocks txs stored read h; certified = stored_certified s.policy s.file.schemes blocks txs stored h }
+
 -- ---- how runs and shells end
 
 module _ {A : Type 0} (Ends : Result A RunFault → Type 0) (Nothing : Reason → Type 0) where
@@ -78,7 +94,7 @@ module _ {A : Type 0} (Ends : Result A RunFault → Type 0) (Nothing : Reason �
 
 module _ {A : Type 0} (h : Hosted) (file : SchemesFile) (policy : Policy) (Leads : Result A RunFault → Content → Content → Type 0) where
   abbrev From : Option (List ℕ) → Result A RunFault → Type 0
-  From store end = IsClean h store → IsOver h policy file store (Leads end)
+  From store = IsOverStore h policy file store Leads
 
   abbrev Fresh : Result A RunFault → Type 0
   Fresh end = (left : Content) × Leads end no_content left

@@ -1,7 +1,9 @@
 -- Runs of scripts.
 use Rattle.std.proofs.Common.{refl, ◌≡◌, ℕ, Bool, List, [], Option, Result, Ok, Err, sym, subst, IsErrAnd}
 use Rattle.mls_certcheck.specs.declared.stored.Stored.{Stored}
+use Rattle.mls_script.specs.declared.event.Event.{Event}
 use Rattle.mls_script.specs.declared.run_fault.RunFault.{RunFault}
+use Rattle.mls_machine.specs.declared.form.Form.{Form}
 use Rattle.mls_host.specs.declared.reason.Reason.{Reason}
 use Rattle.mls_host.specs.declared.stop.Stop.{Stop}
 use Rattle.mls_host.specs.declared.stop.Stop.TheVariants.{Before}
@@ -12,7 +14,9 @@ use Rattle.mls_host.specs.Storing.{AreStoredWith}
 use Rattle.mls_host.specs.Causes.{IsBarred, IsNotBegun, no_memory, no_store}
 use Rattle.mls_host.specs.Stop.{IsEnd}
 use Rattle.mls_runs.proofs.RunningLemmas.{end_weaker}
-use Rattle.mls_runs.specs.ScriptRun.{audience_of, site_under, IsRunFrom, IsScriptRun}
+use Rattle.mls_runs.specs.ScriptRun.{site_under, IsScriptRun}
+use Rattle.mls_runs.specs.Running.{IsRun, form_of}
+use Rattle.mls_runs.specs.Work.{IsOverStore}
 
 -- ---- the events of a script
 
@@ -21,20 +25,24 @@ module _ (h : Hosted) (inputs : Inputs) (store : Option (List ℕ)) (is_table : 
   abbrev pub NotBegun : Reason → Type 0
   NotBegun reason = IsNotBegun h.before inputs.setting.policy inputs.setting.file store reason × Wrote []
 
-  -- the events of a script, over what is stored
-  pub script_run : (stored : List Stored) → AreStoredWith inputs.setting.policy inputs.certificates inputs.transactions stored → (r : Result (Unit {0}) Stop)
-      → IsEnd (IsRunFrom h inputs.setting.file store (site_under inputs.setting stored) (audience_of inputs.setting is_table) inputs.events Wrote)
-      (λ reason. IsBarred h.before inputs.setting.policy inputs.setting.file store reason × Wrote []) r
-      → IsEnd (IsScriptRun h inputs store is_table Wrote) NotBegun r
-  script_run stored stored_are r run =
-      let f : (end : Result (Unit {0}) RunFault) → IsRunFrom h inputs.setting.file store (site_under inputs.setting stored) (audience_of inputs.setting is_table) inputs.events Wrote end → IsScriptRun h inputs store is_table Wrote end
-      = λ end k. record { stored = stored; stored_are = stored_are; run = k } in
-      let g : (reason : Reason) → (IsBarred h.before inputs.setting.policy inputs.setting.file store reason × Wrote []) → NotBegun reason
-      = λ reason k. (no_store k.0, k.1) in
-      end_weaker (IsRunFrom h inputs.setting.file store (site_under inputs.setting stored) (audience_of inputs.setting is_table) inputs.events Wrote)
-      (λ reason. IsBarred h.before inputs.setting.policy inputs.setting.file store reason × Wrote []) (IsScriptRun h inputs store is_table Wrote) NotBegun f g r run
+  abbrev pub Ends : Result (Unit {0}) Stop → Type 0
+  Ends r = IsEnd (IsScriptRun h inputs store is_table Wrote) NotBegun r
+
+  module _ (stored : List Stored) (stored_are : AreStoredWith inputs.setting.policy inputs.certificates inputs.transactions stored) (Still : Type 0) (still : Still → Wrote []) where
+    abbrev Runs : Form → List Event → Result (Unit {0}) RunFault → Type 0
+    Runs form events = IsOverStore h inputs.setting.policy inputs.setting.file store (IsRun (site_under inputs.setting stored) (record { reader = inputs.setting.reader; form = form }) events Wrote)
+
+    -- the events of a script, over what is stored; where none is answered, all is still as it was
+    pub script_run : (form : Form) (events : List Event) → form ≡ form_of is_table → events ≡ inputs.events → (r : Result (Unit {0}) Stop)
+        → IsEnd (Runs form events) (λ reason. IsBarred h.before inputs.setting.policy inputs.setting.file store reason × Still) r → Ends r
+    script_run form events is are r run =
+        let f : (end : Result (Unit {0}) RunFault) → Runs form events end → IsScriptRun h inputs store is_table Wrote end
+        = λ end k. record { stored = stored; stored_are = stored_are; run = subst (λ es. Runs (form_of is_table) es end) are (subst (λ (x : Form). Runs x events end) is k) } in
+        let g : (reason : Reason) → (IsBarred h.before inputs.setting.policy inputs.setting.file store reason × Still) → NotBegun reason
+        = λ reason k. (no_store k.0, still k.1) in
+        end_weaker (Runs form events) (λ reason. IsBarred h.before inputs.setting.policy inputs.setting.file store reason × Still) (IsScriptRun h inputs store is_table Wrote) NotBegun f g r run
 
   -- at the exit of a `?`
-  pub not_begun : (r : Result (Unit {0}) Stop) → IsErrAnd r (λ e. e ≡ Before Memory) → Wrote [] → IsEnd (IsScriptRun h inputs store is_table Wrote) NotBegun r
+  pub not_begun : (r : Result (Unit {0}) Stop) → IsErrAnd r (λ e. e ≡ Before Memory) → Wrote [] → Ends r
   not_begun (Ok u) is k = absurd is
-  not_begun (Err e) is k = subst (λ x. IsEnd (IsScriptRun h inputs store is_table Wrote) NotBegun (Err x)) (sym is) (no_memory refl, k)
+  not_begun (Err e) is k = subst (λ x. Ends (Err x)) (sym is) (no_memory refl, k)

@@ -28,7 +28,8 @@ use Rattle.mls_host.specs.Causes.{IsBarred, no_memory, no_store}
 use Rattle.mls_host.specs.Stop.{IsEnd}
 use Rattle.mls_runs.specs.Running.{first_world}
 use Rattle.mls_runs.specs.Shell.{audience_at, opening, events_in, IsConversation, IsShell}
-use Rattle.mls_runs.specs.ShellRun.{shell_session_of, IsShellFrom, IsShellRun, IsShellRefused, not_begun}
+use Rattle.mls_runs.specs.ShellRun.{shell_session_of, IsShellRun, IsShellRefused, not_begun}
+use Rattle.mls_runs.specs.Work.{IsOverStore}
 use Rattle.mls_runs.proofs.RunningLemmas.{run_at, end_weaker}
 
 pub opening_fits : (site : Site) (session : ShellSession) → session.level < length site.policy.labels → is_name session.user ≡ true → EventsFit site (opening session ∷ [])
@@ -74,7 +75,7 @@ module _ (h : Hosted) (inputs : Inputs) (store : Option (List ℕ)) (label user 
   abbrev Nothing : Reason → Type 0
   Nothing reason = IsShellRefused h.before inputs.setting store reason × Wrote [] × Told []
 
-  abbrev Ends : Result Ending Stop → Type 0
+  abbrev pub Ends : Result Ending Stop → Type 0
   Ends r = IsEnd (IsShellRun h inputs store label user Wrote Told) Nothing r
 
   -- at the exit of a `?`
@@ -83,17 +84,18 @@ module _ (h : Hosted) (inputs : Inputs) (store : Option (List ℕ)) (label user 
 
   module _ (stored : List Stored) (level : ℕ) (before after : Option (List ℕ)) (Broken : Type 0)
       (stored_are : AreStoredWith inputs.setting.policy inputs.certificates inputs.transactions stored)
-      (level_is : inputs.setting.reader ≡ Some level) (typed : h.before.types before) (broken : Broken → h.before.breaks) where
+      (level_is : inputs.setting.reader ≡ Some level) (typed : h.before.types before) (broken : Broken → h.before.breaks)
+      (Still : Type 0) (still : Still → (Wrote [] × Told [])) where
     abbrev at : Site
     at = site_of inputs.setting.policy inputs.setting.file.schemes stored
 
     abbrev session : ShellSession
     session = shell_session_of label user level h.before.is_terminal h.before.is_watched
 
-    abbrev Shells : Result Ending RunFault → Type 0
-    Shells = IsShellFrom h before after Broken Wrote Told inputs.setting.file store at session
+    abbrev Shells : ShellSession → Result Ending RunFault → Type 0
+    Shells who = IsOverStore h inputs.setting.policy inputs.setting.file store (IsShell h.echo at who before after Broken Wrote Told)
 
-    shell_run : (end : Result Ending RunFault) → Shells end → IsShellRun h inputs store label user Wrote Told end
+    shell_run : (end : Result Ending RunFault) → Shells session end → IsShellRun h inputs store label user Wrote Told end
     shell_run end k = record {
       stored = stored;
       level = level;
@@ -111,11 +113,13 @@ module _ (h : Hosted) (inputs : Inputs) (store : Option (List ℕ)) (label user 
       };
     }
 
-    -- its store was barred, and nothing was written
+    -- its store was barred, and all is still as it was
     abbrev Barred : Reason → Type 0
-    Barred reason = IsBarred h.before inputs.setting.policy inputs.setting.file store reason × Wrote [] × Told []
+    Barred reason = IsBarred h.before inputs.setting.policy inputs.setting.file store reason × Still
 
-    pub shell_over_stored : (r : Result Ending Stop) → IsEnd Shells Barred r → Ends r
-    shell_over_stored r k =
-        let g : (reason : Reason) → Barred reason → Nothing reason = λ reason n. (not_begun (no_store n.0), n.1, n.2) in
-        end_weaker Shells Barred (IsShellRun h inputs store label user Wrote Told) Nothing shell_run g r k
+    pub shell_over_stored : (who : ShellSession) → who ≡ session → (r : Result Ending Stop) → IsEnd (Shells who) Barred r → Ends r
+    shell_over_stored who is r k =
+        let f : (end : Result Ending RunFault) → Shells who end → IsShellRun h inputs store label user Wrote Told end
+        = λ end x. shell_run end (subst (λ w. Shells w end) is x) in
+        let g : (reason : Reason) → Barred reason → Nothing reason = λ reason n. (let s = still n.1 in (not_begun (no_store n.0), s.0, s.1)) in
+        end_weaker (Shells who) Barred (IsShellRun h inputs store label user Wrote Told) Nothing f g r k

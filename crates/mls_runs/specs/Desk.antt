@@ -6,7 +6,7 @@ use Rattle.std.specs.Io.KnownBytes.{Appends, IsAtEnd}
 use Rattle.mls_lattice.specs.Policy.{Policy}
 use Rattle.mls_tokens.specs.declared.token.Placed.{Placed}
 use Rattle.mls_tokens.specs.Scanning.{tokens_at}
-use Rattle.mls_scheme.specs.Scheme.{Schemes, AreUnder}
+use Rattle.mls_scheme.specs.Scheme.{Schemes}
 use Rattle.mls_filterview.specs.Content.{Content}
 use Rattle.mls_audit.specs.Sound.{IsSoundContent}
 use Rattle.mls_script.specs.declared.event.Event.{Event}
@@ -16,7 +16,7 @@ use Rattle.mls_script.specs.declared.fault.ScriptFault.{ScriptFault}
 use Rattle.mls_script.specs.declared.fault.ScriptCause.TheVariants.{Expected}
 use Rattle.mls_script.specs.Reading.{script_at}
 use Rattle.mls_script.specs.Script.{ReadsScript}
-use Rattle.mls_certcheck.specs.Site.{Site, AreRead, AreCertified}
+use Rattle.mls_certcheck.specs.Site.{Site}
 use Rattle.mls_machine.specs.Machine.{World, end_of}
 use Rattle.mls_machine.specs.Observation.{EventsFit, PassesOnlyReleasesDown}
 use Rattle.mls_machine.specs.Laws.{KeepsIntegrity}
@@ -31,12 +31,6 @@ use Rattle.mls_runs.specs.declared.shell_session.Fate.{Fate}
 use Rattle.mls_runs.specs.declared.shell_session.Fate.TheVariants.{Over, Said, Refused}
 use Rattle.mls_runs.specs.Shell.{Turn, IsShellTurn, FateFits, events_of, events_in, is_last, is_failed, is_lost}
 use Rattle.mls_runs.specs.Marks.{mark_of}
-
--- A desk may begin: what is stored was read and checked under the policy.
-pub record MayServe (site : Site) : Type 0 where
-  pub under : AreUnder (length site.policy.labels) site.schemes
-  pub read : AreRead site
-  pub certified : AreCertified site
 
 -- ---- what becomes of a line, whatever the database
 

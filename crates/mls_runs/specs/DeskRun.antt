@@ -1,20 +1,14 @@
 -- A desk that the words of a command line ask for, over a store or over nothing.
 use Rattle.std.specs.Prelude.{ℕ, List, Option, Result}
-use Rattle.mls_scheme.specs.declared.file.SchemesFile.{SchemesFile}
 use Rattle.mls_certcheck.specs.declared.stored.Stored.{Stored}
-use Rattle.mls_certcheck.specs.Site.{Site, site_of}
+use Rattle.mls_certcheck.specs.Site.{site_of}
 use Rattle.mls_script.specs.declared.run_fault.RunFault.{RunFault}
 use Rattle.mls_host.specs.declared.ending.Ending.{Ending}
 use Rattle.mls_host.specs.declared.job.Inputs.{Inputs}
-use Rattle.mls_host.specs.Hosting.{Hosted, IsClean, IsOver}
+use Rattle.mls_host.specs.Hosting.{Hosted}
 use Rattle.mls_host.specs.Storing.{AreStoredWith}
 use Rattle.mls_runs.specs.Desk.{IsDesk}
-
-module _ (h : Hosted) (before after : Option (List ℕ)) (Broken : Type 0) (Wrote : List ℕ → Type 0) where
-  -- what is typed is answered over a store, where that is clean
-  abbrev pub IsDeskFrom : SchemesFile → Option (List ℕ) → Site → Result Ending RunFault → Type 0
-  IsDeskFrom file store site end =
-      IsClean h store → IsOver h site.policy file store (IsDesk h.echo site before after Broken Wrote end)
+use Rattle.mls_runs.specs.Work.{IsOverStore}
 
 -- what the host says is typed is answered, over what is stored of the transactions with the certificates
 pub record IsDeskRun (h : Hosted) (inputs : Inputs) (store : Option (List ℕ)) (Wrote : List ℕ → Type 0)
@@ -24,5 +18,6 @@ pub record IsDeskRun (h : Hosted) (inputs : Inputs) (store : Option (List ℕ)) 
   pub after : Option (List ℕ)
   pub stored_are : AreStoredWith inputs.setting.policy inputs.certificates inputs.transactions stored
   pub typed : h.before.types before
-  pub desk : IsDeskFrom h before after h.before.breaks Wrote inputs.setting.file store
-      (site_of inputs.setting.policy inputs.setting.file.schemes stored) end
+  pub desk : IsOverStore h inputs.setting.policy inputs.setting.file store
+      (IsDesk h.echo (site_of inputs.setting.policy inputs.setting.file.schemes stored) before after h.before.breaks
+      Wrote) end

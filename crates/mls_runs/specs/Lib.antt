@@ -13,6 +13,7 @@ pub mod Marks
 pub mod Reading
 pub mod TurnRun
 pub mod Typed
+pub mod Work
 pub mod Shell
 pub mod ShellRun
 pub mod Tally

@@ -1,25 +1,22 @@
 -- A script that is run, over a store or over nothing.
 use Rattle.std.specs.Prelude.{◌<◌, ℕ, Bool, List, length, Option, IfSome, Result}
-use Rattle.mls_scheme.specs.Scheme.{AreUnder}
-use Rattle.mls_scheme.specs.declared.file.SchemesFile.{SchemesFile}
 use Rattle.mls_script.specs.declared.event.Event.{Event}
 use Rattle.mls_certcheck.specs.declared.stored.Stored.{Stored}
 use Rattle.mls_machine.specs.declared.form.Audience.{Audience}
-use Rattle.mls_certcheck.specs.Site.{Site, AreRead, AreCertified, site_of}
+use Rattle.mls_certcheck.specs.Site.{Site, site_of}
 use Rattle.mls_machine.specs.Observation.{EventsFit}
 use Rattle.mls_script.specs.declared.run_fault.RunFault.{RunFault}
-use Rattle.mls_host.specs.Hosting.{Hosted, IsClean, IsOver}
+use Rattle.mls_sessions.specs.Engine.{MayServe}
+use Rattle.mls_host.specs.Hosting.{Hosted}
 use Rattle.mls_host.specs.declared.job.Setting.{Setting}
 use Rattle.mls_host.specs.declared.job.Inputs.{Inputs}
 use Rattle.mls_host.specs.Storing.{AreStoredWith}
 use Rattle.mls_runs.specs.Running.{IsRun, form_of}
+use Rattle.mls_runs.specs.Work.{IsOverStore}
 
--- events may be run for an audience: the schemes have the policy's labels, what is stored was read and checked, the
--- events fit, and the reader, if there is one, is a label
+-- events may be run for an audience: they fit, and the reader, if there is one, is a label
 pub record MayRun (site : Site) (audience : Audience) (events : List Event) : Type 0 where
-  pub under : AreUnder (length site.policy.labels) site.schemes
-  pub read : AreRead site
-  pub certified : AreCertified site
+  pub serves : MayServe site
   pub fits : EventsFit site events
   pub declared : IfSome audience.reader (λ c. c < length site.policy.labels)
 
@@ -31,19 +28,11 @@ audience_of s is_table = record { reader = s.reader; form = form_of is_table }
 abbrev pub site_under : Setting → List Stored → Site
 site_under s stored = site_of s.policy s.file.schemes stored
 
-module _ (h : Hosted) where
-  -- events are run over a store, where that is clean
-  abbrev pub IsRunFrom : SchemesFile → Option (List ℕ) → Site → Audience → List Event → (List ℕ → Type 0)
-      → Result (Unit {0}) RunFault → Type 0
-  IsRunFrom file store site audience events Wrote end =
-      IsClean h store → IsOver h site.policy file store (IsRun site audience events Wrote end)
-
-  -- the events that were read are run, over what is stored of the transactions with the certificates; the run ended, or
-  -- stopped at a fault
-  pub record IsScriptRun (inputs : Inputs) (store : Option (List ℕ)) (is_table : Bool) (Wrote : List ℕ → Type 0)
-      (end : Result (Unit {0}) RunFault) : Type 0 where
-    pub stored : List Stored
-    pub stored_are : AreStoredWith inputs.setting.policy inputs.certificates inputs.transactions stored
-    pub run :
-        IsRunFrom inputs.setting.file store (site_under inputs.setting stored) (audience_of inputs.setting is_table)
-        inputs.events Wrote end
+-- the events that were read are run, over what is stored of the transactions with the certificates; the run ended, or
+-- stopped at a fault
+pub record IsScriptRun (h : Hosted) (inputs : Inputs) (store : Option (List ℕ)) (is_table : Bool)
+    (Wrote : List ℕ → Type 0) (end : Result (Unit {0}) RunFault) : Type 0 where
+  pub stored : List Stored
+  pub stored_are : AreStoredWith inputs.setting.policy inputs.certificates inputs.transactions stored
+  pub run : IsOverStore h inputs.setting.policy inputs.setting.file store
+      (IsRun (site_under inputs.setting stored) (audience_of inputs.setting is_table) inputs.events Wrote) end

@@ -6,7 +6,7 @@ use Rattle.std.specs.List.{AllByRecursion, list_all, list_any, starts_with}
 use Rattle.std.specs.Io.KnownBytes.{Appends, Consumes, IsAtEnd}
 use Rattle.mls_lattice.specs.Name.{is_name}
 use Rattle.mls_lattice.specs.Policy.{Policy}
-use Rattle.mls_scheme.specs.Scheme.{Schemes, AreUnder}
+use Rattle.mls_scheme.specs.Scheme.{Schemes}
 use Rattle.mls_filterview.specs.Content.{Content}
 use Rattle.mls_script.specs.declared.event.Event.{Event}
 use Rattle.mls_script.specs.declared.event.Command.TheVariants.{Open}
@@ -16,11 +16,12 @@ use Rattle.mls_script.specs.Event.{EventFits}
 use Rattle.mls_script.specs.Reading.{script_at}
 use Rattle.mls_script.specs.Script.{ReadsScript}
 use Rattle.mls_machine.specs.declared.form.Audience.{Audience}
-use Rattle.mls_certcheck.specs.Site.{Site, AreRead, AreCertified}
+use Rattle.mls_certcheck.specs.Site.{Site}
 use Rattle.mls_machine.specs.Machine.{World, end_of}
 use Rattle.mls_machine.specs.Observation.{EventsFit, run_shows, reader_of}
 use Rattle.mls_script.specs.declared.run_fault.RunCause.TheVariants.{Store}
 use Rattle.mls_script.specs.declared.run_fault.RunFault.{RunFault}
+use Rattle.mls_sessions.specs.Engine.{MayServe}
 use Rattle.mls_sessions.specs.Run.{are_done, IsWhole, IsStopped, IsFaultOf}
 use Rattle.mls_tokens.specs.Typing.{IsNext, IsLong}
 use Rattle.mls_host.specs.declared.ending.Ending.{Ending}
@@ -59,12 +60,9 @@ is_open session w = is_some (w.sessions session.level session.user)
 abbrev pub is_own : ShellSession → Event → Bool
 is_own session e = nat_eq e.level session.level && bytes_eq e.session session.user
 
--- A shell may begin: what is stored was read and checked under the policy, and the first event opens the session of a
--- user at a level.
+-- A shell may begin: the first event opens the session of a user at a level.
 pub record MayTalk (site : Site) (session : ShellSession) (events : List Event) : Type 0 where
-  pub under : AreUnder (length site.policy.labels) site.schemes
-  pub read : AreRead site
-  pub certified : AreCertified site
+  pub serves : MayServe site
   pub level : session.level < length site.policy.labels
   pub user : is_name session.user ≡ true
   pub first : events ≡ opening session ∷ []

@@ -1,8 +1,7 @@
 -- A shell that the words of a command line ask for, over a store or over nothing.
 use Rattle.std.specs.Prelude.{◌≡◌, ℕ, Bool, List, Option, Some, None, Result}
-use Rattle.mls_scheme.specs.declared.file.SchemesFile.{SchemesFile}
 use Rattle.mls_certcheck.specs.declared.stored.Stored.{Stored}
-use Rattle.mls_certcheck.specs.Site.{Site, site_of}
+use Rattle.mls_certcheck.specs.Site.{site_of}
 use Rattle.mls_script.specs.declared.run_fault.RunFault.{RunFault}
 use Rattle.mls_host.specs.declared.ending.Ending.{Ending}
 use Rattle.mls_runs.specs.declared.shell_session.ShellSession.{ShellSession}
@@ -11,9 +10,10 @@ use Rattle.mls_host.specs.declared.reason.Reason.TheVariants.{Label}
 use Rattle.mls_host.specs.declared.job.Setting.{Setting}
 use Rattle.mls_host.specs.declared.job.Inputs.{Inputs}
 use Rattle.mls_host.specs.Causes.{IsNotBegun}
-use Rattle.mls_host.specs.Hosting.{Hosting, Hosted, IsClean, IsOver}
+use Rattle.mls_host.specs.Hosting.{Hosting, Hosted}
 use Rattle.mls_host.specs.Storing.{AreStoredWith}
 use Rattle.mls_runs.specs.Shell.{IsShell}
+use Rattle.mls_runs.specs.Work.{IsOverStore}
 
 -- who sits at a shell, by its words
 abbrev pub shell_session_of : List ℕ → List ℕ → ℕ → Bool → Bool → ShellSession
@@ -24,12 +24,6 @@ shell_session_of label user level has_prompt is_watched = record {
   has_prompt = has_prompt;
   is_watched = is_watched;
 }
-
-module _ (h : Hosted) (before after : Option (List ℕ)) (Broken : Type 0) (Wrote Told : List ℕ → Type 0) where
-  -- what is typed is answered over a store, where that is clean
-  abbrev pub IsShellFrom : SchemesFile → Option (List ℕ) → Site → ShellSession → Result Ending RunFault → Type 0
-  IsShellFrom file store site session end =
-      IsClean h store → IsOver h site.policy file store (IsShell h.echo site session before after Broken Wrote Told end)
 
 -- what the host says is typed is answered, at a label for a user, over what is stored of the transactions with the
 -- certificates
@@ -42,9 +36,10 @@ pub record IsShellRun (h : Hosted) (inputs : Inputs) (store : Option (List ℕ))
   pub stored_are : AreStoredWith inputs.setting.policy inputs.certificates inputs.transactions stored
   pub level_is : inputs.setting.reader ≡ Some level
   pub typed : h.before.types before
-  pub shell : IsShellFrom h before after h.before.breaks Wrote Told inputs.setting.file store
-      (site_of inputs.setting.policy inputs.setting.file.schemes stored)
-      (shell_session_of label user level h.before.is_terminal h.before.is_watched) end
+  pub shell : IsOverStore h inputs.setting.policy inputs.setting.file store
+      (IsShell h.echo (site_of inputs.setting.policy inputs.setting.file.schemes stored)
+      (shell_session_of label user level h.before.is_terminal h.before.is_watched)
+      before after h.before.breaks Wrote Told) end
 
 -- a shell is not begun: it has no level; or there is no memory; or its store is barred
 pub data IsShellRefused (h : Hosting) (s : Setting) (store : Option (List ℕ)) (reason : Reason) : Type 0 where

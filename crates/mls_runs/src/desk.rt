@@ -2,13 +2,12 @@
 //! Blank lines and comments tell no events: no case of their own. A mark that tells a fault is made before any of it is
 //! written. A read that fails is told as a refusal, since all that was answered stands; no mark is printed.
 ghost use Rattle.std.specs.Prelude.{◌≡◌, ◌≤◌, false, length, OnOk};
-ghost use Rattle.mls_audit.specs.Sound.{IsSoundContent};
 ghost use Rattle.mls_machine.specs.Observation.{EventsFit};
-ghost use Rattle.mls_sessions.specs.Engine.{site, world_of, IsEngineReady, Continues, Leaves};
+ghost use Rattle.mls_sessions.specs.Engine.{site, world_of, MayServe, IsAtRest, IsEngineReady, Continues, Leaves};
 ghost use Rattle.mls_host.specs.Hosting.{IsAppended};
 ghost use Rattle.mls_certcheck.specs.Site.{site_of};
 ghost use Rattle.mls_runs.specs.Shell.{events_of, is_failed, is_lost};
-ghost use Rattle.mls_runs.specs.Desk.{MayServe, TellsOne, IsDone, IsFollowed, IsService, IsDesk};
+ghost use Rattle.mls_runs.specs.Desk.{TellsOne, IsDone, IsFollowed, IsService, IsDesk};
 
 use crate::marks::write_mark;
 use crate::reading::next_fate;
@@ -153,8 +152,7 @@ pub fn desk_over_base<B: Base, L: TypedLines, W: Write>(
     out: &mut W,
 ) -> (Result<Ending, RunFault>, B)
     requires may { MayServe (site_of policy.now schemes.now stored) }
-    requires idle { (B.state base).begun ≡ false }
-    requires sound { B.is_clean base → IsSoundContent policy.now schemes.now (B.state base).now }
+    requires rest { IsAtRest B.state B.is_clean policy.now schemes.now base }
     ensures leaves { Leaves B.state B.is_clean B.failures base result.1 result.0 }
     ensures desk { B.is_clean result.1 → IsDesk L.echo (site_of policy.now schemes.now stored) (L.remaining lines.old)
         (L.remaining lines.new) (L.breaks lines.new) (IsAppended W.contents out.old out.new) result.0

@@ -27,6 +27,7 @@ mod turning;
 mod turns;
 mod typed;
 mod words;
+mod work;
 
 pub use crate::desk::desk_over_base;
 pub use crate::desks::run_desk;

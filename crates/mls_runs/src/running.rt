@@ -1,25 +1,23 @@
 //! Scripts that are run over a database: over an empty one in memory, or over that of a store.
-ghost use Rattle.std.specs.Prelude.{◌≡◌, [], false, Some};
-ghost use Rattle.mls_filterview.specs.Content.{Content, no_content};
-ghost use Rattle.mls_audit.specs.Sound.{IsSoundContent};
-ghost use Rattle.mls_sessions.specs.Engine.{Leaves};
+ghost use Rattle.std.specs.Prelude.{◌≡◌, [], refl};
+ghost use Rattle.mls_sessions.specs.Engine.{IsAtRest, Leaves};
 ghost use Rattle.mls_host.specs.Hosting.{hosted, IsAppended};
-ghost use Rattle.mls_host.specs.Stopping.{IsCaused, IsCausedInMemory};
-ghost use Rattle.mls_host.specs.Causes.{IsBarred, IsNotBegun};
+ghost use Rattle.mls_host.specs.Stopping.{IsCaused};
+ghost use Rattle.mls_host.specs.Causes.{IsNotBegun};
 ghost use Rattle.mls_host.specs.Reading.{FitSetting};
 ghost use Rattle.mls_host.specs.Words.{named};
 ghost use Rattle.mls_host.specs.Stop.{IsEnd};
 ghost use Rattle.mls_runs.specs.Running.{IsRun};
 ghost use Rattle.mls_certcheck.specs.Site.{site_of};
-ghost use Rattle.mls_runs.specs.ScriptRun.{MayRun, IsRunFrom, IsScriptRun};
+ghost use Rattle.mls_runs.specs.ScriptRun.{MayRun, IsScriptRun};
 
 use crate::form::form_of;
+use crate::work::{Work, over_store};
 use mls_filterview::Base;
-use mls_fragments::{MemoryBase, OpenFault};
-use mls_host::{Host, Inputs, Reason, Stop, ended, stored_of};
+use mls_host::{Host, Inputs, Stop, stored_of};
 use mls_lattice::{Items, Policy};
 use mls_machine::Audience;
-use mls_scheme::{Schemes, SchemesFile};
+use mls_scheme::Schemes;
 use mls_script::Event;
 use mls_sessions::{Engine, RunFault, Stored, run_to};
 use std::alloc::Global;
@@ -37,8 +35,7 @@ pub fn run_over_base<B: Base, W: Write>(
     out: &mut W,
 ) -> (Result<(), RunFault>, B)
     requires may { MayRun (site_of policy.now schemes.now stored) audience events.now }
-    requires idle { (B.state base).begun ≡ false }
-    requires sound { B.is_clean base → IsSoundContent policy.now schemes.now (B.state base).now }
+    requires rest { IsAtRest B.state B.is_clean policy.now schemes.now base }
     ensures leaves { Leaves B.state B.is_clean B.failures base result.1 result.0 }
     ensures run { B.is_clean result.1 → IsRun (site_of policy.now schemes.now stored) audience events.now
         (IsAppended W.contents out.old out.new) result.0 (B.state base).now (B.state result.1).now }
@@ -48,103 +45,38 @@ pub fn run_over_base<B: Base, W: Write>(
     (outcome, engine.finish())
 }
 
-/// Answers events over an empty database in memory.
-fn run_in_memory<W: Write>(
-    alloc: Global,
-    policy: &Policy,
-    file: &SchemesFile,
-    stored: Items<Stored>,
-    events: &[Event],
+/// A script: events that are answered for an audience.
+#[derive(Drop)]
+pub struct Script<'e, 'o, W: Write> {
+    events: &'e [Event],
     audience: Audience,
-    out: &mut W,
-) -> Result<(), Stop>
-    requires may { MayRun (site_of policy.now file.now.schemes stored) audience events.now }
-    ensures ends { IsEnd (λ end. (left : Content) × IsRun (site_of policy.now file.now.schemes stored) audience events.now
-        (IsAppended W.contents out.old out.new) end no_content left)
-        (λ reason. (reason ≡ Reason.Store OpenFault.Memory) × IsAppended W.contents out.old out.new []) result }
-    ensures caused { IsCausedInMemory result }
-{
-    let base = match MemoryBase::open(alloc, policy, file) {
-        Ok(base) => base,
-        Err(fault) => return Err(Stop::Before(Reason::Store(fault))),
-    };
-    let (outcome, left) = run_over_base(
-        alloc,
-        policy,
-        &file.schemes,
-        stored,
-        base,
-        events,
-        audience,
-        out,
-    );
-    left.close();
-    ended(outcome, Ok(()))
+    out: &'o mut W,
 }
 
-/// Answers events over the database in a store of the host.
-fn run_in_store<H: Host, W: Write>(
-    alloc: Global,
-    host: &mut H,
-    path: &str,
-    policy: &Policy,
-    file: &SchemesFile,
-    stored: Items<Stored>,
-    events: &[Event],
-    audience: Audience,
-    out: &mut W,
-) -> Result<(), Stop>
-    requires may { MayRun (site_of policy.now file.now.schemes stored) audience events.now }
-    ensures ends { IsEnd (IsRunFrom (hosted H.hosting H.Lines.echo host.old host.new) file.now (Some path.now)
-        (site_of policy.now file.now.schemes stored) audience events.now (IsAppended W.contents out.old out.new))
-        (λ reason. IsBarred (H.hosting host.old) policy.now file.now (Some path.now) reason
-        × IsAppended W.contents out.old out.new []) result }
-    ensures caused { IsCaused (hosted H.hosting H.Lines.echo host.old host.new) (Some path.now) result }
-{
-    let base = match host.store(alloc, path, policy, file) {
-        Ok(base) => base,
-        Err(fault) => return Err(Stop::Before(Reason::Store(fault))),
-    };
-    let (outcome, left) = run_over_base(
-        alloc,
-        policy,
-        &file.schemes,
-        stored,
-        base,
-        events,
-        audience,
-        out,
-    );
-    let closed = host.keep(path, left);
-    ended(outcome, closed)
-}
+impl<'e, 'o, W: Write> Work for Script<'e, 'o, W> {
+    type End = ();
 
-/// Answers events over the database in a store of the host, or over an empty one in memory.
-fn run_events<H: Host, W: Write>(
-    alloc: Global,
-    host: &mut H,
-    store: Option<&str>,
-    policy: &Policy,
-    file: &SchemesFile,
-    stored: Items<Stored>,
-    events: &[Event],
-    audience: Audience,
-    out: &mut W,
-) -> Result<(), Stop>
-    requires may { MayRun (site_of policy.now file.now.schemes stored) audience events.now }
-    ensures ends { IsEnd (IsRunFrom (hosted H.hosting H.Lines.echo host.old host.new) file.now (named store.entry)
-        (site_of policy.now file.now.schemes stored) audience events.now (IsAppended W.contents out.old out.new))
-        (λ reason. IsBarred (H.hosting host.old) policy.now file.now (named store.entry) reason
-        × IsAppended W.contents out.old out.new []) result }
-    ensures caused { IsCaused (hosted H.hosting H.Lines.echo host.old host.new) (named store.entry) result }
-{
-    match store {
-        None => run_in_memory(alloc, policy, file, stored, events, audience, out),
-        Some(path) => {
-            run_in_store(
-                alloc, host, path, policy, file, stored, events, audience, out,
-            )
-        }
+    ghost may = { λ w site. MayRun site w.audience w.events.now };
+
+    ghost leads = { λ old new site end first left. IsRun site old.audience old.events.now
+        (IsAppended W.contents old.out.now new.out.now) end first left };
+
+    ghost is_same = { λ old new. new.out.ghost_name ≡ old.out.ghost_name };
+
+    ghost keeps_streams = { λ w. refl };
+
+    fn over<B: Base>(
+        &mut self,
+        alloc: Global,
+        policy: &Policy,
+        schemes: &Schemes,
+        stored: Items<Stored>,
+        base: B,
+    ) -> (Result<(), RunFault>, B) {
+        let (events, audience) = (self.events, self.audience);
+        run_over_base(
+            alloc, policy, schemes, stored, base, events, audience, self.out,
+        )
     }
 }
 
@@ -171,12 +103,13 @@ pub fn run_script<H: Host, W: Write>(
         events,
     } = inputs;
     let stored = stored_of(alloc, &setting.policy, transactions, &certificates)?;
-    let audience = Audience {
-        reader: setting.reader,
-        form: form_of(is_table),
+    let mut script = Script {
+        events: &events,
+        audience: Audience {
+            reader: setting.reader,
+            form: form_of(is_table),
+        },
+        out,
     };
-    let (policy, file) = (&setting.policy, &setting.file);
-    run_events(
-        alloc, host, store, policy, file, stored, &events, audience, out,
-    )
+    over_store(alloc, host, store, &setting, stored, &mut script)
 }

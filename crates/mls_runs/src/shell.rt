@@ -1,8 +1,7 @@
 //! A shell: a session whose commands are typed, each answered before the next is read.
 ghost use Rattle.std.specs.Prelude.{◌≡◌, ◌<◌, ◌∷◌, ◌||◌, [], false, not, length, Some, is_some, OnOk, Err};
-ghost use Rattle.mls_audit.specs.Sound.{IsSoundContent};
 ghost use Rattle.mls_machine.specs.Observation.{EventsFit};
-ghost use Rattle.mls_sessions.specs.Engine.{site, world_of, IsEngineReady, Continues, Leaves};
+ghost use Rattle.mls_sessions.specs.Engine.{site, world_of, IsAtRest, IsEngineReady, Continues, Leaves};
 ghost use Rattle.mls_sessions.specs.Run.{are_done};
 ghost use Rattle.mls_host.specs.Ending.{ending_if};
 ghost use Rattle.mls_host.specs.Hosting.{IsAppended, IsTold};
@@ -198,8 +197,7 @@ pub fn shell_over_base<B: Base, L: TypedLines, W: Write, E: Write>(
     err: &mut Errors<E>,
 ) -> (Result<Ending, RunFault>, B)
     requires may { MayTalk (site_of policy.now schemes.now stored) session.now first.now }
-    requires idle { (B.state base).begun ≡ false }
-    requires sound { B.is_clean base → IsSoundContent policy.now schemes.now (B.state base).now }
+    requires rest { IsAtRest B.state B.is_clean policy.now schemes.now base }
     ensures leaves { Leaves B.state B.is_clean B.failures base result.1 result.0 }
     ensures shell { B.is_clean result.1 → IsShell L.echo (site_of policy.now schemes.now stored) session.now
         (L.remaining lines.old) (L.remaining lines.new) (L.breaks lines.new) (IsAppended W.contents out.old out.new)

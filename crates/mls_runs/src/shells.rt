@@ -1,127 +1,65 @@
 //! Shells over a database: over an empty one in memory, or over that of a store.
-ghost use Rattle.std.specs.Prelude.{◌≡◌, ◌∷◌, [], Some, true, IfOk};
+ghost use Rattle.std.specs.Prelude.{◌≡◌, ◌∷◌, [], true, IfOk, refl};
 ghost use Rattle.mls_lattice.specs.Name.{is_name};
-ghost use Rattle.mls_filterview.specs.Content.{Content, no_content};
 ghost use Rattle.mls_host.specs.Hosting.{hosted, IsAppended, IsTold};
-ghost use Rattle.mls_host.specs.Stopping.{IsCaused, IsCausedInMemory};
+ghost use Rattle.mls_host.specs.Stopping.{IsCaused};
 ghost use Rattle.mls_host.specs.Words.{named};
-ghost use Rattle.mls_host.specs.Causes.{IsBarred};
 ghost use Rattle.mls_host.specs.Stop.{IsEnd};
 ghost use Rattle.mls_host.specs.Reading.{FitSetting};
-ghost use Rattle.mls_certcheck.specs.Site.{site_of};
 ghost use Rattle.mls_runs.specs.Shell.{opening, MayTalk, IsShell};
-ghost use Rattle.mls_runs.specs.ShellRun.{shell_session_of, IsShellFrom, IsShellRun, IsShellRefused};
+ghost use Rattle.mls_runs.specs.ShellRun.{shell_session_of, IsShellRun, IsShellRefused};
 
 use crate::shell::shell_over_base;
 use crate::shell_session::ShellSession;
 use crate::typed::opening;
-use mls_fragments::{MemoryBase, OpenFault};
-use mls_host::{Ending, Errors, Host, Inputs, Reason, Stop, ended, stored_of};
+use crate::work::{Work, over_store};
+use mls_filterview::Base;
+use mls_host::{Ending, Errors, Host, Inputs, Reason, Stop, stored_of};
 use mls_lattice::{Items, LabelNo, Policy, Str};
-use mls_scheme::SchemesFile;
+use mls_scheme::Schemes;
 use mls_script::Event;
-use mls_sessions::Stored;
+use mls_sessions::{RunFault, Stored};
 use mls_tokens::TypedLines;
 use std::alloc::{AllocError, Global};
 use std::io::Write;
 
-/// A shell over an empty database in memory.
-fn shell_in_memory<L: TypedLines, W: Write, E: Write>(
-    alloc: Global,
-    policy: &Policy,
-    file: &SchemesFile,
-    stored: Items<Stored>,
-    session: &ShellSession,
-    first: &[Event],
-    lines: &mut L,
-    out: &mut W,
-    err: &mut Errors<E>,
-) -> Result<Ending, Stop>
-    requires may { MayTalk (site_of policy.now file.now.schemes stored) session.now first.now }
-    ensures ends { IsEnd (λ end. (left : Content) × IsShell L.echo (site_of policy.now file.now.schemes stored) session.now
-        (L.remaining lines.old) (L.remaining lines.new) (L.breaks lines.new) (IsAppended W.contents out.old out.new)
-        (IsTold E.contents err.old err.new) end no_content left)
-        (λ reason. (reason ≡ Reason.Store OpenFault.Memory) × IsAppended W.contents out.old out.new []
-        × IsTold E.contents err.old err.new []) result }
-    ensures caused { IsCausedInMemory result }
-{
-    let base = match MemoryBase::open(alloc, policy, file) {
-        Ok(base) => base,
-        Err(fault) => return Err(Stop::Before(Reason::Store(fault))),
-    };
-    let schemes = &file.schemes;
-    let (outcome, left) = shell_over_base(
-        alloc, policy, schemes, stored, base, session, first, lines, out, err,
-    );
-    left.close();
-    ended(outcome, Ok(()))
+/// A shell: the opening of a session, and lines that are answered.
+#[derive(Drop)]
+pub struct Shell<'s, 'f, 'l, 'o, 'e, L: TypedLines, W: Write, E: Write> {
+    session: &'s ShellSession,
+    first: &'f [Event],
+    lines: &'l mut L,
+    out: &'o mut W,
+    err: &'e mut Errors<E>,
 }
 
-/// A shell over the database in a store of the host.
-fn shell_in_store<H: Host, L: TypedLines, W: Write, E: Write>(
-    alloc: Global,
-    host: &mut H,
-    path: &str,
-    policy: &Policy,
-    file: &SchemesFile,
-    stored: Items<Stored>,
-    session: &ShellSession,
-    first: &[Event],
-    lines: &mut L,
-    out: &mut W,
-    err: &mut Errors<E>,
-) -> Result<Ending, Stop>
-    requires may { MayTalk (site_of policy.now file.now.schemes stored) session.now first.now }
-    ensures ends { IsEnd (IsShellFrom (hosted H.hosting L.echo host.old host.new) (L.remaining lines.old)
-        (L.remaining lines.new) (L.breaks lines.new) (IsAppended W.contents out.old out.new)
-        (IsTold E.contents err.old err.new) file.now (Some path.now) (site_of policy.now file.now.schemes stored)
-        session.now)
-        (λ reason. IsBarred (H.hosting host.old) policy.now file.now (Some path.now) reason
-        × IsAppended W.contents out.old out.new [] × IsTold E.contents err.old err.new []) result }
-    ensures caused { IsCaused (hosted H.hosting L.echo host.old host.new) (Some path.now) result }
-{
-    let base = match host.store(alloc, path, policy, file) {
-        Ok(base) => base,
-        Err(fault) => return Err(Stop::Before(Reason::Store(fault))),
-    };
-    let schemes = &file.schemes;
-    let (outcome, left) = shell_over_base(
-        alloc, policy, schemes, stored, base, session, first, lines, out, err,
-    );
-    let closed = host.keep(path, left);
-    ended(outcome, closed)
-}
+impl<'s, 'f, 'l, 'o, 'e, L: TypedLines, W: Write, E: Write> Work
+    for Shell<'s, 'f, 'l, 'o, 'e, L, W, E> {
+    type End = Ending;
 
-/// A shell over the database in a store of the host, or over an empty one in memory.
-fn shell_over_store<H: Host, L: TypedLines, W: Write, E: Write>(
-    alloc: Global,
-    host: &mut H,
-    store: Option<&str>,
-    policy: &Policy,
-    file: &SchemesFile,
-    stored: Items<Stored>,
-    session: &ShellSession,
-    first: &[Event],
-    lines: &mut L,
-    out: &mut W,
-    err: &mut Errors<E>,
-) -> Result<Ending, Stop>
-    requires may { MayTalk (site_of policy.now file.now.schemes stored) session.now first.now }
-    ensures ends { IsEnd (IsShellFrom (hosted H.hosting L.echo host.old host.new) (L.remaining lines.old)
-        (L.remaining lines.new) (L.breaks lines.new) (IsAppended W.contents out.old out.new)
-        (IsTold E.contents err.old err.new) file.now (named store.entry) (site_of policy.now file.now.schemes stored)
-        session.now)
-        (λ reason. IsBarred (H.hosting host.old) policy.now file.now (named store.entry) reason
-        × IsAppended W.contents out.old out.new [] × IsTold E.contents err.old err.new []) result }
-    ensures caused { IsCaused (hosted H.hosting L.echo host.old host.new) (named store.entry) result }
-{
-    match store {
-        None => shell_in_memory(alloc, policy, file, stored, session, first, lines, out, err),
-        Some(path) => {
-            shell_in_store(
-                alloc, host, path, policy, file, stored, session, first, lines, out, err,
-            )
-        }
+    ghost may = { λ w site. MayTalk site w.session.now w.first.now };
+
+    ghost leads = { λ old new site end first left. IsShell L.echo site old.session.now (L.remaining old.lines.now)
+        (L.remaining new.lines.now) (L.breaks new.lines.now) (IsAppended W.contents old.out.now new.out.now)
+        (IsTold E.contents old.err.now new.err.now) end first left };
+
+    ghost is_same = { λ old new. (new.lines.ghost_name ≡ old.lines.ghost_name)
+        × (new.out.ghost_name ≡ old.out.ghost_name) × (new.err.ghost_name ≡ old.err.ghost_name) };
+
+    ghost keeps_streams = { λ w. (refl, refl, refl) };
+
+    fn over<B: Base>(
+        &mut self,
+        alloc: Global,
+        policy: &Policy,
+        schemes: &Schemes,
+        stored: Items<Stored>,
+        base: B,
+    ) -> (Result<Ending, RunFault>, B) {
+        let (session, first) = (self.session, self.first);
+        shell_over_base(
+            alloc, policy, schemes, stored, base, session, first, self.lines, self.out, self.err,
+        )
     }
 }
 
@@ -178,8 +116,7 @@ pub fn run_shell<H: Host, W: Write, E: Write>(
         Some(level) => level,
         None => return Err(Stop::Before(Reason::Label)),
     };
-    let (policy, file) = (&setting.policy, &setting.file);
-    let stored = stored_of(alloc, policy, transactions, &certificates)?;
+    let stored = stored_of(alloc, &setting.policy, transactions, &certificates)?;
     let (session, first) = seated(
         alloc,
         label,
@@ -189,7 +126,12 @@ pub fn run_shell<H: Host, W: Write, E: Write>(
         host.is_watched(),
     )?;
     let mut lines = host.lines();
-    shell_over_store(
-        alloc, host, store, policy, file, stored, &session, &first, &mut lines, out, err,
-    )
+    let mut shell = Shell {
+        session: &session,
+        first: &first,
+        lines: &mut lines,
+        out,
+        err,
+    };
+    over_store(alloc, host, store, &setting, stored, &mut shell)
 }

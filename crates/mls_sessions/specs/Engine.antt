@@ -1,7 +1,8 @@
 -- The world that an engine holds, and what an engine keeps to.
 use Rattle.std.specs.Prelude.{◌≡◌, ℕ, ◌<◌, ◌≤◌, false, length, IfOk, IfErr, Result}
 use Rattle.mls_lattice.specs.Labels.{AreDistinct}
-use Rattle.mls_scheme.specs.Scheme.{AreUnder}
+use Rattle.mls_lattice.specs.Policy.{Policy}
+use Rattle.mls_scheme.specs.Scheme.{Schemes, AreUnder}
 use Rattle.mls_filterview.specs.declared.base.BaseFault.{BaseFault}
 use Rattle.mls_filterview.specs.Content.{State}
 use Rattle.mls_audit.specs.Sound.{IsSoundContent}
@@ -20,9 +21,20 @@ use Rattle.mls_queries.specs.Views.{AreViews}
 abbrev pub site : {B : Type 0} → Engine B → Site
 site e = site_of e.site
 
+-- sessions may be held under a site: what is stored was read under its policy and schemes, and checked where it has a certificate
+pub record MayServe (site : Site) : Type 0 where
+  pub under : AreUnder (length site.policy.labels) site.schemes
+  pub read : AreRead site
+  pub certified : AreCertified site
+
 module _ {B : Type 0} (state : B → State) where
   abbrev pub world_of : Engine B → World
   world_of e = world_at (site e) (sessions_of e.sessions.items) (state e.base).now
+
+  -- no change of a base is begun, and what it holds is sound, where no call of it went wrong
+  pub record IsAtRest (is_clean : B → Type 0) (policy : Policy) (schemes : Schemes) (base : B) : Type 0 where
+    pub idle : (state base).begun ≡ false
+    pub sound : is_clean base → IsSoundContent policy schemes (state base).now
 
   -- what an engine holds between events; over a clean base each view that it keeps is that of the content now
   -- (no invariant of its type: that needs a code for the value, and a stored transaction keeps a proof, which

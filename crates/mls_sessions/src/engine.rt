@@ -1,13 +1,11 @@
 //! The machine of sessions over a base.
-ghost use Rattle.std.specs.Prelude.{◌≡◌, false, length, Some, None, is_some, IfOk};
-ghost use Rattle.mls_scheme.specs.Scheme.{AreUnder};
-ghost use Rattle.mls_audit.specs.Sound.{IsSoundContent};
+ghost use Rattle.std.specs.Prelude.{◌≡◌, Some, None, is_some, IfOk};
 ghost use Rattle.mls_script.specs.Event.{EventFits};
 ghost use Rattle.mls_machine.specs.Machine.{no_sessions};
-ghost use Rattle.mls_certcheck.specs.Site.{AreRead, AreCertified};
+ghost use Rattle.mls_certcheck.specs.Site.{site_of};
 ghost use Rattle.mls_sessions.specs.Sessions.{sessions_of};
 ghost use Rattle.mls_sessions.specs.World.{world_at};
-ghost use Rattle.mls_sessions.specs.Engine.{site, world_of, IsEngineReady, Answers};
+ghost use Rattle.mls_sessions.specs.Engine.{site, world_of, MayServe, IsAtRest, IsEngineReady, Answers};
 ghost use Rattle.mls_machine.specs.Known.{HasKnownNumbers};
 
 use crate::change::{Effect, change};
@@ -43,17 +41,12 @@ impl<'a, B: Base> Engine<'a, B> {
         schemes: &'a Schemes,
         stored: Items<Stored>,
     ) -> Engine<'a, B>
-        requires under { AreUnder (length policy.now.labels) schemes.now }
-        requires read { AreRead (record { policy = policy.now; schemes = schemes.now; stored = stored }) }
-        requires certified { AreCertified (record { policy = policy.now; schemes = schemes.now; stored = stored }) }
-        requires idle { (B.state base).begun ≡ false }
-        requires sound { B.is_clean base
-            → IsSoundContent policy.now schemes.now (B.state base).now }
+        requires serves { MayServe (site_of policy.now schemes.now stored) }
+        requires rest { IsAtRest B.state B.is_clean policy.now schemes.now base }
         ensures base { result.base ≡ base }
-        ensures site { site result ≡ record { policy = policy.now; schemes = schemes.now; stored = stored } }
+        ensures site { site result ≡ site_of policy.now schemes.now stored }
         ensures world { world_of B.state result
-            ≡ world_at (record { policy = policy.now; schemes = schemes.now; stored = stored }) no_sessions
-            (B.state base).now }
+            ≡ world_at (site_of policy.now schemes.now stored) no_sessions (B.state base).now }
         ensures ready { IsEngineReady B.state B.is_clean result }
     {
         // That the labels of a policy are distinct.

@@ -6,6 +6,7 @@ ghost use Rattle.mls_audit.specs.Sound.{IsSoundContent};
 ghost use Rattle.mls_translang.specs.Fits.{IsReadUnder};
 ghost use Rattle.mls_certcheck.specs.MeaningLaws.{ArgsFit};
 ghost use Rattle.mls_certcheck.specs.Site.{AreRead, site_of};
+ghost use Rattle.mls_sessions.specs.Engine.{IsAtRest};
 ghost use Rattle.mls_runs.specs.History.{IsPrepared};
 
 use crate::narrow::Narrow;
@@ -104,8 +105,7 @@ fn run_over<B: Base>(
     out: &mut Narrow,
 ) -> (End, B)
     requires prepared { IsPrepared site.now.policy site.now.file.schemes run }
-    requires idle { (B.state base).begun ≡ false }
-    requires sound { B.is_clean base → IsSoundContent site.now.policy site.now.file.schemes (B.state base).now }
+    requires rest { IsAtRest B.state B.is_clean site.now.policy site.now.file.schemes base }
     ensures { (B.state result.1).begun ≡ false }
 {
     let Run { stored, events } = run;
@@ -186,8 +186,7 @@ pub fn do_task<B: Base>(
     base: B,
     out: &mut Narrow,
 ) -> (End, B)
-    requires idle { (B.state base).begun ≡ false }
-    requires sound { B.is_clean base → IsSoundContent site.now.policy site.now.file.schemes (B.state base).now }
+    requires { IsAtRest B.state B.is_clean site.now.policy site.now.file.schemes base }
     ensures { (B.state result.1).begun ≡ false }
 {
     let Some(run) = run_of(alloc, site, script_of(task)) else {

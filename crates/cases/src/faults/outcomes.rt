@@ -1,14 +1,11 @@
 //! The outcomes of a script, where one call after another fails.
-ghost use Rattle.std.specs.Prelude.{length};
 ghost use Rattle.std.specs.List.{AllByRecursion};
-ghost use Rattle.mls_scheme.specs.Scheme.{AreUnder};
 ghost use Rattle.mls_script.specs.Event.{EventFits};
 
 use super::runs::{Failure, Scripts, What, push_outcome};
 use super::steps::push_steps;
+use crate::sample::Sample;
 use case_tables::Told;
-use mls_lattice::Policy;
-use mls_scheme::Schemes;
 use mls_script::script;
 use std::alloc::{AllocError, Global};
 
@@ -42,20 +39,18 @@ const CALLS: [(Way, What); 5] = [
 /// Adds an outcome, and answers whether all was well.
 fn push_one(
     alloc: Global,
-    policy: &Policy,
-    schemes: &Schemes,
+    sample: &Sample<'_>,
     scripts: Scripts<'_>,
     way: Way,
     failure: Failure,
     out: &mut Told,
 ) -> bool
-    requires under { AreUnder (length policy.now.labels) schemes.now }
-    requires events { AllByRecursion (EventFits policy.now schemes.now) scripts.events.now }
-    requires questions { AllByRecursion (EventFits policy.now schemes.now) scripts.questions.now }
+    requires events { AllByRecursion (EventFits sample.now.policy.now sample.now.schemes.now) scripts.events.now }
+    requires questions { AllByRecursion (EventFits sample.now.policy.now sample.now.schemes.now) scripts.questions.now }
 {
     match way {
-        Way::Run => push_outcome(alloc, policy, schemes, scripts, failure, out),
-        Way::Steps => push_steps(alloc, policy, schemes, scripts, failure, out),
+        Way::Run => push_outcome(alloc, sample, scripts, failure, out),
+        Way::Steps => push_steps(alloc, sample, scripts, failure, out),
     }
 }
 
@@ -76,22 +71,20 @@ const MOST: u64 = 200;
 /// that follow each other and are equal one is told.
 fn tell_outcomes(
     alloc: Global,
-    policy: &Policy,
-    schemes: &Schemes,
+    sample: &Sample<'_>,
     scripts: Scripts<'_>,
     way: Way,
     what: What,
     out: &mut Told,
 )
-    requires under { AreUnder (length policy.now.labels) schemes.now }
-    requires events { AllByRecursion (EventFits policy.now schemes.now) scripts.events.now }
-    requires questions { AllByRecursion (EventFits policy.now schemes.now) scripts.questions.now }
+    requires events { AllByRecursion (EventFits sample.now.policy.now sample.now.schemes.now) scripts.events.now }
+    requires questions { AllByRecursion (EventFits sample.now.policy.now sample.now.schemes.now) scripts.questions.now }
 {
     let mut last = Told::new(alloc);
     for after in 0..MOST {
         let mut next = Told::new(alloc);
         let failure = Failure { what, after };
-        let is_well = push_one(alloc, policy, schemes, scripts, way, failure, &mut next);
+        let is_well = push_one(alloc, sample, scripts, way, failure, &mut next);
         push_new(&last, &next, out);
         if is_well {
             return;
@@ -100,61 +93,50 @@ fn tell_outcomes(
     }
 }
 
-fn tell_calls(
-    alloc: Global,
-    policy: &Policy,
-    schemes: &Schemes,
-    scripts: Scripts<'_>,
-    out: &mut Told,
-)
-    requires under { AreUnder (length policy.now.labels) schemes.now }
-    requires events { AllByRecursion (EventFits policy.now schemes.now) scripts.events.now }
-    requires questions { AllByRecursion (EventFits policy.now schemes.now) scripts.questions.now }
+fn tell_calls(alloc: Global, sample: &Sample<'_>, scripts: Scripts<'_>, out: &mut Told)
+    requires events { AllByRecursion (EventFits sample.now.policy.now sample.now.schemes.now) scripts.events.now }
+    requires questions { AllByRecursion (EventFits sample.now.policy.now sample.now.schemes.now) scripts.questions.now }
 {
     for (way, what) in CALLS {
-        tell_outcomes(alloc, policy, schemes, scripts, way, what, out);
+        tell_outcomes(alloc, sample, scripts, way, what, out);
     }
 }
 
 fn tell_trials(
     alloc: Global,
-    policy: &Policy,
-    schemes: &Schemes,
+    sample: &Sample<'_>,
     trials: Trials,
     scripts: Scripts<'_>,
     out: &mut Told,
 )
-    requires under { AreUnder (length policy.now.labels) schemes.now }
-    requires events { AllByRecursion (EventFits policy.now schemes.now) scripts.events.now }
-    requires questions { AllByRecursion (EventFits policy.now schemes.now) scripts.questions.now }
+    requires events { AllByRecursion (EventFits sample.now.policy.now sample.now.schemes.now) scripts.events.now }
+    requires questions { AllByRecursion (EventFits sample.now.policy.now sample.now.schemes.now) scripts.questions.now }
 {
     match trials {
-        Trials::Calls => tell_calls(alloc, policy, schemes, scripts, out),
+        Trials::Calls => tell_calls(alloc, sample, scripts, out),
         Trials::Each(what) => {
-            tell_outcomes(alloc, policy, schemes, scripts, Way::Run, what, out);
+            tell_outcomes(alloc, sample, scripts, Way::Run, what, out);
         }
     }
 }
 
 fn tell_script(
     alloc: Global,
-    policy: &Policy,
-    schemes: &Schemes,
+    sample: &Sample<'_>,
     trials: Trials,
     text: &str,
     scripts: Scripts<'_>,
     out: &mut Told,
 )
-    requires under { AreUnder (length policy.now.labels) schemes.now }
-    requires questions { AllByRecursion (EventFits policy.now schemes.now) scripts.questions.now }
+    requires questions { AllByRecursion (EventFits sample.now.policy.now sample.now.schemes.now) scripts.questions.now }
 {
-    match script(alloc, policy, schemes, text.as_bytes()) {
+    match script(alloc, sample.policy, sample.schemes, text.as_bytes()) {
         Ok(events) => {
             let scripts = Scripts {
                 events: &events,
                 ..scripts
             };
-            tell_trials(alloc, policy, schemes, trials, scripts, out);
+            tell_trials(alloc, sample, trials, scripts, out);
         }
         Err(_) => out.push("no script\n"),
     }
@@ -163,19 +145,17 @@ fn tell_script(
 /// What is told of the script of a file: the events are its own.
 pub fn told(
     alloc: Global,
-    policy: &Policy,
-    schemes: &Schemes,
+    sample: &Sample<'_>,
     file: (&str, Trials),
     text: &str,
     scripts: Scripts<'_>,
 ) -> Result<String, AllocError>
-    requires under { AreUnder (length policy.now.labels) schemes.now }
-    requires questions { AllByRecursion (EventFits policy.now schemes.now) scripts.questions.now }
+    requires questions { AllByRecursion (EventFits sample.now.policy.now sample.now.schemes.now) scripts.questions.now }
 {
     let (name, trials) = file;
     let mut out = Told::new(alloc);
     out.push("== ");
     out.push_line(name);
-    tell_script(alloc, policy, schemes, trials, text, scripts, &mut out);
+    tell_script(alloc, sample, trials, text, scripts, &mut out);
     out.finish()
 }

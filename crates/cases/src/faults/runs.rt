@@ -1,19 +1,19 @@
 //! What a run leaves where a call of the base, or a write, fails.
-ghost use Rattle.std.specs.Prelude.{◌≡◌, false, [], length};
+ghost use Rattle.std.specs.Prelude.{◌≡◌, false, []};
 ghost use Rattle.std.specs.List.{AllByRecursion};
-ghost use Rattle.mls_scheme.specs.Scheme.{AreUnder};
 ghost use Rattle.mls_script.specs.Event.{EventFits};
 ghost use Rattle.mls_filterview.specs.Content.{no_content};
 ghost use Rattle.mls_audit.specs.Sound.{IsSoundContent};
-ghost use Rattle.mls_certcheck.specs.Site.{AreRead, AreCertified};
+ghost use Rattle.mls_certcheck.specs.Site.{site_of};
+ghost use Rattle.mls_sessions.specs.Engine.{MayServe, IsAtRest};
 
 use super::faulty::{Fault, Faulty};
 use super::narrow::Narrow;
 use super::stored::stored_in;
+use crate::sample::Sample;
 use case_tables::{Told, text_of};
 use mls_filterview::Base;
-use mls_lattice::{Items, Policy};
-use mls_scheme::Schemes;
+use mls_lattice::Items;
 use mls_script::Event;
 use mls_sessions::{Engine, RunFault, Stored, run};
 use mls_updates::ListBase;
@@ -90,23 +90,18 @@ fn none_stored(alloc: Global) -> Items<Stored>
 /// Runs events over a base.
 fn run_over<B: Base>(
     alloc: Global,
-    policy: &Policy,
-    schemes: &Schemes,
+    sample: &Sample<'_>,
     stored: Items<Stored>,
     base: B,
     events: &[Event],
     out: &mut Narrow,
 ) -> (Result<(), RunFault>, B)
-    requires under { AreUnder (length policy.now.labels) schemes.now }
-    requires read { AreRead (record { policy = policy.now; schemes = schemes.now; stored = stored }) }
-    requires certified { AreCertified (record { policy = policy.now; schemes = schemes.now; stored = stored }) }
-    requires fits { AllByRecursion (EventFits policy.now schemes.now) events.now }
-    requires idle { (B.state base).begun ≡ false }
-    requires sound { B.is_clean base → IsSoundContent policy.now schemes.now (B.state base).now }
-    ensures idle { (B.state result.1).begun ≡ false }
-    ensures sound { B.is_clean result.1 → IsSoundContent policy.now schemes.now (B.state result.1).now }
+    requires serves { MayServe (site_of sample.now.policy.now sample.now.schemes.now stored) }
+    requires fits { AllByRecursion (EventFits sample.now.policy.now sample.now.schemes.now) events.now }
+    requires rest { IsAtRest B.state B.is_clean sample.now.policy.now sample.now.schemes.now base }
+    ensures { IsAtRest B.state B.is_clean sample.now.policy.now sample.now.schemes.now result.1 }
 {
-    let mut engine = Engine::new(alloc, base, policy, schemes, stored);
+    let mut engine = Engine::new(alloc, base, sample.policy, sample.schemes, stored);
     let end = run(&mut engine, events, out);
     (end, engine.finish())
 }
@@ -126,54 +121,43 @@ fn push_end(end: Result<(), RunFault>, out: &mut Told) {
 /// Adds what a base answers to questions.
 fn push_answers(
     alloc: Global,
-    policy: &Policy,
-    schemes: &Schemes,
+    sample: &Sample<'_>,
     base: ListBase,
     questions: &[Event],
     out: &mut Told,
 )
-    requires under { AreUnder (length policy.now.labels) schemes.now }
-    requires fits { AllByRecursion (EventFits policy.now schemes.now) questions.now }
+    requires fits { AllByRecursion (EventFits sample.now.policy.now sample.now.schemes.now) questions.now }
     requires idle { (⟦<ListBase as Base>⟧.state base).begun ≡ false }
-    requires sound { IsSoundContent policy.now schemes.now (⟦<ListBase as Base>⟧.state base).now }
+    requires sound { IsSoundContent sample.now.policy.now sample.now.schemes.now (⟦<ListBase as Base>⟧.state base).now }
 {
     let none = none_stored(alloc);
     let mut answers = Narrow::new(alloc, u64::MAX, usize::MAX);
-    let _ = run_over(alloc, policy, schemes, none, base, questions, &mut answers);
+    let _ = run_over(alloc, sample, none, base, questions, &mut answers);
     out.push_indented(text_of(&answers.bytes));
 }
 
 /// Adds how the run of a script ends, the replies before its end, and what the base then holds; and answers whether all was well.
 pub fn push_outcome(
     alloc: Global,
-    policy: &Policy,
-    schemes: &Schemes,
+    sample: &Sample<'_>,
     scripts: Scripts<'_>,
     failure: Failure,
     out: &mut Told,
 ) -> bool
-    requires under { AreUnder (length policy.now.labels) schemes.now }
-    requires events { AllByRecursion (EventFits policy.now schemes.now) scripts.events.now }
-    requires questions { AllByRecursion (EventFits policy.now schemes.now) scripts.questions.now }
+    requires events { AllByRecursion (EventFits sample.now.policy.now sample.now.schemes.now) scripts.events.now }
+    requires questions { AllByRecursion (EventFits sample.now.policy.now sample.now.schemes.now) scripts.questions.now }
 {
-    let Some(stored) = stored_in(alloc, policy, schemes, scripts.transactions) else {
+    let Some(stored) = stored_in(alloc, sample, scripts.transactions) else {
         out.fail();
         return true;
     };
     let mut replies = failure.writer(alloc);
     let base = failure.base(alloc);
     let events = scripts.events;
-    let (end, base) = run_over(alloc, policy, schemes, stored, base, events, &mut replies);
+    let (end, base) = run_over(alloc, sample, stored, base, events, &mut replies);
     push_end(end, out);
     out.push_indented(text_of(&replies.bytes));
     out.push("  --\n");
-    push_answers(
-        alloc,
-        policy,
-        schemes,
-        base.finish(),
-        scripts.questions,
-        out,
-    );
+    push_answers(alloc, sample, base.finish(), scripts.questions, out);
     end.is_ok()
 }

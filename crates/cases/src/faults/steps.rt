@@ -1,20 +1,18 @@
 //! What a step leaves where a call of the base fails.
-ghost use Rattle.std.specs.Prelude.{◌≡◌, ◌<◌, ◌≤◌, false, length, IfSome};
+ghost use Rattle.std.specs.Prelude.{◌<◌, ◌≤◌, length, IfSome};
 ghost use Rattle.std.specs.List.{AllByRecursion};
-ghost use Rattle.mls_scheme.specs.Scheme.{AreUnder};
-ghost use Rattle.mls_audit.specs.Sound.{IsSoundContent};
 ghost use Rattle.mls_script.specs.Event.{EventFits};
 ghost use Rattle.mls_machine.specs.Observation.{EventsFit};
-ghost use Rattle.mls_certcheck.specs.Site.{AreRead, AreCertified};
-ghost use Rattle.mls_sessions.specs.Engine.{site, IsEngineReady, IsKept};
+ghost use Rattle.mls_certcheck.specs.Site.{site_of};
+ghost use Rattle.mls_sessions.specs.Engine.{site, MayServe, IsAtRest, IsEngineReady, IsKept};
 
 use super::narrow::Narrow;
 use super::runs::{Failure, Scripts};
 use super::stored::stored_in;
+use crate::sample::Sample;
 use case_tables::{Told, text_of};
 use mls_filterview::{Base, BaseFault};
-use mls_lattice::{Items, Policy};
-use mls_scheme::Schemes;
+use mls_lattice::Items;
 use mls_script::Event;
 use mls_sessions::{Engine, Stored, run};
 use std::alloc::Global;
@@ -38,22 +36,18 @@ fn step_to_fault<B: Base>(engine: &mut Engine<B>, events: &[Event]) -> Option<(u
 /// and the events from the one that failed on.
 fn step_over<B: Base>(
     alloc: Global,
-    policy: &Policy,
-    schemes: &Schemes,
+    sample: &Sample<'_>,
     stored: Items<Stored>,
     base: B,
     scripts: Scripts<'_>,
     replies: &mut Narrow,
 ) -> (Option<(usize, BaseFault)>, B)
-    requires under { AreUnder (length policy.now.labels) schemes.now }
-    requires read { AreRead (record { policy = policy.now; schemes = schemes.now; stored = stored }) }
-    requires certified { AreCertified (record { policy = policy.now; schemes = schemes.now; stored = stored }) }
-    requires events { AllByRecursion (EventFits policy.now schemes.now) scripts.events.now }
-    requires questions { AllByRecursion (EventFits policy.now schemes.now) scripts.questions.now }
-    requires idle { (B.state base).begun ≡ false }
-    requires sound { B.is_clean base → IsSoundContent policy.now schemes.now (B.state base).now }
+    requires serves { MayServe (site_of sample.now.policy.now sample.now.schemes.now stored) }
+    requires events { AllByRecursion (EventFits sample.now.policy.now sample.now.schemes.now) scripts.events.now }
+    requires questions { AllByRecursion (EventFits sample.now.policy.now sample.now.schemes.now) scripts.questions.now }
+    requires rest { IsAtRest B.state B.is_clean sample.now.policy.now sample.now.schemes.now base }
 {
-    let mut engine = Engine::new(alloc, base, policy, schemes, stored);
+    let mut engine = Engine::new(alloc, base, sample.policy, sample.schemes, stored);
     let stop = step_to_fault(&mut engine, scripts.events);
     if let Some((number, _)) = stop {
         let _ = run(&mut engine, scripts.questions, replies);
@@ -81,23 +75,21 @@ fn push_stop(number: usize, fault: BaseFault, out: &mut Told) {
 /// Adds which step of a script fails, and what the engine answers afterwards; and answers whether none failed.
 pub fn push_steps(
     alloc: Global,
-    policy: &Policy,
-    schemes: &Schemes,
+    sample: &Sample<'_>,
     scripts: Scripts<'_>,
     failure: Failure,
     out: &mut Told,
 ) -> bool
-    requires under { AreUnder (length policy.now.labels) schemes.now }
-    requires events { AllByRecursion (EventFits policy.now schemes.now) scripts.events.now }
-    requires questions { AllByRecursion (EventFits policy.now schemes.now) scripts.questions.now }
+    requires events { AllByRecursion (EventFits sample.now.policy.now sample.now.schemes.now) scripts.events.now }
+    requires questions { AllByRecursion (EventFits sample.now.policy.now sample.now.schemes.now) scripts.questions.now }
 {
-    let Some(stored) = stored_in(alloc, policy, schemes, scripts.transactions) else {
+    let Some(stored) = stored_in(alloc, sample, scripts.transactions) else {
         out.fail();
         return true;
     };
     let mut replies = Narrow::new(alloc, u64::MAX, usize::MAX);
     let base = failure.base(alloc);
-    let (stop, _base) = step_over(alloc, policy, schemes, stored, base, scripts, &mut replies);
+    let (stop, _base) = step_over(alloc, sample, stored, base, scripts, &mut replies);
     match stop {
         Some((number, fault)) => push_stop(number, fault, out),
         None => out.push("all steps well\n"),

@@ -1,10 +1,10 @@
 //! Certificates that are checked for transactions.
 use crate::certificates::certificate_of;
+use crate::sample::Sample;
 use case_tables::{Told, case_at, inner};
 use mls_certcheck::{Certificate, check};
 use mls_lattice::Policy;
 use mls_parser::parse;
-use mls_scheme::Schemes;
 use mls_translang::Tx;
 use std::alloc::{AllocError, Global};
 
@@ -77,30 +77,17 @@ fn tell_checks(alloc: Global, policy: &Policy, txs: &[Tx], lines: &[&str], out: 
     }
 }
 
-fn tell_parsed(
-    alloc: Global,
-    policy: &Policy,
-    schemes: &Schemes,
-    text: &str,
-    lines: &[&str],
-    out: &mut Told,
-) {
-    match parse(alloc, policy, schemes, text.as_bytes()) {
-        Ok(txs) => tell_checks(alloc, policy, &txs, lines, out),
+fn tell_parsed(alloc: Global, sample: &Sample<'_>, text: &str, lines: &[&str], out: &mut Told) {
+    match parse(alloc, sample.policy, sample.schemes, text.as_bytes()) {
+        Ok(txs) => tell_checks(alloc, sample.policy, &txs, lines, out),
         Err(_) => out.push("no transactions\n"),
     }
 }
 
 /// Tells the answers to the certificates of a table.
-pub fn tell_lines(
-    alloc: Global,
-    policy: &Policy,
-    schemes: &Schemes,
-    lines: &[&str],
-    out: &mut Told,
-) {
+pub fn tell_lines(alloc: Global, sample: &Sample<'_>, lines: &[&str], out: &mut Told) {
     match text_of(alloc, lines) {
-        Ok(text) => tell_parsed(alloc, policy, schemes, &text, lines, out),
+        Ok(text) => tell_parsed(alloc, sample, &text, lines, out),
         Err(_) => out.fail(),
     }
 }

@@ -1,47 +1,42 @@
 //! Certified transactions that are run one after another over one base.
-ghost use Rattle.std.specs.Prelude.{length, OnOk, IfSome};
+ghost use Rattle.std.specs.Prelude.{OnOk, IfSome};
 ghost use Rattle.std.specs.List.{AllByRecursion};
 ghost use Rattle.mls_lattice.specs.Policy.{labels_of};
-ghost use Rattle.mls_scheme.specs.Scheme.{AreUnder};
 ghost use Rattle.mls_filterview.specs.Stored.{AreContent};
 ghost use Rattle.mls_translang.specs.Fits.{IsReadUnder};
 ghost use Rattle.mls_certcheck.specs.MeaningLaws.{IsItem};
 
 use crate::certificates::certificate_of;
+use crate::sample::Sample;
 use case_tables::{Case, Told, case_at, joined};
 use mls_certcheck::Certified;
 use mls_filterview::{Base, BaseFault};
 use mls_lattice::{LabelNo, Policy};
 use mls_parser::parse;
-use mls_scheme::{Schemes, Value};
+use mls_scheme::Value;
 use mls_translang::Tx;
 use mls_trusted::{Run, evaluate};
 use mls_updates::ListBase;
 use std::alloc::Global;
 
 /// The last transaction of a text.
-fn transaction_of(alloc: Global, policy: &Policy, schemes: &Schemes, text: &str) -> Option<Tx>
-    ensures { IfSome result (IsReadUnder policy.now schemes.now) }
+fn transaction_of(alloc: Global, sample: &Sample<'_>, text: &str) -> Option<Tx>
+    ensures { IfSome result (IsReadUnder sample.now.policy.now sample.now.schemes.now) }
 {
-    match parse(alloc, policy, schemes, text.as_bytes()) {
+    match parse(alloc, sample.policy, sample.schemes, text.as_bytes()) {
         Ok(txs) => txs.into_vec().pop(),
         Err(_) => None,
     }
 }
 
 /// The transaction of a case with the certificate that its head is, where that holds.
-fn certified_in(
-    alloc: Global,
-    policy: &Policy,
-    schemes: &Schemes,
-    case: &Case<'_>,
-) -> Option<Certified>
-    ensures { IfSome result (λ k. IsReadUnder policy.now schemes.now k.tx) }
+fn certified_in(alloc: Global, sample: &Sample<'_>, case: &Case<'_>) -> Option<Certified>
+    ensures { IfSome result (λ k. IsReadUnder sample.now.policy.now sample.now.schemes.now k.tx) }
 {
     let certificate = certificate_of(alloc, case.head)?;
     let text = joined(alloc, case.body).ok()?;
-    let tx = transaction_of(alloc, policy, schemes, &text)?;
-    Certified::new(policy, tx, certificate).ok()
+    let tx = transaction_of(alloc, sample, &text)?;
+    Certified::new(sample.policy, tx, certificate).ok()
 }
 
 fn push_value(value: &Option<Value>, out: &mut Told) {
@@ -77,41 +72,41 @@ fn push_run(policy: &Policy, run: &Run, out: &mut Told)
 #[tactic(auto, using(crate::proofs::StartLemmas::none_fit))]
 fn tell_certified<B: Base>(
     alloc: Global,
-    policy: &Policy,
-    schemes: &Schemes,
+    sample: &Sample<'_>,
     certified: &Certified,
     base: &mut B,
     out: &mut Told,
 ) -> Result<(), BaseFault>
-    requires under { AreUnder (length policy.now.labels) schemes.now }
-    requires read { IsReadUnder policy.now schemes.now certified.now.tx }
-    requires content { B.is_clean base.old → AreContent (labels_of policy.now) schemes.now (B.state base.old).now.db }
-    ensures { B.is_clean base.new → OnOk result (AreContent (labels_of policy.now) schemes.now (B.state base.new).now.db) }
+    requires read { IsReadUnder sample.now.policy.now sample.now.schemes.now certified.now.tx }
+    requires content { B.is_clean base.old
+        → AreContent (labels_of sample.now.policy.now) sample.now.schemes.now (B.state base.old).now.db }
+    ensures { B.is_clean base.new
+        → OnOk result (AreContent (labels_of sample.now.policy.now) sample.now.schemes.now (B.state base.new).now.db) }
 {
     out.push_line(certified.tx().name());
     if !certified.tx().params().is_empty() {
         return Ok(());
     }
-    let run = evaluate(alloc, base, policy, schemes, certified, &[])?;
-    push_run(policy, &run, out);
+    let run = evaluate(alloc, base, sample.policy, sample.schemes, certified, &[])?;
+    push_run(sample.policy, &run, out);
     Ok(())
 }
 
 /// Tells what the transaction of a case emits and releases over a base.
 fn tell_case<B: Base>(
     alloc: Global,
-    policy: &Policy,
-    schemes: &Schemes,
+    sample: &Sample<'_>,
     case: &Case<'_>,
     base: &mut B,
     out: &mut Told,
 ) -> Result<(), BaseFault>
-    requires under { AreUnder (length policy.now.labels) schemes.now }
-    requires content { B.is_clean base.old → AreContent (labels_of policy.now) schemes.now (B.state base.old).now.db }
-    ensures { B.is_clean base.new → OnOk result (AreContent (labels_of policy.now) schemes.now (B.state base.new).now.db) }
+    requires { B.is_clean base.old
+        → AreContent (labels_of sample.now.policy.now) sample.now.schemes.now (B.state base.old).now.db }
+    ensures { B.is_clean base.new
+        → OnOk result (AreContent (labels_of sample.now.policy.now) sample.now.schemes.now (B.state base.new).now.db) }
 {
-    match certified_in(alloc, policy, schemes, case) {
-        Some(certified) => tell_certified(alloc, policy, schemes, &certified, base, out),
+    match certified_in(alloc, sample, case) {
+        Some(certified) => tell_certified(alloc, sample, &certified, base, out),
         None => {
             out.push("no certificate that holds\n");
             Ok(())
@@ -122,29 +117,26 @@ fn tell_case<B: Base>(
 /// Tells what the transactions of cases do, one after another.
 fn tell_over<B: Base>(
     alloc: Global,
-    policy: &Policy,
-    schemes: &Schemes,
+    sample: &Sample<'_>,
     lines: &[&str],
     base: &mut B,
     out: &mut Told,
 ) -> Result<(), BaseFault>
-    requires under { AreUnder (length policy.now.labels) schemes.now }
-    requires content { B.is_clean base.old → AreContent (labels_of policy.now) schemes.now (B.state base.old).now.db }
+    requires { B.is_clean base.old
+        → AreContent (labels_of sample.now.policy.now) sample.now.schemes.now (B.state base.old).now.db }
 {
     for at in 0..lines.len() {
         if let Some(case) = case_at(&lines[at..]) {
-            tell_case(alloc, policy, schemes, &case, base, out)?;
+            tell_case(alloc, sample, &case, base, out)?;
         }
     }
     Ok(())
 }
 
 /// Tells what the transactions of a table do, one after another over one base, which is empty at first.
-pub fn tell_lines(alloc: Global, policy: &Policy, schemes: &Schemes, lines: &[&str], out: &mut Told)
-    requires { AreUnder (length policy.now.labels) schemes.now }
-{
+pub fn tell_lines(alloc: Global, sample: &Sample<'_>, lines: &[&str], out: &mut Told) {
     let mut base = ListBase::new(alloc);
-    if tell_over(alloc, policy, schemes, lines, &mut base, out).is_err() {
+    if tell_over(alloc, sample, lines, &mut base, out).is_err() {
         out.fail();
     }
 }

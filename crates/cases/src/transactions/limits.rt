@@ -1,9 +1,8 @@
 //! Texts of so many parts, which would be long to write out.
 use super::texts::tell_read;
+use crate::sample::Sample;
 use crate::table::Subject;
 use case_tables::Told;
-use mls_lattice::Policy;
-use mls_scheme::Schemes;
 use std::alloc::{AllocError, Global};
 
 /// Adds a part, with its number where `^` stands.
@@ -56,11 +55,11 @@ fn text_of(alloc: Global, line: &str) -> Result<String, AllocError> {
 }
 
 /// Tells whether the text of a line is read, and how long it is printed.
-pub fn tell(alloc: Global, policy: &Policy, schemes: &Schemes, line: &str, out: &mut Told) {
+pub fn tell(alloc: Global, sample: &Sample<'_>, line: &str, out: &mut Told) {
     match text_of(alloc, line) {
         Ok(text) => {
             let subject = Subject::TextLimits;
-            tell_read(alloc, policy, schemes, subject, text.as_bytes(), line, out);
+            tell_read(alloc, sample, subject, text.as_bytes(), line, out);
         }
         Err(_) => out.fail(),
     }

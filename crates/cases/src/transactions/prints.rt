@@ -2,36 +2,35 @@
 ghost use Rattle.std.specs.List.{AllByRecursion};
 ghost use Rattle.mls_translang.specs.Fits.{IsReadUnder};
 
+use crate::sample::Sample;
 use case_tables::{Told, text_of};
-use mls_lattice::Policy;
-use mls_scheme::Schemes;
 use mls_translang::{Tx, print};
 use std::alloc::Global;
 
-fn push_print(alloc: Global, policy: &Policy, schemes: &Schemes, tx: &Tx, out: &mut Told)
-    requires { IsReadUnder policy.now schemes.now tx.now }
+fn push_print(alloc: Global, sample: &Sample<'_>, tx: &Tx, out: &mut Told)
+    requires { IsReadUnder sample.now.policy.now sample.now.schemes.now tx.now }
 {
-    match print(alloc, policy, schemes, tx) {
+    match print(alloc, sample.policy, sample.schemes, tx) {
         Ok(text) => out.push(text_of(&text)),
         Err(_) => out.fail(),
     }
 }
 
 /// Adds what transactions are printed as.
-pub fn push_prints(alloc: Global, policy: &Policy, schemes: &Schemes, txs: &[Tx], out: &mut Told)
-    requires { AllByRecursion (IsReadUnder policy.now schemes.now) txs.now }
+pub fn push_prints(alloc: Global, sample: &Sample<'_>, txs: &[Tx], out: &mut Told)
+    requires { AllByRecursion (IsReadUnder sample.now.policy.now sample.now.schemes.now) txs.now }
 {
     for tx in txs {
-        push_print(alloc, policy, schemes, tx, out);
+        push_print(alloc, sample, tx, out);
     }
 }
 
 /// Adds that transactions are read, and how many bytes they are printed in.
-pub fn push_size(alloc: Global, policy: &Policy, schemes: &Schemes, txs: &[Tx], out: &mut Told)
-    requires { AllByRecursion (IsReadUnder policy.now schemes.now) txs.now }
+pub fn push_size(alloc: Global, sample: &Sample<'_>, txs: &[Tx], out: &mut Told)
+    requires { AllByRecursion (IsReadUnder sample.now.policy.now sample.now.schemes.now) txs.now }
 {
     let mut printed = Told::new(alloc);
-    push_prints(alloc, policy, schemes, txs, &mut printed);
+    push_prints(alloc, sample, txs, &mut printed);
     match printed.finish() {
         Ok(text) => {
             out.push("read, printed in ");

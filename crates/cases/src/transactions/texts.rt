@@ -5,11 +5,10 @@ ghost use Rattle.mls_translang.specs.Fits.{IsReadUnder};
 use super::labels::{push_labels, push_labels2};
 use super::prints::{push_prints, push_size};
 use super::ranges::push_ranges;
+use crate::sample::Sample;
 use crate::table::Subject;
 use case_tables::{Case, Told, joined, unfolded};
-use mls_lattice::Policy;
 use mls_parser::{TextFault, parse};
-use mls_scheme::Schemes;
 use mls_translang::Tx;
 use std::alloc::{AllocError, Global};
 
@@ -24,37 +23,23 @@ fn push_fault(fault: TextFault, out: &mut Told) {
     out.push_count(fault.column);
 }
 
-fn push_txs(
-    alloc: Global,
-    policy: &Policy,
-    schemes: &Schemes,
-    subject: Subject,
-    txs: &[Tx],
-    out: &mut Told,
-)
-    requires { AllByRecursion (IsReadUnder policy.now schemes.now) txs.now }
+fn push_txs(alloc: Global, sample: &Sample<'_>, subject: Subject, txs: &[Tx], out: &mut Told)
+    requires { AllByRecursion (IsReadUnder sample.now.policy.now sample.now.schemes.now) txs.now }
 {
     match subject {
-        Subject::Prints => push_prints(alloc, policy, schemes, txs, out),
-        Subject::Labels => push_labels(alloc, policy, txs, out),
-        Subject::Labels2 => push_labels2(alloc, policy, txs, out),
-        Subject::Ranges => push_ranges(alloc, policy, txs, out),
-        Subject::TextLimits => push_size(alloc, policy, schemes, txs, out),
+        Subject::Prints => push_prints(alloc, sample, txs, out),
+        Subject::Labels => push_labels(alloc, sample.policy, txs, out),
+        Subject::Labels2 => push_labels2(alloc, sample.policy, txs, out),
+        Subject::Ranges => push_ranges(alloc, sample.policy, txs, out),
+        Subject::TextLimits => push_size(alloc, sample, txs, out),
         _ => out.push("read"),
     }
 }
 
 /// Adds what is told of a text.
-fn push_text(
-    alloc: Global,
-    policy: &Policy,
-    schemes: &Schemes,
-    subject: Subject,
-    text: &[u8],
-    out: &mut Told,
-) {
-    match parse(alloc, policy, schemes, text) {
-        Ok(txs) => push_txs(alloc, policy, schemes, subject, &txs, out),
+fn push_text(alloc: Global, sample: &Sample<'_>, subject: Subject, text: &[u8], out: &mut Told) {
+    match parse(alloc, sample.policy, sample.schemes, text) {
+        Ok(txs) => push_txs(alloc, sample, subject, &txs, out),
         Err(fault) => push_fault(fault, out),
     }
 }
@@ -62,50 +47,47 @@ fn push_text(
 /// Tells of a text, and the line that it is made of.
 pub fn tell_read(
     alloc: Global,
-    policy: &Policy,
-    schemes: &Schemes,
+    sample: &Sample<'_>,
     subject: Subject,
     text: &[u8],
     line: &str,
     out: &mut Told,
 ) {
-    push_text(alloc, policy, schemes, subject, text, out);
+    push_text(alloc, sample, subject, text, out);
     out.push(": ");
     out.push_line(line);
 }
 
 /// Tells whether a text is read that stands in one line.
-pub fn tell_line(alloc: Global, policy: &Policy, schemes: &Schemes, line: &str, out: &mut Told) {
+pub fn tell_line(alloc: Global, sample: &Sample<'_>, line: &str, out: &mut Told) {
     match unfolded(alloc, line) {
-        Ok(text) => tell_read(alloc, policy, schemes, Subject::Texts, &text, line, out),
+        Ok(text) => tell_read(alloc, sample, Subject::Texts, &text, line, out),
         Err(_) => out.fail(),
     }
 }
 
 fn told(
     alloc: Global,
-    policy: &Policy,
-    schemes: &Schemes,
+    sample: &Sample<'_>,
     subject: Subject,
     body: &[&str],
 ) -> Result<String, AllocError> {
     let text = joined(alloc, body)?;
     let mut out = Told::new(alloc);
-    push_text(alloc, policy, schemes, subject, text.as_bytes(), &mut out);
+    push_text(alloc, sample, subject, text.as_bytes(), &mut out);
     out.finish()
 }
 
 /// Tells of the text that stands below a line.
 pub fn tell_block(
     alloc: Global,
-    policy: &Policy,
-    schemes: &Schemes,
+    sample: &Sample<'_>,
     subject: Subject,
     case: &Case<'_>,
     out: &mut Told,
 ) {
     out.push_line(case.head);
-    match told(alloc, policy, schemes, subject, case.body) {
+    match told(alloc, sample, subject, case.body) {
         Ok(told) => out.push_indented(&told),
         Err(_) => out.fail(),
     }

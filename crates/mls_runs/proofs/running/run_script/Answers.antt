@@ -1,31 +1,21 @@
-use Rattle.std.proofs.Common.{subst, []}
+use Rattle.std.proofs.Common.{rules, ◌≡◌, [], sym, ap, subst}
 use Rattle.std.proofs.KnownBytes.{Appends-nil}
-use Rattle.mls_machine.specs.declared.form.Form.{Form}
 use Rattle.mls_host.specs.Hosting.{hosted, IsAppended}
 use Rattle.mls_host.specs.Words.{named}
-use Rattle.mls_host.specs.Causes.{IsBarred}
 use Rattle.mls_host.specs.Storing.{AreStoredWith}
-use Rattle.mls_host.specs.Stop.{IsEnd}
 use Rattle.mls_host.specs.declared.reason.Reason.TheVariants.{Memory}
-use Rattle.mls_runs.specs.ScriptRun.{site_under, IsRunFrom}
-use Rattle.mls_host.proofs.StoringLemmas.{stored_read, stored_certified}
-use Rattle.mls_runs.proofs.ScriptRunLemmas.{script_run, not_begun}
+use Rattle.mls_runs.proofs.RunningLemmas.{may_serve}
+use Rattle.mls_runs.proofs.ScriptRunLemmas.{Ends, script_run, not_begun}
 use Rattle.mls_host.proofs.StoppingLemmas.{untouched, caused_before}
 use Rattle.mls_runs.proofs.running.run_script.Goals as goal
 
-pub run_events-requires : goal.run_events-requires
-run_events-requires g c =
+pub over_store-requires : goal.over_store-requires
+over_store-requires g c =
     let i = c.args.inputs in
-    let each : AreStoredWith i.setting.policy i.certificates i.transactions c.in_ok-stored.stored
-    = subst (λ blocks. AreStoredWith i.setting.policy blocks i.transactions c.in_ok-stored.stored) c.deref.ensures c.in_ok-stored.ensures in
     record {
-      may = record {
-        under = i.setting.under;
-        read = stored_read i.setting.policy i.setting.file.schemes i.certificates i.transactions c.in_ok-stored.stored c.requires.read each;
-        certified = stored_certified i.setting.policy i.setting.file.schemes i.certificates i.transactions c.in_ok-stored.stored each;
-        fits = rw c.deref-2.ensures c.requires.fits;
-        declared = i.setting.declared;
-      };
+      serves = may_serve i.setting _ i.transactions c.in_ok-stored.stored c.requires.read c.in_ok-stored.ensures;
+      fits = rw c.deref-2.ensures c.requires.fits;
+      declared = i.setting.declared;
     }
 
 pub returns-in_err-stored-clause-run : goal.returns-in_err-stored-clause-run
@@ -35,19 +25,15 @@ returns-in_err-stored-clause-run g c =
 
 pub returns-clause-run : goal.returns-clause-run
 returns-clause-run g c =
-    let h = hosted g.H.Host.hosting g.H.Lines.TypedLines.echo c.args.host.now c.run_events.new.host in
-    let wrote = IsAppended g.W.Write.contents c.args.out.now c.run_events.new.out in
+    let h = hosted g.H.Host.hosting g.H.Lines.TypedLines.echo c.args.host.now c.over_store.new.host in
+    let new = c.over_store.new.work in
+    let wrote = IsAppended g.W.Write.contents c.args.out.now new.out.now in
     let i = c.args.inputs in
-    script_run h i (named c.args.store) c.args.is_table wrote c.in_ok-stored.stored
+    subst (λ (out : g.row.W.Denot). Ends h i (named c.args.store) c.args.is_table (IsAppended g.W.Write.contents c.args.out.now out) c.over_store.result) (search rules)
+    (script_run h i (named c.args.store) c.args.is_table wrote c.in_ok-stored.stored
     (subst (λ blocks. AreStoredWith i.setting.policy blocks i.transactions c.in_ok-stored.stored) c.deref.ensures c.in_ok-stored.ensures)
-    c.run_events.result (subst
-    (λ (f : Form). IsEnd (IsRunFrom h i.setting.file (named c.args.store) (site_under i.setting c.in_ok-stored.stored)
-    (record { reader = i.setting.reader; form = f }) i.events wrote)
-    (λ reason. IsBarred h.before i.setting.policy i.setting.file (named c.args.store) reason × wrote []) c.run_events.result)
-    c.form_of.ensures (subst
-    (λ es. IsEnd (IsRunFrom h i.setting.file (named c.args.store) (site_under i.setting c.in_ok-stored.stored) (record { reader = i.setting.reader; form = c.form_of.result }) es wrote)
-    (λ reason. IsBarred h.before i.setting.policy i.setting.file (named c.args.store) reason × wrote []) c.run_events.result)
-    c.deref-2.ensures c.run_events.ensures.ends))
+    (new ≡ _) (λ same. subst (λ (out : g.row.W.Denot). IsAppended g.W.Write.contents c.args.out.now out []) (sym (ap (λ work. work.out.now) same)) (Appends-nil _))
+    c.form_of.result _ c.form_of.ensures c.deref-2.ensures c.over_store.result c.over_store.ensures.ends)
 
 pub returns-in_err-stored-clause-caused : goal.returns-in_err-stored-clause-caused
 returns-in_err-stored-clause-caused g c =

@@ -40,8 +40,8 @@ returns-clause-shell g c = λ clean.
     let sound : IsSoundContent at.policy at.schemes left = subst (IsSoundContent at.policy at.schemes) held (subst (λ (x : Site). IsSoundContent x.policy x.schemes (g.B.Base.state new.base).now) same (c.converse-outcome.ensures.continues.kept.ready.sound was)) in
     let last : world_at (site_of new.site) sessions (g.B.Base.state new.base).now ≡ world_at at sessions left = λ i. world_at (same i) sessions (held i) in
     let distinct : AreDistinct (site_labels at) = subst (λ (s : Site). AreDistinct (site_labels s)) c.new-engine.ensures.site c.new-engine.ensures.ready.distinct in
-    let start = c.requires.sound (subst g.B.Base.is_clean c.new-engine.ensures.base (c.converse-outcome.ensures.continues.clean was)) in
+    let start = c.requires.rest.sound (subst g.B.Base.is_clean c.new-engine.ensures.base (c.converse-outcome.ensures.continues.clean was)) in
     shell_at g.L.TypedLines.echo at c.args.session.now sessions first left (g.L.TypedLines.remaining c.args.lines.now) (g.L.TypedLines.remaining c.converse-outcome.new.lines) (g.W.Write.contents c.args.out.now) (g.W.Write.contents c.converse-outcome.new.out) (g.L.TypedLines.breaks c.converse-outcome.new.lines)
-    (IsTold g.E.Write.contents c.args.err.now c.converse-outcome.new.err) c.converse-outcome.result distinct c.requires.may.read c.requires.may.certified start sound
+    (IsTold g.E.Write.contents c.args.err.now c.converse-outcome.new.err) c.converse-outcome.result distinct c.requires.may.serves.read c.requires.may.serves.certified start sound
     (conversation_at g.L.TypedLines.echo c.args.session.now (g.L.TypedLines.remaining c.args.lines.now) (g.L.TypedLines.remaining c.converse-outcome.new.lines) (g.W.Write.contents c.args.out.now) (g.W.Write.contents c.converse-outcome.new.out) (g.L.TypedLines.breaks c.converse-outcome.new.lines)
     (IsTold g.E.Write.contents c.args.err.now c.converse-outcome.new.err) c.converse-outcome.result _ at _ (first_world at first) _ (world_at at sessions left) c.new-engine.ensures.site c.new-engine.ensures.world last (c.converse-outcome.ensures.conversation was))

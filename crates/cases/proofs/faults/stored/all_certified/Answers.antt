@@ -7,8 +7,8 @@ use Rattle.cases.proofs.faults.stored.all_certified.Goals as goal
 
 pub loop-tx-preserved : goal.loop-tx-preserved
 loop-tx-preserved c =
-    let policy = c.args.policy.now in
-    let schemes = c.args.schemes.now in
+    let policy = c.args.sample.now.policy.now in
+    let schemes = c.args.sample.now.schemes.now in
     let inv = c.loop-tx.invariant in
     let one = c.in_ok-one.one in
     let more : c.push.new.self.items ≡ c.loop-tx.stored.items ++ one ∷ [] = search rules in
@@ -21,6 +21,6 @@ loop-tx-preserved c =
 
 pub certified-requires : goal.certified-requires
 certified-requires c =
-    let policy = c.args.policy.now in
-    let schemes = c.args.schemes.now in
+    let policy = c.args.sample.now.policy.now in
+    let schemes = c.args.sample.now.schemes.now in
     (subst (AllByRecursion (IsReadUnder policy schemes)) c.in-Some.ensures.steps.0 c.loop-tx.invariant.rest).0

@@ -5,7 +5,7 @@ use Rattle.cases.proofs.faults.stored.all_certified.Given as goal
 
 abbrev pub invariant-loop-tx : goal.invariant-loop-tx
 invariant-loop-tx l = record {
-  read : AllByRecursion (λ s. IsReadUnder l.policy l.schemes (tx_of s)) l.stored.items;
-  certified : AllByRecursion (IsCertifiedUnder l.policy) l.stored.items;
-  rest : AllByRecursion (IsReadUnder l.policy l.schemes) l.tx-iterator.rest.items;
+  read : AllByRecursion (λ s. IsReadUnder l.sample.policy.now l.sample.schemes.now (tx_of s)) l.stored.items;
+  certified : AllByRecursion (IsCertifiedUnder l.sample.policy.now) l.stored.items;
+  rest : AllByRecursion (IsReadUnder l.sample.policy.now l.sample.schemes.now) l.tx-iterator.rest.items;
 }

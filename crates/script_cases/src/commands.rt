@@ -34,63 +34,48 @@ fn written_on<R: AllocGlobal>(
     }
 }
 
-/// What a command writes with a script, which is its standard input too, and the last store that was opened: of the stores `left` is
-/// the one before. Its standard error may be read at a terminal.
-pub fn written_where<R: Files + AllocGlobal>(
+/// What a command writes with a script, which is its standard input too.
+pub fn written_to<R: Files + AllocGlobal>(
     rt: &R,
     words: &[&str],
     script: &[u8],
     out: Narrow,
+) -> Written {
+    let store = store_named(rt.alloc(), store_word(words));
+    let mut machine = machine_for(rt, words, script, store, false);
+    written_on(rt, words, &mut machine, out)
+}
+
+/// The same, to a writer that takes all.
+pub fn written_by<R: Files + AllocGlobal>(rt: &R, words: &[&str], script: &[u8]) -> Written {
+    written_to(rt, words, script, Narrow::wide(rt.alloc()))
+}
+
+/// What a command writes with a script, which is its standard input too, and the last store that was opened: of the stores `left` is
+/// the one before. Its standard error may be read at a terminal.
+pub fn written_over<R: Files + AllocGlobal>(
+    rt: &R,
+    words: &[&str],
+    script: &[u8],
     left: Option<Connection<MemStore>>,
     is_watched: bool,
 ) -> (Written, Option<Connection<MemStore>>) {
+    let mut left = left;
     let name = store_word(words);
-    if name == "left" {
-        let mut machine = machine_for(rt, words, script, left, is_watched);
-        let written = written_on(rt, words, &mut machine, out);
-        return (written, machine.store);
-    }
-    let store = store_named(rt.alloc(), name);
+    let goes_on = name == Some("left");
+    let store = if goes_on {
+        left.take()
+    } else {
+        store_named(rt.alloc(), name)
+    };
     let mut machine = machine_for(rt, words, script, store, is_watched);
-    let written = written_on(rt, words, &mut machine, out);
-    let last = if machine.was_opened {
+    let written = written_on(rt, words, &mut machine, Narrow::wide(rt.alloc()));
+    let last = if goes_on || machine.was_opened {
         machine.store
     } else {
         left
     };
     (written, last)
-}
-
-/// What a command writes with a script, which is its standard input too, and the last store that was opened.
-pub fn written_over<R: Files + AllocGlobal>(
-    rt: &R,
-    words: &[&str],
-    script: &[u8],
-    out: Narrow,
-    left: Option<Connection<MemStore>>,
-) -> (Written, Option<Connection<MemStore>>) {
-    written_where(rt, words, script, out, left, false)
-}
-
-/// What a command writes with a script, which is its standard input too, over the store that the last run left.
-pub fn written_after<R: Files + AllocGlobal>(
-    rt: &R,
-    words: &[&str],
-    script: &[u8],
-    out: Narrow,
-    left: Option<Connection<MemStore>>,
-) -> Written {
-    written_over(rt, words, script, out, left).0
-}
-
-/// What a command writes with a script, which is its standard input too.
-pub fn written_by<R: Files + AllocGlobal>(
-    rt: &R,
-    words: &[&str],
-    script: &[u8],
-    out: Narrow,
-) -> Written {
-    written_after(rt, words, script, out, None)
 }
 
 /// Tells the status where it is not 0, and standard error.
@@ -109,7 +94,7 @@ pub fn tell_written(written: &Written, out: &mut Told) {
     out.push_indented(text_of(&written.out));
 }
 
-fn tell_words<R: Files + AllocGlobal>(
+fn tell_to<R: Files + AllocGlobal>(
     rt: &R,
     words: &[&str],
     case: &Case<'_>,
@@ -117,10 +102,7 @@ fn tell_words<R: Files + AllocGlobal>(
     out: &mut Told,
 ) {
     match joined(rt.alloc(), case.body) {
-        Ok(script) => {
-            out.push_line(case.head);
-            tell_written(&written_by(rt, words, script.as_bytes(), to), out);
-        }
+        Ok(script) => tell_written(&written_to(rt, words, script.as_bytes(), to), out),
         Err(_) => out.fail(),
     }
 }
@@ -138,7 +120,7 @@ pub fn words_of<'a>(head: &'a str) -> [&'a str; 5] {
 fn tell_run<R: Files + AllocGlobal>(rt: &R, words: &[&str], case: &Case<'_>, out: &mut Told) {
     match joined(rt.alloc(), case.body) {
         Ok(script) => {
-            let written = written_by(rt, words, script.as_bytes(), Narrow::wide(rt.alloc()));
+            let written = written_by(rt, words, script.as_bytes());
             out.push_line(case.head);
             tell_written(&written, out);
             out.push(told_by(rt, words, script.as_bytes(), &written));
@@ -178,34 +160,32 @@ pub fn tell_call<R: Files + AllocGlobal>(rt: &R, case: &Case<'_>, out: &mut Told
 }
 
 /// Tells the status and what a command line writes, with the script below it on standard input.
-pub fn tell_command<R: Files + AllocGlobal>(rt: &R, case: &Case<'_>, out: &mut Told) {
-    let words: Result<Vec<&str>, _> = case.head.split_ascii_whitespace().collect(rt.alloc());
-    match words {
-        Ok(words) => tell_words(rt, &words, case, Narrow::wide(rt.alloc()), out),
-        Err(_) => out.fail(),
-    }
+pub fn tell_command<R: Files + AllocGlobal>(
+    rt: &R,
+    words: &[&str],
+    case: &Case<'_>,
+    out: &mut Told,
+) {
+    tell_to(rt, words, case, Narrow::wide(rt.alloc()), out);
 }
 
 fn number_of(word: &str) -> usize {
     word.parse::<usize>().unwrap_or(0)
 }
 
-fn tell_narrow<R: Files + AllocGlobal>(rt: &R, words: &[&str], case: &Case<'_>, out: &mut Told) {
+/// Tells what a command writes: a case is `WIDTH WRITES` and a command line, and its script below.
+pub fn tell_writer<R: Files + AllocGlobal>(
+    rt: &R,
+    words: &[&str],
+    case: &Case<'_>,
+    out: &mut Told,
+) {
     match words {
         [width, left, command @ ..] => {
             let to = Narrow::new(rt.alloc(), number_of(width), number_of(left));
-            tell_words(rt, command, case, to, out);
+            tell_to(rt, command, case, to, out);
         }
-        _ => out.push("no numbers\n"),
-    }
-}
-
-/// Tells what a command writes: a case is `WIDTH WRITES` and a command line, and its script below.
-pub fn tell_writer<R: Files + AllocGlobal>(rt: &R, case: &Case<'_>, out: &mut Told) {
-    let words: Result<Vec<&str>, _> = case.head.split_ascii_whitespace().collect(rt.alloc());
-    match words {
-        Ok(words) => tell_narrow(rt, &words, case, out),
-        Err(_) => out.fail(),
+        _ => out.push("  no numbers\n"),
     }
 }
 
@@ -227,7 +207,7 @@ fn refuses_script(written: &Written) -> bool {
 pub fn tell_fault<R: Files + AllocGlobal>(rt: &R, line: &str, out: &mut Told) {
     match unfolded(rt.alloc(), line) {
         Ok(script) => {
-            let written = written_by(rt, &words_of(""), &script, Narrow::wide(rt.alloc()));
+            let written = written_by(rt, &words_of(""), &script);
             out.push(answer_of(&written));
             out.push(": ");
             out.push_line(line);
@@ -240,7 +220,7 @@ pub fn tell_fault<R: Files + AllocGlobal>(rt: &R, line: &str, out: &mut Told) {
 fn tell_read<R: Files + AllocGlobal>(rt: &R, script: &[u8], out: &mut Told) {
     for count in 0..script.len() {
         let part = &script[..count];
-        let written = written_by(rt, &words_of(""), part, Narrow::wide(rt.alloc()));
+        let written = written_by(rt, &words_of(""), part);
         if written.status == 0 {
             out.push(" ");
             out.push_count(count);

@@ -1,7 +1,6 @@
 //! Whole commands that print many lines, which are counted.
 use crate::commands::{Written, tell_ending, written_by};
-use crate::narrow::Narrow;
-use case_tables::{Case, Told, text_of};
+use case_tables::{Told, text_of};
 use std::alloc::{AllocError, Global};
 use std::rt::Files;
 
@@ -41,22 +40,13 @@ fn tell_counts(alloc: Global, written: &Written, word: &str, out: &mut Told) {
     out.note(growth);
 }
 
-fn tell_words<R: Files + AllocGlobal>(rt: &R, words: &[&str], out: &mut Told) {
+/// Tells how a command ends, and how many of its lines have a word: a case is the word and a command line.
+pub fn tell<R: Files + AllocGlobal>(rt: &R, words: &[&str], out: &mut Told) {
     match words {
         [word, command @ ..] => {
-            let written = written_by(rt, command, b"".as_slice(), Narrow::wide(rt.alloc()));
+            let written = written_by(rt, command, b"".as_slice());
             tell_counts(rt.alloc(), &written, word, out);
         }
         _ => out.push("  no words\n"),
-    }
-}
-
-/// Tells how a command ends, and how many of its lines have a word: a case is the word and a command line.
-pub fn tell<R: Files + AllocGlobal>(rt: &R, case: &Case<'_>, out: &mut Told) {
-    let words: Result<Vec<&str>, _> = case.head.split_ascii_whitespace().collect(rt.alloc());
-    out.push_line(case.head);
-    match words {
-        Ok(words) => tell_words(rt, &words, out),
-        Err(_) => out.fail(),
     }
 }

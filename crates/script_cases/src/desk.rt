@@ -116,22 +116,22 @@ pub fn machine_for<'a, R: Files + AllocGlobal>(
 }
 
 /// The word behind `--store`.
-pub fn store_word<'a>(words: &[&'a str]) -> &'a str {
+pub fn store_word<'a>(words: &[&'a str]) -> Option<&'a str> {
     for pair in words.windows(2) {
         if let [option, name] = pair {
             if *option == "--store" {
-                return *name;
+                return Some(*name);
             }
         }
     }
-    ""
+    None
 }
 
 /// A store in memory: `new` is one, and `table` has a table of somebody else's. No other is made.
-pub fn store_named(alloc: Global, name: &str) -> Option<Connection<MemStore>> {
+pub fn store_named(alloc: Global, name: Option<&str>) -> Option<Connection<MemStore>> {
     match name {
-        "new" => Connection::open_in_memory(alloc).ok(),
-        "table" => store_with_table(alloc).ok(),
+        Some("new") => Connection::open_in_memory(alloc).ok(),
+        Some("table") => store_with_table(alloc).ok(),
         _ => None,
     }
 }

@@ -1,9 +1,8 @@
 //! Runs over other bases than that of a run without a store: over lists and over a store they write the same, and what the store has
 //! when it is opened again is what the lists have.
-use crate::commands::{Written, written_after, written_over};
+use crate::commands::{Written, written_over};
 use crate::desk::file_of;
 use crate::lists::Lists;
-use crate::narrow::Narrow;
 use case_tables::text_of;
 use mls_command::act;
 use mls_host::{Errors, HostFault};
@@ -55,8 +54,8 @@ fn written_and_asked<R: Files + AllocGlobal>(
 ) -> Result<(Written, Written), AllocError> {
     let over_new = words_with(rt.alloc(), words, &["script", "--store", "new"])?;
     let over_left = words_with(rt.alloc(), words, &["script", "--store", "left"])?;
-    let (written, left) = written_over(rt, &over_new, script, Narrow::wide(rt.alloc()), None);
-    let found = written_after(rt, &over_left, questions, Narrow::wide(rt.alloc()), left);
+    let (written, left) = written_over(rt, &over_new, script, None, false);
+    let found = written_over(rt, &over_left, questions, left, false).0;
     Ok((written, found))
 }
 

@@ -1,7 +1,6 @@
 //! Each reader's own stream: what a run prints for a reader is the lines of the run whose labels the reader's own dominates.
-use crate::commands::{Written, tell_ending, written_after, written_over};
+use crate::commands::{Written, tell_ending, written_over};
 use crate::elsewhere::words_with;
-use crate::narrow::Narrow;
 use crate::worlds::push_seen;
 use case_tables::{Case, Told, inner, text_of};
 use sqlite::{Connection, MemStore};
@@ -23,7 +22,7 @@ fn left_by<R: Files + AllocGlobal>(rt: &R, body: &[&str]) -> Option<Connection<M
         let line = inner(line);
         let words: Result<Vec<&str>, _> = line.split_ascii_whitespace().collect(rt.alloc());
         if let (true, Ok(words)) = (is_command(line), words) {
-            left = written_over(rt, &words, NOTHING, Narrow::wide(rt.alloc()), left).1;
+            left = written_over(rt, &words, NOTHING, left, false).1;
         }
     }
     left
@@ -32,7 +31,7 @@ fn left_by<R: Files + AllocGlobal>(rt: &R, body: &[&str]) -> Option<Connection<M
 /// What a command prints over what those below its case leave.
 fn written_then<R: Files + AllocGlobal>(rt: &R, words: &[&str], body: &[&str]) -> Written {
     let left = left_by(rt, body);
-    written_after(rt, words, NOTHING, Narrow::wide(rt.alloc()), left)
+    written_over(rt, words, NOTHING, left, false).0
 }
 
 /// The lines of a text that begin with one of the labels.
@@ -79,7 +78,8 @@ fn tell_reader<R: Files + AllocGlobal>(
     }
 }
 
-fn tell_readers<R: Files + AllocGlobal>(rt: &R, words: &[&str], case: &Case<'_>, out: &mut Told) {
+/// Tells what each reader is shown of a run: a case is its command line, and below it the commands before it, and the readers.
+pub fn tell<R: Files + AllocGlobal>(rt: &R, words: &[&str], case: &Case<'_>, out: &mut Told) {
     let all = written_then(rt, words, case.body);
     tell_ending(&all, out);
     for line in case.body {
@@ -87,15 +87,5 @@ fn tell_readers<R: Files + AllocGlobal>(rt: &R, words: &[&str], case: &Case<'_>,
         if !is_command(line) {
             tell_reader(rt, words, case, line, &all, out);
         }
-    }
-}
-
-/// Tells what each reader is shown of a run: a case is its command line, and below it the commands before it, and the readers.
-pub fn tell<R: Files + AllocGlobal>(rt: &R, case: &Case<'_>, out: &mut Told) {
-    let words: Result<Vec<&str>, _> = case.head.split_ascii_whitespace().collect(rt.alloc());
-    out.push_line(case.head);
-    match words {
-        Ok(words) => tell_readers(rt, &words, case, out),
-        Err(_) => out.fail(),
     }
 }

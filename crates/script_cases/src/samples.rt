@@ -2,8 +2,7 @@
 use crate::commands::{Written, tell_ending, written_by};
 use crate::desk::file_of;
 use crate::elsewhere::told_by;
-use crate::narrow::Narrow;
-use case_tables::{Case, Told, text_of};
+use case_tables::{Told, text_of};
 use std::rt::Files;
 
 /// No script: those of the samples are files.
@@ -25,7 +24,7 @@ fn tell_likeness<R: Files + AllocGlobal>(rt: &R, file: &str, written: &Written, 
 
 /// Tells how a command ends, and whether it prints what a file has; and of a run whether it does so over other bases.
 fn tell_command<R: Files + AllocGlobal>(rt: &R, file: &str, command: &[&str], out: &mut Told) {
-    let written = written_by(rt, command, NOTHING, Narrow::wide(rt.alloc()));
+    let written = written_by(rt, command, NOTHING);
     tell_ending(&written, out);
     tell_likeness(rt, file, &written, out);
     if command.iter().any(|word| *word == "run") {
@@ -34,14 +33,9 @@ fn tell_command<R: Files + AllocGlobal>(rt: &R, file: &str, command: &[&str], ou
 }
 
 /// Tells whether a command prints what a file has: a case is the file and the command line.
-pub fn tell<R: Files + AllocGlobal>(rt: &R, case: &Case<'_>, out: &mut Told) {
-    let words: Result<Vec<&str>, _> = case.head.split_ascii_whitespace().collect(rt.alloc());
-    out.push_line(case.head);
+pub fn tell<R: Files + AllocGlobal>(rt: &R, words: &[&str], out: &mut Told) {
     match words {
-        Ok(words) => match words.split_first() {
-            Some((file, command)) => tell_command(rt, file, command, out),
-            None => out.push("  no words\n"),
-        },
-        Err(_) => out.fail(),
+        [file, command @ ..] => tell_command(rt, file, command, out),
+        _ => out.push("  no words\n"),
     }
 }

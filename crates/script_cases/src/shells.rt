@@ -1,7 +1,6 @@
 //! Shells over stores, each with what the one before it left.
-use crate::commands::{Written, tell_written, written_where};
+use crate::commands::{Written, tell_written, written_over};
 use crate::elsewhere::written_over_lists;
-use crate::narrow::Narrow;
 use case_tables::{Case, Told, case_at, inner, text_of, unfolded};
 use sqlite::{Connection, MemStore};
 use std::alloc::{AllocError, Global};
@@ -154,8 +153,7 @@ fn tell_typed<R: Files + AllocGlobal>(
     is_watched: bool,
     out: &mut Told,
 ) -> Option<Connection<MemStore>> {
-    let to = Narrow::wide(rt.alloc());
-    let (written, left) = written_where(rt, words, typed, to, left, is_watched);
+    let (written, left) = written_over(rt, words, typed, left, is_watched);
     tell_written(&written, out);
     out.push(told_of_run(rt, words, typed).unwrap_or("  no memory\n"));
     left

@@ -1,6 +1,5 @@
 //! Commands over stores, each with what the one before it left.
 use crate::commands::{tell_written, written_over};
-use crate::narrow::Narrow;
 use case_tables::{Case, Told, case_at, joined};
 use sqlite::{Connection, MemStore};
 use std::rt::Files;
@@ -13,8 +12,7 @@ fn tell_over<R: Files + AllocGlobal>(
     left: Option<Connection<MemStore>>,
     out: &mut Told,
 ) -> Option<Connection<MemStore>> {
-    let to = Narrow::wide(rt.alloc());
-    let (written, left) = written_over(rt, words, script.as_bytes(), to, left);
+    let (written, left) = written_over(rt, words, script.as_bytes(), left, false);
     tell_written(&written, out);
     left
 }

@@ -81,16 +81,28 @@ fn tell_case<R: Files + AllocGlobal>(rt: &R, table: Table, case: &Case<'_>, out:
         Table::Faults => commands::tell_fault(rt, case.head, out),
         Table::Prefixes => commands::tell_prefixes(rt, case.head, out),
         Table::Scripts => commands::tell_script(rt, case, out),
-        Table::Commands => commands::tell_command(rt, case, out),
-        Table::Writers => commands::tell_writer(rt, case, out),
         Table::Worlds => worlds::tell(rt, case, false, out),
         Table::DeskWorlds => worlds::tell(rt, case, true, out),
         Table::Calls => commands::tell_call(rt, case, out),
-        Table::Counts => counts::tell(rt, case, out),
-        Table::Samples => samples::tell(rt, case, out),
-        Table::Readers => readers::tell(rt, case, out),
         Table::Terminals => shells::tell_at_terminal(rt, case, out),
-        // Each of these goes on with what the one before it left.
-        Table::Stores | Table::Shells | Table::Watched => {}
+        _ => tell_line(rt, table, case, out),
+    }
+}
+
+/// Tells a case whose head is a command line, or has one.
+fn tell_line<R: Files + AllocGlobal>(rt: &R, table: Table, case: &Case<'_>, out: &mut Told) {
+    let words: Result<Vec<&str>, _> = case.head.split_ascii_whitespace().collect(rt.alloc());
+    let Ok(words) = words else {
+        return out.fail();
+    };
+    out.push_line(case.head);
+    match table {
+        Table::Commands => commands::tell_command(rt, &words, case, out),
+        Table::Writers => commands::tell_writer(rt, &words, case, out),
+        Table::Counts => counts::tell(rt, &words, out),
+        Table::Samples => samples::tell(rt, &words, out),
+        Table::Readers => readers::tell(rt, &words, case, out),
+        // Each of the others goes on with what the one before it left.
+        _ => {}
     }
 }

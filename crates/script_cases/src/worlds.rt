@@ -2,7 +2,6 @@
 ghost use Rattle.std.specs.Prelude.{◌≤◌, length};
 
 use crate::commands::{call_words_of, written_by};
-use crate::narrow::Narrow;
 use case_tables::{Case, Told, inner, text_of};
 use std::alloc::AllocError;
 use std::rt::Files;
@@ -88,13 +87,12 @@ fn seen_by<R: Files + AllocGlobal>(
     look: Look<'_>,
     script: &str,
 ) -> Result<String, AllocError> {
-    let to = Narrow::wide(rt.alloc());
     let mut seen = Told::new(rt.alloc());
     if look.is_at_desk {
-        let written = written_by(rt, &DESK, script.as_bytes(), to);
+        let written = written_by(rt, &DESK, script.as_bytes());
         push_answers(&mut seen, look.labels, script, text_of(&written.out));
     } else {
-        let written = written_by(rt, &call_words_of(FILES), script.as_bytes(), to);
+        let written = written_by(rt, &call_words_of(FILES), script.as_bytes());
         push_seen(&mut seen, look.labels, text_of(&written.err));
         push_seen(&mut seen, look.labels, text_of(&written.out));
     }

@@ -1,6 +1,7 @@
 //! Command lines, and files that are made for them.
+use crate::desk::store_word;
 use crate::machine::files::{make_copy, make_lines, make_text};
-use crate::machine::stores::{FilesOfStore, store_word};
+use crate::machine::stores::FilesOfStore;
 use case_tables::{Case, Told, joined, text_of};
 use mls_command::{Written, run_kept};
 use std::io;

@@ -4,18 +4,6 @@ use std::fs;
 use std::os::unix::fs::PermissionsExt;
 use std::rt::Files;
 
-/// The word behind `--store`.
-pub fn store_word<'a>(words: &[&'a str]) -> Option<&'a str> {
-    for pair in words.windows(2) {
-        if let [option, path] = pair {
-            if *option == "--store" {
-                return Some(*path);
-            }
-        }
-    }
-    None
-}
-
 /// The bytes of the database file of a store and of its log, where they are files; and whether the first is its owner's alone.
 #[derive(Drop)]
 pub struct FilesOfStore {

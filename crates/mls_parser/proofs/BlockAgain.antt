@@ -32,9 +32,9 @@ use Rattle.mls_parser.specs.declared.words.Plain.TheVariants as plains
 use Rattle.mls_parser.specs.Fault.{fault, unless}
 use Rattle.mls_parser.specs.Infer.{may_be_truth}
 use Rattle.mls_parser.specs.Names.{is_taken}
-use Rattle.mls_parser.specs.Noted.{State, Read, note, takes_sign, word_at}
+use Rattle.mls_parser.specs.Noted.{State, Read, note, takes_sign, word_at, label_behind, relation_at}
 use Rattle.mls_parser.specs.ReadList.{tested}
-use Rattle.mls_parser.specs.ReadBlock.{label_behind, relation_at, plain_at, guard_at, loop_head_at, Counted, with_count, braced, other_of, other_at, blocks_at, content_at, opened, stmt_with, deep_stmt, end_or, stmts_from, stmts_with, stmts_at}
+use Rattle.mls_parser.specs.ReadBlock.{plain_at, guard_at, loop_head_at, Counted, with_count, braced, other_of, other_at, blocks_at, content_at, opened, stmt_with, deep_stmt, end_or, stmts_from, stmts_with, stmts_at}
 use Rattle.mls_parser.specs.Words.{opening_of}
 use Rattle.mls_parser.proofs.ExprAgain.{differs, whole_again}
 use Rattle.mls_parser.proofs.FoundLemmas.{HasNames, variable_is_name}
@@ -141,12 +141,12 @@ module _ (p : Place) (n : HasNames p) where
   unfolding loop_head_at
   loop_head_gets row relation l us s fresh hr hl k =
       let behind : List Token = Word (codes "at") ∷ label_token p l ∷ us in
-      let finish : Name → State → Read (Name × ℕ × ℕ) = λ name r. word_at (codes "in") r >>= λ w. relation_at p w.1 >>= λ x. label_behind p (codes "at") x.1 >>= λ y. Ok ((name, x.0, y.0), y.1) in
+      let finish : Name → State → Read (Name × ℕ × ℕ) = λ name r. word_at (codes "in") r >>= λ w. relation_at p.schemes w.1 >>= λ x. label_behind p.policy (codes "at") x.1 >>= λ y. Ok ((name, x.0, y.0), y.1) in
       let again : Name → ℕ → List PlacedFault = λ name at. unless (not (is_taken p name)) at cause.Repeated in
       placed_then (λ x. finish x.0.0 (note (again x.0.0 x.0.1) x.1)) (name_gets row (Word (codes "in") ∷ rel_token p relation ∷ behind) s fresh.0 k)
       (λ at m t. gets_is (finish row (note (again row at) (s.0, m))) (finish row (s.0, m)) (s.0, m) (Same (row, relation, l)) us (ap (finish row) (quiet (again row at) s.0 m (none at cause.Repeated (ap not (sym (all_taken p row) ∙ fresh.1)))))
-      (gets_more (λ w. relation_at p w.1 >>= λ x. label_behind p (codes "at") x.1 >>= λ y. Ok ((row, x.0, y.0), y.1)) (word_gets (codes "in") (rel_token p relation ∷ behind) (s.0, m) t)
-      (λ w m2 is t2. gets_then (λ x. label_behind p (codes "at") x.1 >>= λ y. Ok ((row, x.0, y.0), y.1)) (relation_gets p n relation behind (s.0, m2) hr t2)
+      (gets_more (λ w. relation_at p.schemes w.1 >>= λ x. label_behind p.policy (codes "at") x.1 >>= λ y. Ok ((row, x.0, y.0), y.1)) (word_gets (codes "in") (rel_token p relation ∷ behind) (s.0, m) t)
+      (λ w m2 is t2. gets_then (λ x. label_behind p.policy (codes "at") x.1 >>= λ y. Ok ((row, x.0, y.0), y.1)) (relation_gets p n relation behind (s.0, m2) hr t2)
       (λ m3 t3. gets_then (λ y. Ok ((row, relation, y.0), y.1)) (label_gets p n (codes "at") l us (s.0, m3) hl t3) (λ m4 t4. gets_done (row, relation, l) s.0 m4 (Same (row, relation, l)) us refl t4)))))
 
 -- inside one loop more

@@ -27,10 +27,10 @@ use Rattle.mls_parser.specs.declared.words.Plain.TheVariants as plains
 use Rattle.mls_parser.specs.Fault.{fault, unless}
 use Rattle.mls_parser.specs.Infer.{may_be_truth}
 use Rattle.mls_parser.specs.Names.{is_taken}
-use Rattle.mls_parser.specs.Noted.{State, Read, note, token, takes_sign, takes_word, sign_at, word_at, name_at}
+use Rattle.mls_parser.specs.Noted.{State, Read, note, token, takes_sign, takes_word, sign_at, word_at, name_at, label_behind, relation_at}
 use Rattle.mls_parser.specs.ReadExpr.{whole_at}
 use Rattle.mls_parser.specs.ReadList.{tested}
-use Rattle.mls_parser.specs.ReadBlock.{label_behind, relation_at, plain_at, guard_at, loop_head_at, Counted, braced, other_of, other_at, blocks_at, if_at, for_at, content_at, opened, stmt_with, deep_stmt, end_or, stmts_from, stmts_with, stmts_at}
+use Rattle.mls_parser.specs.ReadBlock.{plain_at, guard_at, loop_head_at, Counted, braced, other_of, other_at, blocks_at, if_at, for_at, content_at, opened, stmt_with, deep_stmt, end_or, stmts_from, stmts_with, stmts_at}
 use Rattle.mls_parser.specs.Words.{opening_of, pass_known}
 use Rattle.mls_parser.proofs.FaultLemmas.{holds}
 use Rattle.mls_parser.proofs.FoundSteps.{Found, found_none, found_next, found_noted, found_made, sign_read, word_read, name_read}
@@ -76,13 +76,13 @@ module _ (p : Place) where
   IsReached row ts h = (h.0 ≡ row) × (h.1 < length p.schemes) × IsLabel p.policy h.2 × (ts ≡ rel_token p h.1 ∷ Word (codes "at") ∷ label_token p h.2 ∷ [])
 
   ranged_read : (row : List ℕ) (s : State) (x : (List ℕ × ℕ × ℕ) × State)
-      → (word_at (codes "in") s >>= λ w. relation_at p w.1 >>= λ relation. label_behind p (codes "at") relation.1 >>= λ l. Ok ((row, relation.0, l.0), l.1)) ≡ Ok x → Found (IsRanged row) s x
+      → (word_at (codes "in") s >>= λ w. relation_at p.schemes w.1 >>= λ relation. label_behind p.policy (codes "at") relation.1 >>= λ l. Ok ((row, relation.0, l.0), l.1)) ≡ Ok x → Found (IsRanged row) s x
   ranged_read row s =
-      found_next (IsRanged row) (λ at ts h. IsReached row ts h) s (word_at (codes "in") s) (λ w. relation_at p w.1 >>= λ relation. label_behind p (codes "at") relation.1 >>= λ l. Ok ((row, relation.0, l.0), l.1)) (word_read (codes "in") s)
+      found_next (IsRanged row) (λ at ts h. IsReached row ts h) s (word_at (codes "in") s) (λ w. relation_at p.schemes w.1 >>= λ relation. label_behind p.policy (codes "at") relation.1 >>= λ l. Ok ((row, relation.0, l.0), l.1)) (word_read (codes "in") s)
       (λ w.
-      found_next (IsReached row) (λ relation ts h. (h.0 ≡ row) × (h.1 ≡ relation) × IsLabel p.policy h.2 × (ts ≡ Word (codes "at") ∷ label_token p h.2 ∷ [])) w.1 (relation_at p w.1)
-      (λ relation. label_behind p (codes "at") relation.1 >>= λ l. Ok ((row, relation.0, l.0), l.1)) (relation_read p w.1)
-      (λ relation. found_made (λ ts h. (h.0 ≡ row) × (h.1 ≡ relation.0) × IsLabel p.policy h.2 × (ts ≡ Word (codes "at") ∷ label_token p h.2 ∷ [])) relation.1 (label_behind p (codes "at") relation.1) (λ l. (row, relation.0, l)) (label_read p (codes "at") relation.1)
+      found_next (IsReached row) (λ relation ts h. (h.0 ≡ row) × (h.1 ≡ relation) × IsLabel p.policy h.2 × (ts ≡ Word (codes "at") ∷ label_token p h.2 ∷ [])) w.1 (relation_at p.schemes w.1)
+      (λ relation. label_behind p.policy (codes "at") relation.1 >>= λ l. Ok ((row, relation.0, l.0), l.1)) (relation_read p w.1)
+      (λ relation. found_made (λ ts h. (h.0 ≡ row) × (h.1 ≡ relation.0) × IsLabel p.policy h.2 × (ts ≡ Word (codes "at") ∷ label_token p h.2 ∷ [])) relation.1 (label_behind p.policy (codes "at") relation.1) (λ l. (row, relation.0, l)) (label_read p (codes "at") relation.1)
       (λ l ts r. (refl, refl, r.within, r.tokens)))
       (λ relation h ts us of l.
       let F : ℕ → Type 0 = λ n. IsReached row (ts ++ us) (h.0, n, h.2) in
@@ -93,7 +93,7 @@ module _ (p : Place) where
   unfolding loop_head_at
   loop_head_read s x e =
       let rest : PlacedName × State → Read (List ℕ × ℕ × ℕ) =
-      λ n. word_at (codes "in") n.1 >>= λ w. relation_at p w.1 >>= λ relation. label_behind p (codes "at") relation.1 >>= λ l. Ok ((n.0.0, relation.0, l.0), l.1) in
+      λ n. word_at (codes "in") n.1 >>= λ w. relation_at p.schemes w.1 >>= λ relation. label_behind p.policy (codes "at") relation.1 >>= λ l. Ok ((n.0.0, relation.0, l.0), l.1) in
       let again : PlacedName → List PlacedFault = λ n. unless (not (is_taken p n.0)) n.1 cause.Repeated in
       let n = bind_ok (name_at s) (λ n. rest (n.0, note (again n.0) n.1)) x e in
       let named = found_noted (λ ts m. (ts ≡ Word m.0 ∷ []) × IsFresh p.scope m.0) s (name_at s) (λ m. m) again (name_read s)

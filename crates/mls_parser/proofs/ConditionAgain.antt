@@ -1,9 +1,7 @@
 -- What stands there is read: conditions.
 use Rattle.std.proofs.Common.{◌≡◌, ℕ, zero, suc, ◌+◌, ◌-◌, ◌<◌, ◌≤◌, ◌==◌, Bool, true, false, ◌||◌, List, [], ◌∷◌, ◌++◌, Option, Some, None, Ok, Err, inl, inr, refl, sym, ap, ◌∙◌, subst, arith, append_assoc, option_map, is_some, if◌then◌else◌, ne_eqb, append-nil}
 use Rattle.std.proofs.lemmas.Bool.{and_from}
-use Rattle.mls_lattice.specs.Policy.{Policy}
 use Rattle.mls_lattice.specs.Reading.{◌>>=◌}
-use Rattle.mls_scheme.specs.Scheme.{Schemes}
 use Rattle.mls_tokens.specs.declared.fault.TokenFault.{TokenFault}
 use Rattle.mls_tokens.specs.declared.token.Token.{Token}
 use Rattle.mls_tokens.specs.declared.token.Placed.{Placed}
@@ -22,11 +20,10 @@ use Rattle.mls_parser.specs.declared.fault.PlacedFault.{PlacedFault}
 use Rattle.mls_parser.specs.declared.fault.TextCause.TheVariants as cause
 use Rattle.mls_parser.specs.declared.given.Given.{Given}
 use Rattle.mls_parser.specs.Condition.{is_comparison, SpellsSide, SpellsTest, SpellsTests, SpellsCondition, EndsCondition, ConditionsAreRead}
-use Rattle.mls_parser.specs.Fault.{fault, least_from}
+use Rattle.mls_parser.specs.Fault.{fault}
 use Rattle.mls_parser.specs.Infer.{may_be_truth}
 use Rattle.mls_parser.specs.Noted.{State, Read, note, token}
-use Rattle.mls_parser.specs.Parsing.{answer}
-use Rattle.mls_parser.specs.ReadCondition.{comparison_of, joiner_of, take_known, behind_known, takes_known, between, between_faults, are_mixed, past_most, compared, test_at, joined, next_test_at, tests_from, tests_at, written_place, as_fields, judged, noted_at, condition_at}
+use Rattle.mls_parser.specs.ReadCondition.{comparison_of, joiner_of, take_known, behind_known, takes_known, between, between_faults, are_mixed, past_most, compared, test_at, joined, next_test_at, tests_from, tests_at, written_place, as_fields, condition_at}
 use Rattle.mls_parser.specs.ReadExpr.{whole_at}
 use Rattle.mls_parser.specs.ReadList.{tested}
 use Rattle.mls_parser.specs.Words.{pass_head}
@@ -35,7 +32,7 @@ use Rattle.mls_parser.proofs.ConditionLemmas.{written_names}
 use Rattle.mls_parser.proofs.ConditionSteps.{first_test, tests_end, tests_more}
 use Rattle.mls_parser.proofs.ExprAgain.{IsAgain, operator_fits, no_dot, whole_again}
 use Rattle.mls_parser.proofs.FoundLemmas.{HasNames}
-use Rattle.mls_parser.proofs.NextLemmas.{Gets, gets_more, gets_noted, none}
+use Rattle.mls_parser.proofs.NextLemmas.{Gets, gets_more, gets_noted, none, Same}
 
 -- ---- operators
 
@@ -306,19 +303,12 @@ module _ (p : Place) (n : HasNames p) where
 
 -- ---- conditions
 
-module _ (policy : Policy) (schemes : Schemes) (relation : ℕ) where
-  -- tests that are a truth value are the condition
-  tests_are : (l : Left) (e : Expr) (us : List Token) (g : Gets (tests_at (written_place policy schemes relation) ([], l)) ([], l) (IsAgain Truth e) us)
-      → condition_at policy schemes relation l ≡ Ok (Ok (as_fields e), g.rest)
-  unfolding condition_at noted_at least_from
-  tests_are l e us g =
-      ap (λ r. (r >>= λ g. Ok (g.0, note (tested (may_be_truth g.0.gives) g.0) g.1)) >>= λ x. Ok (judged x, x.1.1)) g.is
-      ∙ ap (λ fs. Ok (answer (least_from None fs) (as_fields g.value.expr), g.rest)) (none g.value.at cause.Kind g.holds.agrees)
-      ∙ ap (λ x. Ok (Ok (as_fields x), g.rest)) g.holds.is
-
 pub conditions_are_read : ConditionsAreRead
-conditions_are_read policy schemes is_policy valid relation l test ts us within h over k =
+unfolding condition_at
+conditions_are_read policy schemes is_policy valid relation s test ts us within h over k =
     let p = written_place policy schemes relation in
     let n = written_names policy schemes is_policy valid relation within in
-    let g = tests_read p n h.written ts us ([], l) h.spells (record { own = h.own; fits = h.fits; sort = h.truth }) over k in
-    record { rest = g.rest; is = tests_are policy schemes relation l h.written us g ∙ ap (λ x. Ok (Ok x, g.rest)) (sym h.is); tokens = g.tokens; stop = g.stop }
+    let g =
+    gets_more (λ g. Ok (as_fields g.0.expr, note (tested (may_be_truth g.0.gives) g.0) g.1)) (tests_read p n h.written ts us s h.spells (record { own = h.own; fits = h.fits; sort = h.truth }) over k)
+    (λ g m r t. gets_noted (as_fields g.expr) (tested (may_be_truth g.gives) g) s.0 m (Same test) us (none g.at cause.Kind r.agrees) (ap as_fields r.is ∙ sym h.is) t) in
+    record { rest = g.rest; is = g.is ∙ ap (λ x. Ok (x, (s.0, g.rest))) g.holds; tokens = g.tokens; stop = g.stop }

@@ -22,19 +22,17 @@ use Rattle.mls_translang.specs.Tree.{Expr}
 use Rattle.mls_parser.specs.declared.fault.PlacedFault.{PlacedFault}
 use Rattle.mls_parser.specs.declared.fault.TextCause.TheVariants as cause
 use Rattle.mls_parser.specs.declared.given.Given.{Given}
-use Rattle.mls_parser.specs.Condition.{is_comparison, SpellsBetween, SpellsSide, SpellsTest, SpellsTests, SpellsCondition, TellsCondition, IsCondition, IsConditionOf, IsJudged}
-use Rattle.mls_parser.specs.Fault.{fault, least, IsLeast}
+use Rattle.mls_parser.specs.Condition.{is_comparison, SpellsBetween, SpellsSide, SpellsTest, SpellsTests, SpellsCondition, TellsCondition, IsCondition, IsConditionOf}
+use Rattle.mls_parser.specs.Fault.{fault}
 use Rattle.mls_parser.specs.Infer.{may_be_truth, operands_fit}
 use Rattle.mls_parser.specs.Noted.{State, Read, note, token, Gives}
-use Rattle.mls_parser.specs.Parsing.{answer}
-use Rattle.mls_parser.specs.ReadCondition.{comparison_of_sign, comparison_of, joiner_of, take_known, taken_as, behind_known, takes_known, between, between_faults, are_mixed, past_most, with_next, compared, test_at, joined, next_test_at, tests_from, tests_at, written_place, as_fields, judged, noted_at, condition_at}
+use Rattle.mls_parser.specs.ReadCondition.{comparison_of_sign, comparison_of, joiner_of, take_known, taken_as, behind_known, takes_known, between, between_faults, are_mixed, past_most, with_next, compared, test_at, joined, next_test_at, tests_from, tests_at, written_place, as_fields, condition_at}
 use Rattle.mls_parser.specs.ReadExpr.{whole_at}
 use Rattle.mls_parser.specs.ReadList.{tested}
 use Rattle.mls_parser.specs.Words.{pass_head}
 use Rattle.mls_parser.proofs.ConditionLemmas.{told_of_row}
 use Rattle.mls_parser.proofs.FaultLemmas.{neither, holds}
-use Rattle.mls_parser.proofs.FoundSteps.{Found}
-use Rattle.mls_parser.proofs.LeastLemmas.{none_at_all, least_is}
+use Rattle.mls_parser.proofs.FoundSteps.{Found, found_noted}
 use Rattle.mls_parser.proofs.ListFound.{right_read}
 use Rattle.mls_parser.proofs.PassedLemmas.{Quiet, AreSpelled, split}
 use Rattle.mls_parser.proofs.SortLemmas.{IsSound, as_truth, operator_gives}
@@ -328,87 +326,36 @@ module _ (policy : Policy) (schemes : Schemes) (relation : ℕ) where
   abbrev place : Place
   place = written_place policy schemes relation
 
-  -- tokens were passed, and they tell what is read without a fault
-  pub record ConditionFound (l : Left) (read : Result Expr PlacedFault) (r : Left) : Type 0 where
-    pub tokens : List Token
-    pub passed : Passed tokens l r
-    pub told : (test : Expr) → read ≡ Ok test → AreSpelled tokens → TellsCondition policy schemes relation test tokens
-
-  judged_told : (g : Given) (fs : List PlacedFault) (ts : List Token) → (fs ≡ [] → AreSpelled ts → Path (List PlacedFault) [] [] × IsPart place (SpellsCondition place) ts g) → (test : Expr)
-      → answer (least (fs ++ tested (may_be_truth g.gives) g)) (as_fields g.expr) ≡ Ok test → AreSpelled ts → TellsCondition policy schemes relation test ts
-  judged_told g fs ts right test e all = go (least (fs ++ tested (may_be_truth g.gives) g)) refl e
-    where
-      go : (o : Option PlacedFault) → least (fs ++ tested (may_be_truth g.gives) g) ≡ o → answer o (as_fields g.expr) ≡ Ok test → TellsCondition policy schemes relation test ts
-      go None is h =
-          let n = neither fs (tested (may_be_truth g.gives) g) (none_at_all (fs ++ tested (may_be_truth g.gives) g) is) in
-          let r = (right n.0 all).1 in
-          record {
-            written = g.expr;
-            is = sym (ok_is {E = PlacedFault} (as_fields g.expr) test h);
-            spells = r.spells;
-            own = r.sound.own;
-            fits = r.sound.fits;
-            truth = as_truth place g.gives g.expr (holds (may_be_truth g.gives) g.at _ n.1) r.sound.gives;
-          }
-      go (Some f) is h = absurd cc
-
-  pub condition_found : (l : Left) (y : Result Expr PlacedFault × Left) → condition_at policy schemes relation l ≡ Ok y → ConditionFound l y.0 y.1
-  unfolding noted_at condition_at
-  condition_found l y e =
-      let x = bind_ok (noted_at policy schemes relation l) (λ x. Ok (judged x, x.1.1)) y e in
-      let g = bind_ok (tests_at place ([], l)) (λ g. Ok (g.0, note (tested (may_be_truth g.0.gives) g.0) g.1)) x.0 x.1 in
-      let found = tests_at_found place ([], l) g.0 g.1 in
-      let whole : (judged (g.0.0, note (tested (may_be_truth g.0.0.gives) g.0.0) g.0.1), g.0.1.1) ≡ y =
-      ap (λ (z : Given × State). (judged z, z.1.1)) (ok_is {E = PlacedFault} (g.0.0, note (tested (may_be_truth g.0.0.gives) g.0.0) g.0.1) x.0 g.2)
-      ∙ ok_is {E = PlacedFault} (judged x.0, x.0.1.1) y x.2 in
-      subst (λ (z : Result Expr PlacedFault × Left). ConditionFound l z.0 z.1) whole
-      (record { tokens = found.tokens; passed = found.passed; told = judged_told g.0.0 g.0.1.0 found.tokens found.right })
+  pub condition_found : (s : State) (y : Expr × State) → condition_at policy schemes relation s ≡ Ok y → Found (λ ts e. TellsCondition policy schemes relation e ts) s y
+  unfolding condition_at
+  condition_found s =
+      found_noted (λ ts e. TellsCondition policy schemes relation e ts) s (tests_at place s) (λ g. as_fields g.expr) (λ g. tested (may_be_truth g.gives) g) (tests_at_found place s)
+      (λ g ts none r. record {
+        written = g.expr;
+        is = refl;
+        spells = r.spells;
+        own = r.sound.own;
+        fits = r.sound.fits;
+        truth = as_truth place g.gives g.expr (holds (may_be_truth g.gives) g.at _ none) r.sound.gives;
+      })
 
   -- ---- what the reader returned
 
-  module _ (l r : Left) where
-    kept : (x : Result (Result Expr PlacedFault) PlacedFault) (test : Expr) → x ≡ Ok (Ok test) → Gives (λ z. (z, r)) x (condition_at policy schemes relation l) → AreSpelled (without_places l.placed)
-        → IsCondition policy schemes relation l r test
-    kept x test is g all =
-        let read : condition_at policy schemes relation l ≡ Ok (Ok test, r) = subst (λ z. Gives (λ y. (y, r)) z (condition_at policy schemes relation l)) is g in
-        let found = condition_found l (Ok test, r) read in
+  module _ (s t : State) where
+    pub told_kept : (x : Result Expr PlacedFault) → Gives (λ e. (e, t)) x (condition_at policy schemes relation s) → AreSpelled (without_places s.1.placed) → t.0 ≡ [] → IfOk x (IsCondition policy schemes relation s.1 t.1)
+    told_kept (Err f) g all none = tt
+    told_kept (Ok e) g all none =
+        let found = condition_found s (e, t) g in
         record {
           tokens = found.tokens;
-          tells = found.told test refl (split found.tokens (without_places r.placed) (subst AreSpelled found.passed.tokens all)).0;
+          tells = (found.right none (split found.tokens (without_places t.1.placed) (subst AreSpelled found.passed.tokens all)).0).1;
           passed = found.passed.tokens;
           stop = found.passed.stop;
         }
 
-    pub told_kept : (x : Result (Result Expr PlacedFault) PlacedFault) → Gives (λ z. (z, r)) x (condition_at policy schemes relation l) → AreSpelled (without_places l.placed)
-        → IfOk x (λ z. IfOk z (IsCondition policy schemes relation l r))
-    told_kept (Ok (Ok test)) g all = kept (Ok (Ok test)) test refl g all
-    told_kept (Ok (Err f)) g all = tt
-    told_kept (Err f) g all = tt
+    of_row : (x : Result Expr PlacedFault) → IfOk x (IsCondition policy schemes relation s.1 t.1) → IfOk x (IsConditionOf schemes relation)
+    of_row (Err f) h = tt
+    of_row (Ok e) h = told_of_row schemes relation policy e h.tokens h.tells
 
-    pub fits_kept : (x : Result (Result Expr PlacedFault) PlacedFault) → Gives (λ z. (z, r)) x (condition_at policy schemes relation l) → AreSpelled (without_places l.placed)
-        → IfOk x (λ z. IfOk z (IsConditionOf schemes relation))
-    fits_kept (Ok (Ok test)) g all = let h = kept (Ok (Ok test)) test refl g all in told_of_row schemes relation policy test h.tokens h.tells
-    fits_kept (Ok (Err f)) g all = tt
-    fits_kept (Err f) g all = tt
-
-    -- what was noted, where the form is right
-    noted_is : (y : Result Expr PlacedFault) (x : Given × State) → noted_at policy schemes relation l ≡ Ok x → condition_at policy schemes relation l ≡ Ok (y, r) → answer (least x.1.0) (as_fields x.0.expr) ≡ y
-    unfolding condition_at
-    noted_is y x right g =
-        let same = ok_is {E = PlacedFault} (judged x, x.1.1) (y, r) (ap (λ z. z >>= λ x. Ok (judged x, x.1.1)) (sym right) ∙ g) in
-        ap (λ (z : Result Expr PlacedFault × Left). z.0) same
-
-    clean : (x : Given × State) (test : Expr) (o : Option PlacedFault) → least x.1.0 ≡ o → answer o (as_fields x.0.expr) ≡ Ok test → x.1.0 ≡ []
-    clean x test None is h = none_at_all x.1.0 is
-    clean x test (Some f) is h = absurd cc
-
-    first : (x : Given × State) (f : PlacedFault) (o : Option PlacedFault) → least x.1.0 ≡ o → answer o (as_fields x.0.expr) ≡ Err f → IsLeast x.1.0 f
-    first x f None is h = absurd cc
-    first x f (Some g) is h =
-        let same : g ≡ f = cc in
-        subst (λ y. IsLeast x.1.0 y) same (least_is x.1.0 g is)
-
-    pub judged_kept : (x : Result (Result Expr PlacedFault) PlacedFault) → Gives (λ z. (z, r)) x (condition_at policy schemes relation l) → IsJudged policy schemes relation l x
-    judged_kept (Ok (Ok test)) g = λ x right. clean x test (least x.1.0) refl (noted_is (Ok test) x right g)
-    judged_kept (Ok (Err f)) g = λ x right. first x f (least x.1.0) refl (noted_is (Err f) x right g)
-    judged_kept (Err f) g = tt
+    pub fits_kept : (x : Result Expr PlacedFault) → Gives (λ e. (e, t)) x (condition_at policy schemes relation s) → AreSpelled (without_places s.1.placed) → t.0 ≡ [] → IfOk x (IsConditionOf schemes relation)
+    fits_kept x g all none = of_row x (told_kept x g all none)

@@ -41,7 +41,7 @@ use Rattle.mls_parser.specs.Noted.{State, Read, note, sign_at, known}
 use Rattle.mls_parser.specs.ReadExpr.{given, refer, name_given, field_given, field_faults, dotted, named_at, behind_head, term_at, negation, second, operation, too_deep, expr_at, whole_at}
 use Rattle.mls_parser.specs.Words.{head_of, operator_of}
 use Rattle.mls_parser.proofs.FoundLemmas.{HasNames, attribute_again, variable_again, parameter_again, no_variable, row_again, row_valid, variable_is_name, parameter_is_name, row_is_name}
-use Rattle.mls_parser.proofs.NextLemmas.{Gets, gets_more, placed_then, gets_done, gets_noted, gets_is, Is, sign_gets, name_gets, known_gets, head_gets, took_sign, after_took, no_sign, none}
+use Rattle.mls_parser.proofs.NextLemmas.{Gets, gets_more, placed_then, gets_done, gets_noted, gets_is, Is, sign_gets, name_gets, known_gets, any_gets, took_sign, after_took, no_sign, none}
 
 -- ---- names are no reserved words
 
@@ -125,7 +125,7 @@ pub record IsAgain (t : Sort) (e : Expr) (g : Given) : Type 0 where
 module _ (p : Place) (negated operated : ℕ → State → Read Given) where
   term_gets : (h : Head) (t : Token) (us : List Token) (s : State) (Q : Given → Type 0) (vs : List Token) → head_of t ≡ Some h → without_places s.1.placed ≡ t ∷ us
       → ((at : ℕ) (m : Left) → without_places m.placed ≡ us → Gets (behind_head p negated operated h at (s.0, m)) (s.0, m) Q vs) → Gets (term_at p negated operated s) s Q vs
-  term_gets h t us s Q vs found e next = placed_then (λ x. behind_head p negated operated x.0.0 x.0.1 x.1) (head_gets h t us found s e) next
+  term_gets h t us s Q vs found e next = placed_then (λ x. behind_head p negated operated x.0.0 x.0.1 x.1) (any_gets head_of h t us found s e) next
 
 depth_gets : (p : Place) (d : ℕ) (s : State) (Q : Given → Type 0) (vs : List Token) → ((negated operated : ℕ → State → Read Given) → Gets (term_at p negated operated s) s Q vs) → Gets (expr_at p d s) s Q vs
 unfolding expr_at

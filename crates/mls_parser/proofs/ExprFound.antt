@@ -28,11 +28,11 @@ use Rattle.mls_parser.specs.Infer.{may_be_truth, operands_fit, given_by_operator
 use Rattle.mls_parser.specs.Names.{variable_named, parameter_named, row_named, attribute_named, referent_or, referent, row_scheme}
 use Rattle.mls_parser.specs.Noted.{State, Read, note, token, takes_sign, sign_at, name_at, known}
 use Rattle.mls_parser.specs.ReadExpr.{given, refer, name_given, field_given, field_faults, dotted, behind_head, term_at, negation, second, operation, too_deep, expr_at, whole_at}
-use Rattle.mls_parser.specs.Words.{operator_of, pass_known, pass_head}
+use Rattle.mls_parser.specs.Words.{head_of, operator_of, pass_known, pass_head}
 use Rattle.mls_parser.specs.declared.fault.TextCause.TheVariants as cause
 use Rattle.mls_parser.proofs.FaultLemmas.{neither, holds}
 use Rattle.mls_parser.proofs.NumberLemmas.{variable_there, parameter_there, row_there, attribute_there, of_known}
-use Rattle.mls_parser.proofs.PassedLemmas.{sign_found, sign_taken, name_found, known_found, head_found, AreSpelled, split}
+use Rattle.mls_parser.proofs.PassedLemmas.{sign_found, sign_taken, name_found, known_found, any_found, AreSpelled, split}
 use Rattle.mls_parser.proofs.SortLemmas.{IsSound, as_truth, operator_gives, name_sound, field_sound, literal_kind}
 use Rattle.mls_parser.proofs.WordLemmas.{HeadIs, head_is, operator_is}
 
@@ -157,7 +157,7 @@ module _ (p : Place) (d : ℕ) (negated operated : ℕ → State → Read Given)
   term_found : (s : State) (x : Given × State) → term_at p negated operated s ≡ Ok x → ExprFound p d s x
   term_found s x e =
       let h = bind_ok (token pass_head s) (λ h. behind_head p negated operated h.0.0 h.0.1 h.1) x e in
-      let first = head_found s h.0 h.1 in
+      let first = any_found head_of s h.0 h.1 in
       let rest = behind_found first.0 h.0.0.0 h.0.0.1 h.0.1 x (head_is first.0 h.0.0.0 first.1) h.2 in
       record {
         tokens = first.0 ∷ rest.more;

@@ -1,5 +1,5 @@
 -- What is read is what stands there, one step after another.
-use Rattle.std.proofs.Common.{◌≡◌, ℕ, true, List, [], ◌∷◌, ◌++◌, Ok, refl, sym, ◌∙◌, subst}
+use Rattle.std.proofs.Common.{◌≡◌, ℕ, true, List, [], ◌∷◌, ◌++◌, Option, Some, Ok, refl, sym, ◌∙◌, subst}
 use Rattle.mls_lattice.specs.Name.{is_name}
 use Rattle.mls_lattice.specs.Policy.{Name}
 use Rattle.mls_lattice.specs.Reading.{◌>>=◌}
@@ -10,9 +10,10 @@ use Rattle.mls_tokens.specs.declared.sign.Sign.{Sign as Mark}
 use Rattle.mls_tokens.specs.Passing.{PlacedName}
 use Rattle.mls_tokens.proofs.PassedLemmas.{Passed, passed_none, passed_more}
 use Rattle.mls_parser.specs.declared.fault.PlacedFault.{PlacedFault}
-use Rattle.mls_parser.specs.Noted.{State, Read, note, sign_at, word_at, name_at, name_behind}
+use Rattle.mls_parser.specs.Noted.{State, Read, note, token, sign_at, word_at, name_at, name_behind}
+use Rattle.mls_parser.specs.Words.{pass_known, pass_any}
 use Rattle.mls_parser.proofs.FaultLemmas.{neither}
-use Rattle.mls_parser.proofs.PassedLemmas.{Quiet, sign_found, word_found, name_found, behind_found, AreSpelled, split}
+use Rattle.mls_parser.proofs.PassedLemmas.{Quiet, sign_found, word_found, name_found, behind_found, known_found, any_found, IsSpelled, AreSpelled, split}
 
 -- tokens were passed; and where no fault was noted there was none before, and they are right
 pub record Found {X : Type 0} (R : List Token → X → Type 0) (s : State) (x : X × State) : Type 0 where
@@ -66,6 +67,14 @@ found_made S s r g one made y e =
     subst (Found S s) (ok_is (g x.0.0, x.0.1) y x.2)
     (record { tokens = a.tokens; passed = a.passed; right = λ none t. let first = a.right none t in (first.0, made x.0.0 a.tokens first.1) })
 
+-- behind tokens that were passed, with nothing noted
+pub found_after : {X : Type 0} (R : List Token → X → Type 0) (ts : List Token) (s m : State) (x : X × State) → Quiet ts s m → Found (λ us y. R (ts ++ us) y) m x → Found R s x
+found_after R ts s m x q rest = record {
+  tokens = ts ++ rest.tokens;
+  passed = passed_more ts rest.tokens s.1 m.1 x.1.1 q.passed rest.passed;
+  right = λ none a. let r = rest.right none (split ts rest.tokens a).1 in (sym q.faults ∙ r.0, r.1);
+}
+
 -- ---- tokens
 
 abbrev pub Are : {X : Type 0} → List Token → List Token → X → Type 0
@@ -88,3 +97,17 @@ name_read s x e = let h = name_found s x e in record { tokens = Word x.0.0 ∷ [
 
 pub behind_read : (w : Name) (s : State) (x : PlacedName × State) → name_behind w s ≡ Ok x → Found (IsNamed (λ n. Word w ∷ Word n ∷ [])) s x
 behind_read w s x e = let h = behind_found w s x e in record { tokens = Word w ∷ Word x.0.0 ∷ []; passed = h.passed; right = λ none a. (sym h.faults ∙ none, (refl, h.name)) }
+
+-- the next token as one of them, and the spelling of it
+module _ {X : Type 0} (what : Token → Option X) where
+  abbrev pub IsKnown : List Token → X × ℕ → Type 0
+  IsKnown ts x = (t : Token) × (what t ≡ Some x.0) × (ts ≡ t ∷ []) × IsSpelled t
+
+  one_read : (s : State) (x : (X × ℕ) × State) → (t : Token) × (what t ≡ Some x.0.0) × Quiet (t ∷ []) s x.1 → Found IsKnown s x
+  one_read s x (t, is, q) = record { tokens = t ∷ []; passed = q.passed; right = λ none a. (sym q.faults ∙ none, (t, is, refl, a.0)) }
+
+  pub known_read : (s : State) (x : (X × ℕ) × State) → token (pass_known what) s ≡ Ok x → Found IsKnown s x
+  known_read s x e = one_read s x (known_found what s x e)
+
+  pub any_read : (s : State) (x : (X × ℕ) × State) → token (pass_any what) s ≡ Ok x → Found IsKnown s x
+  any_read s x e = one_read s x (any_found what s x e)

@@ -33,7 +33,7 @@ use Rattle.mls_parser.specs.Words.{kind_of, pass_known}
 use Rattle.mls_parser.proofs.FaultLemmas.{neither, holds}
 use Rattle.mls_parser.proofs.FoundLemmas.{named_any}
 use Rattle.mls_parser.proofs.FoundSteps.{Found, found_none, found_next, found_noted, found_made, sign_read, name_read, behind_read}
-use Rattle.mls_parser.proofs.ListFound.{Steps, all_read}
+use Rattle.mls_parser.proofs.OrderLemmas.{Steps, steps_read}
 use Rattle.mls_parser.proofs.NumberLemmas.{label_spelled}
 use Rattle.mls_parser.proofs.PassedLemmas.{known_found, sign_taken, word_taken, split}
 use Rattle.mls_parser.proofs.StmtFound.{label_known}
@@ -205,7 +205,7 @@ module _ (policy : Policy) where
       })
   rest_read s None x is e =
       found_next AreRest (λ ps ts y. (y ≡ ps.0) × (ts ≡ Sign sign.RightParen ∷ [])) s (items_at (next_param policy) ([], 0) s) (λ ps. sign_at sign.RightParen ps.1 >>= λ end. Ok (ps.0.0, end.1))
-      (all_read (next_param policy) IsParam next_param_read ([], 0) s)
+      (steps_read (next_param policy) IsParam next_param_read ([], 0) s)
       (λ ps. found_made (λ ts y. (y ≡ ps.0.0) × (ts ≡ Sign sign.RightParen ∷ [])) ps.1 (sign_at sign.RightParen ps.1) (λ at. ps.0.0) (sign_read sign.RightParen ps.1) (λ at ts close. (refl, close)))
       (λ ps y ts us items close.
       let r = are_params items.0 ([], 0) ts ps items.1 in

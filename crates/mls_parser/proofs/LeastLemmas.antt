@@ -87,6 +87,25 @@ unfolding least_from
 none_at_all [] e = refl
 none_at_all (f ∷ fs) e = absurd (never f fs e)
 
+-- ---- what is answered
+
+module _ {X : Type 0} (fs : List PlacedFault) (x : X) where
+  right_at : (o : Option PlacedFault) (y : X) → least fs ≡ o → answer o x ≡ Ok y → fs ≡ []
+  right_at None y is h = none_at_all fs is
+  right_at (Some f) y is h = absurd cc
+
+  pub answered_right : (y : X) → answer (least fs) x ≡ Ok y → fs ≡ []
+  answered_right y h = right_at (least fs) y refl h
+
+  least_at : (o : Option PlacedFault) (f : PlacedFault) → least fs ≡ o → answer o x ≡ Err f → IsLeast fs f
+  least_at None f is h = absurd cc
+  least_at (Some g) f is h =
+      let same : g ≡ f = cc in
+      subst (IsLeast fs) same (least_is fs g is)
+
+  pub answered_least : (f : PlacedFault) → answer (least fs) x ≡ Err f → IsLeast fs f
+  answered_least f h = least_at (least fs) f refl h
+
 -- ---- texts
 
 module _ (policy : Policy) (schemes : Schemes) (bytes : List ℕ) (x : List Draft × State) (right : noted policy schemes bytes ≡ Ok x) where
@@ -95,17 +114,7 @@ module _ (policy : Policy) (schemes : Schemes) (bytes : List ℕ) (x : List Draf
   is_judged e = ap judged (sym right) ∙ e
 
   pub read_right : (xs : List Tx) → parsed policy schemes bytes ≡ Ok xs → x.1.0 ≡ []
-  read_right xs e = go (least x.1.0) refl (is_judged e)
-    where
-      go : (o : Option PlacedFault) → least x.1.0 ≡ o → answer o (map tx_of x.0) ≡ Ok xs → x.1.0 ≡ []
-      go None is h = none_at_all x.1.0 is
-      go (Some f) is h = absurd cc
+  read_right xs e = answered_right x.1.0 (map tx_of x.0) xs (is_judged e)
 
   pub refused_least : (f : PlacedFault) → parsed policy schemes bytes ≡ Err f → IsLeast x.1.0 f
-  refused_least f e = go (least x.1.0) refl (is_judged e)
-    where
-      go : (o : Option PlacedFault) → least x.1.0 ≡ o → answer o (map tx_of x.0) ≡ Err f → IsLeast x.1.0 f
-      go None is h = absurd cc
-      go (Some g) is h =
-          let same : g ≡ f = cc in
-          subst (λ y. IsLeast x.1.0 y) same (least_is x.1.0 g is)
+  refused_least f e = answered_least x.1.0 (map tx_of x.0) f (is_judged e)

@@ -12,13 +12,14 @@ pub mod LoopLemmas
 pub mod StmtSteps
 pub mod FoundLemmas
 pub mod NextLemmas
+pub mod FoundSteps
+pub mod OrderLemmas
 pub mod ExprAgain
 pub mod ListAgain
 pub mod StmtAgain
 pub mod BlockAgain
 pub mod TextAgain
 pub mod HeaderSteps
-pub mod FoundSteps
 pub mod ListFound
 pub mod SetFound
 pub mod StmtFound

@@ -1,8 +1,8 @@
 -- What stands there is read: lists of expressions, and new values of attributes.
-use Rattle.std.proofs.Common.{◌≡◌, ℕ, zero, suc, ◌+◌, ◌<◌, ◌≤◌, ◌==◌, false, not, nat_eq, List, [], ◌∷◌, ◌++◌, length, map, drop, get_or, slice_get, Some, None, Ok, refl, sym, ap, ◌∙◌, subst, arith, append_assoc, length-append, flat_map, append-nil}
+use Rattle.std.proofs.Common.{◌≡◌, ℕ, ◌+◌, ◌<◌, ◌==◌, false, not, nat_eq, List, [], ◌∷◌, ◌++◌, length, map, drop, get_or, slice_get, Some, Ok, refl, sym, ap, ◌∙◌, subst, arith, append_assoc, length-append}
 use Rattle.std.specs.Cmp.{nat_eq_equiv}
 use Rattle.std.specs.List.{AllByRecursion, IsDistinct, list_any}
-use Rattle.std.proofs.lemmas.List.{drop_more, length-map, map_push}
+use Rattle.std.proofs.lemmas.List.{drop_more, map_push}
 use Rattle.std.proofs.lemmas.Option.{slice_get-get_or}
 use Rattle.mls_lattice.specs.Reading.{◌>>=◌}
 use Rattle.mls_scheme.specs.declared.value.Value.TheVariants as values
@@ -13,7 +13,7 @@ use Rattle.mls_tokens.specs.declared.token.Token.TheVariants.{Sign}
 use Rattle.mls_tokens.specs.declared.sign.Sign.TheVariants as sign
 use Rattle.mls_tokens.specs.Passing.{is_sign, PlacedName}
 use Rattle.mls_tokens.specs.Scanning.{without_places}
-use Rattle.mls_tokens.specs.Text.{comma_tokens, separated}
+use Rattle.mls_tokens.specs.Text.{separated}
 use Rattle.mls_tokens.proofs.NextLemmas.{NotNext}
 use Rattle.mls_translang.specs.Fits.{ExprFits, ListFits, SetsFit}
 use Rattle.mls_translang.specs.Kinds.{Of, HasKind, HaveKinds}
@@ -22,65 +22,15 @@ use Rattle.mls_translang.specs.Tree.{Expr, Known}
 use Rattle.mls_translang.specs.Tx.{IsOwn}
 use Rattle.mls_parser.specs.declared.fault.TextCause.TheVariants as cause
 use Rattle.mls_parser.specs.declared.given.Given.{Given}
-use Rattle.mls_parser.specs.Fault.{unless}
 use Rattle.mls_parser.specs.Names.{other_named}
-use Rattle.mls_parser.specs.Noted.{State, Read, note, takes_sign, sign_at}
+use Rattle.mls_parser.specs.Noted.{State, Read, note, sign_at}
 use Rattle.mls_parser.specs.ReadExpr.{whole_at}
-use Rattle.mls_parser.specs.ReadList.{after_item, items_from, items_at, tested, fits_item, set_faults, with_set, item_at, listed, list_behind, list_at, set_at, sets_at}
+use Rattle.mls_parser.specs.ReadList.{tested, fits_item, set_faults, with_set, item_at, list_at, set_at, sets_at}
 use Rattle.mls_parser.proofs.ExprAgain.{whole_again}
 use Rattle.mls_parser.proofs.FoundLemmas.{HasNames, other_again, new_behind}
-use Rattle.mls_parser.proofs.NextLemmas.{Gets, Same, gets_more, gets_then, placed_then, gets_done, gets_noted, gets_is, gets_same, sign_gets, name_gets, took_sign, after_took, no_sign, none, none_two}
-
--- ---- items with a comma between each two
-
-module _ {X A : Type 0} (push : A → X → A) where
-  abbrev pub pushed : A → List X → A
-  pushed front [] = front
-  pushed front (x ∷ xs) = pushed (push front x) xs
-
-  -- each behind those before
-  abbrev pub AllFit : (A → X → Type 0) → A → List X → Type 0
-  AllFit fits front [] = Unit {0}
-  AllFit fits front (x ∷ xs) = fits front x × AllFit fits (push front x) xs
-
-module _ {X : Type 0} where
-  abbrev pub behind : List X → X → List X
-  behind front x = front ++ x ∷ []
-
-  pub pushed_all : (front xs : List X) → pushed behind front xs ≡ front ++ xs
-  pushed_all front [] = sym (append-nil front)
-  pushed_all front (x ∷ xs) = pushed_all (front ++ x ∷ []) xs ∙ append_assoc front (x ∷ []) xs
-
-module _ {X A : Type 0} (next : A → State → Read A) (tokens : X → List Token) (push : A → X → A) (Fits : A → X → Type 0) (Ends : List Token → Type 0)
-    (comma : (ts : List Token) → Ends (Sign sign.Comma ∷ ts))
-    (again : (front : A) (x : X) (us : List Token) (s : State) → Fits front x → Ends us → without_places s.1.placed ≡ tokens x ++ us → Gets (next front s) s (Same (push front x)) us) where
-  items_again : (n : ℕ) (front : A) (x : X) (xs : List X) (us : List Token) (s : State) → length xs < n → AllFit push Fits front (x ∷ xs) → Ends us → NotNext (is_sign sign.Comma) us
-      → without_places s.1.placed ≡ separated tokens (x ∷ xs) ++ us → Gets (items_from next n front s) s (Same (pushed push front (x ∷ xs))) us
-  items_again zero front x xs us s less h ends off k = absurd (omega (arith, less))
-  items_again (suc n) front x [] us s less h ends off k =
-      let after : A → State → Read A = λ y r. after_item (λ ys q. items_from next n ys q) y r (takes_sign sign.Comma r) in
-      let new : A = push front x in
-      gets_then (λ y. after y.0 y.1) (again front x us s h.0 ends (k ∙ ap (λ t. t ++ us) (append-nil (tokens x))))
-      (λ m t. gets_is (after new (s.0, m)) (Ok (new, (s.0, m))) (s.0, m) (Same new) us (ap (after_item (λ ys q. items_from next n ys q) new (s.0, m)) (no_sign sign.Comma us (s.0, m) off t)) (gets_done new s.0 m (Same new) us refl t))
-  items_again (suc n) front x (z ∷ xs) us s less h ends off k =
-      let after : A → State → Read A = λ y r. after_item (λ ys q. items_from next n ys q) y r (takes_sign sign.Comma r) in
-      let new : A = push front x in
-      let more : List Token = separated tokens (z ∷ xs) ++ us in
-      gets_then (λ y. after y.0 y.1) (again front x (Sign sign.Comma ∷ more) s h.0 (comma more) (k ∙ append_assoc (tokens x) (flat_map (comma_tokens tokens) (z ∷ xs)) us))
-      (λ m t.
-      let c = took_sign sign.Comma more (s.0, m) t in
-      gets_is (after new (s.0, m)) (items_from next n new (s.0, c.rest)) (s.0, m) (Same (pushed push new (z ∷ xs))) us (ap (after_item (λ ys q. items_from next n ys q) new (s.0, m)) c.is)
-      (after_took c (items_again n new z xs us (s.0, c.rest) (omega (arith, less)) h.1 ends off c.tokens)))
-
-  commas_long : (xs : List X) → length xs ≤ length (flat_map (comma_tokens tokens) xs)
-  commas_long [] = omega arith
-  commas_long (x ∷ xs) = omega (arith, commas_long xs, length-append (comma_tokens tokens x) (flat_map (comma_tokens tokens) xs))
-
-  pub all_again : (front : A) (x : X) (xs : List X) (us : List Token) (s : State) → AllFit push Fits front (x ∷ xs) → Ends us → NotNext (is_sign sign.Comma) us
-      → without_places s.1.placed ≡ separated tokens (x ∷ xs) ++ us → Gets (items_at next front s) s (Same (pushed push front (x ∷ xs))) us
-  all_again front x xs us s h ends off k =
-      items_again (suc (length s.1.placed)) front x xs us s
-      (omega (arith, commas_long xs, length-append (tokens x) (flat_map (comma_tokens tokens) xs), length-append (separated tokens (x ∷ xs)) us, ap length k, length-map s.1.placed (λ p. p.token))) h ends off k
+use Rattle.mls_parser.proofs.NextLemmas.{Gets, Same, gets_more, placed_then, gets_noted, sign_gets, name_gets, none, none_two}
+use Rattle.mls_parser.proofs.OrderLemmas.{AllFit, behind, items_are}
+use Rattle.mls_parser.proofs.OrderLemmas as order
 
 -- ---- lists
 
@@ -135,30 +85,11 @@ module _ (p : Place) (n : HasNames p) where
           all_fit (front ++ e ∷ []) es (omega (arith, c, longer)) o.1 f.1 (subst (λ l. HaveKinds p.schemes p.scope (drop l attributes) es) (sym longer) k.1),
         )
 
-    rest_again : (es : List Expr) (us : List Token) (s : State) → AreListed p attributes es → without_places s.1.placed ≡ separated (expr_tokens p) es ++ (Sign sign.RightParen ∷ us)
-        → Gets (list_behind p attributes s (takes_sign sign.RightParen s)) s (Same es) us
-    rest_again [] us s h k =
-        let end = took_sign sign.RightParen us s k in
-        gets_is (list_behind p attributes s (takes_sign sign.RightParen s)) (Ok (listed p attributes [] (end.at, (s.0, end.rest)))) s (Same []) us (ap (list_behind p attributes s) end.is)
-        (after_took end (gets_noted [] (unless (0 == length attributes) end.at cause.Kind) s.0 end.rest (Same []) us
-        (none end.at cause.Kind (ap (λ m. m == length attributes) h.fits.count ∙ nat_eq_equiv.refl (length attributes))) refl end.tokens))
-    rest_again (e ∷ es) us s h k =
-        let close : List Token = Sign sign.RightParen ∷ us in
-        let rest : List Token = flat_map (comma_tokens (expr_tokens p)) es ++ close in
-        gets_is (list_behind p attributes s (takes_sign sign.RightParen s)) (list_behind p attributes s None) s (Same (e ∷ es)) us
-        (ap (list_behind p attributes s) (no_sign sign.RightParen (expr_tokens p e ++ rest) s (no_paren p e rest) (k ∙ append_assoc (expr_tokens p e) (flat_map (comma_tokens (expr_tokens p)) es) close)))
-        (gets_then (λ xs. sign_at sign.RightParen xs.1 >>= λ end. Ok (listed p attributes xs.0 end))
-        (gets_same (pushed_all [] (e ∷ es)) (all_again (item_at p attributes) (expr_tokens p) behind FitsItem NoDot no_comma item_again [] e es close s (all_fit [] (e ∷ es) (let c = h.fits.count in omega (arith, c)) h.own h.fits.each h.kinds) refl refl k))
-        (λ m t. gets_more (λ end. Ok (listed p attributes (e ∷ es) end)) (sign_gets sign.RightParen us (s.0, m) t)
-        (λ at r is t2. gets_noted (e ∷ es) (unless (length (e ∷ es) == length attributes) at cause.Kind) s.0 r (Same (e ∷ es)) us
-        (none at cause.Kind (ap (λ m. m == length attributes) h.fits.count ∙ nat_eq_equiv.refl (length attributes))) refl t2)))
-
     pub list_again : (es : List Expr) (us : List Token) (s : State) → AreListed p attributes es → without_places s.1.placed ≡ list_tokens p es ++ us → Gets (list_at p attributes s) s (Same es) us
     unfolding list_at
     list_again es us s h k =
-        let close : List Token = Sign sign.RightParen ∷ [] in
-        gets_more (λ x. list_behind p attributes x.1 (takes_sign sign.RightParen x.1)) (sign_gets sign.LeftParen ((separated (expr_tokens p) es ++ close) ++ us) s k)
-        (λ x m is t. rest_again es us (s.0, m) h (t ∙ append_assoc (separated (expr_tokens p) es) close us))
+        order.list_again (item_at p attributes) (expr_tokens p) FitsItem NoDot no_comma item_again (λ n. n == length attributes) (no_paren p) (λ us. refl) es us s
+        (all_fit [] es (let c = h.fits.count in omega (arith, c)) h.own h.fits.each h.kinds) (ap (λ m. m == length attributes) h.fits.count ∙ nat_eq_equiv.refl (length attributes)) k
 
   -- ---- new values
 
@@ -199,4 +130,4 @@ module _ (p : Place) (n : HasNames p) where
         → without_places s.1.placed ≡ separated (set_tokens p scheme) (x ∷ xs) ++ us → Gets (sets_at p scheme s) s (Same (x ∷ xs)) us
     unfolding sets_at
     sets_again x xs us s h off last k =
-        gets_same (pushed_all [] (x ∷ xs)) (all_again (set_at p scheme) (set_tokens p scheme) behind FitsSet NoDot no_comma set_again [] x xs us s (sets_fit [] (x ∷ xs) h.fits.apart h.own h.fits.each h.kinds) off last k)
+        items_are (set_at p scheme) (set_tokens p scheme) FitsSet NoDot no_comma set_again x xs us s (sets_fit [] (x ∷ xs) h.fits.apart h.own h.fits.each h.kinds) off last k

@@ -15,10 +15,9 @@ use Rattle.mls_tokens.proofs.NextLemmas.{next_is, NotNext, not_taken}
 use Rattle.mls_tokens.proofs.NextLemmas as tokens
 use Rattle.mls_parser.specs.declared.fault.PlacedFault.{PlacedFault}
 use Rattle.mls_parser.specs.declared.fault.TextCause.{TextCause}
-use Rattle.mls_parser.specs.declared.words.Head.{Head}
 use Rattle.mls_parser.specs.Fault.{unless}
 use Rattle.mls_parser.specs.Noted.{State, Read, note, in_state, token, behind, takes_sign, takes_word, sign_at, word_at, name_at, name_behind, known as is_known}
-use Rattle.mls_parser.specs.Words.{head_of, known, pass_known_of, pass_known, pass_head_of, pass_head}
+use Rattle.mls_parser.specs.Words.{known, pass_known_of, pass_known, pass_any_of, pass_any}
 
 -- ---- steps
 
@@ -145,10 +144,9 @@ module _ {X : Type 0} (what : Token → Option X) (v : X) (t : Token) (us : List
   pub known_gets : (s : State) → without_places s.1.placed ≡ t ∷ us → Gets (token (pass_known what) s) s (Is v) us
   known_gets s e = known_first s.0 s.1.placed s.1.stop e
 
-module _ (v : Head) (t : Token) (us : List Token) (found : head_of t ≡ Some v) where
-  head_first : (fs : List PlacedFault) (ps : List Placed) (stop : TokenFault) → without_places ps ≡ t ∷ us → Gets (in_state fs (pass_head_of ps stop)) (fs, left ps stop) (Is v) us
-  head_first fs [] stop e = absurd cc
-  head_first fs (p ∷ ps) stop e = first_gets head_of v t us found fs p ps stop e
+  any_first : (fs : List PlacedFault) (ps : List Placed) (stop : TokenFault) → without_places ps ≡ t ∷ us → Gets (in_state fs (pass_any_of what ps stop)) (fs, left ps stop) (Is v) us
+  any_first fs [] stop e = absurd cc
+  any_first fs (p ∷ ps) stop e = first_gets fs p ps stop e
 
-  pub head_gets : (s : State) → without_places s.1.placed ≡ t ∷ us → Gets (token pass_head s) s (Is v) us
-  head_gets s e = head_first s.0 s.1.placed s.1.stop e
+  pub any_gets : (s : State) → without_places s.1.placed ≡ t ∷ us → Gets (token (pass_any what) s) s (Is v) us
+  any_gets s e = any_first s.0 s.1.placed s.1.stop e

@@ -14,9 +14,8 @@ use Rattle.mls_tokens.specs.Text.{Spells}
 use Rattle.mls_tokens.specs.Passing.{left, is_word, is_sign, taken, pass, PlacedName, pass_name}
 use Rattle.mls_tokens.proofs.PassedLemmas.{Passed, passed_more, word_taken as word_passes, word_found as word_passed, sign_taken as sign_passes, sign_found as sign_passed, taken_shorter, NameFound, alone, name_found as name_passed}
 use Rattle.mls_parser.specs.declared.fault.PlacedFault.{PlacedFault}
-use Rattle.mls_parser.specs.declared.words.Head.{Head}
 use Rattle.mls_parser.specs.Noted.{State, in_state, token, behind, takes_sign, takes_word, sign_at, word_at, name_at, name_behind}
-use Rattle.mls_parser.specs.Words.{known, pass_known_of, pass_known, pass_head_of, pass_head, head_of}
+use Rattle.mls_parser.specs.Words.{known, pass_known_of, pass_known, pass_any_of, pass_any}
 
 -- ---- states
 
@@ -100,15 +99,15 @@ module _ {X : Type 0} (what : Token → Option X) where
       let f = known_of_found s.1.placed s.1.stop (x.0, x.1.1) h.0 in
       (f.0, f.1, record { passed = f.2; faults = h.1 })
 
-head_of_found : (ps : List Placed) (stop : TokenFault) (x : (Head × ℕ) × Left) → pass_head_of ps stop ≡ Ok x → TokenFound head_of (left ps stop) x
-head_of_found [] stop x e = absurd cc
-head_of_found (p ∷ ps) stop x e = known_first head_of p ps stop (head_of p.token) x refl e
+  any_of_found : (ps : List Placed) (stop : TokenFault) (x : (X × ℕ) × Left) → pass_any_of what ps stop ≡ Ok x → TokenFound what (left ps stop) x
+  any_of_found [] stop x e = absurd cc
+  any_of_found (p ∷ ps) stop x e = known_first p ps stop (what p.token) x refl e
 
-pub head_found : (s : State) (x : (Head × ℕ) × State) → token pass_head s ≡ Ok x → (t : Token) × (head_of t ≡ Some x.0.0) × Quiet (t ∷ []) s x.1
-head_found s x e =
-    let h = token_ok pass_head s x e in
-    let f = head_of_found s.1.placed s.1.stop (x.0, x.1.1) h.0 in
-    (f.0, f.1, record { passed = f.2; faults = h.1 })
+  pub any_found : (s : State) (x : (X × ℕ) × State) → token (pass_any what) s ≡ Ok x → (t : Token) × (what t ≡ Some x.0.0) × Quiet (t ∷ []) s x.1
+  any_found s x e =
+      let h = token_ok (pass_any what) s x e in
+      let f = any_of_found s.1.placed s.1.stop (x.0, x.1.1) h.0 in
+      (f.0, f.1, record { passed = f.2; faults = h.1 })
 
 -- ---- tokens that have a spelling
 

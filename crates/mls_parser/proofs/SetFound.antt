@@ -1,5 +1,5 @@
 -- What is read is what stands there: new values of attributes.
-use Rattle.std.proofs.Common.{◌≡◌, ℕ, zero, suc, ◌<◌, false, not, nat_eq, List, [], ◌∷◌, ◌++◌, length, map, Option, Some, None, Ok, refl, sym, ap, ◌∙◌, subst, arith, append_assoc, flat_map, append-nil}
+use Rattle.std.proofs.Common.{◌≡◌, ℕ, ◌<◌, false, not, nat_eq, List, [], ◌∷◌, ◌++◌, length, map, Option, Some, None, Ok, refl, sym, subst, arith, append_assoc, append-nil}
 use Rattle.std.specs.List.{AllByRecursion, IsDistinct, list_any}
 use Rattle.std.specs.Cmp.{nat_eq_equiv}
 use Rattle.std.proofs.lemmas.Bool.{not-true}
@@ -11,7 +11,7 @@ use Rattle.mls_scheme.specs.Scheme.{Scheme, other_of, no_attribute}
 use Rattle.mls_tokens.specs.declared.token.Token.{Token}
 use Rattle.mls_tokens.specs.declared.token.Token.TheVariants.{Word, Sign}
 use Rattle.mls_tokens.specs.declared.sign.Sign.TheVariants as sign
-use Rattle.mls_tokens.specs.Text.{comma_tokens, separated}
+use Rattle.mls_tokens.specs.Text.{separated}
 use Rattle.mls_tokens.specs.Passing.{PlacedName}
 use Rattle.mls_translang.specs.Fits.{ExprFits, SetsFit}
 use Rattle.mls_translang.specs.Kinds.{HasKind}
@@ -27,7 +27,8 @@ use Rattle.mls_parser.specs.ReadList.{tested, with_set, set_faults, set_at, sets
 use Rattle.mls_parser.proofs.ExprFound.{IsRight}
 use Rattle.mls_parser.proofs.FaultLemmas.{neither, holds}
 use Rattle.mls_parser.proofs.FoundSteps.{Found, found_next, found_noted, sign_read, name_read}
-use Rattle.mls_parser.proofs.ListFound.{Steps, Items, all_read, right_read}
+use Rattle.mls_parser.proofs.ListFound.{right_read}
+use Rattle.mls_parser.proofs.OrderLemmas.{IsNext, AreBehind, AllFit, behind, all_read}
 use Rattle.mls_parser.proofs.NumberLemmas.{other_there}
 use Rattle.mls_parser.proofs.SortLemmas.{as_kind}
 
@@ -41,20 +42,20 @@ module _ (p : Place) (scheme : Scheme) where
     pub fits : ExprFits p.schemes p.scope x.1
     pub kind : HasKind p.schemes p.scope (other_of scheme x.0).1.kind x.1
 
-  -- one new value more, of an attribute that had none
-  record IsSet (front : List (ℕ × Expr)) (ts : List Token) (new : List (ℕ × Expr)) : Type 0 where
-    item : ℕ × Expr
-    whole : new ≡ front ++ item ∷ []
-    tokens : ts ≡ set_tokens p scheme item
-    right : IsRightSet item
-    apart : list_any (nat_eq item.0) (numbers front) ≡ false
+  -- of an attribute that had none
+  record IsSet (front : List (ℕ × Expr)) (x : ℕ × Expr) : Type 0 where
+    right : IsRightSet x
+    apart : list_any (nat_eq x.0) (numbers front) ≡ false
+
+  abbrev IsOne : List (ℕ × Expr) → List Token → List (ℕ × Expr) → Type 0
+  IsOne = IsNext (set_tokens p scheme) IsSet
 
   other_within : (n : PlacedName) (i : ℕ) → other_named scheme n.0 ≡ Some i → i < length scheme.others
   unfolding other_named
   other_within n i e = (position-Some _ scheme.others i no_attribute e).0
 
   made : (front : List (ℕ × Expr)) (n : PlacedName) (g : Given) (ts : List Token) (o : Option ℕ) → other_named scheme n.0 ≡ o → set_faults scheme front n o g ≡ [] → IsRight p 16 [] ts g
-      → IsSet front (Word n.0 ∷ Sign sign.Equals ∷ ts) (with_set front o g.expr)
+      → IsOne front (Word n.0 ∷ Sign sign.Equals ∷ ts) (with_set front o g.expr)
   made front n g ts None is h r = absurd cc
   made front n g ts (Some i) is h r =
       let t = neither _ (tested (may_be g.gives (other_of scheme i).1.kind) g) h in
@@ -62,81 +63,50 @@ module _ (p : Place) (scheme : Scheme) where
         item = (i, g.expr);
         whole = refl;
         tokens = λ j. Word (sym (other_there scheme n.0 i is) j) ∷ Sign sign.Equals ∷ r.tokens j;
-        right = record {
-          within = other_within n i is;
-          own = record { nesting = r.nesting; numbers = r.sound.own };
-          fits = r.sound.fits;
-          kind = as_kind p g.gives (other_of scheme i).1.kind g.expr (holds (may_be g.gives (other_of scheme i).1.kind) g.at _ t.1) r.sound.gives;
+        fits = record {
+          right = record {
+            within = other_within n i is;
+            own = record { nesting = r.nesting; numbers = r.sound.own };
+            fits = r.sound.fits;
+            kind = as_kind p g.gives (other_of scheme i).1.kind g.expr (holds (may_be g.gives (other_of scheme i).1.kind) g.at _ t.1) r.sound.gives;
+          };
+          apart = not-true (list_any (nat_eq i) (numbers front)) (holds (not (list_any (nat_eq i) (numbers front))) n.1 _ t.0);
         };
-        apart = not-true (list_any (nat_eq i) (numbers front)) (holds (not (list_any (nat_eq i) (numbers front))) n.1 _ t.0);
       }
 
   -- behind the name
   abbrev IsBehind : List (ℕ × Expr) → PlacedName → List Token → List (ℕ × Expr) → Type 0
-  IsBehind front n ts new = IsSet front (Word n.0 ∷ ts) new
+  IsBehind front n ts new = IsOne front (Word n.0 ∷ ts) new
 
-  set_read : (front : List (ℕ × Expr)) (s : State) (x : List (ℕ × Expr) × State) → set_at p scheme front s ≡ Ok x → Found (IsSet front) s x
+  set_read : (front : List (ℕ × Expr)) (s : State) (x : List (ℕ × Expr) × State) → set_at p scheme front s ≡ Ok x → Found (IsOne front) s x
   unfolding set_at
   set_read front s =
       let new : PlacedName → Given → List (ℕ × Expr) = λ n g. with_set front (other_named scheme n.0) g.expr in
-      found_next (IsSet front) (IsBehind front) s (name_at s)
+      found_next (IsOne front) (IsBehind front) s (name_at s)
       (λ n. sign_at sign.Equals n.1 >>= λ q. whole_at p q.1 >>= λ v. Ok (new n.0 v.0, note (set_faults scheme front n.0 (other_named scheme n.0.0) v.0) v.1)) (name_read s)
       (λ n.
-      found_next (IsBehind front n.0) (λ at ts y. IsSet front (Word n.0.0 ∷ Sign sign.Equals ∷ ts) y) n.1 (sign_at sign.Equals n.1)
+      found_next (IsBehind front n.0) (λ at ts y. IsOne front (Word n.0.0 ∷ Sign sign.Equals ∷ ts) y) n.1 (sign_at sign.Equals n.1)
       (λ q. whole_at p q.1 >>= λ v. Ok (new n.0 v.0, note (set_faults scheme front n.0 (other_named scheme n.0.0) v.0) v.1)) (sign_read sign.Equals n.1)
-      (λ q. found_noted (λ ts y. IsSet front (Word n.0.0 ∷ Sign sign.Equals ∷ ts) y) q.1 (whole_at p q.1) (new n.0) (set_faults scheme front n.0 (other_named scheme n.0.0)) (right_read p q.1)
+      (λ q. found_noted (λ ts y. IsOne front (Word n.0.0 ∷ Sign sign.Equals ∷ ts) y) q.1 (whole_at p q.1) (new n.0) (set_faults scheme front n.0 (other_named scheme n.0.0)) (right_read p q.1)
       (λ g ts none r. made front n.0 g ts (other_named scheme n.0.0) refl none r))
-      (λ at y ts us equals r. subst (λ l. IsSet front (Word n.0.0 ∷ (l ++ us)) y) (sym equals) r))
-      (λ n y ts us named r. subst (λ l. IsSet front (l ++ us) y) (sym named.0) r)
+      (λ at y ts us equals r. subst (λ l. IsOne front (Word n.0.0 ∷ (l ++ us)) y) (sym equals) r))
+      (λ n y ts us named r. subst (λ l. IsOne front (l ++ us) y) (sym named.0) r)
 
   -- ---- all that an update sets
-
-  -- these new values, of other attributes than those before
-  record AreSets (front : List (ℕ × Expr)) (ts : List Token) (xs : List (ℕ × Expr)) : Type 0 where
-    head : ℕ × Expr
-    tail : List (ℕ × Expr)
-    is : xs ≡ head ∷ tail
-    tokens : ts ≡ separated (set_tokens p scheme) (head ∷ tail)
-    each : AllByRecursion IsRightSet (head ∷ tail)
-    apart : IsDistinct nat_eq (numbers front) → IsDistinct nat_eq (numbers (front ++ head ∷ tail))
-
-  pushed : (front : List (ℕ × Expr)) (x : ℕ × Expr) → list_any (nat_eq x.0) (numbers front) ≡ false → IsDistinct nat_eq (numbers front) → IsDistinct nat_eq (numbers (front ++ x ∷ []))
-  pushed front x new d = subst (IsDistinct nat_eq) (sym (map_push (λ y. y.0) front x)) (IsDistinct-push nat_eq_equiv (numbers front) x.0 d new)
-
-  are_sets : (n : ℕ) (front : List (ℕ × Expr)) (ts : List Token) (new : List (ℕ × Expr)) → Steps IsSet n front ts new → (xs : List (ℕ × Expr)) × (new ≡ front ++ xs) × AreSets front ts xs
-  are_sets zero front ts new h = (
-    h.item ∷ [],
-    h.whole,
-    record {
-      head = h.item;
-      tail = [];
-      is = refl;
-      tokens = h.tokens ∙ sym (append-nil (set_tokens p scheme h.item));
-      each = (h.right, tt);
-      apart = pushed front h.item h.apart;
-    },
-  )
-  are_sets (suc n) front ts new (a, b, mid, is, one, more) =
-      let rest = are_sets n mid b new more in
-      let r = rest.2 in
-      let whole : mid ++ rest.0 ≡ front ++ (one.item ∷ rest.0) = ap (λ l. l ++ rest.0) one.whole ∙ append_assoc front (one.item ∷ []) rest.0 in (
-        one.item ∷ rest.0,
-        rest.1 ∙ whole,
-        record {
-          head = one.item;
-          tail = rest.0;
-          is = refl;
-          tokens = is ∙ (λ i. one.tokens i ++ Sign sign.Comma ∷ r.tokens i) ∙ ap (λ xs. set_tokens p scheme one.item ++ flat_map (comma_tokens (set_tokens p scheme)) xs) (sym r.is);
-          each = (one.right, subst (AllByRecursion IsRightSet) (sym r.is) r.each);
-          apart = λ d.
-              subst (λ xs. IsDistinct nat_eq (numbers xs)) (ap (λ xs. mid ++ xs) (sym r.is) ∙ whole)
-              (r.apart (subst (λ xs. IsDistinct nat_eq (numbers xs)) (sym one.whole) (pushed front one.item one.apart d)));
-        },
-      )
 
   none_apart : IsDistinct nat_eq []
   unfolding IsDistinct
   none_apart = tt
+
+  apart : (front xs : List (ℕ × Expr)) → AllFit behind IsSet front xs → IsDistinct nat_eq (numbers front) → IsDistinct nat_eq (numbers (front ++ xs))
+  apart front [] h d = subst (λ l. IsDistinct nat_eq (numbers l)) (sym (append-nil front)) d
+  apart front (x ∷ xs) h d =
+      let pushed = subst (IsDistinct nat_eq) (sym (map_push (λ y. y.0) front x)) (IsDistinct-push nat_eq_equiv (numbers front) x.0 d h.0.apart) in
+      subst (λ l. IsDistinct nat_eq (numbers l)) (append_assoc front (x ∷ []) xs) (apart (behind front x) xs h.1 pushed)
+
+  each_right : (front xs : List (ℕ × Expr)) → AllFit behind IsSet front xs → AllByRecursion IsRightSet xs
+  each_right front [] h = tt
+  each_right front (x ∷ xs) h = (h.0.right, each_right (behind front x) xs h.1)
 
   each_fits : (xs : List (ℕ × Expr)) → AllByRecursion IsRightSet xs → AllByRecursion (λ x. (x.0 < length scheme.others) × ExprFits p.schemes p.scope x.1) xs
   each_fits [] h = tt
@@ -156,20 +126,19 @@ module _ (p : Place) (scheme : Scheme) where
     pub fits : SetsFit p.schemes p.scope scheme xs
     pub kinds : AllByRecursion (λ x. HasKind p.schemes p.scope (other_of scheme x.0).1.kind x.1) xs
 
-  are_new : (ts : List Token) (xs : List (ℕ × Expr)) → Items IsSet [] ts xs → AreNew ts xs
-  are_new ts xs h =
-      let found = are_sets h.0 [] ts xs h.1 in
-      let r = found.2 in
+  are_new : (ts : List Token) (xs : List (ℕ × Expr)) → AreBehind (set_tokens p scheme) IsSet [] ts xs → AreNew ts xs
+  are_new ts xs r =
       let all = r.head ∷ r.tail in
-      subst (AreNew ts) (sym (found.1 ∙ r.is)) (record {
+      let each = each_right [] all r.fit in
+      subst (AreNew ts) (sym r.whole) (record {
         tokens = r.tokens;
-        own = each_own all r.each;
-        fits = record { some = omega arith; each = each_fits all r.each; apart = r.apart none_apart };
-        kinds = each_kind all r.each;
+        own = each_own all each;
+        fits = record { some = omega arith; each = each_fits all each; apart = apart [] all r.fit none_apart };
+        kinds = each_kind all each;
       })
 
   pub sets_read : (s : State) (x : List (ℕ × Expr) × State) → sets_at p scheme s ≡ Ok x → Found AreNew s x
   unfolding sets_at
   sets_read s x e =
-      let h = all_read (set_at p scheme) IsSet set_read [] s x e in
+      let h = all_read (set_at p scheme) (set_tokens p scheme) IsSet set_read s x e in
       record { tokens = h.tokens; passed = h.passed; right = λ none a. let r = h.right none a in (r.0, are_new h.tokens x.0 r.1) }

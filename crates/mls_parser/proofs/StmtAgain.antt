@@ -32,10 +32,10 @@ use Rattle.mls_parser.specs.declared.inferred.Inferred.TheVariants as inferred
 use Rattle.mls_parser.specs.Fault.{unless}
 use Rattle.mls_parser.specs.Infer.{may_be, may_be_value}
 use Rattle.mls_parser.specs.Names.{label_named, relation_named, variable_named, numbered}
-use Rattle.mls_parser.specs.Noted.{State, Read, note, takes_word, sign_at, word_at, name_at, name_behind, known}
+use Rattle.mls_parser.specs.Noted.{State, Read, note, takes_word, sign_at, word_at, name_at, name_behind, known, label_behind, relation_at}
 use Rattle.mls_parser.specs.ReadExpr.{whole_at}
 use Rattle.mls_parser.specs.ReadList.{tested, list_at, sets_at}
-use Rattle.mls_parser.specs.ReadBlock.{label, relation, variable, fits_variable, target_faults, targeted, label_behind, relation_at, lower_behind, outcome_of, outcome_at, written_at, keyed_at, value_at, assign_at, insert_at, classes_at, changes_at, update_at, delete_at, release_at, emit_at}
+use Rattle.mls_parser.specs.ReadBlock.{label, variable, fits_variable, target_faults, targeted, lower_behind, outcome_of, outcome_at, written_at, keyed_at, value_at, assign_at, insert_at, classes_at, changes_at, update_at, delete_at, release_at, emit_at}
 use Rattle.mls_parser.proofs.ExprAgain.{IsAgain, whole_again}
 use Rattle.mls_parser.proofs.FoundLemmas.{HasNames, label_again, relation_again, variable_again, variable_is_name}
 use Rattle.mls_parser.proofs.ListAgain.{NoDot, AreListed, AreSet, list_again, sets_again}
@@ -52,7 +52,7 @@ keyed p relation key = rel_token p relation ∷ Word (codes "key") ∷ list_toke
 module _ (p : Place) (n : HasNames p) where
   -- ---- names
 
-  pub label_gets : (w : Name) (i : ℕ) (us : List Token) (s : State) → IsLabel p.policy i → without_places s.1.placed ≡ Word w ∷ label_token p i ∷ us → Gets (label_behind p w s) s (Same i) us
+  pub label_gets : (w : Name) (i : ℕ) (us : List Token) (s : State) → IsLabel p.policy i → without_places s.1.placed ≡ Word w ∷ label_token p i ∷ us → Gets (label_behind p.policy w s) s (Same i) us
   unfolding label_behind
   label_gets w i us s h k =
       let found = label_again p.policy n.policy i h in
@@ -70,13 +70,13 @@ module _ (p : Place) (n : HasNames p) where
       (λ at m t. gets_noted (label p (name, at)) (faults (name, at)) s.0 m (Same i) us
       (none_two (none_known i at found) (none at cause.LabelOrder (ap (λ j. below (labels_of p.policy) (numbered j) p.hi) found ∙ under))) (ap numbered found) t)
 
-  pub relation_gets : (i : ℕ) (us : List Token) (s : State) → i < length p.schemes → without_places s.1.placed ≡ rel_token p i ∷ us → Gets (relation_at p s) s (Same i) us
+  pub relation_gets : (i : ℕ) (us : List Token) (s : State) → i < length p.schemes → without_places s.1.placed ≡ rel_token p i ∷ us → Gets (relation_at p.schemes s) s (Same i) us
   unfolding relation_at
   relation_gets i us s h k =
       let name = (scheme_of p.schemes i).name in
       let found = relation_again p.schemes n.schemes i h in
-      placed_then (λ x. Ok (relation p x.0, note (known (relation_named p.schemes x.0.0) x.0.1) x.1)) (name_gets name us s (scheme_is p.schemes n.schemes i h).named k)
-      (λ at m t. gets_noted (relation p (name, at)) (known (relation_named p.schemes name) at) s.0 m (Same i) us (none_known i at found) (ap numbered found) t)
+      placed_then (λ x. Ok (numbered (relation_named p.schemes x.0.0), note (known (relation_named p.schemes x.0.0) x.0.1) x.1)) (name_gets name us s (scheme_is p.schemes n.schemes i h).named k)
+      (λ at m t. gets_noted (numbered (relation_named p.schemes name)) (known (relation_named p.schemes name) at) s.0 m (Same i) us (none_known i at found) (ap numbered found) t)
 
   -- a variable may have what is given of its kind
   target_none : (x at : ℕ) (gives : Inferred) (k : Kind) → x < length p.scope.vars → kind_of_var p.scope x ≡ Some k → may_be gives k ≡ true
@@ -145,8 +145,8 @@ module _ (p : Place) (n : HasNames p) where
   unfolding classes_at
   classes_gets c f w us s hc hf hw k =
       let written : List Token = Word (codes "at") ∷ label_token p w ∷ us in
-      gets_then (λ x. label_behind p (codes "from") x.1 >>= λ y. label_behind p (codes "at") y.1 >>= λ z. Ok ((x.0, y.0, z.0), z.1)) (label_gets (codes "class") c (Word (codes "from") ∷ label_token p f ∷ written) s hc k)
-      (λ m t. gets_then (λ y. label_behind p (codes "at") y.1 >>= λ z. Ok ((c, y.0, z.0), z.1)) (label_gets (codes "from") f written (s.0, m) hf t)
+      gets_then (λ x. label_behind p.policy (codes "from") x.1 >>= λ y. label_behind p.policy (codes "at") y.1 >>= λ z. Ok ((x.0, y.0, z.0), z.1)) (label_gets (codes "class") c (Word (codes "from") ∷ label_token p f ∷ written) s hc k)
+      (λ m t. gets_then (λ y. label_behind p.policy (codes "at") y.1 >>= λ z. Ok ((c, y.0, z.0), z.1)) (label_gets (codes "from") f written (s.0, m) hf t)
       (λ m2 t2. gets_then (λ z. Ok ((c, f, z.0), z.1)) (label_gets (codes "at") w us (s.0, m2) hw t2) (λ m3 t3. gets_done (c, f, w) s.0 m3 (Same (c, f, w)) us refl t3)))
 
   no_dot : (o : Option ℕ) (us : List Token) → NoDot (stmt_end p o ++ us)
@@ -188,7 +188,7 @@ module _ (p : Place) (n : HasNames p) where
   delete_gets relation w c key o us s hr hw hc hk h k =
       let form : Form = forms.Write relation w (Delete key c) o in
       let last : List Token = write_end p w (stmt_end p o) in
-      gets_then (λ y. label_behind p (codes "class") y.1 >>= λ l. written_at p l.1 >>= λ z. Ok (forms.Write y.0.0 z.0.0 (Delete y.0.1 l.0) z.0.1, z.1))
+      gets_then (λ y. label_behind p.policy (codes "class") y.1 >>= λ l. written_at p l.1 >>= λ z. Ok (forms.Write y.0.0 z.0.0 (Delete y.0.1 l.0) z.0.1, z.1))
       (keyed_gets relation key (Word (codes "class") ∷ label_token p c ∷ (last ++ us)) s hr hk (k ∙ append_assoc (keyed p relation key) (Word (codes "class") ∷ label_token p c ∷ last) us))
       (λ m t. gets_then (λ l. written_at p l.1 >>= λ z. Ok (forms.Write relation z.0.0 (Delete key l.0) z.0.1, z.1)) (label_gets (codes "class") c (last ++ us) (s.0, m) hc t)
       (λ m2 t2. gets_then (λ z. Ok (forms.Write relation z.0.0 (Delete key c) z.0.1, z.1)) (written_gets w o us (s.0, m2) hw h t2) (λ m3 t3. gets_done form s.0 m3 (Same form) us refl t3)))
@@ -238,7 +238,7 @@ module _ (p : Place) (n : HasNames p) where
   unfolding emit_at
   emit_gets e l k us s o f hl h j =
       let last : List Token = Word (codes "at") ∷ label_token p l ∷ Sign sign.Semicolon ∷ [] in
-      gets_more (λ v. label_behind p (codes "at") v.1 >>= λ x. sign_at sign.Semicolon x.1 >>= λ end. Ok (forms.Emit v.0.expr x.0, end.1)) (value_gets e k (last ++ us) s o f h refl (j ∙ append_assoc (expr_tokens p e) last us))
+      gets_more (λ v. label_behind p.policy (codes "at") v.1 >>= λ x. sign_at sign.Semicolon x.1 >>= λ end. Ok (forms.Emit v.0.expr x.0, end.1)) (value_gets e k (last ++ us) s o f h refl (j ∙ append_assoc (expr_tokens p e) last us))
       (λ v m r t. gets_then (λ x. sign_at sign.Semicolon x.1 >>= λ end. Ok (forms.Emit v.expr x.0, end.1)) (label_gets (codes "at") l (Sign sign.Semicolon ∷ us) (s.0, m) hl t)
       (λ m2 t2. gets_more (λ end. Ok (forms.Emit v.expr l, end.1)) (sign_gets sign.Semicolon us (s.0, m2) t2)
       (λ end m3 i3 t3. gets_done (forms.Emit v.expr l) s.0 m3 (Same (forms.Emit e l)) us (ap (λ x. forms.Emit x l) r.is) t3)))

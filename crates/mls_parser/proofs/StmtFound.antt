@@ -13,7 +13,6 @@ use Rattle.mls_tokens.specs.declared.token.Token.{Token}
 use Rattle.mls_tokens.specs.declared.token.Token.TheVariants.{Word, Sign}
 use Rattle.mls_tokens.specs.declared.sign.Sign.TheVariants as sign
 use Rattle.mls_tokens.specs.Passing.{PlacedName}
-use Rattle.mls_tokens.proofs.PassedLemmas.{passed_more}
 use Rattle.mls_translang.specs.declared.block.Stmt.{Stmt as Form}
 use Rattle.mls_translang.specs.declared.block.Stmt.TheVariants as forms
 use Rattle.mls_translang.specs.Blocks.{block_of}
@@ -31,13 +30,13 @@ use Rattle.mls_parser.specs.declared.inferred.Inferred.TheVariants as inferred
 use Rattle.mls_parser.specs.Fault.{unless}
 use Rattle.mls_parser.specs.Infer.{may_be, may_be_value}
 use Rattle.mls_parser.specs.Names.{label_named, relation_named, variable_named, numbered}
-use Rattle.mls_parser.specs.Noted.{State, note, takes_word, sign_at, word_at, name_at, name_behind, known}
+use Rattle.mls_parser.specs.Noted.{State, note, takes_word, sign_at, word_at, name_at, name_behind, known, label_behind, relation_at}
 use Rattle.mls_parser.specs.ReadExpr.{whole_at}
 use Rattle.mls_parser.specs.ReadList.{tested, list_at}
-use Rattle.mls_parser.specs.ReadBlock.{label, relation, variable, fits_variable, target_faults, label_behind, relation_at, lower_behind, outcome_of, outcome_at, written_at, keyed_at, value_at, emit_at, assign_at, release_at}
+use Rattle.mls_parser.specs.ReadBlock.{label, variable, fits_variable, target_faults, lower_behind, outcome_of, outcome_at, written_at, keyed_at, value_at, emit_at, assign_at, release_at}
 use Rattle.mls_parser.proofs.ExprFound.{IsRight}
 use Rattle.mls_parser.proofs.FaultLemmas.{neither, holds}
-use Rattle.mls_parser.proofs.FoundSteps.{Found, found_none, found_next, found_noted, found_made, sign_read, word_read, name_read, behind_read}
+use Rattle.mls_parser.proofs.FoundSteps.{Found, found_none, found_next, found_noted, found_made, found_after, sign_read, word_read, name_read, behind_read}
 use Rattle.mls_parser.proofs.ListFound.{right_read, IsList, list_read}
 use Rattle.mls_parser.proofs.NumberLemmas.{label_spelled, relation_spelled, variable_there, of_known}
 use Rattle.mls_parser.proofs.PassedLemmas.{word_taken}
@@ -58,7 +57,7 @@ module _ (p : Place) where
     pub tokens : ts ≡ Word w ∷ label_token p n ∷ []
     pub within : IsLabel p.policy n
 
-  pub label_read : (w : Name) (s : State) (x : ℕ × State) → label_behind p w s ≡ Ok x → Found (IsLabelled w) s x
+  pub label_read : (w : Name) (s : State) (x : ℕ × State) → label_behind p.policy w s ≡ Ok x → Found (IsLabelled w) s x
   unfolding label_behind
   label_read w s =
       found_noted (IsLabelled w) s (name_behind w s) (label p) (λ n. known (label_named p.policy n.0) n.1) (behind_read w s)
@@ -84,10 +83,10 @@ module _ (p : Place) where
     pub tokens : ts ≡ rel_token p n ∷ []
     pub within : n < length p.schemes
 
-  pub relation_read : (s : State) (x : ℕ × State) → relation_at p s ≡ Ok x → Found IsRelated s x
+  pub relation_read : (s : State) (x : ℕ × State) → relation_at p.schemes s ≡ Ok x → Found IsRelated s x
   unfolding relation_at
   relation_read s =
-      found_noted IsRelated s (name_at s) (relation p) (λ n. known (relation_named p.schemes n.0) n.1) (name_read s)
+      found_noted IsRelated s (name_at s) (λ n. numbered (relation_named p.schemes n.0)) (λ n. known (relation_named p.schemes n.0) n.1) (name_read s)
       (λ n ts none is. record { tokens = is.0 ∙ (λ i. Word (sym (relation_spelled p.schemes n.0 n.1 none) i) ∷ []); within = relation_within n.0 n.1 none })
 
   -- ---- variables that get something
@@ -138,7 +137,6 @@ module _ (p : Place) where
   first_read : (s : State) (o : Option (ℕ × State)) (x : Option ℕ × State) → takes_word (codes "as") s ≡ o → outcome_of p s o ≡ Ok x → Found IsFirst s x
   first_read s None x is e = subst (Found IsFirst s) (ok_is (None, s) x e) (found_none IsFirst None s (record { tokens = refl; own = tt; kind = tt }))
   first_read s (Some word) x is e =
-      let as' = word_taken (codes "as") s word is in
       let rest = found_noted (λ ts o. IsFirst (Word (codes "as") ∷ ts) o) word.1 (name_at word.1) (λ n. Some (variable p n)) (λ n. target_faults p n (variable_named p n.0) (inferred.Value kinds.Int)) (name_read word.1)
       (λ n ts none named.
       let t = target_is n (inferred.Value kinds.Int) none in
@@ -148,11 +146,7 @@ module _ (p : Place) where
         kind = t.is_kind ∙ ap (λ (k : Kind). Some k) (is_int t.kind t.fits);
       })
       x e in
-      record {
-        tokens = Word (codes "as") ∷ rest.tokens;
-        passed = passed_more (Word (codes "as") ∷ []) rest.tokens s.1 word.1.1 x.1.1 as'.passed rest.passed;
-        right = λ none a. let r = rest.right none a.1 in (sym as'.faults ∙ r.0, r.1);
-      }
+      found_after IsFirst (Word (codes "as") ∷ []) s word.1 x (word_taken (codes "as") s word is) rest
 
   pub outcome_read : (s : State) (x : Option ℕ × State) → outcome_at p s ≡ Ok x → Found IsOutcome s x
   unfolding outcome_at
@@ -171,7 +165,7 @@ module _ (p : Place) where
   pub written_read : (s : State) (x : (ℕ × Option ℕ) × State) → written_at p s ≡ Ok x → Found IsWritten s x
   unfolding written_at
   written_read s =
-      found_next IsWritten (λ w ts x. (x.0 ≡ w) × IsOutcome ts x.1) s (label_behind p (codes "at") s) (λ w. outcome_at p w.1 >>= λ o. Ok ((w.0, o.0), o.1)) (label_read (codes "at") s)
+      found_next IsWritten (λ w ts x. (x.0 ≡ w) × IsOutcome ts x.1) s (label_behind p.policy (codes "at") s) (λ w. outcome_at p w.1 >>= λ o. Ok ((w.0, o.0), o.1)) (label_read (codes "at") s)
       (λ w. found_made (λ ts x. (x.0 ≡ w.0) × IsOutcome ts x.1) w.1 (outcome_at p w.1) (λ o. (w.0, o)) (outcome_read w.1) (λ o ts r. (refl, r)))
       (λ w x ts us at o.
       let F : ℕ → Type 0 = λ n. IsWritten (ts ++ us) (n, x.1) in
@@ -190,7 +184,7 @@ module _ (p : Place) where
   pub keyed_read : (s : State) (x : (ℕ × List Expr) × State) → keyed_at p s ≡ Ok x → Found IsKeyed s x
   unfolding keyed_at
   keyed_read s =
-      found_next IsKeyed IsKey s (relation_at p s) (λ relation. word_at (codes "key") relation.1 >>= λ w. list_at p (scheme_of p.schemes relation.0).keys w.1 >>= λ key. Ok ((relation.0, key.0), key.1)) (relation_read s)
+      found_next IsKeyed IsKey s (relation_at p.schemes s) (λ relation. word_at (codes "key") relation.1 >>= λ w. list_at p (scheme_of p.schemes relation.0).keys w.1 >>= λ key. Ok ((relation.0, key.0), key.1)) (relation_read s)
       (λ relation.
       found_next (IsKey relation.0) (λ at ts x. (x.0 ≡ relation.0) × IsList p (scheme_of p.schemes relation.0).keys ts x.1) relation.1
       (word_at (codes "key") relation.1) (λ w. list_at p (scheme_of p.schemes relation.0).keys w.1 >>= λ key. Ok ((relation.0, key.0), key.1)) (word_read (codes "key") relation.1)
@@ -231,9 +225,9 @@ module _ (p : Place) where
   pub emit_read : (s : State) (x : Form × State) → emit_at p s ≡ Ok x → Found (IsPlain (Word (codes "emit"))) s x
   unfolding emit_at
   emit_read s =
-      found_next (IsPlain (Word (codes "emit"))) IsEmitted s (value_at p s) (λ e. label_behind p (codes "at") e.1 >>= λ l. sign_at sign.Semicolon l.1 >>= λ end. Ok (forms.Emit e.0.expr l.0, end.1)) (value_read s)
+      found_next (IsPlain (Word (codes "emit"))) IsEmitted s (value_at p s) (λ e. label_behind p.policy (codes "at") e.1 >>= λ l. sign_at sign.Semicolon l.1 >>= λ end. Ok (forms.Emit e.0.expr l.0, end.1)) (value_read s)
       (λ e.
-      found_next (IsEmitted e.0) (λ n ts form. (form ≡ forms.Emit e.0.expr n) × (ts ≡ end_tokens)) e.1 (label_behind p (codes "at") e.1)
+      found_next (IsEmitted e.0) (λ n ts form. (form ≡ forms.Emit e.0.expr n) × (ts ≡ end_tokens)) e.1 (label_behind p.policy (codes "at") e.1)
       (λ l. sign_at sign.Semicolon l.1 >>= λ end. Ok (forms.Emit e.0.expr l.0, end.1)) (label_read (codes "at") e.1)
       (λ l. found_made (λ ts form. (form ≡ forms.Emit e.0.expr l.0) × (ts ≡ end_tokens)) l.1 (sign_at sign.Semicolon l.1) (λ at. forms.Emit e.0.expr l.0) (sign_read sign.Semicolon l.1) (λ at ts is. (refl, is)))
       (λ n form ts us at end. (n, end.0, at.within, (λ i. at.tokens i ++ end.1 i))))

@@ -46,7 +46,7 @@ use Rattle.mls_parser.specs.Words.{kind_of, pass_known}
 use Rattle.mls_parser.proofs.BlockAgain.{Closed, IsOther, block_begins, block_again}
 use Rattle.mls_parser.proofs.FoundLemmas.{HasNames, named_any, distinct_front, new_behind, label_again}
 use Rattle.mls_parser.proofs.HeaderFound.{names_of}
-use Rattle.mls_parser.proofs.ListAgain.{pushed, AllFit, all_again}
+use Rattle.mls_parser.proofs.OrderLemmas.{pushed, AllFit, all_again}
 use Rattle.mls_parser.proofs.NextLemmas.{Gets, Same, gets_more, gets_then, placed_then, gets_done, gets_noted, gets_is, quiet, sign_gets, word_gets, name_gets, behind_gets, known_gets, took_sign, took_word, after_took, no_sign, no_word, none, none_two, none_known}
 
 -- ---- names that are declared

@@ -10,9 +10,9 @@ use Rattle.mls_translang.specs.declared.block.Stmt.TheVariants as forms
 use Rattle.mls_translang.specs.Fits.{IsLabel}
 use Rattle.mls_translang.specs.Tokens.{Place, label_token, list_tokens, set_tokens, class_tokens, update_end, write_end, stmt_end}
 use Rattle.mls_translang.specs.Tree.{Expr, Write_at, Insert, Update, Delete}
-use Rattle.mls_parser.specs.Noted.{State, word_at}
+use Rattle.mls_parser.specs.Noted.{State, word_at, label_behind}
 use Rattle.mls_parser.specs.ReadList.{list_at, sets_at}
-use Rattle.mls_parser.specs.ReadBlock.{label_behind, outcome_at, written_at, keyed_at, insert_at, classes_at, changes_at, update_at, delete_at}
+use Rattle.mls_parser.specs.ReadBlock.{outcome_at, written_at, keyed_at, insert_at, classes_at, changes_at, update_at, delete_at}
 use Rattle.mls_parser.proofs.FoundSteps.{Found, found_next, found_made, word_read}
 use Rattle.mls_parser.proofs.ListFound.{IsList, list_read}
 use Rattle.mls_parser.proofs.SetFound.{AreNew, sets_read}
@@ -81,9 +81,9 @@ module _ (p : Place) where
   unfolding delete_at
   delete_read s =
       found_next (IsPlain p (Word (codes "delete"))) IsErased s (keyed_at p s)
-      (λ k. label_behind p (codes "class") k.1 >>= λ class. written_at p class.1 >>= λ w. Ok (forms.Write k.0.0 w.0.0 (Delete k.0.1 class.0) w.0.1, w.1)) (keyed_read p s)
+      (λ k. label_behind p.policy (codes "class") k.1 >>= λ class. written_at p class.1 >>= λ w. Ok (forms.Write k.0.0 w.0.0 (Delete k.0.1 class.0) w.0.1, w.1)) (keyed_read p s)
       (λ k.
-      found_next (IsErased k.0) (λ class ts y. (w : ℕ × Option ℕ) × (y ≡ forms.Write k.0.0 w.0 (Delete k.0.1 class) w.1) × IsWritten p ts w) k.1 (label_behind p (codes "class") k.1)
+      found_next (IsErased k.0) (λ class ts y. (w : ℕ × Option ℕ) × (y ≡ forms.Write k.0.0 w.0 (Delete k.0.1 class) w.1) × IsWritten p ts w) k.1 (label_behind p.policy (codes "class") k.1)
       (λ class. written_at p class.1 >>= λ w. Ok (forms.Write k.0.0 w.0.0 (Delete k.0.1 class.0) w.0.1, w.1)) (label_read p (codes "class") k.1)
       (λ class. found_made (λ ts y. (w : ℕ × Option ℕ) × (y ≡ forms.Write k.0.0 w.0 (Delete k.0.1 class.0) w.1) × IsWritten p ts w) class.1 (written_at p class.1) (λ w. forms.Write k.0.0 w.0 (Delete k.0.1 class.0) w.1) (written_read p class.1)
       (λ w ts r. (w, refl, r)))
@@ -112,12 +112,12 @@ module _ (p : Place) where
   classes_read : (s : State) (x : (ℕ × ℕ × ℕ) × State) → classes_at p s ≡ Ok x → Found AreClasses s x
   unfolding classes_at
   classes_read s =
-      found_next AreClasses AreTwo s (label_behind p (codes "class") s)
-      (λ class. label_behind p (codes "from") class.1 >>= λ from. label_behind p (codes "at") from.1 >>= λ w. Ok ((class.0, from.0, w.0), w.1)) (label_read p (codes "class") s)
+      found_next AreClasses AreTwo s (label_behind p.policy (codes "class") s)
+      (λ class. label_behind p.policy (codes "from") class.1 >>= λ from. label_behind p.policy (codes "at") from.1 >>= λ w. Ok ((class.0, from.0, w.0), w.1)) (label_read p (codes "class") s)
       (λ class.
-      found_next (AreTwo class.0) (λ from ts c. (c.0 ≡ class.0) × (c.1 ≡ from) × IsLabelled p (codes "at") ts c.2) class.1 (label_behind p (codes "from") class.1)
-      (λ from. label_behind p (codes "at") from.1 >>= λ w. Ok ((class.0, from.0, w.0), w.1)) (label_read p (codes "from") class.1)
-      (λ from. found_made (λ ts c. (c.0 ≡ class.0) × (c.1 ≡ from.0) × IsLabelled p (codes "at") ts c.2) from.1 (label_behind p (codes "at") from.1) (λ w. (class.0, from.0, w)) (label_read p (codes "at") from.1)
+      found_next (AreTwo class.0) (λ from ts c. (c.0 ≡ class.0) × (c.1 ≡ from) × IsLabelled p (codes "at") ts c.2) class.1 (label_behind p.policy (codes "from") class.1)
+      (λ from. label_behind p.policy (codes "at") from.1 >>= λ w. Ok ((class.0, from.0, w.0), w.1)) (label_read p (codes "from") class.1)
+      (λ from. found_made (λ ts c. (c.0 ≡ class.0) × (c.1 ≡ from.0) × IsLabelled p (codes "at") ts c.2) from.1 (label_behind p.policy (codes "at") from.1) (λ w. (class.0, from.0, w)) (label_read p (codes "at") from.1)
       (λ w ts r. (refl, refl, r)))
       (λ from c ts us l r.
       let F : ℕ → Type 0 = λ n. AreTwo class.0 (ts ++ us) (c.0, n, c.2) in

@@ -1,6 +1,6 @@
 -- The tokens of conditions, with no word of how they are read; and that they are read so.
 use Rattle.std.specs.Prelude.{◌≡◌, ℕ, zero, suc, ◌<◌, ◌≤◌, Bool, true, false, ◌||◌, List, [], ◌∷◌, ◌++◌, ◌⊎◌, ⊤}
-use Rattle.std.specs.Prelude.{is_some, length, Result, Ok, Err}
+use Rattle.std.specs.Prelude.{is_some, length, Ok}
 use Rattle.std.specs.List.{AllByRecursion}
 use Rattle.mls_lattice.specs.Policy.{Policy, IsPolicy}
 use Rattle.mls_scheme.specs.Scheme.{Schemes, AreSchemes}
@@ -17,12 +17,9 @@ use Rattle.mls_translang.specs.Kinds.{Truth, HasSort}
 use Rattle.mls_translang.specs.Tokens.{Place, operator_token, expr_tokens}
 use Rattle.mls_translang.specs.Tree.{Expr, Op}
 use Rattle.mls_translang.specs.Tx.{nesting, HasOwn}
-use Rattle.mls_parser.specs.declared.fault.PlacedFault.{PlacedFault}
-use Rattle.mls_parser.specs.declared.given.Given.{Given}
-use Rattle.mls_parser.specs.Fault.{IsLeast}
 use Rattle.mls_parser.specs.Noted.{State}
 use Rattle.mls_parser.specs.ReadCondition.{comparison_of, joiner_of, row_scope, written_scope, written_place, as_fields}
-use Rattle.mls_parser.specs.ReadCondition.{noted_at, condition_at}
+use Rattle.mls_parser.specs.ReadCondition.{condition_at}
 
 -- ---- what spells a condition
 
@@ -91,20 +88,14 @@ module _ (policy : Policy) (schemes : Schemes) (relation : ℕ) where
     pub passed : without_places l.placed ≡ tokens ++ without_places r.placed
     pub stop : r.stop ≡ l.stop
 
-  -- What is read has no fault; the fault that is answered is one of those that were noted, and none of them stands before it.
-  abbrev pub IsJudged : Left → Result (Result Expr PlacedFault) PlacedFault → Type 0
-  IsJudged l (Ok (Ok test)) = (x : Given × State) → noted_at policy schemes relation l ≡ Ok x → x.1.0 ≡ []
-  IsJudged l (Ok (Err f)) = (x : Given × State) → noted_at policy schemes relation l ≡ Ok x → IsLeast x.1.0 f
-  IsJudged l (Err f) = ⊤
-
   -- ---- and what tells it is read
 
-  -- the condition was read, before these tokens
-  pub record IsRead (l : Left) (test : Expr) (us : List Token) : Type 0 where
+  -- the condition was read, before these tokens, and no fault was noted
+  pub record IsRead (s : State) (test : Expr) (us : List Token) : Type 0 where
     pub rest : Left
-    pub is : condition_at policy schemes relation l ≡ Ok (Ok test, rest)
+    pub is : condition_at policy schemes relation s ≡ Ok (test, (s.0, rest))
     pub tokens : without_places rest.placed ≡ us
-    pub stop : rest.stop ≡ l.stop
+    pub stop : rest.stop ≡ s.1.stop
 
 -- tokens of a text
 abbrev pub AreOfText : List Token → Type 0
@@ -121,5 +112,5 @@ EndsCondition (t ∷ ts) = goes_on t ≡ false
 abbrev pub ConditionsAreRead : Type 0
 ConditionsAreRead =
     (policy : Policy) (schemes : Schemes) → IsPolicy policy → AreSchemes schemes
-    → (relation : ℕ) (l : Left) (test : Expr) (ts us : List Token) → relation < length schemes → TellsCondition policy schemes relation test ts
-    → EndsCondition us → without_places l.placed ≡ ts ++ us → IsRead policy schemes relation l test us
+    → (relation : ℕ) (s : State) (test : Expr) (ts us : List Token) → relation < length schemes → TellsCondition policy schemes relation test ts
+    → EndsCondition us → without_places s.1.placed ≡ ts ++ us → IsRead policy schemes relation s test us

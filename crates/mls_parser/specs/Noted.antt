@@ -1,6 +1,8 @@
 -- What is read from the tokens that are left, while faults of names and kinds are noted; or the fault of its form.
 use Rattle.std.specs.Prelude.{◌≡◌, ℕ, List, ◌++◌, Option, Result, Ok, Err, is_some, option_map}
+use Rattle.mls_lattice.specs.Policy.{Policy}
 use Rattle.mls_lattice.specs.Reading.{◌>>=◌, GivesUnless}
+use Rattle.mls_scheme.specs.Scheme.{Schemes}
 use Rattle.mls_tokens.specs.declared.fault.TokenFault.{TokenFault}
 use Rattle.mls_tokens.specs.declared.sign.Sign.{Sign}
 use Rattle.mls_tokens.specs.Scanning.{Left}
@@ -8,6 +10,7 @@ use Rattle.mls_tokens.specs.Passing.{is_sign, is_word, taken, pass, PlacedName, 
 use Rattle.mls_parser.specs.declared.fault.TextCause.TheVariants.{UnknownName, Memory}
 use Rattle.mls_parser.specs.declared.fault.PlacedFault.{PlacedFault}
 use Rattle.mls_parser.specs.Fault.{unless, lifted}
+use Rattle.mls_parser.specs.Names.{label_named, relation_named, numbered}
 
 -- the faults that were noted, and what is left
 abbrev pub State : Type 0
@@ -58,6 +61,22 @@ name_behind word s = word_at word s >>= λ w. name_at w.1
 -- a name that has to stand for something
 abbrev pub known : {X : Type 0} → Option X → ℕ → List PlacedFault
 known meaning at = unless (is_some meaning) at UnknownName
+
+-- the number of a label or a relation, by its name
+abbrev pub label_of : Policy → Read PlacedName → Read ℕ
+label_of policy r =
+    r >>= λ n. Ok (numbered (label_named policy n.0.0), note (known (label_named policy n.0.0) n.0.1) n.1)
+
+unfoldable pub label_at : Policy → State → Read ℕ
+label_at policy s = label_of policy (name_at s)
+
+unfoldable pub label_behind : Policy → List ℕ → State → Read ℕ
+label_behind policy word s = label_of policy (name_behind word s)
+
+unfoldable pub relation_at : Schemes → State → Read ℕ
+relation_at schemes s =
+    name_at s
+    >>= λ n. Ok (numbered (relation_named schemes n.0.0), note (known (relation_named schemes n.0.0) n.0.1) n.1)
 
 -- What a function returned, seen by view, is what reading gives, unless memory ran out.
 abbrev pub Gives : {X Y : Type 0} → (X → Y) → Result X PlacedFault → Result Y PlacedFault → Type 0

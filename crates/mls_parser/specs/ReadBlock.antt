@@ -26,9 +26,9 @@ use Rattle.mls_parser.specs.declared.words.Plain.{Plain}
 use Rattle.mls_parser.specs.declared.words.Plain.TheVariants as plains
 use Rattle.mls_parser.specs.Fault.{fault, unless, lifted}
 use Rattle.mls_parser.specs.Infer.{may_be, may_be_truth, may_be_value}
-use Rattle.mls_parser.specs.Names.{label_named, relation_named, variable_named, numbered, is_taken}
+use Rattle.mls_parser.specs.Names.{label_named, variable_named, numbered, is_taken}
 use Rattle.mls_parser.specs.Noted.{State, Read, note, token, takes_sign, takes_word, sign_at, word_at, name_at}
-use Rattle.mls_parser.specs.Noted.{name_behind, known}
+use Rattle.mls_parser.specs.Noted.{name_behind, known, label_behind, relation_at}
 use Rattle.mls_parser.specs.ReadExpr.{whole_at}
 use Rattle.mls_parser.specs.ReadList.{tested, list_at, sets_at}
 use Rattle.mls_parser.specs.Words.{opening_of, pass_known}
@@ -37,9 +37,6 @@ use Rattle.mls_parser.specs.Words.{opening_of, pass_known}
 
 abbrev pub label : Place → PlacedName → ℕ
 label p n = numbered (label_named p.policy n.0)
-
-abbrev pub relation : Place → PlacedName → ℕ
-relation p n = numbered (relation_named p.schemes n.0)
 
 abbrev pub variable : Place → PlacedName → ℕ
 variable p n = numbered (variable_named p n.0)
@@ -55,10 +52,6 @@ target_faults p target None gives = unless false target.1 cause.UnknownName
 target_faults p target (Some i) gives = unless (fits_variable (kind_of_var p.scope i) gives) target.1 cause.Kind
 
 module _ (p : Place) where
-  -- a word, and a label behind it
-  unfoldable pub label_behind : List ℕ → State → Read ℕ
-  label_behind word s = name_behind word s >>= λ n. Ok (label p n.0, note (known (label_named p.policy n.0.0) n.0.1) n.1)
-
   abbrev pub targeted : PlacedName → Inferred → State → State
   targeted n gives s = note (target_faults p n (variable_named p n.0) gives) s
 
@@ -79,17 +72,14 @@ module _ (p : Place) where
   -- where a tuple is written, and the outcome
   unfoldable pub written_at : State → Read (ℕ × Option ℕ)
   written_at s = do
-    w ← label_behind (codes "at") s
+    w ← label_behind p.policy (codes "at") s
     o ← outcome_at w.1
     Ok ((w.0, o.0), o.1)
-
-  unfoldable pub relation_at : State → Read ℕ
-  relation_at s = name_at s >>= λ n. Ok (relation p n.0, note (known (relation_named p.schemes n.0.0) n.0.1) n.1)
 
   -- the relation and the key of a write
   unfoldable pub keyed_at : State → Read (ℕ × List Expr)
   keyed_at s = do
-    relation ← relation_at s
+    relation ← relation_at p.schemes s
     word ← word_at (codes "key") relation.1
     key ← list_at p (scheme_of p.schemes relation.0).keys word.1
     Ok ((relation.0, key.0), key.1)
@@ -112,9 +102,9 @@ module _ (p : Place) where
   -- the tuple of an update, and where it is written
   unfoldable pub classes_at : State → Read (ℕ × ℕ × ℕ)
   classes_at s = do
-    class ← label_behind (codes "class") s
-    from ← label_behind (codes "from") class.1
-    w ← label_behind (codes "at") from.1
+    class ← label_behind p.policy (codes "class") s
+    from ← label_behind p.policy (codes "from") class.1
+    w ← label_behind p.policy (codes "at") from.1
     Ok ((class.0, from.0, w.0), w.1)
 
   -- its new values, and the outcome
@@ -135,7 +125,7 @@ module _ (p : Place) where
   unfoldable pub delete_at : State → Read Stmt
   delete_at s = do
     k ← keyed_at s
-    class ← label_behind (codes "class") k.1
+    class ← label_behind p.policy (codes "class") k.1
     w ← written_at class.1
     Ok (stmts.Write k.0.0 w.0.0 (Delete k.0.1 class.0) w.0.1, w.1)
 
@@ -160,7 +150,7 @@ module _ (p : Place) where
   unfoldable pub emit_at : State → Read Stmt
   emit_at s = do
     e ← value_at s
-    label ← label_behind (codes "at") e.1
+    label ← label_behind p.policy (codes "at") e.1
     end ← sign_at Semicolon label.1
     Ok (stmts.Emit e.0.expr label.0, end.1)
 
@@ -183,8 +173,8 @@ module _ (p : Place) where
   loop_head_at s = do
     row ← name_at s
     word ← word_at (codes "in") (note (unless (not (is_taken p row.0.0)) row.0.1 cause.Repeated) row.1)
-    relation ← relation_at word.1
-    label ← label_behind (codes "at") relation.1
+    relation ← relation_at p.schemes word.1
+    label ← label_behind p.policy (codes "at") relation.1
     Ok ((row.0.0, relation.0, label.0), label.1)
 
 -- what is read, and how many statements the transaction has up to there

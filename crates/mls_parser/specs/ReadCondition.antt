@@ -1,6 +1,6 @@
 -- Conditions on a row, from the tokens that are left.
 use Rattle.std.specs.Prelude.{ℕ, zero, suc, ◌==◌, Bool, true, false, if◌then◌else◌, List, [], ◌∷◌, ◌++◌, map, Option}
-use Rattle.std.specs.Prelude.{Some, None, option_map, Result, Ok, Err}
+use Rattle.std.specs.Prelude.{Some, None, option_map, Ok, Err}
 use Rattle.mls_lattice.specs.Policy.{Name, Policy}
 use Rattle.mls_lattice.specs.Reading.{◌>>=◌}
 use Rattle.mls_scheme.specs.declared.value.Kind.{Kind}
@@ -24,10 +24,9 @@ use Rattle.mls_parser.specs.declared.fault.PlacedFault.{PlacedFault}
 use Rattle.mls_parser.specs.declared.fault.TextCause.TheVariants.{Expected, Kind as Wrong_kind, Depth}
 use Rattle.mls_parser.specs.declared.given.Given.{Given}
 use Rattle.mls_parser.specs.declared.words.Head.{Head}
-use Rattle.mls_parser.specs.Fault.{fault, unless, least}
+use Rattle.mls_parser.specs.Fault.{fault, unless}
 use Rattle.mls_parser.specs.Infer.{may_be_truth, operands_fit, given_by_operator}
 use Rattle.mls_parser.specs.Noted.{State, Read, note, token}
-use Rattle.mls_parser.specs.Parsing.{answer}
 use Rattle.mls_parser.specs.ReadExpr.{given, whole_at}
 use Rattle.mls_parser.specs.ReadList.{tested}
 use Rattle.mls_parser.specs.Words.{operator_of_word, pass_head}
@@ -162,16 +161,8 @@ as_fields (Op op left right) = Op op (as_fields left) (as_fields right)
 
 -- ---- conditions
 
--- a condition, unless a fault was noted
-abbrev pub judged : Given × State → Result Expr PlacedFault
-judged x = answer (least x.1.0) (as_fields x.0.expr)
-
-module _ (policy : Policy) (schemes : Schemes) (relation : ℕ) where
-  -- what is read, with the faults that are noted
-  unfoldable pub noted_at : Left → Read Given
-  noted_at l =
-      tests_at (written_place policy schemes relation) ([], l) >>= λ g. Ok (g.0, note (tested (may_be_truth g.0.gives) g.0) g.1)
-
-  -- the condition, or the least fault of its names and kinds
-  unfoldable pub condition_at : Left → Result (Result Expr PlacedFault × Left) PlacedFault
-  condition_at l = noted_at l >>= λ x. Ok (judged x, x.1.1)
+-- a truth value of the attributes of a row
+unfoldable pub condition_at : Policy → Schemes → ℕ → State → Read Expr
+condition_at policy schemes relation s =
+    tests_at (written_place policy schemes relation) s
+    >>= λ g. Ok (as_fields g.0.expr, note (tested (may_be_truth g.0.gives) g.0) g.1)

@@ -1,4 +1,4 @@
--- Lists of expressions, and new values of attributes, from the tokens that are left.
+-- Items in order, and lists of them, from the tokens that are left; and those of expressions.
 use Rattle.std.specs.Prelude.{ℕ, zero, suc, Bool, false, not, ◌==◌, nat_eq, List, [], ◌∷◌, ◌++◌, map, length, slice_get}
 use Rattle.std.specs.Prelude.{Option, Some, None, Ok, Err}
 use Rattle.std.specs.List.{list_any}
@@ -34,6 +34,28 @@ module _ {A : Type 0} (next : A → State → Read A) where
   abbrev pub items_at : A → State → Read A
   items_at items s = items_from (suc (length s.1.placed)) items s
 
+-- ---- lists
+
+-- items in parentheses, by what reads one more; how many there may be is tested at the end
+module _ {X : Type 0} (next : List X → State → Read (List X)) (are_enough : ℕ → Bool) where
+  abbrev pub closed : List X → ℕ × State → List X × State
+  closed xs end = (xs, note (unless (are_enough (length xs)) end.0 cause.Kind) end.1)
+
+  abbrev pub list_behind : State → Option (ℕ × State) → Read (List X)
+  list_behind s (Some end) = Ok (closed [] end)
+  list_behind s None = do
+    xs ← items_at next [] s
+    end ← sign_at RightParen xs.1
+    Ok (closed xs.0 end)
+
+  abbrev pub list_of : State → Read (List X)
+  list_of s = sign_at LeftParen s >>= λ x. list_behind x.1 (takes_sign RightParen x.1)
+
+-- one more, of an attribute that is known
+abbrev pub with_set : {X : Type 0} → List (ℕ × X) → Option ℕ → X → List (ℕ × X)
+with_set front None x = front
+with_set front (Some i) x = front ++ (i, x) ∷ []
+
 -- ---- what may stand where
 
 -- an expression that has to pass a test
@@ -51,10 +73,6 @@ set_faults scheme front name None g = unless false name.1 cause.UnknownName ++ t
 set_faults scheme front name (Some i) g =
     unless (not (list_any (nat_eq i) (map (λ x. x.0) front))) name.1 cause.Repeated ++ tested (may_be g.gives (other_of scheme i).1.kind) g
 
-abbrev pub with_set : List (ℕ × Expr) → Option ℕ → Expr → List (ℕ × Expr)
-with_set front None e = front
-with_set front (Some i) e = front ++ (i, e) ∷ []
-
 module _ (p : Place) where
   -- ---- lists
 
@@ -64,19 +82,9 @@ module _ (p : Place) where
     g ← whole_at p s
     Ok (front ++ g.0.expr ∷ [], note (tested (fits_item (slice_get attributes (length front)) g.0.gives) g.0) g.1)
 
-  -- one for each attribute, up to the parenthesis at a place
-  abbrev pub listed : List Attribute → List Expr → ℕ × State → List Expr × State
-  listed attributes es end = (es, note (unless (length es == length attributes) end.0 cause.Kind) end.1)
-
-  abbrev pub list_behind : List Attribute → State → Option (ℕ × State) → Read (List Expr)
-  list_behind attributes s (Some end) = Ok (listed attributes [] end)
-  list_behind attributes s None = do
-    es ← items_at (item_at attributes) [] s
-    end ← sign_at RightParen es.1
-    Ok (listed attributes es.0 end)
-
+  -- one for each attribute
   unfoldable pub list_at : List Attribute → State → Read (List Expr)
-  list_at attributes s = sign_at LeftParen s >>= λ x. list_behind attributes x.1 (takes_sign RightParen x.1)
+  list_at attributes s = list_of (item_at attributes) (λ n. n == length attributes) s
 
   -- ---- new values
 

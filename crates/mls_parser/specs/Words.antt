@@ -111,10 +111,14 @@ module _ {X : Type 0} where
   abbrev pub pass_known : (Token → Option X) → Left → Result ((X × ℕ) × Left) TokenFault
   pass_known what l = pass_known_of what l.placed l.stop
 
--- what an expression begins with: where a text is too long, it is refused as that
-abbrev pub pass_head_of : List Placed → TokenFault → Result ((Head × ℕ) × Left) TokenFault
-pass_head_of [] stop = Err stop
-pass_head_of (p ∷ ps) stop = known p.at (left ps stop) (head_of p.token)
+  -- where a text may stand: one that is too long is refused as that
+  abbrev pub pass_any_of : (Token → Option X) → List Placed → TokenFault → Result ((X × ℕ) × Left) TokenFault
+  pass_any_of what [] stop = Err stop
+  pass_any_of what (p ∷ ps) stop = known p.at (left ps stop) (what p.token)
 
+  abbrev pub pass_any : (Token → Option X) → Left → Result ((X × ℕ) × Left) TokenFault
+  pass_any what l = pass_any_of what l.placed l.stop
+
+-- what an expression begins with
 abbrev pub pass_head : Left → Result ((Head × ℕ) × Left) TokenFault
-pass_head l = pass_head_of l.placed l.stop
+pass_head = pass_any head_of

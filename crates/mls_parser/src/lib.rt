@@ -23,8 +23,10 @@ mod reader;
 mod words;
 
 pub use fault::{PlacedFault, TextCause, TextFault};
+pub use names::Name;
 pub use parser::parse;
 pub use read_condition::condition;
+pub use reader::Reader;
 
 /// Tokens that tell a condition are read as it, where no condition goes on with what stands behind them.
 pub fn conditions_are_read()

@@ -76,8 +76,8 @@ impl Context<'_> {
         let name = reader.name()?;
         reader.note(!self.is_taken(&name), name.1, TextCause::Repeated)?;
         reader.word("in")?;
-        let relation = self.relation(reader)?;
-        let label = self.label_behind(reader, "at")?;
+        let relation = reader.relation(self.schemes)?;
+        let label = reader.label_behind(self.policy, "at")?;
         Ok((name.0, relation, label))
     }
 

@@ -1,15 +1,14 @@
 //! Conditions on a row, from the tokens that are left.
-ghost use Rattle.std.specs.Prelude.{◌≡◌, ◌≢◌, ◌<◌, ◌++◌, length, map, option_map, IfOk, IfErr, IfSome, IsNone, OnOk};
-ghost use Rattle.std.specs.Prelude.{bytes_eq};
+ghost use Rattle.std.specs.Prelude.{◌≡◌, ◌≢◌, ◌<◌, ◌++◌, [], length, map, option_map, IfOk, IfErr, IfSome, IsNone};
+ghost use Rattle.std.specs.Prelude.{OnOk, bytes_eq};
 ghost use Rattle.std.specs.List.{IsDistinct};
 ghost use Rattle.mls_tokens.specs.Scanning.{without_places};
 ghost use Rattle.mls_parser.specs.declared.fault.TextCause.TheVariants.{Memory};
-ghost use Rattle.mls_parser.specs.Condition.{AreOfText, IsCondition, IsConditionOf, IsJudged};
+ghost use Rattle.mls_parser.specs.Condition.{AreOfText, IsCondition, IsConditionOf};
 ghost use Rattle.mls_parser.specs.Noted.{Gives, note, token};
-ghost use Rattle.mls_parser.specs.Parsing.{answer};
 ghost use Rattle.mls_parser.specs.ReadCondition.{comparison_of, joiner_of, taken_as, between, between_faults, test_at};
 ghost use Rattle.mls_parser.specs.ReadCondition.{are_mixed, past_most, next_test_at, tests_at, attribute_var, row_vars};
-ghost use Rattle.mls_parser.specs.ReadCondition.{as_fields, judged, noted_at, condition_at};
+ghost use Rattle.mls_parser.specs.ReadCondition.{as_fields, condition_at};
 ghost use Rattle.mls_parser.specs.Words.{pass_head};
 
 use crate::context::Context;
@@ -24,7 +23,6 @@ use mls_scheme::{Attributes, Kind, Named, RelNo, Scheme, Schemes};
 use mls_tokens::{Sign, Tokens};
 use mls_translang::{Expr, LoopRow, Operator, Term};
 use std::alloc::{AllocError, Global};
-use std::mem;
 
 /// Passes a comparison if it is next, and gives its place too.
 #[tactic(auto, using(crate::proofs::ConditionSteps::comparison_steps))]
@@ -210,17 +208,17 @@ fn make_fields(expr: &mut Expr)
     }
 }
 
-/// The tests, which have to be a truth value.
-#[tactic(auto, unfolding(crate::specs::ReadCondition::noted_at))]
-fn noted(
+/// Tests of the attributes of a row, which have to be a truth value.
+#[tactic(auto, unfolding(crate::specs::ReadCondition::condition_at))]
+fn tests_of_row(
     alloc: Global,
     policy: &Policy,
     schemes: &Schemes,
     relation: RelNo,
-    tokens: Tokens,
-) -> Result<(Given, Reader), PlacedFault>
+    reader: &mut Reader,
+) -> Result<Expr, PlacedFault>
     requires { relation < length schemes.now }
-    ensures { Gives (λ x. (x.0, x.1)) result (noted_at policy.now schemes.now relation tokens) }
+    ensures { Gives (λ e. (e, reader.new)) result (condition_at policy.now schemes.now relation reader.old) }
 {
     // a policy has some label
     let _count = policy.label_count();
@@ -239,63 +237,36 @@ fn noted(
         vars: &vars,
         rows: &rows,
     };
-    let mut reader = Reader::new(alloc, tokens);
-    let given = context.tests(alloc, &mut reader)?;
+    let mut given = context.tests(alloc, reader)?;
     reader.note(given.gives.may_be_truth(), given.at, TextCause::Kind)?;
-    Ok((given, reader))
+    make_fields(&mut given.expr);
+    Ok(given.expr)
 }
 
-/// The condition, or the least fault that was noted.
-#[tactic(auto, unfolding(crate::specs::ReadCondition::condition_at))]
-fn unless_noted(
-    alloc: Global,
-    policy: &Policy,
-    schemes: &Schemes,
-    relation: RelNo,
-    tokens: &mut Tokens,
-) -> Result<Result<Expr, PlacedFault>, PlacedFault>
-    requires { relation < length schemes.now }
-    ensures { Gives (λ r. (r, tokens.new)) result (condition_at policy.now schemes.now relation tokens.old) }
-{
-    // the reader has the tokens meanwhile
-    let all = mem::replace(tokens, Tokens::new(alloc, &[])?);
-    let (mut given, reader) = noted(alloc, policy, schemes, relation, all)?;
-    let least = reader.least();
-    *tokens = reader.tokens;
-    match least {
-        Some(fault) => Ok(Err(fault)),
-        None => {
-            make_fields(&mut given.expr);
-            Ok(Ok(given.expr))
-        }
-    }
-}
-
-/// A condition on a row of a relation: a test, or several with `and` between each two, or with `or`; and what stands behind is
-/// left to the caller. A name is an attribute of the row, key or other, and so is a name behind the name of the relation. Or the
-/// first fault by its form: Token where no token stands, Expected at the first token that nothing goes on with (the end is one)
-/// and at the second word where `and` and `or` are mixed without parentheses, Depth at a `(` or `not` inside 16 others on one
-/// side of a comparison and at the first token of a 17th test, if that can begin one, and TooLong at a long text between quotes.
-/// Where the form is right, the inner answer is the condition, or the least fault of its names and kinds, by place and then by
-/// number: UnknownName, and Kind at a `not` or an operator whose operands do not fit and at the first token of what is no truth
-/// value. Memory may stand in place of any answer.
+/// A condition on a row of a relation: a test, or several with `and` between each two, or with `or`; and what stands
+/// behind is left to the caller. A name is an attribute of the row, key or other, and so is a name behind the name of
+/// the relation. Or the first fault by its form: Token where no token stands, Expected at the first token that nothing
+/// goes on with (the end is one) and at the second word where `and` and `or` are mixed without parentheses, Depth at a
+/// `(` or `not` inside 16 others on one side of a comparison and at the first token of a 17th test, if that can begin
+/// one, and TooLong at a long text between quotes. Where the form is right, faults of names and kinds are noted:
+/// UnknownName, and Kind at a `not` or an operator whose operands do not fit and at the first token of what is no
+/// truth value. Memory may stand in place of any answer.
 pub fn condition(
     alloc: Global,
     policy: &Policy,
     schemes: &Schemes,
     relation: RelNo,
-    tokens: &mut Tokens,
-) -> Result<Result<Expr, PlacedFault>, PlacedFault>
+    reader: &mut Reader,
+) -> Result<Expr, PlacedFault>
     requires { relation < length schemes.now }
-    // The condition or its fault, and what is left behind it.
-    ensures exact { Gives (λ r. (r, tokens.new)) result (condition_at policy.now schemes.now relation tokens.old) }
-    // What is read has no fault of names and kinds, and of all of them the least is answered.
-    ensures judged { IsJudged policy.now schemes.now relation tokens.old result }
-    // What was passed tells what is read, where the tokens are those of a text.
-    ensures told { AreOfText (without_places tokens.old.placed)
-        → IfOk result (λ r. IfOk r (IsCondition policy.now schemes.now relation tokens.old tokens.new)) }
+    // The condition, what is left behind it, and the faults that are noted; or the fault of its form.
+    ensures exact { Gives (λ e. (e, reader.new)) result (condition_at policy.now schemes.now relation reader.old) }
+    // What was passed tells what is read, where no fault was noted and the tokens are those of a text.
+    ensures told { AreOfText (without_places reader.old.1.placed) → reader.new.0 ≡ []
+        → IfOk result (IsCondition policy.now schemes.now relation reader.old.1 reader.new.1) }
     // And that is a truth value of the row.
-    ensures fits { AreOfText (without_places tokens.old.placed) → IfOk result (λ r. IfOk r (IsConditionOf schemes.now relation)) }
+    ensures fits { AreOfText (without_places reader.old.1.placed) → reader.new.0 ≡ []
+        → IfOk result (IsConditionOf schemes.now relation) }
 {
-    unless_noted(alloc, policy, schemes, relation, tokens)
+    tests_of_row(alloc, policy, schemes, relation, reader)
 }

@@ -1,14 +1,13 @@
 //! Statements with no statement inside, from the tokens that are left, each behind what it begins with.
 ghost use Rattle.std.specs.Prelude.{◌≡◌, ◌<◌, length, IfOk, OnOk};
 ghost use Rattle.mls_scheme.specs.Scheme.{IsScheme, scheme_of};
-ghost use Rattle.mls_parser.specs.Names.{label_named, variable_named};
-ghost use Rattle.mls_parser.specs.Noted.{Gives, known, note};
-ghost use Rattle.mls_parser.specs.ReadBlock.{label, relation, variable, target_faults, label_behind, outcome_at};
-ghost use Rattle.mls_parser.specs.ReadBlock.{written_at, relation_at, keyed_at, assign_at, insert_at, classes_at};
-ghost use Rattle.mls_parser.specs.ReadBlock.{changes_at, update_at, delete_at, lower_behind, value_at, release_at};
-ghost use Rattle.mls_parser.specs.ReadBlock.{emit_at, plain_at};
+ghost use Rattle.mls_parser.specs.Names.{variable_named};
+ghost use Rattle.mls_parser.specs.Noted.{Gives, note};
+ghost use Rattle.mls_parser.specs.ReadBlock.{variable, target_faults, outcome_at, written_at, keyed_at, assign_at};
+ghost use Rattle.mls_parser.specs.ReadBlock.{insert_at, classes_at, changes_at, update_at, delete_at, lower_behind};
+ghost use Rattle.mls_parser.specs.ReadBlock.{value_at, release_at, emit_at, plain_at};
 
-use crate::context::{Context, label, label_or_first, relation, relation_or_first};
+use crate::context::Context;
 use crate::fault::{PlacedFault, TextCause};
 use crate::given::Given;
 use crate::inferred::Inferred;
@@ -22,27 +21,6 @@ use mls_translang::{Expr, Stmt};
 use std::alloc::{AllocError, Global};
 
 impl Context<'_> {
-    /// A label that is named, or the first.
-    fn label(&self, reader: &mut Reader, name: &Name) -> Result<LabelNo, AllocError>
-        ensures exact { IfOk result (λ n. n ≡ label self.now name.now) }
-        ensures within { IfOk result (λ n. n < length self.now.policy.labels) }
-        ensures noted { OnOk result (reader.new
-            ≡ note (known (label_named self.now.policy name.now.0) name.now.1) reader.old) }
-    {
-        let known = label(self.policy, name).is_some();
-        reader.note(known, name.1, TextCause::UnknownName)?;
-        Ok(label_or_first(self.policy, name))
-    }
-
-    /// A word, and a label behind it.
-    #[tactic(auto, unfolding(crate::specs::ReadBlock::label_behind))]
-    pub fn label_behind(&self, reader: &mut Reader, word: &str) -> Result<LabelNo, PlacedFault>
-        ensures { Gives (λ n. (n, reader.new)) result (label_behind self.now word.now reader.old) }
-    {
-        let name = reader.name_behind(word)?;
-        Ok(self.label(reader, &name)?)
-    }
-
     /// The number of a variable, or 0.
     fn variable_or_first(&self, name: &Name) -> u8
         ensures { result ≡ variable self.now name.now }
@@ -91,21 +69,9 @@ impl Context<'_> {
     fn written(&self, reader: &mut Reader) -> Result<(LabelNo, Option<u8>), PlacedFault>
         ensures { Gives (λ x. ((x.0, x.1), reader.new)) result (written_at self.now reader.old) }
     {
-        let at = self.label_behind(reader, "at")?;
+        let at = reader.label_behind(self.policy, "at")?;
         let outcome = self.outcome(reader)?;
         Ok((at, outcome))
-    }
-
-    /// A relation that is named, or the first.
-    #[tactic(auto, unfolding(crate::specs::ReadBlock::relation_at))]
-    pub fn relation(&self, reader: &mut Reader) -> Result<RelNo, PlacedFault>
-        ensures exact { Gives (λ n. (n, reader.new)) result (relation_at self.now reader.old) }
-        ensures within { IfOk result (λ n. n < length self.now.schemes) }
-    {
-        let name = reader.name()?;
-        let known = relation(self.schemes, &name).is_some();
-        reader.note(known, name.1, TextCause::UnknownName)?;
-        Ok(relation_or_first(self.schemes, &name))
     }
 
     fn scheme(&self, relation: RelNo) -> &Scheme
@@ -122,7 +88,7 @@ impl Context<'_> {
         ensures exact { Gives (λ x. ((x.0, x.1), reader.new)) result (keyed_at self.now reader.old) }
         ensures within { IfOk result (λ x. x.0 < length self.now.schemes) }
     {
-        let relation = self.relation(reader)?;
+        let relation = reader.relation(self.schemes)?;
         reader.word("key")?;
         let key = self.list(alloc, reader, self.scheme(relation).keys())?;
         Ok((relation, key))
@@ -162,9 +128,9 @@ impl Context<'_> {
     fn classes(&self, reader: &mut Reader) -> Result<(LabelNo, LabelNo, LabelNo), PlacedFault>
         ensures { Gives (λ x. ((x.0, x.1, x.2), reader.new)) result (classes_at self.now reader.old) }
     {
-        let key_class = self.label_behind(reader, "class")?;
-        let from = self.label_behind(reader, "from")?;
-        let at = self.label_behind(reader, "at")?;
+        let key_class = reader.label_behind(self.policy, "class")?;
+        let from = reader.label_behind(self.policy, "from")?;
+        let at = reader.label_behind(self.policy, "at")?;
         Ok((key_class, from, at))
     }
 
@@ -210,7 +176,7 @@ impl Context<'_> {
         ensures { Gives (λ x. (x, reader.new)) result (delete_at self.now reader.old) }
     {
         let (relation, key) = self.keyed(alloc, reader)?;
-        let key_class = self.label_behind(reader, "class")?;
+        let key_class = reader.label_behind(self.policy, "class")?;
         let (at, outcome) = self.written(reader)?;
         Ok(Stmt::Write {
             relation,
@@ -226,7 +192,7 @@ impl Context<'_> {
         ensures { Gives (λ n. (n, reader.new)) result (lower_behind self.now word.now reader.old) }
     {
         let name = reader.name_behind(word)?;
-        let label = self.label(reader, &name)?;
+        let label = reader.noted_label(self.policy, &name)?;
         let below = self.policy.dominates(self.hi, label);
         reader.note(below, name.1, TextCause::LabelOrder)?;
         Ok(label)
@@ -262,7 +228,7 @@ impl Context<'_> {
         ensures { Gives (λ x. (x, reader.new)) result (emit_at self.now reader.old) }
     {
         let given = self.value(alloc, reader)?;
-        let label = self.label_behind(reader, "at")?;
+        let label = reader.label_behind(self.policy, "at")?;
         reader.sign(Sign::Semicolon)?;
         Ok(Stmt::Emit {
             value: given.expr,

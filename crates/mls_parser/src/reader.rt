@@ -1,23 +1,27 @@
 //! What is left of a text, and the faults of names and kinds that were noted on the way.
-ghost use Rattle.std.specs.Prelude.{◌≡◌, [], option_map, IsNone, OnOk};
+ghost use Rattle.std.specs.Prelude.{◌≡◌, ◌<◌, [], length, option_map, IsNone, IfOk, OnOk};
 ghost use Rattle.mls_tokens.specs.Passing.{has_ended};
 ghost use Rattle.mls_parser.specs.Fault.{unless, least};
+ghost use Rattle.mls_parser.specs.Names.{label_named, numbered};
 ghost use Rattle.mls_parser.specs.Noted.{Gives, note, token, takes_sign, takes_word, sign_at, word_at, name_at};
-ghost use Rattle.mls_parser.specs.Noted.{name_behind};
+ghost use Rattle.mls_parser.specs.Noted.{name_behind, known, label_at, label_behind, relation_at};
 ghost use Rattle.mls_parser.specs.Words.{pass_head, pass_known, opening_of, operator_of, kind_of};
 
+use crate::context::{label, label_or_first, relation, relation_or_first};
 use crate::fault::{PlacedFault, TextCause, ill_formed, least};
 use crate::names::Name;
 use crate::words::{Head, Opening, head_of, kind_of, opening_of, operator_of};
-use mls_scheme::Kind;
+use mls_lattice::{LabelNo, Policy};
+use mls_scheme::{Kind, RelNo, Schemes};
 use mls_tokens::{Sign, Tokens};
 use mls_translang::Operator;
 use std::alloc::{AllocError, Global};
 use std::marker::Model;
 
-/// The tokens that are left, and the faults that were noted.
+/// The tokens that are left of a text, and the faults of names and kinds that were noted. A name that is unknown
+/// counts as the first of what it may name, so that the form is read to its end.
 #[derive(Drop)]
-pub(crate) struct Reader {
+pub struct Reader {
     pub tokens: Tokens,
     faults: Vec<PlacedFault>,
 }
@@ -110,8 +114,56 @@ impl Reader {
         self.name()
     }
 
+    /// The label of a name.
+    pub(crate) fn noted_label(
+        &mut self,
+        policy: &Policy,
+        name: &Name,
+    ) -> Result<LabelNo, AllocError>
+        ensures exact { IfOk result (λ n. n ≡ numbered (label_named policy.now name.now.0)) }
+        ensures within { IfOk result (λ n. n < length policy.now.labels) }
+        ensures noted { OnOk result (self.new ≡ note (known (label_named policy.now name.now.0) name.now.1) self.old) }
+    {
+        self.note(
+            label(policy, name).is_some(),
+            name.1,
+            TextCause::UnknownName,
+        )?;
+        Ok(label_or_first(policy, name))
+    }
+
+    /// Passes the name of a label.
+    #[tactic(auto, unfolding(crate::specs::Noted::label_at))]
+    pub fn label(&mut self, policy: &Policy) -> Result<LabelNo, PlacedFault>
+        ensures { Gives (λ n. (n, self.new)) result (label_at policy.now self.old) }
+    {
+        let name = self.name()?;
+        Ok(self.noted_label(policy, &name)?)
+    }
+
+    /// Passes a word, and the name of a label behind it.
+    #[tactic(auto, unfolding(crate::specs::Noted::label_behind))]
+    pub fn label_behind(&mut self, policy: &Policy, word: &str) -> Result<LabelNo, PlacedFault>
+        ensures { Gives (λ n. (n, self.new)) result (label_behind policy.now word.now self.old) }
+    {
+        let name = self.name_behind(word)?;
+        Ok(self.noted_label(policy, &name)?)
+    }
+
+    /// Passes the name of a relation.
+    #[tactic(auto, unfolding(crate::specs::Noted::relation_at))]
+    pub fn relation(&mut self, schemes: &Schemes) -> Result<RelNo, PlacedFault>
+        ensures exact { Gives (λ n. (n, self.new)) result (relation_at schemes.now self.old) }
+        ensures within { IfOk result (λ n. n < length schemes.now) }
+    {
+        let name = self.name()?;
+        let known = relation(schemes, &name).is_some();
+        self.note(known, name.1, TextCause::UnknownName)?;
+        Ok(relation_or_first(schemes, &name))
+    }
+
     /// Passes what an expression begins with, and gives its place too.
-    pub fn head(&mut self) -> Result<(Head, usize), PlacedFault>
+    pub(crate) fn head(&mut self) -> Result<(Head, usize), PlacedFault>
         ensures { Gives (λ x. ((x.0, x.1), self.new)) result (token pass_head self.old) }
     {
         let first = self.tokens.pop().ok_or(self.tokens.stop())?;
@@ -120,7 +172,7 @@ impl Reader {
     }
 
     /// Passes what a statement begins with, and gives its place too.
-    pub fn opening(&mut self) -> Result<(Opening, usize), PlacedFault>
+    pub(crate) fn opening(&mut self) -> Result<(Opening, usize), PlacedFault>
         ensures { Gives (λ x. ((x.0, x.1), self.new)) result (token (pass_known opening_of) self.old) }
     {
         let first = self.tokens.pop().ok_or(self.tokens.refused())?;
@@ -129,7 +181,7 @@ impl Reader {
     }
 
     /// Passes an operator, and gives its place too.
-    pub fn operator(&mut self) -> Result<(Operator, usize), PlacedFault>
+    pub(crate) fn operator(&mut self) -> Result<(Operator, usize), PlacedFault>
         ensures { Gives (λ x. ((x.0, x.1), self.new)) result (token (pass_known operator_of) self.old) }
     {
         let first = self.tokens.pop().ok_or(self.tokens.refused())?;
@@ -138,7 +190,7 @@ impl Reader {
     }
 
     /// Passes the word of a kind, and gives its place too.
-    pub fn kind(&mut self) -> Result<(Kind, usize), PlacedFault>
+    pub(crate) fn kind(&mut self) -> Result<(Kind, usize), PlacedFault>
         ensures { Gives (λ x. ((x.0, x.1), self.new)) result (token (pass_known kind_of) self.old) }
     {
         let first = self.tokens.pop().ok_or(self.tokens.refused())?;

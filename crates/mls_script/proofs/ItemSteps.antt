@@ -1,100 +1,88 @@
--- Items with a comma between each two, item by item.
-use Rattle.std.proofs.Common.{◌≡◌, ℕ, zero, suc, ◌<◌, ◌≤◌, List, [], ◌∷◌, ◌++◌, length, map, Option, Some, None, Result, Ok, Err, refl, sym, ap, ◌∙◌, arith, append_assoc, append-nil}
+-- Values and new values, item by item.
+use Rattle.std.proofs.Common.{◌≡◌, ℕ, zero, suc, ◌<◌, ◌≤◌, true, List, [], ◌∷◌, ◌++◌, length, Option, Some, None, Ok, refl, sym, ap, arith, option_map, slice_get}
 use Rattle.mls_lattice.specs.Reading.{◌>>=◌}
+use Rattle.mls_lattice.proofs.ReadingLemmas.{ok_is, bind_ok}
 use Rattle.mls_scheme.specs.declared.value.Value.{Value}
-use Rattle.mls_scheme.specs.Scheme.{Scheme}
-use Rattle.mls_tokens.specs.declared.fault.TokenFault.{TokenFault}
-use Rattle.mls_tokens.specs.declared.sign.Sign.TheVariants.{Comma}
-use Rattle.mls_tokens.specs.Scanning.{Left}
-use Rattle.mls_tokens.specs.Passing.{is_sign, taken}
-use Rattle.mls_tokens.proofs.PassedLemmas.{taken_shorter}
-use Rattle.mls_script.specs.declared.fault.LineFault.{LineFault}
-use Rattle.mls_script.specs.declared.lists.Listed.{Listed}
-use Rattle.mls_script.specs.declared.lists.Setting.{Setting}
+use Rattle.mls_scheme.specs.declared.attributes.Column.{Column}
+use Rattle.mls_scheme.specs.Value.{fits_kind}
+use Rattle.mls_scheme.specs.Scheme.{Attribute, Scheme, column_of, other_of}
+use Rattle.mls_scheme.proofs.SchemeNameLemmas.{column_there}
+use Rattle.mls_tokens.specs.declared.sign.Sign.TheVariants.{Comma, Equals}
+use Rattle.mls_tokens.specs.declared.token.Token.TheVariants.{Word, Sign}
+use Rattle.mls_tokens.specs.Passing.{PlacedName}
+use Rattle.mls_tokens.proofs.PassedLemmas.{passed_shorter}
+use Rattle.mls_parser.specs.declared.fault.TextCause.TheVariants.{Kind}
+use Rattle.mls_parser.specs.Fault.{unless}
+use Rattle.mls_parser.specs.Names.{other_named}
+use Rattle.mls_parser.specs.Noted.{State, note, takes_sign, sign_at, name_at}
+use Rattle.mls_parser.specs.ReadList.{with_set}
+use Rattle.mls_parser.proofs.ItemSteps.{items_none, items_err, items_end, items_more}
+use Rattle.mls_parser.proofs.PassedLemmas.{any_found, name_found, sign_found, takes_shorter}
 use Rattle.mls_script.specs.Event.{Sets}
-use Rattle.mls_script.specs.ReadQuery.{heard}
-use Rattle.mls_script.specs.Reading.{PlacedValue, pass_value, and_more, items_from, items_at, listed, values_at, pass_setting, set_in, sets_from}
-use Rattle.mls_script.specs.OnePass.{push_value, push_set}
+use Rattle.mls_script.specs.ReadList.{value_of_token, PlacedValue, value_at, fits_attribute, attribute_at, item_at, set_faults, set_at}
 
--- ---- what is read, taken for something
+-- ---- one item
 
-pub heard_twice : {X Y Z E : Type 0} (g : Y → Z) (f : X → Y) (r : Result (X × Left) E) → heard g (heard f r) ≡ heard (λ x. g (f x)) r
-heard_twice g f (Ok x) = refl
-heard_twice g f (Err e) = refl
+slot : (o : Option Attribute) (c : Column) (v : Option Value) → option_map column_of o ≡ Some c → fits_kind v c.kind ≡ fits_attribute o v
+slot None c v h = absurd cc
+slot (Some a) c v h =
+    let same : column_of a ≡ c = cc in
+    ap (λ (d : Column). fits_kind v d.kind) (sym same)
 
-heard_alike : {X Y E : Type 0} (f g : X → Y) → ((x : X) → f x ≡ g x) → (r : Result (X × Left) E) → heard f r ≡ heard g r
-heard_alike f g same (Ok x) = ap (λ y. Ok (y, x.1)) (same x.0)
-heard_alike f g same (Err e) = refl
+no_slot : (attributes : List Attribute) (i : ℕ) → length attributes ≤ i → slice_get attributes i ≡ None
+no_slot [] i le = refl
+no_slot (a ∷ rest) zero le = absurd (omega arith)
+no_slot (a ∷ rest) (suc i) le = no_slot rest i (omega arith)
 
--- ---- items
+pub slot_kind : (attributes : List Attribute) (i : ℕ) (c : Column) (v : Option Value) → option_map column_of (slice_get attributes i) ≡ Some c → fits_kind v c.kind ≡ fits_attribute (attribute_at (Some attributes) i) v
+slot_kind attributes i c v h = slot (slice_get attributes i) c v h
 
-abbrev pushed : {X A : Type 0} → (A → X → A) → A → List X → A
-pushed push acc [] = acc
-pushed push acc (x ∷ xs) = pushed push (push acc x) xs
+pub slot_value : (attributes : List Attribute) (i : ℕ) (v : Option Value) → (i < length attributes → ⊥) → true ≡ fits_attribute (attribute_at (Some attributes) i) v
+slot_value attributes i v past = ap (λ o. fits_attribute o v) (sym (no_slot attributes i (omega (arith, past))))
 
-module _ {X A : Type 0} (item : Left → Result (X × Left) TokenFault) (push : A → X → A) (whole : Result (A × Left) TokenFault) where
-  -- what is left to read, behind the items that were read, is the whole
-  pub record ItemsSoFar (acc : A) (l : Left) : Type 0 where
-    pub most : ℕ
-    pub enough : length l.placed ≤ most
-    pub same : whole ≡ heard (pushed push acc) (items_from item (suc most) l)
+pub ruleset slot_steps = (slot_kind, slot_value)
 
-  module _ (acc : A) (l : Left) (h : ItemsSoFar acc l) where
-    abbrev onward : Result (X × Left) TokenFault → Result (A × Left) TokenFault
-    onward r = heard (pushed push acc) (r >>= λ x. and_more (λ r. items_from item h.most r) x.0 x.1 (taken (is_sign Comma) x.1))
+pub kind_found : (scheme : Scheme) (n : ℕ) (v : Option Value) (c : Column) → n < length scheme.others → option_map column_of (slice_get scheme.others n) ≡ Some c → fits_kind v (other_of scheme n).1.kind ≡ fits_kind v c.kind
+kind_found scheme n v c within column = ap (λ (x : Column). fits_kind v x.kind) (column_there scheme.others n c within column)
 
-    pub items_err : (e : TokenFault) → item l ≡ Err e → whole ≡ Err e
-    items_err e is = h.same ∙ ap onward is
+pub ruleset kind_steps = (kind_found)
 
-    module _ (x : X) (rest : Left) (is : item l ≡ Ok (x, rest)) where
-      after : (o : Option (ℕ × Left)) → taken (is_sign Comma) rest ≡ o → whole ≡ heard (pushed push acc) (and_more (λ r. items_from item h.most r) x rest o)
-      after o e = h.same ∙ ap onward is ∙ ap (λ o. heard (pushed push acc) (and_more (λ r. items_from item h.most r) x rest o)) e
+-- ---- item by item
 
-      pub items_end : taken (is_sign Comma) rest ≡ None → whole ≡ Ok (push acc x, rest)
-      items_end e = after None e
+value_shorter : (s : State) (x : PlacedValue × State) → value_at s ≡ Ok x → length x.1.1.placed < length s.1.placed
+value_shorter s x e =
+    let h = any_found value_of_token s x e in
+    let shorter = passed_shorter (h.0 ∷ []) s.1 x.1.1 h.2.passed in
+    omega (arith, shorter)
 
-      pub items_more : (at : ℕ) (behind : Left) → length rest.placed < length l.placed → taken (is_sign Comma) rest ≡ Some (at, behind) → ItemsSoFar (push acc x) behind
-      items_more at behind less e = step h.most h.enough (after (Some (at, behind)) e ∙ heard_twice (pushed push acc) (λ xs. x ∷ xs) (items_from item h.most behind))
-        where
-          step : (most : ℕ) → length l.placed ≤ most → whole ≡ heard (pushed push (push acc x)) (items_from item most behind) → ItemsSoFar (push acc x) behind
-          step zero enough same = absurd (omega arith)
-          step (suc most) enough same = record { most = most; enough = (let s = taken_shorter (is_sign Comma) rest at behind e in omega arith); same = same }
+-- the comma behind an item is nearer to the end
+pub item_less : (attributes : Option (List Attribute)) (front : List (Option Value)) (s : State) (x : List (Option Value)) (m l : State) (at : ℕ)
+    → item_at attributes front s ≡ Ok (x, m) → takes_sign Comma m ≡ Some (at, l) → length l.1.placed < length s.1.placed
+unfolding item_at
+item_less attributes front s x m l at is e =
+    let next : PlacedValue × State → List (Option Value) × State =
+    λ v. (front ++ v.0.0 ∷ [], note (unless (fits_attribute (attribute_at attributes (length front)) v.0.0) v.0.1 Kind) v.1) in
+    let v = bind_ok (value_at s) (λ v. Ok (next v)) (x, m) is in
+    let same = ok_is (next v.0) (x, m) v.2 in
+    omega (arith, value_shorter s v.0 v.1, ap (λ (y : List (Option Value) × State). length y.1.1.placed) same, takes_shorter Comma m at l e)
 
--- ---- lists of values
+pub set_less : (scheme : Scheme) (front : Sets) (s : State) (x : Sets) (m l : State) (at : ℕ)
+    → set_at scheme front s ≡ Ok (x, m) → takes_sign Comma m ≡ Some (at, l) → length l.1.placed < length s.1.placed
+unfolding set_at
+set_less scheme front s x m l at is e =
+    let next : PlacedName × State → PlacedValue × State → Sets × State =
+    λ n v. (with_set front (other_named scheme n.0.0) v.0.0, note (set_faults scheme front n.0 (other_named scheme n.0.0) v.0) v.1) in
+    let n = bind_ok (name_at s) (λ n. sign_at Equals n.1 >>= λ q. value_at q.1 >>= λ v. Ok (next n v)) (x, m) is in
+    let q = bind_ok (sign_at Equals n.0.1) (λ q. value_at q.1 >>= λ v. Ok (next n.0 v)) (x, m) n.2 in
+    let v = bind_ok (value_at q.0.1) (λ v. Ok (next n.0 v)) (x, m) q.2 in
+    let same = ok_is (next n.0 v.0) (x, m) v.2 in
+    omega (
+      arith,
+      passed_shorter (Word n.0.0.0 ∷ []) s.1 n.0.1.1 (name_found s n.0 n.1).name.passed,
+      passed_shorter (Sign Equals ∷ []) n.0.1.1 q.0.1.1 (sign_found Equals n.0.1 q.0 q.1).passed,
+      value_shorter q.0.1 v.0 v.1,
+      ap (λ (y : Sets × State). length y.1.1.placed) same,
+      takes_shorter Comma m at l e,
+    )
 
-values_pushed : (vs : List PlacedValue) (acc : Listed) → pushed push_value acc vs ≡ record acc { values = acc.values ++ map (λ v. v.0) vs; places = acc.places ++ map (λ v. v.1) vs }
-values_pushed [] acc = λ i. record acc { values = sym (append-nil acc.values) i; places = sym (append-nil acc.places) i }
-values_pushed (v ∷ vs) acc =
-    values_pushed vs (push_value acc v)
-    ∙ (λ i. record acc { values = append_assoc acc.values (v.0 ∷ []) (map (λ v. v.0) vs) i; places = append_assoc acc.places (v.1 ∷ []) (map (λ v. v.1) vs) i })
-
-pub values_none : (start : Left) → ItemsSoFar pass_value push_value (values_at start) (listed []) start
-values_none start = record {
-  most = length start.placed;
-  enough = omega arith;
-  same = heard_alike listed (pushed push_value (listed [])) (λ vs. sym (values_pushed vs (listed []))) (items_at pass_value start);
-}
-
--- ---- new values
-
-err_pushed : (o : Option Scheme) (e : LineFault) (ss : List Setting) → pushed (push_set o) (Err e) ss ≡ Err e
-err_pushed o e [] = refl
-err_pushed o e (s ∷ ss) = err_pushed o e ss
-
-sets_behind : (o : Option Scheme) (sets : Sets) (r : Result (ℕ × Option Value) LineFault) (ss : List Setting) → ((more : Sets) → sets_from o more ss ≡ pushed (push_set o) (Ok more) ss)
-    → (r >>= λ x. sets_from o (sets ++ x ∷ []) ss) ≡ pushed (push_set o) (r >>= λ x. Ok (sets ++ x ∷ [])) ss
-sets_behind o sets (Ok x) ss same = same (sets ++ x ∷ [])
-sets_behind o sets (Err e) ss same = sym (err_pushed o e ss)
-
-sets_pushed : (o : Option Scheme) (ss : List Setting) (sets : Sets) → sets_from o sets ss ≡ pushed (push_set o) (Ok sets) ss
-sets_pushed o [] sets = refl
-sets_pushed o (s ∷ ss) sets = sets_behind o sets (set_in o sets s) ss (λ more. sets_pushed o ss more)
-
-pub sets_none : (o : Option Scheme) (start : Left) → ItemsSoFar pass_setting (push_set o) (heard (sets_from o []) (items_at pass_setting start)) (Ok []) start
-sets_none o start = record {
-  most = length start.placed;
-  enough = omega arith;
-  same = heard_alike (sets_from o []) (pushed (push_set o) (Ok [])) (λ ss. sets_pushed o ss []) (items_at pass_setting start);
-}
-
-pub ruleset item_steps = (values_none, sets_none, items_err, items_end, items_more)
+pub ruleset item_steps = (items_none, items_err, items_end, items_more, item_less, set_less)

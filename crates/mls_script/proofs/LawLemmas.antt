@@ -1,5 +1,5 @@
 -- A script that is read tells its events.
-use Rattle.std.proofs.Common.{◌≡◌, ◌≢◌, ℕ, ◌<◌, ◌+◌, Bool, true, false, List, [], ◌∷◌, ◌++◌, length, Option, Some, None, Result, Ok, Err, inl, inr, refl, sym, ap, ◌∙◌, subst, arith, append_assoc, cond, ◌==◌, IfOk, option_to_list, flat_map, filter_map, eqb-true, lt-ltb, append-nil}
+use Rattle.std.proofs.Common.{◌≡◌, ◌≢◌, ℕ, ◌+◌, Bool, true, false, List, [], ◌∷◌, ◌++◌, length, Option, Some, None, Result, Ok, Err, inl, inr, refl, sym, ap, ◌∙◌, subst, append_assoc, cond, ◌==◌, IfOk, option_to_list, flat_map, filter_map, eqb-true, append-nil}
 use Rattle.std.specs.List.{AllByRecursion}
 use Rattle.std.proofs.lemmas.Bool.{cases_Bool}
 use Rattle.std.proofs.lemmas.List.Elements.{filter_map-append}
@@ -9,240 +9,105 @@ use Rattle.mls_lattice.proofs.ReadingLemmas.{ok_is, bind_ok, same_ok}
 use Rattle.mls_scheme.specs.Scheme.{Schemes}
 use Rattle.mls_tokens.specs.declared.fault.TokenCause.TheVariants as causes
 use Rattle.mls_tokens.specs.declared.fault.TokenFault.{TokenFault}
-use Rattle.mls_tokens.specs.declared.token.Token.{Token}
-use Rattle.mls_tokens.specs.declared.token.Token.TheVariants.{Word}
-use Rattle.mls_tokens.specs.Scanning.{Left, without_places, tokens_at}
-use Rattle.mls_tokens.specs.Passing.{is_word, taken, has_ended, pass_end}
+use Rattle.mls_tokens.specs.Scanning.{Left, tokens_at}
+use Rattle.mls_tokens.specs.Text.{AreTokens}
+use Rattle.mls_tokens.specs.Passing.{has_ended, pass_end}
 use Rattle.mls_tokens.proofs.TokensLemmas.{tokens_exact}
-use Rattle.mls_tokens.proofs.PassedLemmas.{Passed, passed_none, passed_more, word_taken, over_is}
-use Rattle.mls_translang.specs.declared.query.Query.{Query}
+use Rattle.mls_tokens.proofs.PassedLemmas.{over_is}
+use Rattle.mls_parser.specs.declared.fault.PlacedFault.{PlacedFault}
+use Rattle.mls_parser.specs.Fault.{least}
+use Rattle.mls_parser.specs.Noted.{State}
+use Rattle.mls_parser.specs.Parsing.{answer}
+use Rattle.mls_parser.proofs.LeastLemmas.{answered_right, answered_least}
+use Rattle.mls_parser.proofs.PassedLemmas.{token_ok}
 use Rattle.mls_script.specs.declared.event.Event.{Event}
-use Rattle.mls_script.specs.declared.event.Command.TheVariants as commands
 use Rattle.mls_script.specs.declared.fault.ScriptCause.TheVariants.{Unterminated}
-use Rattle.mls_parser.proofs.PassedLemmas.{split}
 use Rattle.mls_script.specs.declared.fault.LineFault.{LineFault}
 use Rattle.mls_script.specs.declared.fault.ScriptFault.{ScriptFault}
-use Rattle.mls_script.specs.declared.draft.Draft.{Draft}
-use Rattle.mls_script.specs.declared.grammar.Verb.{Verb}
-use Rattle.mls_script.specs.declared.grammar.Verb.TheVariants.{Open, Close, Audit, View, Count, Dump, Insert, Update, Delete, Call}
-use Rattle.mls_script.specs.declared.query.Asked.{Asked}
-use Rattle.mls_script.specs.Event.{CommandFits, EventFits}
-use Rattle.mls_script.specs.Grammar.{verbs, verb_word, parts_of, blank, command_of, event_of}
-use Rattle.mls_script.specs.Tokens.{parts_tokens, event_tokens}
-use Rattle.mls_script.specs.QueryTokens.{TellsTail}
-use Rattle.mls_script.specs.ReadQuery.{form_of, nothing_asked, query_at, tail_at, query_from}
-use Rattle.mls_script.specs.Reading.{AllWritten, parts_at, verb_or, verb_among, Order, heads, Sentence, Drafted, drafted_relation, event_from, draft_parts, order_at, sentence_at, told_by, event_told, form_at, event_in, line_at, in_script, lines_at, split_lines, script_at, IsRead}
+use Rattle.mls_script.specs.Event.{EventFits}
+use Rattle.mls_script.specs.Reading.{end_at, event_at, told_at, placed_on, line_at, in_script, lines_at, split_lines, script_at, IsJudged, LinesAreJudged, IsRead}
 use Rattle.mls_script.specs.Script.{Line, Tells, IsLineOf, ReadsScript}
-use Rattle.mls_script.proofs.KindLemmas.{IsToken, all_tokens as all_of_text, list_kinds}
-use Rattle.mls_script.proofs.QueryFound.{of_read, form_found, of_text, query_found}
-use Rattle.mls_script.proofs.PartLemmas.{upto, Rising, PartFits, all_tokens, PartsPassed, parts_passed, PartsDrafted, parts_drafted}
+use Rattle.mls_script.proofs.KindLemmas.{all_spelled}
+use Rattle.mls_script.proofs.CommandFound.{event_read}
 
--- ---- verbs
+-- ---- a line
 
-verb_found : (vs : List Verb) (l : Left) (x : Verb × Left) → verb_among vs l ≡ Ok x → Passed (Word (verb_word x.0) ∷ []) l x.1
-verb_found [] l x e = absurd cc
-verb_found (v ∷ vs) l x e = behind (taken (is_word (verb_word v)) l) refl e (verb_found vs l x)
-  where
-    behind : (o : Option (ℕ × Left)) → taken (is_word (verb_word v)) l ≡ o → verb_or (λ r. verb_among vs r) l v o ≡ Ok x → (verb_among vs l ≡ Ok x → Passed (Word (verb_word x.0) ∷ []) l x.1)
-        → Passed (Word (verb_word x.0) ∷ []) l x.1
-    behind None is h more = more h
-    behind (Some y) is h more =
-        let done : Result (Verb × Left) TokenFault = Ok (v, y.1) in
-        subst (λ (z : Verb × Left). Passed (Word (verb_word z.0) ∷ []) l z.1) (same_ok done (v, y.1) x refl h) (word_taken (verb_word v) l y is)
+end_found : (l : Left) (u : Unit {0}) → pass_end l ≡ Ok u → has_ended l ≡ true
+end_found l u e =
+    elim (cases_Bool (has_ended l)) [
+      | inl over ↦ over
+      | inr more ↦ absurd (let h = rw more at e in cc)
+    ]
+
+-- nothing is passed and nothing is noted where a line has its end
+record EndFound (s t : State) : Type 0 where
+  over : has_ended s.1 ≡ true
+  same : t ≡ s
+
+at_end : (s : State) (x : Unit {0} × State) → end_at s ≡ Ok x → EndFound s x.1
+at_end s x e =
+    let h = token_ok (λ l. pass_end l >>= λ u. Ok (u, l)) s x e in
+    let u = bind_ok (pass_end s.1) (λ u. Ok (u, s.1)) (x.0, x.1.1) h.0 in
+    let rest : s.1 ≡ x.1.1 = ap (λ (y : Unit {0} × Left). y.1) (ok_is (u.0, s.1) (x.0, x.1.1) u.2) in
+    record { over = end_found s.1 u.0 u.1; same = λ i. (h.1 i, sym rest i) }
 
 module _ (policy : Policy) (schemes : Schemes) where
-  -- ---- an event
+  -- a line that was read with no fault
+  told_event : (line : List ℕ) (e : Event) (r : State) → event_at policy schemes ([], tokens_at line) ≡ Ok (e, r) → has_ended r.1 ≡ true → r.0 ≡ [] → Tells policy schemes line (Some e)
+  told_event line e r read over none =
+      let found = event_read policy schemes ([], tokens_at line) (e, r) read in
+      let end = over_is r.1.placed r.1.stop over in
+      let passed = found.passed.tokens ∙ ap (λ ts. found.tokens ++ ts) end.0 ∙ append-nil found.tokens in
+      let tokens = (tokens_exact line found.tokens).0 (passed, ap (λ (s : TokenFault). s.cause) (sym found.passed.stop) ∙ end.1) in
+      let is = (found.right none (all_spelled found.tokens line tokens)).1 in
+      record { fits = is.fits; tail = is.tail; tokens = subst (λ ts. AreTokens ts line) is.tokens tokens; query = is.tells }
 
-  parts_rise : (v : Verb) → Rising 2 (parts_of v)
-  parts_rise Open = (omega arith, tt)
-  parts_rise Close = tt
-  parts_rise Audit = tt
-  parts_rise Dump = (omega arith, tt)
-  parts_rise Insert = (omega arith, (omega arith, (omega arith, tt)))
-  parts_rise Update = (omega arith, (omega arith, (omega arith, (omega arith, (omega arith, tt)))))
-  parts_rise Delete = (omega arith, (omega arith, (omega arith, tt)))
-  parts_rise _ = (omega arith, (omega arith, tt))
-
-  -- what a query says that stands behind the parts of a verb
-  record TailFound (v : Verb) (d : Draft) (q : Query) (l r : Left) : Type 0 where
-    tokens : List Token
-    passed : Passed tokens l r
-    tells : AllByRecursion IsToken tokens → TellsTail policy schemes (command_of v d q) tokens
-    fits : AllByRecursion IsToken tokens → AllByRecursion (PartFits policy schemes d) (parts_of v) → AllByRecursion IsToken (parts_tokens policy schemes d (parts_of v))
-        → CommandFits policy schemes (command_of v d q)
-
-  in_relation : (d : Draft) → d.relation < length schemes → drafted_relation schemes (Ok d) ≡ Some d.relation
-  in_relation d within = rw (lt-ltb d.relation (length schemes) within) refl
-
-  no_tail : (v : Verb) (d : Draft) (q : Query) (l : Left) (y : Asked × Left) → ((p : Query) → TellsTail policy schemes (command_of v d p) [])
-      → ((p : Query) → AllByRecursion (PartFits policy schemes d) (parts_of v) → AllByRecursion IsToken (parts_tokens policy schemes d (parts_of v)) → CommandFits policy schemes (command_of v d p))
-      → Path (Result (Asked × Left) LineFault) (Ok (nothing_asked, l)) (Ok y) → query_from policy y.0 ≡ Ok q → TailFound v d q l y.1
-  no_tail v d q l y none fits e =
-      of_read (λ (z : Asked × Left). query_from policy z.0 ≡ Ok q → TailFound v d q l z.1) (nothing_asked, l) y e
-      (λ same. record { tokens = []; passed = passed_none l; tells = λ all. none q; fits = λ all h tokens. fits q h tokens })
-
-  a_query : (v : Verb) (counts : Bool) (d : Draft) (q : Query) (l : Left) (y : Asked × Left) → command_of v d q ≡ commands.View d.relation d.label q counts
-      → (AllByRecursion (PartFits policy schemes d) (parts_of v) → (d.relation < length schemes) × (d.label < length policy.labels)) → d.relation < length schemes
-      → query_at policy schemes counts (drafted_relation schemes (Ok d)) l ≡ Ok y → query_from policy y.0 ≡ Ok q → TailFound v d q l y.1
-  a_query v counts d q l y same known within e was =
-      let found = query_found policy schemes d.relation counts l y q (ap (λ o. query_at policy schemes counts o l) (sym (in_relation d within)) ∙ e) was in
-      record {
-        tokens = found.tokens;
-        passed = found.passed;
-        tells = λ all. subst (λ c. TellsTail policy schemes c found.tokens) (sym same) (found.tells all);
-        fits = λ all h tokens. subst (CommandFits policy schemes) (sym same) ((known h).0, (known h).1, found.fits all);
-      }
-
-  tail_found : (v : Verb) (d : Draft) (q : Query) (l : Left) (y : Asked × Left) → AllByRecursion (PartFits policy schemes d) (parts_of v)
-      → tail_at policy schemes v (drafted_relation schemes (Ok d)) l ≡ Ok y → query_from policy y.0 ≡ Ok q → TailFound v d q l y.1
-  tail_found Open d q l y fits e was = no_tail Open d q l y (λ p. refl) (λ p h tokens. h.0) e was
-  tail_found Close d q l y fits e was = no_tail Close d q l y (λ p. refl) (λ p h tokens. tt) e was
-  tail_found Audit d q l y fits e was = no_tail Audit d q l y (λ p. refl) (λ p h tokens. tt) e was
-  tail_found View d q l y fits e was = a_query View false d q l y refl (λ h. (h.0, h.1.0)) fits.0 e was
-  tail_found Count d q l y fits e was = a_query Count true d q l y refl (λ h. (h.0, h.1.0)) fits.0 e was
-  tail_found Dump d q l y fits e was = no_tail Dump d q l y (λ p. refl) (λ p h tokens. h.0) e was
-  tail_found Insert d q l y fits e was = no_tail Insert d q l y (λ p. refl) (λ p h tokens. (h.0, (h.1.0, h.1.1.0))) e was
-  tail_found Update d q l y fits e was = no_tail Update d q l y (λ p. refl) (λ p h tokens. (h.0, (h.1.0, h.1.1.0, h.1.1.1.0, h.1.1.1.1.0))) e was
-  tail_found Delete d q l y fits e was = no_tail Delete d q l y (λ p. refl) (λ p h tokens. (h.0, (h.1.0, h.1.1.0))) e was
-  tail_found Call d q l y fits e was = no_tail Call d q l y (λ p. refl) (λ p h tokens. (h.0, list_kinds d.values [] tokens.1)) e was
-
-  -- the draft that an event is told by says the same
-  tokens_kept : (v : Verb) (d : Draft) (q : Query) → event_tokens policy schemes (event_of v d q) ≡ parts_tokens policy schemes d heads ++ Word (verb_word v) ∷ parts_tokens policy schemes d (parts_of v)
-  tokens_kept Open d q = refl
-  tokens_kept _ d q = refl
-
-  -- an event that was read, from tokens of a text
-  pub record EventFound (e : Event) (l r : Left) : Type 0 where
-    pub tail : List Token
-    pub query : AllByRecursion IsToken tail → TellsTail policy schemes e.command tail
-    pub fits : AllByRecursion IsToken (without_places l.placed) → EventFits policy schemes e
-    pub passed : Passed (event_tokens policy schemes e ++ tail) l r
-
-  front_tokens : (d f : Draft) → upto 2 d ≡ upto 2 f → parts_tokens policy schemes d heads ≡ parts_tokens policy schemes f heads
-  front_tokens d f same = ap (λ (x : Draft). parts_tokens policy schemes x heads) same
-
-  front_fits : (d f : Draft) → upto 2 d ≡ upto 2 f → AllByRecursion (PartFits policy schemes d) heads → AllByRecursion (PartFits policy schemes f) heads
-  front_fits d f same h = subst (λ (x : Draft). AllByRecursion (PartFits policy schemes x) heads) same h
-
-  event_found : (v : Verb) (front : AllWritten heads) (ws : AllWritten (parts_of v)) (f d : Draft) (q : Query) (l m n k r : Left)
-      → PartsDrafted policy schemes 0 heads (all_tokens heads front) blank f → PartsDrafted policy schemes 2 (parts_of v) (all_tokens (parts_of v) ws) f d
-      → Passed (all_tokens heads front) l m → Passed (Word (verb_word v) ∷ []) m n → Passed (all_tokens (parts_of v) ws) n k → TailFound v d q k r → EventFound (event_of v d q) l r
-  event_found v front ws f d q l m n k r first more start word written tail =
-      let fits = front_fits f d more.kept first.fits in
-      let behind = parts_tokens policy schemes d (parts_of v) in
-      let begun = parts_tokens policy schemes d heads in
-      let to_verb : Passed begun l m = subst (λ ts. Passed ts l m) (sym first.said ∙ front_tokens f d more.kept) start in
-      let passed : Passed behind n k = subst (λ ts. Passed ts n k) (sym more.said) written in
-      let to_parts = passed_more begun (Word (verb_word v) ∷ []) l m n to_verb word in
-      let whole = passed_more begun (Word (verb_word v) ∷ behind) l m k to_verb (passed_more (Word (verb_word v) ∷ []) behind m n k word passed) in
-      record {
-        tail = tail.tokens;
-        query = tail.tells;
-        fits = λ all. record {
-          level = fits.0;
-          session = fits.1.0;
-          command = tail.fits (of_text tail.tokens k r tail.passed (of_text (begun ++ Word (verb_word v) ∷ behind) l k whole all).1).0 more.fits (of_text behind n k passed (of_text (begun ++ Word (verb_word v) ∷ []) l n to_parts all).1).0;
-        };
-        passed = subst (λ ts. Passed (ts ++ tail.tokens) l r) (sym (tokens_kept v d q)) (passed_more (begun ++ Word (verb_word v) ∷ behind) tail.tokens l k r whole tail.passed);
-      }
-
-  end_found : (l : Left) (u : Unit {0}) → pass_end l ≡ Ok u → has_ended l ≡ true
-  end_found l u e =
-      elim (cases_Bool (has_ended l)) [
-        | inl over ↦ over
-        | inr more ↦ absurd (let h = rw more at e in cc)
-      ]
-
-  -- what a verb, its parts and what stands behind them say
-  behind_parts : (v : Verb) (front : AllWritten heads) (ws : AllWritten (parts_of v)) (asked : Asked) (l m n k r : Left) (e : Event)
-      → PartsPassed heads l (front, m) → Passed (Word (verb_word v) ∷ []) m n → PartsPassed (parts_of v) n (ws, k)
-      → tail_at policy schemes v (drafted_relation schemes (draft_parts policy schemes heads front blank >>= λ d. draft_parts policy schemes (parts_of v) ws d)) k ≡ Ok (asked, r)
-      → event_from policy v (draft_parts policy schemes heads front blank >>= λ d. draft_parts policy schemes (parts_of v) ws d) asked ≡ Ok e → EventFound e l r
-  behind_parts v front ws asked l m n k r e start word parts tail from =
-      let d = bind_ok (draft_parts policy schemes heads front blank >>= λ d. draft_parts policy schemes (parts_of v) ws d) (λ d. query_from policy asked >>= λ q. Ok (event_of v d q)) e from in
-      let q = bind_ok (query_from policy asked) (λ q. Ok (event_of v d.0 q)) e d.2 in
-      let f = bind_ok (draft_parts policy schemes heads front blank) (λ d. draft_parts policy schemes (parts_of v) ws d) d.0 d.1 in
-      let first = parts_drafted policy schemes 0 heads front blank f.0 (omega arith, (omega arith, tt)) start.1 f.1 in
-      let more = parts_drafted policy schemes 2 (parts_of v) ws f.0 d.0 (parts_rise v) parts.1 f.2 in
-      let known = ap (λ (x : Drafted). tail_at policy schemes v (drafted_relation schemes x) k) (sym d.1) ∙ tail in
-      subst (λ z. EventFound z l r) (ok_is {E = LineFault} (event_of v d.0 q.0) e q.2)
-      (event_found v front ws f.0 d.0 q.0 l m n k r first more start.0 word parts.0 (tail_found v d.0 q.0 k (asked, r) more.fits known q.1))
-
-  order_found : (l m : Left) (front : AllWritten heads) (x : Order × Left) (e : Event) → PartsPassed heads l (front, m) → order_at policy schemes (draft_parts policy schemes heads front blank) m ≡ Ok x
-      → told_by policy schemes (draft_parts policy schemes heads front blank) x.0 ≡ Ok e → EventFound e l x.1
-  unfolding order_at
-  order_found l m front x e start h was =
-      let drafted = draft_parts policy schemes heads front blank in
-      let v = bind_ok (form_of (verb_among verbs m)) (λ v. form_of (parts_at (parts_of v.0) v.1)
-      >>= λ ws. tail_at policy schemes v.0 (drafted_relation schemes (drafted >>= λ d. draft_parts policy schemes (parts_of v.0) ws.0 d)) ws.1 >>= λ q. Ok (record { verb = v.0; parts = ws.0; asked = q.0 }, q.1)) x h in
-      let ws = bind_ok (form_of (parts_at (parts_of v.0.0) v.0.1)) (λ ws. tail_at policy schemes v.0.0 (drafted_relation schemes (drafted >>= λ d. draft_parts policy schemes (parts_of v.0.0) ws.0 d)) ws.1
-      >>= λ q. Ok (record { verb = v.0.0; parts = ws.0; asked = q.0 }, q.1)) x v.2 in
-      let t = bind_ok (tail_at policy schemes v.0.0 (drafted_relation schemes (drafted >>= λ d. draft_parts policy schemes (parts_of v.0.0) ws.0.0 d)) ws.0.1) (λ q. Ok (record { verb = v.0.0; parts = ws.0.0; asked = q.0 }, q.1)) x ws.2 in
-      of_read (λ (z : Order × Left). told_by policy schemes drafted z.0 ≡ Ok e → EventFound e l z.1) (record { verb = v.0.0; parts = ws.0.0; asked = t.0.0 }, t.0.1) x t.2
-      (behind_parts v.0.0 front ws.0.0 t.0.0 l m v.0.1 ws.0.1 t.0.1 e start (verb_found verbs m v.0 (form_found (verb_among verbs m) v.0 v.1))
-      (parts_passed (parts_of v.0.0) v.0.1 ws.0 (form_found (parts_at (parts_of v.0.0) v.0.1) ws.0 ws.1)) t.1) was
-
-  record SentenceFound (e : Event) (l : Left) : Type 0 where
-    tail : List Token
-    query : AllByRecursion IsToken tail → TellsTail policy schemes e.command tail
-    fits : AllByRecursion IsToken (without_places l.placed) → EventFits policy schemes e
-    tokens : without_places l.placed ≡ event_tokens policy schemes e ++ tail
-    stop : l.stop.cause ≡ causes.Expected
-
-  at_end : (e : Event) (l r : Left) → EventFound e l r → has_ended r ≡ true → SentenceFound e l
-  at_end e l r found over =
-      let end = over_is r.placed r.stop over in
-      record {
-        tail = found.tail;
-        query = found.query;
-        fits = found.fits;
-        tokens = found.passed.tokens ∙ ap (λ ts. (event_tokens policy schemes e ++ found.tail) ++ ts) end.0 ∙ append-nil (event_tokens policy schemes e ++ found.tail);
-        stop = ap (λ (s : TokenFault). s.cause) (sym found.passed.stop) ∙ end.1;
-      }
-
-  sentence_found : (l : Left) (s : Sentence) (e : Event) → sentence_at policy schemes l ≡ Ok s → event_told policy schemes s ≡ Ok e → SentenceFound e l
-  unfolding sentence_at event_told
-  sentence_found l s e h was =
-      let front = bind_ok (form_of (parts_at heads l)) (λ front. order_at policy schemes (draft_parts policy schemes heads front.0 blank) front.1
-      >>= λ order. form_of (pass_end order.1) >>= λ _. Ok (record { front = front.0; order = order.0 })) s h in
-      let order = bind_ok (order_at policy schemes (draft_parts policy schemes heads front.0.0 blank) front.0.1) (λ order. form_of (pass_end order.1) >>= λ _. Ok (record { front = front.0.0; order = order.0 })) s front.2 in
-      let over = bind_ok (form_of (pass_end order.0.1)) (λ _. let r : Result Sentence LineFault = Ok (record { front = front.0.0; order = order.0.0 }) in r) s order.2 in
-      let read : Sentence = record { front = front.0.0; order = order.0.0 } in
-      let told = ap (λ (z : Sentence). told_by policy schemes (draft_parts policy schemes heads z.front blank) z.order) (ok_is {E = LineFault} read s over.2) ∙ was in
-      at_end e l order.0.1
-      (order_found l front.0.1 front.0.0 order.0 e (parts_passed heads l front.0 (form_found (parts_at heads l) front.0 front.1)) order.1 told)
-      (end_found order.0.1 over.0 (form_found (pass_end order.0.1) over.0 over.1))
-
-  -- ---- a line
-
-  told_found : (line : List ℕ) (s : Option Sentence) (o : Option Event) → form_at policy schemes (tokens_at line) ≡ Ok s → event_in policy schemes s ≡ Ok o → Tells policy schemes line o
-  told_found line s o e is =
+  told_found : (line : List ℕ) (x : Option Event × State) → told_at policy schemes ([], tokens_at line) ≡ Ok x → x.1.0 ≡ [] → Tells policy schemes line x.0
+  unfolding told_at
+  told_found line x e none =
       elim (cases_Bool (has_ended (tokens_at line))) [
         | inl over ↦
-            let none : None ≡ s = let h = rw over at e in cc in
-            let blank_line : None ≡ o = let h : event_in policy schemes None ≡ Ok o = ap (event_in policy schemes) none ∙ is in cc in
+            let same : (None, ([], tokens_at line)) ≡ x = ok_is {E = PlacedFault} (None, ([], tokens_at line)) x (rw over at e) in
             let end = over_is (tokens_at line).placed (tokens_at line).stop over in
-            subst (Tells policy schemes line) blank_line ((tokens_exact line []).0 (end.0, end.1))
+            subst (λ (y : Option Event × State). Tells policy schemes line y.0) same ((tokens_exact line []).0 (end.0, end.1))
         | inr more ↦
-            let r = bind_ok (sentence_at policy schemes (tokens_at line)) (λ x. Ok (Some x)) s (rw more at e) in
-            let some : Some r.0 ≡ s = let h = r.2 in cc in
-            let event = bind_ok (event_told policy schemes r.0) (λ x. Ok (Some x)) o (ap (event_in policy schemes) some ∙ is) in
-            let found = sentence_found (tokens_at line) r.0 event.0 r.1 event.1 in
-            let told_event : Some event.0 ≡ o = let h = event.2 in cc in
-            let tokens = (tokens_exact line (event_tokens policy schemes event.0 ++ found.tail)).0 (found.tokens, found.stop) in
-            let own = all_of_text (event_tokens policy schemes event.0 ++ found.tail) line tokens in
-            let all = subst (AllByRecursion IsToken) (sym found.tokens) own in
-            subst (Tells policy schemes line) told_event (record { fits = found.fits all; tail = found.tail; tokens = tokens; query = found.query (split (event_tokens policy schemes event.0) found.tail own).1 })
+            let event = bind_ok (event_at policy schemes ([], tokens_at line)) (λ e. end_at e.1 >>= λ end. Ok (Some e.0, end.1)) x (rw more at e) in
+            let end = bind_ok (end_at event.0.1) (λ end. Ok (Some event.0.0, end.1)) x event.2 in
+            let same : (Some event.0.0, end.0.1) ≡ x = ok_is {E = PlacedFault} (Some event.0.0, end.0.1) x end.2 in
+            let h = at_end event.0.1 end.0 end.1 in
+            let clean : event.0.1.0 ≡ [] = ap (λ (s : State). s.0) (sym h.same) ∙ ap (λ (y : Option Event × State). y.1.0) same ∙ none in
+            subst (λ (y : Option Event × State). Tells policy schemes line y.0) same (told_event line event.0.0 event.0.1 event.1 h.over clean)
       ]
 
+placed_ok : {X : Type 0} (r : Result X PlacedFault) (x : X) → placed_on r ≡ Ok x → r ≡ Ok x
+placed_ok (Ok y) x e = ap (λ z. Ok z) (ok_is y x e)
+placed_ok (Err f) x e = absurd cc
+
+answer_is : {X : Type 0} (o : Option PlacedFault) (x y : X) → answer o x ≡ Ok y → x ≡ y
+answer_is None x y e = ok_is {E = PlacedFault} x y e
+answer_is (Some f) x y e = absurd cc
+
+module _ (policy : Policy) (schemes : Schemes) where
   pub line_found : (line : List ℕ) (ended : Bool) (o : Option Event) → line_at policy schemes line ended ≡ Ok o → (ended ≡ true) × Tells policy schemes line o
   unfolding line_at
   line_found line true o e =
-      let s = bind_ok (form_at policy schemes (tokens_at line)) (λ s. event_in policy schemes s) o e in
-      (refl, told_found line s.0 o s.1 s.2)
+      let x = bind_ok (placed_on (told_at policy schemes ([], tokens_at line))) (λ x. placed_on (answer (least x.1.0) x.0)) o e in
+      let answered = placed_ok (answer (least x.0.1.0) x.0.0) o x.2 in
+      let told = told_found policy schemes line x.0 (placed_ok (told_at policy schemes ([], tokens_at line)) x.0 x.1) (answered_right x.0.1.0 x.0.0 o answered) in
+      (refl, subst (Tells policy schemes line) (answer_is (least x.0.1.0) x.0.0 o answered) told)
   line_found line false o e =
-      let s = bind_ok (form_at policy schemes (tokens_at line)) (λ (s : Option Sentence). let r : Result (Option Event) LineFault = Err (record { at = length line + 1; cause = Unterminated }) in r) o e in
-      absurd (let h = s.2 in cc)
+      let x = bind_ok (placed_on (told_at policy schemes ([], tokens_at line))) (λ (x : Option Event × State). let r : Result (Option Event) LineFault = Err (record { at = length line + 1; cause = Unterminated }) in r) o e in
+      absurd (let h = x.2 in cc)
+
+-- what is answered of a line whose form is right
+judged : (s : State) (o : Option Event) (r : Result (Option Event) PlacedFault) → answer (least s.0) o ≡ r → IsJudged s (placed_on r)
+judged s o (Ok y) e = answered_right s.0 o y e
+judged s o (Err f) e = (f, answered_least s.0 o f e, refl)
+
+pub lines_judged : LinesAreJudged
+unfolding line_at
+lines_judged policy schemes line x told =
+    subst (λ (r : Result (Option Event × State) LineFault). IsJudged x.1 (r >>= λ y. placed_on (answer (least y.1.0) y.0))) (ap placed_on (sym told)) (judged x.1 x.0 (answer (least x.1.0) x.0) refl)
 
 -- ---- the lines of a text
 

@@ -1,13 +1,11 @@
 pub mod ItemSteps
-pub mod LineSteps
-pub mod FitSteps
 pub mod ScriptSteps
 pub mod KindLemmas
-pub mod FoundLemmas
+pub mod ListFound
 pub mod QueryFound
-pub mod PartLemmas
+pub mod CommandFound
 pub mod LawLemmas
-pub mod AgainLemmas
+pub mod ListAgain
 pub mod QueryAgain
 pub mod TellingLemmas
 pub mod WritingSteps

@@ -1,224 +1,134 @@
--- A query that is told is read.
-use Rattle.std.proofs.Common.{◌≡◌, ℕ, ◌<◌, Bool, true, false, ℤ, pos, List, [], ◌∷◌, ◌++◌, length, Option, Some, None, Result, Ok, inl, inr, refl, sym, ap, ◌∙◌, subst, cond, codes, IfSome, bytes_eq, append-nil}
-use Rattle.std.proofs.lemmas.Bool.{cases_Bool}
+-- What stands there is read: labels, and queries.
+use Rattle.std.proofs.Common.{◌≡◌, ℕ, ◌<◌, Bool, true, false, pos, List, [], ◌∷◌, ◌++◌, length, Option, Some, None, Ok, refl, sym, ap, ◌∙◌, subst, codes, IfSome, bytes_eq, append-nil}
 use Rattle.mls_lattice.specs.Canon.{label_name}
-use Rattle.mls_lattice.specs.Policy.{Name, Policy, IsPolicy}
+use Rattle.mls_lattice.specs.Policy.{Policy, IsPolicy}
 use Rattle.mls_lattice.specs.Reading.{◌>>=◌}
 use Rattle.mls_lattice.proofs.NamedLemmas.{label_is_name}
 use Rattle.mls_scheme.specs.Scheme.{Schemes, AreSchemes}
-use Rattle.mls_tokens.specs.declared.fault.TokenFault.{TokenFault}
 use Rattle.mls_tokens.specs.declared.token.Token.{Token}
-use Rattle.mls_tokens.specs.declared.token.Token.TheVariants.{Word, Int, Sign as Sign_token}
-use Rattle.mls_tokens.specs.declared.token.Placed.{Placed}
-use Rattle.mls_tokens.specs.declared.sign.Sign.{Sign}
-use Rattle.mls_tokens.specs.declared.sign.Sign.TheVariants.{Comma}
-use Rattle.mls_tokens.specs.Sign.{sign_text}
+use Rattle.mls_tokens.specs.declared.token.Token.TheVariants.{Word, Int, Sign}
 use Rattle.mls_tokens.specs.Scanning.{Left, without_places}
-use Rattle.mls_tokens.specs.Passing.{left, is_word, is_sign, taken, PlacedName, pass_name}
-use Rattle.mls_tokens.proofs.NextLemmas.{Gets, gets_more, done, gets_done, gets_is, next_is, took, took_word, NotNext, not_taken, name_gets}
-use Rattle.mls_translang.specs.Tree as core
-use Rattle.mls_parser.proofs.ConditionAgain.{conditions_are_read}
+use Rattle.mls_tokens.specs.Passing.{is_word}
+use Rattle.mls_tokens.proofs.NextLemmas.{NotNext}
+use Rattle.mls_translang.specs.Tree.{Expr}
 use Rattle.mls_translang.specs.declared.query.Comparison.{Comparison}
 use Rattle.mls_translang.specs.declared.query.Comparison.TheVariants as compared
 use Rattle.mls_translang.specs.declared.query.ClassTest.{ClassTest}
 use Rattle.mls_translang.specs.declared.query.Query.{Query}
-use Rattle.mls_script.specs.declared.fault.LineFault.{LineFault}
-use Rattle.mls_script.specs.declared.query.Asked.{Asked}
-use Rattle.mls_script.specs.declared.query.PlacedClass.{PlacedClass}
+use Rattle.mls_parser.specs.declared.fault.TextCause.TheVariants as cause
+use Rattle.mls_parser.specs.Fault.{unless}
+use Rattle.mls_parser.specs.Names.{label_named, numbered}
+use Rattle.mls_parser.specs.Noted.{State, Read, note, takes_word, known, label_at}
+use Rattle.mls_parser.proofs.ConditionAgain.{conditions_are_read}
+use Rattle.mls_parser.proofs.FoundLemmas.{label_again}
+use Rattle.mls_parser.proofs.NextLemmas.{Gets, Same, gets_then, placed_then, gets_done, gets_noted, gets_is, name_gets, known_gets, took_word, after_took, no_word, none_known}
 use Rattle.mls_script.specs.Event.{QueryFits}
 use Rattle.mls_script.specs.QueryTokens.{comparison_sign, highest_tokens, class_tokens, first_tokens, TellsTest, TellsQuery}
-use Rattle.mls_script.specs.ReadQuery.{form_of, heard, highest_behind, highest_at, comparisons, comparison_or, comparison_among, class_behind, class_at, number_in, numbered, pass_number, first_behind, first_at, read_of, where_behind, where_at, query_at, class_from, first_from, test_from, query_from}
-use Rattle.mls_script.proofs.AgainLemmas.{label_again}
+use Rattle.mls_script.specs.ReadQuery.{highest_behind, highest_at, comparison_of, class_behind, class_at, number_of, is_count, count_of, first_behind, first_at, where_behind, where_at, query_at}
 
-pub form_again : {X : Type 0} {r : Result (X × Left) TokenFault} {l : Left} {P : X → Type 0} {us : List Token} → Gets r l P us → Gets (form_of r) l P us
-form_again g = record { value = g.value; rest = g.rest; is = ap form_of g.is; holds = g.holds; tokens = g.tokens; stop = g.stop }
+-- ---- labels
+
+pub label_gets : (policy : Policy) → IsPolicy policy → (i : ℕ) (us : List Token) (s : State) → i < length policy.labels → without_places s.1.placed ≡ Word (label_name policy.labels i) ∷ us → Gets (label_at policy s) s (Same i) us
+unfolding label_at
+label_gets policy valid i us s h k =
+    let name = label_name policy.labels i in
+    let found = label_again policy valid i h in
+    placed_then (λ x. Ok (numbered (label_named policy x.0.0), note (known (label_named policy x.0.0) x.0.1) x.1)) (name_gets name us s (label_is_name policy valid i h) k)
+    (λ at m t. gets_noted (numbered (label_named policy name)) (known (label_named policy name) at) s.0 m (Same i) us (none_known i at found) (ap numbered found) t)
 
 -- ---- the class
 
--- the first comparison of a sign
-abbrev first_with : List Comparison → Sign → Option Comparison
-first_with [] s = None
-first_with (c ∷ cs) s = cond (bytes_eq (sign_text s) (sign_text (comparison_sign c))) (Some c) (first_with cs s)
+comparison_again : (c : Comparison) → comparison_of (Sign (comparison_sign c)) ≡ Some c
+comparison_again compared.Equal = refl
+comparison_again _ = refl
 
-known_comparison : (c : Comparison) → first_with comparisons (comparison_sign c) ≡ Some c
-known_comparison compared.Equal = refl
-known_comparison _ = refl
-
-comparison_read : (cs : List Comparison) (s : Sign) (c : Comparison) (us : List Token) (l : Left) → without_places l.placed ≡ Sign_token s ∷ us → first_with cs s ≡ Some c
-    → Gets (comparison_among cs l) l (λ x. x ≡ c) us
-comparison_read [] s c us l e first = absurd cc
-comparison_read (d ∷ ds) s c us l e first =
-    elim (cases_Bool (bytes_eq (sign_text s) (sign_text (comparison_sign d)))) [
-      | inl on ↦
-          let h = took (is_sign (comparison_sign d)) (Sign_token s) us l on e in
-          let same : d ≡ c = let k : Some d ≡ Some c = rw on at first in cc in
-          record { value = d; rest = h.rest; is = ap (comparison_or (λ r. comparison_among ds r) l d) h.is; holds = same; tokens = h.tokens; stop = h.stop }
-      | inr off ↦
-          let more = comparison_read ds s c us l e (rw off at first) in
-          record {
-            value = more.value;
-            rest = more.rest;
-            is = ap (comparison_or (λ r. comparison_among ds r) l d) (not_taken (is_sign (comparison_sign d)) (Sign_token s ∷ us) l off e) ∙ more.is;
-            holds = more.holds;
-            tokens = more.tokens;
-            stop = more.stop;
-          }
-    ]
-
-abbrev placed : Comparison → PlacedName → Option PlacedClass
-placed c n = Some (record { comparison = c; name = n.0; at = n.1 })
-
-module _ (policy : Policy) (is_policy : IsPolicy policy) where
-  class_read : (o : Option ClassTest) (us : List Token) (l : Left) → IfSome o (λ c. c.label < length policy.labels) → NotNext (is_word (codes "class")) us
-      → without_places l.placed ≡ class_tokens policy o ++ us → Gets (class_at l) l (λ x. class_from policy x ≡ Ok o) us
-  unfolding class_at
-  class_read None us l fits off e =
-      gets_is (class_behind l (taken (is_word (codes "class")) l)) (done None l) l (λ x. class_from policy x ≡ Ok None) us (ap (class_behind l) (not_taken (is_word (codes "class")) us l off e))
-      (gets_done None l (λ x. class_from policy x ≡ Ok None) us refl e)
-  class_read (Some c) us l fits off e =
-      let behind = Sign_token (comparison_sign c.comparison) ∷ Word (label_name policy.labels c.label) ∷ us in
-      let word = took_word (codes "class") behind l e in
-      let sign = comparison_read comparisons (comparison_sign c.comparison) c.comparison (Word (label_name policy.labels c.label) ∷ us) word.rest word.tokens (known_comparison c.comparison) in
-      let more =
-      gets_more (λ k. pass_name k.1 >>= λ n. done (placed k.0 n.0) n.1) sign
-      (λ k m same t. gets_more (λ n. done (placed k n.0) n.1) (name_gets (label_name policy.labels c.label) us m (label_is_name policy is_policy c.label fits) t)
-      (λ n m2 named t2. gets_done (placed k n) m2 (λ x. class_from policy x ≡ Ok (Some c)) us
-      (ap (λ (s : Name). class_from policy (placed k (s, n.1))) named ∙ ap (λ r. r >>= λ m. Ok (Some (record { comparison = k; label = m }))) (label_again policy is_policy c.label n.1 fits)
-      ∙ ap (λ (d : Comparison). Ok (Some (record { comparison = d; label = c.label }))) same) t2)) in
-      record { value = more.value; rest = more.rest; is = ap (class_behind l) word.is ∙ more.is; holds = more.holds; tokens = more.tokens; stop = more.stop ∙ word.stop }
+class_gets : (policy : Policy) → IsPolicy policy → (o : Option ClassTest) (us : List Token) (s : State) → IfSome o (λ c. c.label < length policy.labels) → NotNext (is_word (codes "class")) us
+    → without_places s.1.placed ≡ class_tokens policy o ++ us → Gets (class_at policy s) s (Same o) us
+unfolding class_at
+class_gets policy valid None us s fits off k =
+    gets_is (class_behind policy s (takes_word (codes "class") s)) (Ok (None, s)) s (Same None) us (ap (class_behind policy s) (no_word (codes "class") us s off k)) (gets_done None s.0 s.1 (Same None) us refl k)
+class_gets policy valid (Some c) us s fits off k =
+    let behind = Word (label_name policy.labels c.label) ∷ us in
+    let word = took_word (codes "class") (Sign (comparison_sign c.comparison) ∷ behind) s k in
+    let made : Comparison → ℕ → Option ClassTest = λ d n. Some (record { comparison = d; label = n }) in
+    gets_is (class_behind policy s (takes_word (codes "class") s)) (class_behind policy s (Some (word.at, (s.0, word.rest)))) s (Same (Some c)) us (ap (class_behind policy s) word.is)
+    (after_took word (placed_then (λ d. label_at policy d.1 >>= λ l. Ok (made d.0.0 l.0, l.1)) (known_gets comparison_of c.comparison (Sign (comparison_sign c.comparison)) behind (comparison_again c.comparison) (s.0, word.rest) word.tokens)
+    (λ at m t. gets_then (λ l. Ok (made c.comparison l.0, l.1)) (label_gets policy valid c.label us (s.0, m) fits t) (λ m2 t2. gets_done (Some c) s.0 m2 (Same (Some c)) us refl t2))))
 
 -- ---- the first
 
-number_first : (n : ℤ) (us : List Token) (ps : List Placed) (stop : TokenFault) → without_places ps ≡ Int n ∷ us → Gets (pass_number (left ps stop)) (left ps stop) (λ x. x.0 ≡ n) us
-number_first n us [] stop e = absurd cc
-number_first n us (p ∷ ps) stop e =
-    let h = next_is p ps (Int n) us e in
-    record { value = (n, p.at); rest = left ps stop; is = ap (λ t. numbered p.at (left ps stop) (number_in t)) h.0; holds = refl; tokens = h.1; stop = refl }
-
-number_read : (n : ℤ) (us : List Token) (l : Left) → without_places l.placed ≡ Int n ∷ us → Gets (pass_number l) l (λ x. x.0 ≡ n) us
-number_read n us l e = number_first n us l.placed l.stop e
-
-first_read : (counts : Bool) (o : Option ℕ) (us : List Token) (l : Left) → (counts ≡ true → o ≡ None) → NotNext (is_word (codes "first")) us → without_places l.placed ≡ first_tokens o ++ us
-    → Gets (first_at counts l) l (λ x. first_from x ≡ Ok o) us
+first_gets : (counts : Bool) (o : Option ℕ) (us : List Token) (s : State) → (counts ≡ true → o ≡ None) → NotNext (is_word (codes "first")) us → without_places s.1.placed ≡ first_tokens o ++ us
+    → Gets (first_at counts s) s (Same o) us
 unfolding first_at
-first_read true None us l whole off e = gets_done None l (λ x. first_from x ≡ Ok None) us refl e
-first_read true (Some n) us l whole off e = absurd (let h = whole refl in cc)
-first_read false None us l whole off e =
-    gets_is (first_behind l (taken (is_word (codes "first")) l)) (done None l) l (λ x. first_from x ≡ Ok None) us (ap (first_behind l) (not_taken (is_word (codes "first")) us l off e))
-    (gets_done None l (λ x. first_from x ≡ Ok None) us refl e)
-first_read false (Some n) us l whole off e =
-    let word = took_word (codes "first") (Int (pos n) ∷ us) l e in
-    let more =
-    gets_more (λ k. done (Some k.0) k.1) (number_read (pos n) us word.rest word.tokens)
-    (λ k m same t. gets_done (Some k) m (λ x. first_from x ≡ Ok (Some n)) us (ap (λ (z : ℤ). first_from (Some (z, k.1))) same) t) in
-    record { value = more.value; rest = more.rest; is = ap (first_behind l) word.is ∙ more.is; holds = more.holds; tokens = more.tokens; stop = more.stop ∙ word.stop }
+first_gets true None us s whole off k = gets_done None s.0 s.1 (Same None) us refl k
+first_gets true (Some n) us s whole off k = absurd (let h = whole refl in cc)
+first_gets false None us s whole off k =
+    gets_is (first_behind s (takes_word (codes "first") s)) (Ok (None, s)) s (Same None) us (ap (first_behind s) (no_word (codes "first") us s off k)) (gets_done None s.0 s.1 (Same None) us refl k)
+first_gets false (Some n) us s whole off k =
+    let word = took_word (codes "first") (Int (pos n) ∷ us) s k in
+    gets_is (first_behind s (takes_word (codes "first") s)) (first_behind s (Some (word.at, (s.0, word.rest)))) s (Same (Some n)) us (ap (first_behind s) word.is)
+    (after_took word (placed_then (λ m. Ok (Some (count_of m.0.0), note (unless (is_count m.0.0) m.0.1 cause.Kind) m.1)) (known_gets number_of (pos n) (Int (pos n)) us refl (s.0, word.rest) word.tokens)
+    (λ at m t. gets_noted (Some n) [] s.0 m (Same (Some n)) us refl refl t)))
 
 -- ---- the condition
 
 module _ (policy : Policy) (schemes : Schemes) (relation : ℕ) where
-  where_read : IsPolicy policy → AreSchemes schemes → relation < length schemes → (t : Option core.Expr) (ts : List Token) (l : Left) → TellsTest policy schemes relation t ts → without_places l.placed ≡ ts
-      → Gets (where_at policy schemes (Some relation) l) l (λ x. test_from x ≡ Ok t) []
+  where_gets : IsPolicy policy → AreSchemes schemes → relation < length schemes → (t : Option Expr) (ts : List Token) (s : State) → TellsTest policy schemes relation t ts → without_places s.1.placed ≡ ts
+      → Gets (where_at policy schemes relation s) s (Same t) []
   unfolding where_at
-  where_read is_policy valid within None ts l tells e =
-      gets_is (where_behind policy schemes (Some relation) l (taken (is_word (codes "where")) l)) (done None l) l (λ x. test_from x ≡ Ok None) []
-      (ap (where_behind policy schemes (Some relation) l) (not_taken (is_word (codes "where")) [] l tt (e ∙ tells)))
-      (gets_done None l (λ x. test_from x ≡ Ok None) [] refl (e ∙ tells))
-  where_read is_policy valid within (Some test) ts l tells e =
-      let word = took_word (codes "where") tells.condition l (e ∙ tells.tokens) in
-      let read = conditions_are_read policy schemes is_policy valid relation word.rest test tells.condition [] within tells.tells tt (word.tokens ∙ sym (append-nil tells.condition)) in
-      record {
-        value = Some (Ok test);
-        rest = read.rest;
-        is = ap (where_behind policy schemes (Some relation) l) word.is ∙ ap (λ r. heard (λ t. Some t) (read_of r)) read.is;
-        holds = refl;
-        tokens = read.tokens;
-        stop = read.stop ∙ word.stop;
-      }
+  where_gets is_policy valid within None ts s tells k =
+      gets_is (where_behind policy schemes relation s (takes_word (codes "where") s)) (Ok (None, s)) s (Same None) []
+      (ap (where_behind policy schemes relation s) (no_word (codes "where") [] s tt (k ∙ tells))) (gets_done None s.0 s.1 (Same None) [] refl (k ∙ tells))
+  where_gets is_policy valid within (Some test) ts s tells k =
+      let word = took_word (codes "where") tells.condition s (k ∙ tells.tokens) in
+      let read = conditions_are_read policy schemes is_policy valid relation (s.0, word.rest) test tells.condition [] within tells.tells tt (word.tokens ∙ sym (append-nil tells.condition)) in
+      gets_is (where_behind policy schemes relation s (takes_word (codes "where") s)) (where_behind policy schemes relation s (Some (word.at, (s.0, word.rest)))) s (Same (Some test)) [] (ap (where_behind policy schemes relation s) word.is)
+      (after_took word (record { value = Some test; rest = read.rest; is = ap (λ r. r >>= λ e. Ok (Some e.0, e.1)) read.is; holds = refl; tokens = read.tokens; stop = read.stop }))
 
   -- a condition begins with its word
-  where_next : (w : Name) (t : Option core.Expr) (ts : List Token) → bytes_eq (codes "where") w ≡ false → TellsTest policy schemes relation t ts → NotNext (is_word w) ts
+  where_next : (w : List ℕ) (t : Option Expr) (ts : List Token) → bytes_eq (codes "where") w ≡ false → TellsTest policy schemes relation t ts → NotNext (is_word w) ts
   where_next w None ts off tells = subst (NotNext (is_word w)) (sym tells) tt
   where_next w (Some test) ts off tells = subst (NotNext (is_word w)) (sym tells.tokens) off
 
-  first_next : (o : Option ℕ) (ts : List Token) → NotNext (is_word (codes "class")) ts → NotNext (is_word (codes "class")) (first_tokens o ++ ts)
-  first_next None ts off = off
-  first_next (Some n) ts off = refl
+  first_next : (w : List ℕ) (o : Option ℕ) (ts : List Token) → bytes_eq (codes "first") w ≡ false → NotNext (is_word w) ts → NotNext (is_word w) (first_tokens o ++ ts)
+  first_next w None ts off next = next
+  first_next w (Some n) ts off next = off
 
-  class_next : (o : Option ClassTest) (ts : List Token) → NotNext (is_word (codes "highest")) ts → NotNext (is_word (codes "highest")) (class_tokens policy o ++ ts)
-  class_next None ts off = off
-  class_next (Some c) ts off = refl
-
-  first_is_next : (o : Option ℕ) (ts : List Token) → NotNext (is_word (codes "highest")) ts → NotNext (is_word (codes "highest")) (first_tokens o ++ ts)
-  first_is_next None ts off = off
-  first_is_next (Some n) ts off = refl
-
-  -- no query begins with a comma
-  class_no_comma : (o : Option ClassTest) (ts : List Token) → NotNext (is_sign Comma) ts → NotNext (is_sign Comma) (class_tokens policy o ++ ts)
-  class_no_comma None ts off = off
-  class_no_comma (Some c) ts off = refl
-
-  first_no_comma : (o : Option ℕ) (ts : List Token) → NotNext (is_sign Comma) ts → NotNext (is_sign Comma) (first_tokens o ++ ts)
-  first_no_comma None ts off = off
-  first_no_comma (Some n) ts off = refl
-
-  test_no_comma : (t : Option core.Expr) (ts : List Token) → TellsTest policy schemes relation t ts → NotNext (is_sign Comma) ts
-  test_no_comma None ts tells = subst (NotNext (is_sign Comma)) (sym tells) tt
-  test_no_comma (Some test) ts tells = subst (NotNext (is_sign Comma)) (sym tells.tokens) refl
-
-  highest_no_comma : (highest : Bool) (ts : List Token) → NotNext (is_sign Comma) ts → NotNext (is_sign Comma) (highest_tokens highest ++ ts)
-  highest_no_comma true ts off = refl
-  highest_no_comma false ts off = off
-
-  pub query_no_comma : (q : Query) (ts : List Token) → TellsTest policy schemes relation q.test ts
-      → NotNext (is_sign Comma) (highest_tokens q.highest ++ (class_tokens policy q.class ++ (first_tokens q.first ++ ts)))
-  query_no_comma q ts tells =
-      highest_no_comma q.highest (class_tokens policy q.class ++ (first_tokens q.first ++ ts))
-      (class_no_comma q.class (first_tokens q.first ++ ts) (first_no_comma q.first ts (test_no_comma q.test ts tells)))
+  class_next : (w : List ℕ) (o : Option ClassTest) (ts : List Token) → bytes_eq (codes "class") w ≡ false → NotNext (is_word w) ts → NotNext (is_word w) (class_tokens policy o ++ ts)
+  class_next w None ts off next = next
+  class_next w (Some c) ts off next = off
 
   -- ---- a query
 
-  record HighestRead (highest : Bool) (l : Left) (us : List Token) : Type 0 where
+  record HighestGets (highest : Bool) (s : State) (us : List Token) : Type 0 where
     rest : Left
-    is : highest_at l ≡ (highest, rest)
+    is : highest_at s ≡ (highest, (s.0, rest))
     tokens : without_places rest.placed ≡ us
-    stop : rest.stop ≡ l.stop
+    stop : rest.stop ≡ s.1.stop
 
-  highest_read : (highest : Bool) (us : List Token) (l : Left) → NotNext (is_word (codes "highest")) us → without_places l.placed ≡ highest_tokens highest ++ us → HighestRead highest l us
-  highest_read true us l off e =
-      let word = took_word (codes "highest") us l e in
-      record { rest = word.rest; is = ap (highest_behind l) word.is; tokens = word.tokens; stop = word.stop }
-  highest_read false us l off e = record { rest = l; is = ap (highest_behind l) (not_taken (is_word (codes "highest")) us l off e); tokens = e; stop = refl }
+  highest_gets : (highest : Bool) (us : List Token) (s : State) → NotNext (is_word (codes "highest")) us → without_places s.1.placed ≡ highest_tokens highest ++ us → HighestGets highest s us
+  highest_gets true us s off k =
+      let word = took_word (codes "highest") us s k in
+      record { rest = word.rest; is = ap (highest_behind s) word.is; tokens = word.tokens; stop = word.stop }
+  highest_gets false us s off k = record { rest = s.1; is = ap (highest_behind s) (no_word (codes "highest") us s off k); tokens = k; stop = refl }
 
-  -- what is behind the word for the highest
-  abbrev asked_at : Bool → Bool × Left → Result (Asked × Left) LineFault
-  asked_at counts h =
-      form_of (class_at h.1) >>= λ c. form_of (first_at counts c.1) >>= λ f. where_at policy schemes (Some relation) f.1 >>= λ t. done (record { highest = h.0; class = c.0; first = f.0; test = t.0 }) t.1
-
-  pub query_read : IsPolicy policy → AreSchemes schemes → relation < length schemes → (counts : Bool) (q : Query) (ts : List Token) (l : Left) → QueryFits policy schemes relation q counts → TellsQuery policy schemes relation q ts → without_places l.placed ≡ ts
-      → Gets (query_at policy schemes counts (Some relation) l) l (λ x. query_from policy x ≡ Ok q) []
-  unfolding query_at query_from
-  query_read is_policy valid within counts q ts l fits tells e =
+  pub query_gets : IsPolicy policy → AreSchemes schemes → relation < length schemes → (counts : Bool) (q : Query) (ts : List Token) (s : State) → QueryFits policy schemes relation q counts → TellsQuery policy schemes relation q ts → without_places s.1.placed ≡ ts
+      → Gets (query_at policy schemes counts relation s) s (Same q) []
+  unfolding query_at
+  query_gets is_policy valid within counts q ts s fits tells k =
       let behind_first = tells.behind in
       let behind_class = first_tokens q.first ++ behind_first in
       let behind = class_tokens policy q.class ++ behind_class in
       let h =
-      highest_read q.highest behind l
-      (class_next q.class behind_class (first_is_next q.first behind_first (where_next (codes "highest") q.test behind_first refl tells.test))) (e ∙ tells.tokens) in
+      highest_gets q.highest behind s
+      (class_next (codes "highest") q.class behind_class refl (first_next (codes "highest") q.first behind_first refl (where_next (codes "highest") q.test behind_first refl tells.test))) (k ∙ tells.tokens) in
+      let asked : Bool → Option ClassTest → Option ℕ → Option Expr → Query = λ b c f t. record { highest = b; class = c; test = t; first = f } in
+      let rest : Bool × State → Read Query =
+      λ x. class_at policy x.1 >>= λ c. first_at counts c.1 >>= λ f. where_at policy schemes relation f.1 >>= λ t. Ok (asked x.0 c.0 f.0 t.0, t.1) in
       let more =
-      gets_more (λ c. form_of (first_at counts c.1) >>= λ f. where_at policy schemes (Some relation) f.1 >>= λ t. done (record { highest = q.highest; class = c.0; first = f.0; test = t.0 }) t.1)
-      (form_again (class_read policy is_policy q.class behind_class h.rest fits.class (first_next q.first behind_first (where_next (codes "class") q.test behind_first refl tells.test)) h.tokens))
-      (λ c m same t. gets_more (λ f. where_at policy schemes (Some relation) f.1 >>= λ t. done (record { highest = q.highest; class = c; first = f.0; test = t.0 }) t.1)
-      (form_again (first_read counts q.first behind_first m fits.whole (where_next (codes "first") q.test behind_first refl tells.test) t))
-      (λ f m2 same2 t2. gets_more (λ t. done (record { highest = q.highest; class = c; first = f; test = t.0 }) t.1) (where_read is_policy valid within q.test behind_first m2 tells.test t2)
-      (λ test m3 same3 t3. gets_done (record { highest = q.highest; class = c; first = f; test = test }) m3 (λ x. query_from policy x ≡ Ok q) []
-      (ap (λ r. r >>= λ c. first_from f >>= λ f. test_from test >>= λ t. Ok (record { highest = q.highest; class = c; test = t; first = f })) same
-      ∙ ap (λ r. r >>= λ f. test_from test >>= λ t. Ok (record { highest = q.highest; class = q.class; test = t; first = f })) same2
-      ∙ ap (λ r. r >>= λ t. Ok (record { highest = q.highest; class = q.class; test = t; first = q.first })) same3) t3))) in
-      record {
-        value = more.value;
-        rest = more.rest;
-        is = ap (asked_at counts) h.is ∙ more.is;
-        holds = more.holds;
-        tokens = more.tokens;
-        stop = more.stop ∙ h.stop;
-      }
+      gets_then (λ c. first_at counts c.1 >>= λ f. where_at policy schemes relation f.1 >>= λ t. Ok (asked q.highest c.0 f.0 t.0, t.1))
+      (class_gets policy is_policy q.class behind_class (s.0, h.rest) fits.class (first_next (codes "class") q.first behind_first refl (where_next (codes "class") q.test behind_first refl tells.test)) h.tokens)
+      (λ m t. gets_then (λ f. where_at policy schemes relation f.1 >>= λ t. Ok (asked q.highest q.class f.0 t.0, t.1))
+      (first_gets counts q.first behind_first (s.0, m) fits.whole (where_next (codes "first") q.test behind_first refl tells.test) t)
+      (λ m2 t2. gets_then (λ t. Ok (asked q.highest q.class q.first t.0, t.1)) (where_gets is_policy valid within q.test behind_first (s.0, m2) tells.test t2) (λ m3 t3. gets_done q s.0 m3 (Same q) [] refl t3))) in
+      record { value = more.value; rest = more.rest; is = ap rest h.is ∙ more.is; holds = more.holds; tokens = more.tokens; stop = more.stop ∙ h.stop }

@@ -1,244 +1,177 @@
--- What a query says is what was read, and fits.
-use Rattle.std.proofs.Common.{◌≡◌, ℕ, ◌<◌, Bool, true, false, ℤ, pos, negsuc, List, [], ◌∷◌, ◌++◌, length, Option, Some, None, Result, Ok, Err, refl, sym, ap, subst, codes, IfSome}
-use Rattle.mls_lattice.specs.Policy.{Name, Policy}
+-- What is read is what stands there: labels, relations and queries.
+use Rattle.std.proofs.Common.{◌≡◌, ℕ, ◌<◌, ℤ, pos, negsuc, Bool, true, false, List, [], ◌∷◌, ◌++◌, length, Option, Some, None, Ok, refl, sym, ap, ◌∙◌, subst, codes, IfSome}
+use Rattle.mls_lattice.specs.Policy.{Policy}
 use Rattle.mls_lattice.specs.Reading.{◌>>=◌}
-use Rattle.mls_lattice.proofs.NamedLemmas.{label_found}
-use Rattle.mls_lattice.proofs.ReadingLemmas.{ok_is, bind_ok}
+use Rattle.mls_lattice.proofs.ReadingLemmas.{ok_is}
 use Rattle.mls_scheme.specs.Scheme.{Schemes}
-use Rattle.mls_tokens.specs.declared.fault.TokenFault.{TokenFault}
+use Rattle.mls_tokens.specs.declared.sign.Sign.{Sign as Mark}
+use Rattle.mls_tokens.specs.declared.sign.Sign.TheVariants as signs
 use Rattle.mls_tokens.specs.declared.token.Token.{Token}
 use Rattle.mls_tokens.specs.declared.token.Token.TheVariants.{Word, Int, Sign}
-use Rattle.mls_tokens.specs.declared.token.Placed.{Placed}
-use Rattle.mls_tokens.specs.Scanning.{Left, without_places}
-use Rattle.mls_tokens.specs.Passing.{left, is_word, is_sign, taken, pass_name}
-use Rattle.mls_tokens.proofs.PassedLemmas.{Passed, passed_none, passed_more, word_taken, sign_taken, name_found}
-use Rattle.mls_translang.specs.Tree as core
-use Rattle.mls_parser.specs.declared.fault.PlacedFault.{PlacedFault}
-use Rattle.mls_parser.specs.Condition.{AreOfText, IsConditionOf}
-use Rattle.mls_parser.specs.ReadCondition.{condition_at}
-use Rattle.mls_parser.proofs.ConditionFound.{condition_found}
-use Rattle.mls_parser.proofs.ConditionLemmas.{told_of_row}
-use Rattle.mls_parser.proofs.PassedLemmas.{split}
+use Rattle.mls_tokens.proofs.PassedLemmas.{passed_none}
+use Rattle.mls_translang.specs.Tree.{Expr}
 use Rattle.mls_translang.specs.declared.query.Comparison.{Comparison}
 use Rattle.mls_translang.specs.declared.query.ClassTest.{ClassTest}
 use Rattle.mls_translang.specs.declared.query.Query.{Query}
-use Rattle.mls_script.specs.declared.fault.LineFault.{LineFault}
-use Rattle.mls_script.specs.declared.query.Asked.{Asked}
-use Rattle.mls_script.specs.declared.query.PlacedClass.{PlacedClass}
+use Rattle.mls_parser.specs.declared.fault.TextCause.TheVariants as cause
+use Rattle.mls_parser.specs.declared.fault.PlacedFault.{PlacedFault}
+use Rattle.mls_parser.specs.Condition.{IsConditionOf}
+use Rattle.mls_parser.specs.Fault.{unless}
+use Rattle.mls_parser.specs.Names.{label_named, numbered}
+use Rattle.mls_parser.specs.Noted.{State, Read, token, takes_word, name_at, known, label_at}
+use Rattle.mls_parser.specs.ReadCondition.{condition_at}
+use Rattle.mls_parser.specs.Words.{pass_known}
+use Rattle.mls_parser.proofs.ConditionFound.{condition_found}
+use Rattle.mls_parser.proofs.ConditionLemmas.{told_of_row}
+use Rattle.mls_parser.proofs.FaultLemmas.{holds}
+use Rattle.mls_parser.proofs.FoundSteps.{Found, found_none, found_next, found_noted, found_made, found_after, name_read, known_read}
+use Rattle.mls_parser.proofs.NumberLemmas.{label_spelled}
+use Rattle.mls_parser.proofs.PassedLemmas.{Quiet, word_taken}
+use Rattle.mls_parser.proofs.StmtFound.{label_known}
 use Rattle.mls_script.specs.Event.{QueryFits}
 use Rattle.mls_script.specs.QueryTokens.{comparison_sign, highest_tokens, class_tokens, first_tokens, TellsTest, TellsQuery}
-use Rattle.mls_script.specs.ReadQuery.{form_of, highest_behind, highest_at, comparisons, comparison_or, comparison_among, class_behind, class_at, number_in, numbered, pass_number_of, pass_number, first_behind, first_at, read_of, where_behind, where_at, query_at, known_or, label_named, class_from, first_from, test_from, query_from}
+use Rattle.mls_script.specs.ReadQuery.{highest_behind, highest_at, comparison_of, class_behind, class_at, number_of, is_count, count_of, first_behind, first_at, where_behind, where_at, query_at}
+use Rattle.mls_script.specs.Tokens.{label_token}
 
--- what holds of what is read
-pub of_read : {X E : Type 0} (P : X × Left → Type 0) (x y : X × Left) → Path (Result (X × Left) E) (Ok x) (Ok y) → P x → P y
-of_read P x y e h = subst P (ok_is x y e) h
+module _ (policy : Policy) (schemes : Schemes) where
+  -- ---- labels
 
-pub form_found : {X : Type 0} (r : Result X TokenFault) (x : X) → form_of r ≡ Ok x → r ≡ Ok x
-form_found (Ok y) x e = ap (λ z. Ok z) (ok_is y x e)
-form_found (Err f) x e = absurd cc
+  pub record IsLabelled (ts : List Token) (n : ℕ) : Type 0 where
+    pub tokens : ts ≡ label_token policy schemes n ∷ []
+    pub within : n < length policy.labels
 
-pub known_found : (at : ℕ) (o : Option ℕ) (n : ℕ) → known_or at o ≡ Ok n → o ≡ Some n
-known_found at None n e = absurd cc
-known_found at (Some m) n e = ap (λ (x : ℕ). Some x) (ok_is m n e)
+  pub label_read : (s : State) (x : ℕ × State) → label_at policy s ≡ Ok x → Found IsLabelled s x
+  unfolding label_at
+  label_read s =
+      found_noted IsLabelled s (name_at s) (λ n. numbered (label_named policy n.0)) (λ n. known (label_named policy n.0) n.1) (name_read s)
+      (λ n ts none is. record { tokens = is.0 ∙ (λ i. Word (sym (label_spelled policy n.0 n.1 none) i) ∷ []); within = label_known policy n.0 n.1 none })
 
--- the tokens that are left are of a text, where those before were
-pub of_text : (ts : List Token) (l r : Left) → Passed ts l r → AreOfText (without_places l.placed) → AreOfText ts × AreOfText (without_places r.placed)
-of_text ts l r h all = split ts (without_places r.placed) (subst AreOfText h.tokens all)
+  -- ---- the highest
 
--- ---- the highest
+  highest_found : (s : State) (o : Option (ℕ × State)) → takes_word (codes "highest") s ≡ o → Quiet (highest_tokens (highest_behind s o).0) s (highest_behind s o).1
+  highest_found s None is = record { passed = passed_none s.1; faults = refl }
+  highest_found s (Some x) is = word_taken (codes "highest") s x is
 
-abbrev HighestFound : Left → Bool × Left → Type 0
-HighestFound l x = Passed (highest_tokens x.0) l x.1
+  -- ---- the class
 
-highest_found : (l : Left) → HighestFound l (highest_at l)
-highest_found l = behind (taken (is_word (codes "highest")) l) refl
-  where
-    behind : (o : Option (ℕ × Left)) → taken (is_word (codes "highest")) l ≡ o → HighestFound l (highest_behind l o)
-    behind None is = passed_none l
-    behind (Some x) is = word_taken (codes "highest") l x is
+  some_is : {X : Type 0} {x y : X} → Some x ≡ Some y → x ≡ y
+  some_is e = cc
 
--- ---- the class
+  compared : (m : Mark) (c : Comparison) → comparison_of (Sign m) ≡ Some c → m ≡ comparison_sign c
+  compared signs.Equals c e = ap comparison_sign (some_is e)
+  compared signs.Differs c e = ap comparison_sign (some_is e)
+  compared signs.Less c e = ap comparison_sign (some_is e)
+  compared signs.AtMost c e = ap comparison_sign (some_is e)
+  compared signs.Greater c e = ap comparison_sign (some_is e)
+  compared signs.AtLeast c e = ap comparison_sign (some_is e)
+  compared _ c e = absurd cc
 
-comparison_found : (cs : List Comparison) (l : Left) (x : Comparison × Left) → comparison_among cs l ≡ Ok x → Passed (Sign (comparison_sign x.0) ∷ []) l x.1
-comparison_found [] l x e = absurd cc
-comparison_found (c ∷ cs) l x e = behind (taken (is_sign (comparison_sign c)) l) refl e (comparison_found cs l x)
-  where
-    behind : (o : Option (ℕ × Left)) → taken (is_sign (comparison_sign c)) l ≡ o → comparison_or (λ r. comparison_among cs r) l c o ≡ Ok x
-        → (comparison_among cs l ≡ Ok x → Passed (Sign (comparison_sign x.0) ∷ []) l x.1) → Passed (Sign (comparison_sign x.0) ∷ []) l x.1
-    behind None is h more = more h
-    behind (Some y) is h more =
-        subst (λ (z : Comparison × Left). Passed (Sign (comparison_sign z.0) ∷ []) l z.1) (ok_is {E = TokenFault} (c, y.1) x h) (sign_taken (comparison_sign c) l y is)
+  comparison_is : (t : Token) (c : Comparison) → comparison_of t ≡ Some c → t ≡ Sign (comparison_sign c)
+  comparison_is (Sign m) c e = ap (λ x. Sign x) (compared m c e)
+  comparison_is _ c e = absurd cc
 
-module _ (policy : Policy) where
-  record ClassFound (l : Left) (c : Option ClassTest) (r : Left) : Type 0 where
-    passed : Passed (class_tokens policy c) l r
-    within : IfSome c (λ c. c.label < length policy.labels)
+  record IsClass (ts : List Token) (o : Option ClassTest) : Type 0 where
+    tokens : ts ≡ class_tokens policy o
+    within : IfSome o (λ c. c.label < length policy.labels)
 
-  one_class : (l r : Left) (c : PlacedClass) (o : Option ClassTest) → Passed (Word (codes "class") ∷ Sign (comparison_sign c.comparison) ∷ Word c.name ∷ []) l r → class_from policy (Some c) ≡ Ok o → ClassFound l o r
-  one_class l r c o passed e =
-      let n = bind_ok (label_named policy (c.name, c.at)) (λ n. Ok (Some (record { comparison = c.comparison; label = n }))) o e in
-      let label = label_found policy.labels c.name n.0 (known_found c.at _ n.0 n.1) in
-      let test : ClassTest = record { comparison = c.comparison; label = n.0 } in
-      subst (λ (x : Option ClassTest). ClassFound l x r) (ok_is {E = LineFault} (Some test) o n.2) (record {
-        passed = subst (λ (s : Name). Passed (Word (codes "class") ∷ Sign (comparison_sign c.comparison) ∷ Word s ∷ []) l r) (sym label.1) passed;
-        within = label.0;
-      })
+  class_found : (s : State) (o : Option (ℕ × State)) (x : Option ClassTest × State) → takes_word (codes "class") s ≡ o → class_behind policy s o ≡ Ok x → Found IsClass s x
+  class_found s None x is e = subst (Found IsClass s) (ok_is {E = PlacedFault} (None, s) x e) (found_none IsClass None s (record { tokens = refl; within = tt }))
+  class_found s (Some word) x is e =
+      let made : Comparison → ℕ → Option ClassTest = λ c n. Some (record { comparison = c; label = n }) in
+      found_after IsClass (Word (codes "class") ∷ []) s word.1 x (word_taken (codes "class") s word is)
+      (found_next (λ us y. IsClass (Word (codes "class") ∷ us) y)
+      (λ c us y. (n : ℕ) × IsLabelled us n × (y ≡ made c.0 n)) word.1 (token (pass_known comparison_of) word.1)
+      (λ c. label_at policy c.1 >>= λ l. Ok (made c.0.0 l.0, l.1)) (known_read comparison_of word.1)
+      (λ c. found_made (λ us y. (n : ℕ) × IsLabelled us n × (y ≡ made c.0.0 n)) c.1 (label_at policy c.1) (made c.0.0) (label_read c.1) (λ n us l. (n, l, refl)))
+      (λ c y ts us sign l. subst (IsClass (Word (codes "class") ∷ (ts ++ us))) (sym l.2)
+      (record { tokens = λ i. Word (codes "class") ∷ ((sign.2 ∙ ap (λ t. t ∷ []) (comparison_is sign.0 c.0 sign.1)) i ++ l.1.tokens i); within = l.1.within }))
+      x e)
 
-  class_found : (l : Left) (y : Option PlacedClass × Left) (c : Option ClassTest) → class_at l ≡ Ok y → class_from policy y.0 ≡ Ok c → ClassFound l c y.1
+  class_read : (s : State) (x : Option ClassTest × State) → class_at policy s ≡ Ok x → Found IsClass s x
   unfolding class_at
-  class_found l y c e was = behind (taken (is_word (codes "class")) l) refl e was
-    where
-      behind : (o : Option (ℕ × Left)) → taken (is_word (codes "class")) l ≡ o → class_behind l o ≡ Ok y → class_from policy y.0 ≡ Ok c → ClassFound l c y.1
-      behind None is h =
-          of_read (λ (z : Option PlacedClass × Left). class_from policy z.0 ≡ Ok c → ClassFound l c z.1) (None, l) y h
-          (λ same. subst (λ (x : Option ClassTest). ClassFound l x l) (ok_is {E = LineFault} None c same) (record { passed = passed_none l; within = tt }))
-      behind (Some x) is h =
-          let k = bind_ok (comparison_among comparisons x.1) (λ k. pass_name k.1 >>= λ n. Ok (Some (record { comparison = k.0; name = n.0.0; at = n.0.1 }), n.1)) y h in
-          let n = bind_ok (pass_name k.0.1) (λ n. Ok (Some (record { comparison = k.0.0; name = n.0.0; at = n.0.1 }), n.1)) y k.2 in
-          let placed : PlacedClass = record { comparison = k.0.0; name = n.0.0.0; at = n.0.0.1 } in
-          let passed =
-          passed_more (Word (codes "class") ∷ []) (Sign (comparison_sign k.0.0) ∷ Word n.0.0.0 ∷ []) l x.1 n.0.1 (word_taken (codes "class") l x is)
-          (passed_more (Sign (comparison_sign k.0.0) ∷ []) (Word n.0.0.0 ∷ []) x.1 k.0.1 n.0.1 (comparison_found comparisons x.1 k.0 k.1) (name_found k.0.1 n.0 n.1).passed) in
-          of_read (λ (z : Option PlacedClass × Left). class_from policy z.0 ≡ Ok c → ClassFound l c z.1) (Some placed, n.0.1) y n.2 (one_class l n.0.1 placed c passed)
+  class_read s x e = class_found s (takes_word (codes "class") s) x refl e
 
--- ---- the first
+  -- ---- the first
 
-abbrev NumberFound : Left → (ℤ × ℕ) × Left → Type 0
-NumberFound l x = Passed (Int x.0.0 ∷ []) l x.1
+  number_is : (t : Token) (n : ℤ) → number_of t ≡ Some n → t ≡ Int n
+  number_is (Int m) n e = let same : m ≡ n = cc in ap (λ (x : ℤ). Int x) same
+  number_is _ n e = absurd cc
 
-number_is : (t : Token) (n : ℤ) → number_in t ≡ Some n → t ≡ Int n
-number_is (Int m) n e = let same : m ≡ n = cc in ap (λ (x : ℤ). Int x) same
-number_is _ n e = absurd cc
+  count_is : (n : ℤ) → is_count n ≡ true → n ≡ pos (count_of n)
+  count_is (pos n) e = refl
+  count_is (negsuc n) e = absurd cc
 
-number_first : (t : Token) (ps : List Placed) (stop : TokenFault) (at : ℕ) (o : Option ℤ) (x : (ℤ × ℕ) × Left) → number_in t ≡ o → numbered at (left ps stop) o ≡ Ok x
-    → NumberFound (left (record { token = t; at = at } ∷ ps) stop) x
-number_first t ps stop at None x is e = absurd cc
-number_first t ps stop at (Some n) x is e =
-    subst (λ y. NumberFound (left (record { token = t; at = at } ∷ ps) stop) y) (ok_is {E = TokenFault} ((n, at), left ps stop) x e)
-    (record { tokens = ap (λ y. y ∷ without_places ps) (number_is t n is); stop = refl })
+  record IsFirst (counts : Bool) (ts : List Token) (o : Option ℕ) : Type 0 where
+    tokens : ts ≡ first_tokens o
+    whole : counts ≡ true → o ≡ None
 
-number_of_found : (ps : List Placed) (stop : TokenFault) (x : (ℤ × ℕ) × Left) → pass_number_of ps stop ≡ Ok x → NumberFound (left ps stop) x
-number_of_found [] stop x e = absurd cc
-number_of_found (p ∷ ps) stop x e = number_first p.token ps stop p.at (number_in p.token) x refl e
+  no_first : (counts : Bool) (s : State) (x : Option ℕ × State) → Path (Read (Option ℕ)) (Ok (None, s)) (Ok x) → Found (IsFirst counts) s x
+  no_first counts s x e = subst (Found (IsFirst counts) s) (ok_is {E = PlacedFault} (None, s) x e) (found_none (IsFirst counts) None s (record { tokens = refl; whole = λ h. refl }))
 
-number_found : (l : Left) (x : (ℤ × ℕ) × Left) → pass_number l ≡ Ok x → NumberFound l x
-number_found l x e = number_of_found l.placed l.stop x e
-
-record FirstFound (counts : Bool) (l : Left) (f : Option ℕ) (r : Left) : Type 0 where
-  passed : Passed (first_tokens f) l r
-  whole : counts ≡ true → f ≡ None
-
-no_first : (counts : Bool) (l : Left) (y : Option (ℤ × ℕ) × Left) (f : Option ℕ) → Path (Result (Option (ℤ × ℕ) × Left) TokenFault) (Ok (None, l)) (Ok y) → first_from y.0 ≡ Ok f → FirstFound counts l f y.1
-no_first counts l y f e =
-    of_read (λ (z : Option (ℤ × ℕ) × Left). first_from z.0 ≡ Ok f → FirstFound counts l f z.1) (None, l) y e
-    (λ same. subst (λ (x : Option ℕ). FirstFound counts l x l) (ok_is {E = LineFault} None f same) (record { passed = passed_none l; whole = λ _. refl }))
-
-one_first : (l r : Left) (n : ℤ) (at : ℕ) (f : Option ℕ) → Passed (Word (codes "first") ∷ Int n ∷ []) l r → first_from (Some (n, at)) ≡ Ok f → FirstFound false l f r
-one_first l r (pos n) at f passed e =
-    subst (λ (x : Option ℕ). FirstFound false l x r) (ok_is {E = LineFault} (Some n) f e) (record { passed = passed; whole = λ h. absurd cc })
-one_first l r (negsuc n) at f passed e = absurd cc
-
-first_found : (counts : Bool) (l : Left) (y : Option (ℤ × ℕ) × Left) (f : Option ℕ) → first_at counts l ≡ Ok y → first_from y.0 ≡ Ok f → FirstFound counts l f y.1
-unfolding first_at
-first_found true l y f e was = no_first true l y f e was
-first_found false l y f e was = behind (taken (is_word (codes "first")) l) refl e was
-  where
-    behind : (o : Option (ℕ × Left)) → taken (is_word (codes "first")) l ≡ o → first_behind l o ≡ Ok y → first_from y.0 ≡ Ok f → FirstFound false l f y.1
-    behind None is h = no_first false l y f h
-    behind (Some x) is h =
-        let n = bind_ok (pass_number x.1) (λ n. Ok (Some n.0, n.1)) y h in
-        let passed = passed_more (Word (codes "first") ∷ []) (Int n.0.0.0 ∷ []) l x.1 n.0.1 (word_taken (codes "first") l x is) (number_found x.1 n.0 n.1) in
-        of_read (λ (z : Option (ℤ × ℕ) × Left). first_from z.0 ≡ Ok f → FirstFound false l f z.1) (Some n.0.0, n.0.1) y n.2 (one_first l n.0.1 n.0.0.0 n.0.0.1 f passed)
-
--- ---- the condition
-
-read_found : {X : Type 0} (r : Result X PlacedFault) (x : X) → read_of r ≡ Ok x → r ≡ Ok x
-read_found (Ok y) x e = ap (λ z. Ok z) (ok_is y x e)
-read_found (Err f) x e = absurd cc
-
-test_found : (r : Result core.Expr PlacedFault) (t : Option core.Expr) → test_from (Some r) ≡ Ok t → (e : core.Expr) × (r ≡ Ok e) × (Some e ≡ t)
-test_found (Ok e) t h = (e, refl, ok_is {E = LineFault} (Some e) t h)
-test_found (Err f) t h = absurd cc
-
-module _ (policy : Policy) (schemes : Schemes) (relation : ℕ) where
-  -- tokens were passed; and where they are those of a text, they tell the test, which fits
-  record TestFound (l : Left) (t : Option core.Expr) (r : Left) : Type 0 where
-    tokens : List Token
-    passed : Passed tokens l r
-    tells : AreOfText tokens → TellsTest policy schemes relation t tokens
-    fits : AreOfText tokens → IfSome t (IsConditionOf schemes relation)
-
-  one_test : (l m r : Left) (at : ℕ) (read : Result core.Expr PlacedFault) (t : Option core.Expr) → taken (is_word (codes "where")) l ≡ Some (at, m) → condition_at policy schemes relation m ≡ Ok (read, r)
-      → test_from (Some read) ≡ Ok t → TestFound l t r
-  one_test l m r at read t is reads e =
-      let word = word_taken (codes "where") l (at, m) is in
-      let found = condition_found policy schemes relation m (read, r) reads in
-      let test = test_found read t e in
-      let told = found.told test.0 test.1 in
-      subst (λ (x : Option core.Expr). TestFound l x r) test.2 (record {
-        tokens = Word (codes "where") ∷ found.tokens;
-        passed = passed_more (Word (codes "where") ∷ []) found.tokens l m r word found.passed;
-        tells = λ all. record { condition = found.tokens; tokens = refl; tells = told all.1 };
-        fits = λ all. told_of_row schemes relation policy test.0 found.tokens (told all.1);
+  first_found : (s : State) (o : Option (ℕ × State)) (x : Option ℕ × State) → takes_word (codes "first") s ≡ o → first_behind s o ≡ Ok x → Found (IsFirst false) s x
+  first_found s None x is e = no_first false s x e
+  first_found s (Some word) x is e =
+      found_after (IsFirst false) (Word (codes "first") ∷ []) s word.1 x (word_taken (codes "first") s word is)
+      (found_noted (λ us y. IsFirst false (Word (codes "first") ∷ us) y) word.1 (token (pass_known number_of) word.1) (λ n. Some (count_of n.0)) (λ n. unless (is_count n.0) n.1 cause.Kind) (known_read number_of word.1)
+      (λ n ts none r. record {
+        tokens = λ i. Word (codes "first") ∷ (r.2 ∙ ap (λ t. t ∷ []) (number_is r.0 n.0 r.1 ∙ ap (λ (z : ℤ). Int z) (count_is n.0 (holds (is_count n.0) n.1 _ none)))) i;
+        whole = λ h. absurd cc;
       })
+      x e)
 
-  where_found : (l : Left) (y : Option (Result core.Expr PlacedFault) × Left) (t : Option core.Expr) → where_at policy schemes (Some relation) l ≡ Ok y → test_from y.0 ≡ Ok t → TestFound l t y.1
-  unfolding where_at
-  where_found l y t e was = behind (taken (is_word (codes "where")) l) refl e was
-    where
-      behind : (o : Option (ℕ × Left)) → taken (is_word (codes "where")) l ≡ o → where_behind policy schemes (Some relation) l o ≡ Ok y → test_from y.0 ≡ Ok t → TestFound l t y.1
-      behind None is h =
-          of_read (λ (z : Option (Result core.Expr PlacedFault) × Left). test_from z.0 ≡ Ok t → TestFound l t z.1) (None, l) y h
-          (λ same. subst (λ (x : Option core.Expr). TestFound l x l) (ok_is {E = LineFault} None t same) (record { tokens = []; passed = passed_none l; tells = λ _. refl; fits = λ _. tt }))
-      behind (Some x) is h =
-          let c = bind_ok (read_of (condition_at policy schemes relation x.1)) (λ c. Ok (Some c.0, c.1)) y h in
-          of_read (λ (z : Option (Result core.Expr PlacedFault) × Left). test_from z.0 ≡ Ok t → TestFound l t z.1) (Some c.0.0, c.0.1) y c.2
-          (one_test l x.1 c.0.1 x.0 c.0.0 t is (read_found (condition_at policy schemes relation x.1) c.0 c.1))
+  first_read : (counts : Bool) (s : State) (x : Option ℕ × State) → first_at counts s ≡ Ok x → Found (IsFirst counts) s x
+  unfolding first_at
+  first_read true s x e = no_first true s x e
+  first_read false s x e = first_found s (takes_word (codes "first") s) x refl e
 
-  -- ---- a query
+  -- ---- the condition
 
-  pub record QueryFound (counts : Bool) (l : Left) (q : Query) (r : Left) : Type 0 where
-    pub tokens : List Token
-    pub passed : Passed tokens l r
-    pub tells : AreOfText tokens → TellsQuery policy schemes relation q tokens
-    pub fits : AreOfText tokens → QueryFits policy schemes relation q counts
+  module _ (relation : ℕ) where
+    record IsTest (ts : List Token) (t : Option Expr) : Type 0 where
+      tells : TellsTest policy schemes relation t ts
+      fits : IfSome t (IsConditionOf schemes relation)
 
-  record PartsSaid (a : Asked) (q : Query) : Type 0 where
-    highest_is : q.highest ≡ a.highest
-    class_is : class_from policy a.class ≡ Ok q.class
-    first_is : first_from a.first ≡ Ok q.first
-    test_is : test_from a.test ≡ Ok q.test
+    where_found : (s : State) (o : Option (ℕ × State)) (x : Option Expr × State) → takes_word (codes "where") s ≡ o → where_behind policy schemes relation s o ≡ Ok x → Found IsTest s x
+    where_found s None x is e = subst (Found IsTest s) (ok_is {E = PlacedFault} (None, s) x e) (found_none IsTest None s (record { tells = refl; fits = tt }))
+    where_found s (Some word) x is e =
+        found_after IsTest (Word (codes "where") ∷ []) s word.1 x (word_taken (codes "where") s word is)
+        (found_made (λ us y. IsTest (Word (codes "where") ∷ us) y) word.1 (condition_at policy schemes relation word.1) (λ e. Some e) (condition_found policy schemes relation word.1)
+        (λ e ts h. record { tells = record { condition = ts; tokens = refl; tells = h }; fits = told_of_row schemes relation policy e ts h })
+        x e)
 
-  parts_said : (a : Asked) (q : Query) → query_from policy a ≡ Ok q → PartsSaid a q
-  unfolding query_from
-  parts_said a q e =
-      let c = bind_ok (class_from policy a.class) (λ c. first_from a.first >>= λ f. test_from a.test >>= λ t. Ok (record { highest = a.highest; class = c; test = t; first = f })) q e in
-      let f = bind_ok (first_from a.first) (λ f. test_from a.test >>= λ t. Ok (record { highest = a.highest; class = c.0; test = t; first = f })) q c.2 in
-      let t = bind_ok (test_from a.test) (λ t. Ok (record { highest = a.highest; class = c.0; test = t; first = f.0 })) q f.2 in
-      let made : Query = record { highest = a.highest; class = c.0; test = t.0; first = f.0 } in
-      subst (PartsSaid a) (ok_is {E = LineFault} made q t.2) (record { highest_is = refl; class_is = c.1; first_is = f.1; test_is = t.1 })
+    where_read : (s : State) (x : Option Expr × State) → where_at policy schemes relation s ≡ Ok x → Found IsTest s x
+    unfolding where_at
+    where_read s x e = where_found s (takes_word (codes "where") s) x refl e
 
-  pub query_found : (counts : Bool) (l : Left) (y : Asked × Left) (q : Query) → query_at policy schemes counts (Some relation) l ≡ Ok y → query_from policy y.0 ≡ Ok q → QueryFound counts l q y.1
-  unfolding query_at
-  query_found counts l y q e was =
-      let h = highest_at l in
-      let c = bind_ok (form_of (class_at h.1)) (λ c. form_of (first_at counts c.1) >>= λ f. where_at policy schemes (Some relation) f.1 >>= λ t. Ok (record { highest = h.0; class = c.0; first = f.0; test = t.0 }, t.1)) y e in
-      let f = bind_ok (form_of (first_at counts c.0.1)) (λ f. where_at policy schemes (Some relation) f.1 >>= λ t. Ok (record { highest = h.0; class = c.0.0; first = f.0; test = t.0 }, t.1)) y c.2 in
-      let t = bind_ok (where_at policy schemes (Some relation) f.0.1) (λ t. Ok (record { highest = h.0; class = c.0.0; first = f.0.0; test = t.0 }, t.1)) y f.2 in
-      let asked : Asked = record { highest = h.0; class = c.0.0; first = f.0.0; test = t.0.0 } in
-      of_read (λ (z : Asked × Left). query_from policy z.0 ≡ Ok q → QueryFound counts l q z.1) (asked, t.0.1) y t.2 (λ same.
-      let said = parts_said asked q same in
-      let highest : Passed (highest_tokens q.highest) l h.1 = subst (λ (b : Bool). Passed (highest_tokens b) l h.1) (sym said.highest_is) (highest_found l) in
-      let class = class_found policy h.1 c.0 q.class (form_found (class_at h.1) c.0 c.1) said.class_is in
-      let first = first_found counts c.0.1 f.0 q.first (form_found (first_at counts c.0.1) f.0 f.1) said.first_is in
-      let test = where_found f.0.1 t.0 q.test t.1 said.test_is in
-      let behind_class = passed_more (first_tokens q.first) test.tokens c.0.1 f.0.1 t.0.1 first.passed test.passed in
-      let behind_highest = passed_more (class_tokens policy q.class) (first_tokens q.first ++ test.tokens) h.1 c.0.1 t.0.1 class.passed behind_class in
-      let own : AreOfText (highest_tokens q.highest ++ (class_tokens policy q.class ++ (first_tokens q.first ++ test.tokens))) → AreOfText test.tokens =
-      λ all. (split (first_tokens q.first) test.tokens (split (class_tokens policy q.class) (first_tokens q.first ++ test.tokens) (split (highest_tokens q.highest) (class_tokens policy q.class ++ (first_tokens q.first ++ test.tokens)) all).1).1).1 in
-      record {
-        tokens = highest_tokens q.highest ++ (class_tokens policy q.class ++ (first_tokens q.first ++ test.tokens));
-        passed = passed_more (highest_tokens q.highest) (class_tokens policy q.class ++ (first_tokens q.first ++ test.tokens)) l h.1 t.0.1 highest behind_highest;
-        tells = λ all. record { behind = test.tokens; tokens = refl; test = test.tells (own all) };
-        fits = λ all. record { class = class.within; test = test.fits (own all); whole = first.whole };
-      }) was
+    -- ---- a query
+
+    pub record IsQuery (counts : Bool) (ts : List Token) (q : Query) : Type 0 where
+      pub tells : TellsQuery policy schemes relation q ts
+      pub fits : QueryFits policy schemes relation q counts
+
+    abbrev asked : Bool → Option ClassTest → Option ℕ → Option Expr → Query
+    asked h c f t = record { highest = h; class = c; test = t; first = f }
+
+    -- behind the number of the first, and behind the class
+    abbrev IsBehindFirst : Bool → Option ClassTest → Option ℕ → List Token → Query → Type 0
+    IsBehindFirst h c f ts q = (t : Option Expr) × IsTest ts t × (q ≡ asked h c f t)
+
+    abbrev IsBehindClass : Bool → Bool → Option ClassTest → List Token → Query → Type 0
+    IsBehindClass counts h c ts q = (f : Option ℕ) × (us : List Token) × IsFirst counts (first_tokens f) f × (ts ≡ first_tokens f ++ us) × IsBehindFirst h c f us q
+
+    pub query_read : (counts : Bool) (s : State) (x : Query × State) → query_at policy schemes counts relation s ≡ Ok x → Found (IsQuery counts) s x
+    unfolding query_at
+    query_read counts s x e =
+        let h = highest_at s in
+        found_after (IsQuery counts) (highest_tokens h.0) s h.1 x (highest_found s (takes_word (codes "highest") s) refl)
+        (found_next (λ us q. IsQuery counts (highest_tokens h.0 ++ us) q) (λ c. IsBehindClass counts h.0 c) h.1 (class_at policy h.1)
+        (λ c. first_at counts c.1 >>= λ f. where_at policy schemes relation f.1 >>= λ t. Ok (asked h.0 c.0 f.0 t.0, t.1)) (class_read h.1)
+        (λ c. found_next (IsBehindClass counts h.0 c.0) (λ f. IsBehindFirst h.0 c.0 f) c.1 (first_at counts c.1) (λ f. where_at policy schemes relation f.1 >>= λ t. Ok (asked h.0 c.0 f.0 t.0, t.1)) (first_read counts c.1)
+        (λ f. found_made (IsBehindFirst h.0 c.0 f.0) f.1 (where_at policy schemes relation f.1) (asked h.0 c.0 f.0) (where_read f.1) (λ t ts is. (t, is, refl)))
+        (λ f q ts us first more. (f, us, record { tokens = refl; whole = first.whole }, (λ i. first.tokens i ++ us), more)))
+        (λ c q ts us class (f, vs, first, is, (t, test, same)).
+        subst (IsQuery counts (highest_tokens h.0 ++ (ts ++ us))) (sym same) (record {
+          tells = record { behind = vs; tokens = λ i. highest_tokens h.0 ++ (class.tokens i ++ is i); test = test.tells };
+          fits = record { class = class.within; test = test.fits; whole = first.whole };
+        }))
+        x e)

@@ -8,8 +8,6 @@ use Rattle.mls_script.specs.declared.event.Event.{Event}
 use Rattle.mls_script.specs.declared.fault.LineFault.{LineFault}
 use Rattle.mls_script.specs.Fault.{in_line}
 use Rattle.mls_script.specs.Reading.{line_at, lines_at, in_script, split_lines, script_at}
-use Rattle.mls_script.specs.OnePass.{line_heard}
-use Rattle.mls_script.proofs.LineSteps.{line_same}
 
 -- ---- lines
 
@@ -64,12 +62,12 @@ module _ (policy : Policy) (schemes : Schemes) (bytes : List ℕ) where
         go true e l = omega (arith, ap length (e refl), length-append line (10 ∷ after))
         go false e l = omega (arith, ap length ((l refl).1), some)
 
-    pub read_fault : (e : LineFault) → line_heard policy schemes line ended ≡ Err e → script_at policy schemes bytes ≡ Err (in_line (number + 1) e)
-    read_fault e is = onward ∙ ap (λ r. in_script (number + 1) r >>= λ e. lines_at policy schemes (number + 1 + 1) (events ++ option_to_list e) (split_lines [] after)) (line_same policy schemes line ended ∙ is)
+    pub read_fault : (e : LineFault) → line_at policy schemes line ended ≡ Err e → script_at policy schemes bytes ≡ Err (in_line (number + 1) e)
+    read_fault e is = onward ∙ ap (λ r. in_script (number + 1) r >>= λ e. lines_at policy schemes (number + 1 + 1) (events ++ option_to_list e) (split_lines [] after)) is
 
-    pub read_more : (o : Option Event) → line_heard policy schemes line ended ≡ Ok o → ReadSoFar (number + 1) (events ++ option_to_list o) after
+    pub read_more : (o : Option Event) → line_at policy schemes line ended ≡ Ok o → ReadSoFar (number + 1) (events ++ option_to_list o) after
     read_more o is = record {
-      same = onward ∙ ap (λ r. in_script (number + 1) r >>= λ e. lines_at policy schemes (number + 1 + 1) (events ++ option_to_list e) (split_lines [] after)) (line_same policy schemes line ended ∙ is);
+      same = onward ∙ ap (λ r. in_script (number + 1) r >>= λ e. lines_at policy schemes (number + 1 + 1) (events ++ option_to_list e) (split_lines [] after)) is;
       few = omega (arith, h.few, shorter);
     }
 

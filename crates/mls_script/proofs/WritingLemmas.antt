@@ -106,9 +106,6 @@ spaced ts a h = record { one = (λ e. absurd (omega (arith, e)), h.one); told = 
 next : (ts us : List Token) (a b : List ℕ) → IsWritten ts a → IsWritten us b → IsWritten (ts ++ us) (a ++ 32 ∷ b)
 next ts us a b f g = both ts us a (32 ∷ b) f (spaced us b g) (λ rest q. (refl, refl))
 
-ended : (ts : List Token) (a : List ℕ) → IsWritten ts a → IsWritten (ts ++ []) a
-ended ts a h = subst (λ x. IsWritten x a) (sym (append-nil ts)) h
-
 -- ---- one token
 
 word_written : (s : Name) → IsSpelled (Word s) → IsWritten (Word s ∷ []) s
@@ -275,11 +272,11 @@ module _ (policy : Policy) (schemes : Schemes) (is_policy : IsPolicy policy) (ar
       (next (Word (label_name policy.labels n) ∷ []) us (label_name policy.labels n) b (label_written n within) h)
 
   sets_behind : (relation : ℕ) (sets : Sets) → relation < length schemes → SetsFit (scheme_of schemes relation) sets → list_all (λ s. is_writable_value s.1) sets ≡ true
-      → IsWritten (Word (codes "set") ∷ (separated (set_tokens (scheme_of schemes relation)) sets ++ [])) (codes "set " ++ listed (set_text (scheme_of schemes relation)) sets)
+      → IsWritten (Word (codes "set") ∷ separated (set_tokens (scheme_of schemes relation)) sets) (codes "set " ++ listed (set_text (scheme_of schemes relation)) sets)
   sets_behind relation sets within fits h =
       let scheme = scheme_of schemes relation in
-      behind_word (codes "set") (separated (set_tokens scheme) sets ++ []) (listed (set_text scheme) sets) (word_spelled (codes "set") refl refl refl)
-      (ended (separated (set_tokens scheme) sets) (listed (set_text scheme) sets) (sets_written scheme (scheme_is schemes are_schemes relation within) sets fits h))
+      behind_word (codes "set") (separated (set_tokens scheme) sets) (listed (set_text scheme) sets) (word_spelled (codes "set") refl refl refl)
+      (sets_written scheme (scheme_is schemes are_schemes relation within) sets fits h)
 
   -- a level, a session and what follows
   begun : (level : ℕ) (session : Name) (us : List Token) (b : List ℕ) → level < length policy.labels → is_name session ≡ true → IsWritten us b
@@ -299,16 +296,16 @@ module _ (policy : Policy) (schemes : Schemes) (is_policy : IsPolicy policy) (ar
     line_written (Write relation (Insert key values)) fits h =
         let p = and_parts (are_writable key) (are_writable values) h in
         let head = Word (codes "insert") ∷ Word (relation_name schemes relation) ∷ Word (codes "key") ∷ list_tokens key in
-        begun level session (head ++ Word (codes "values") ∷ (list_tokens values ++ [])) (command_text policy schemes (Write relation (Insert key values))) within is
-        (subst (IsWritten (head ++ Word (codes "values") ∷ (list_tokens values ++ []))) (sym (append_assoc (keyed schemes (codes "insert ") relation key) (codes " values ") (list_text values)))
-        (next head (Word (codes "values") ∷ (list_tokens values ++ [])) (keyed schemes (codes "insert ") relation key) (codes "values " ++ list_text values)
+        begun level session (head ++ Word (codes "values") ∷ list_tokens values) (command_text policy schemes (Write relation (Insert key values))) within is
+        (subst (IsWritten (head ++ Word (codes "values") ∷ list_tokens values)) (sym (append_assoc (keyed schemes (codes "insert ") relation key) (codes " values ") (list_text values)))
+        (next head (Word (codes "values") ∷ list_tokens values) (keyed schemes (codes "insert ") relation key) (codes "values " ++ list_text values)
         (keyed_written (codes "insert") relation key (word_spelled (codes "insert") refl refl refl) fits.0 fits.1.0 p.0)
-        (behind_word (codes "values") (list_tokens values ++ []) (list_text values) (word_spelled (codes "values") refl refl refl)
-        (ended (list_tokens values) (list_text values) (values_written (scheme_of schemes relation).others values fits.1.1 p.1)))))
+        (behind_word (codes "values") (list_tokens values) (list_text values) (word_spelled (codes "values") refl refl refl)
+        (values_written (scheme_of schemes relation).others values fits.1.1 p.1))))
     line_written (Write relation (Update key key_class from sets)) fits h =
         let p = and_parts (are_writable key) (list_all (λ s. is_writable_value s.1) sets) h in
         let head = Word (codes "update") ∷ Word (relation_name schemes relation) ∷ Word (codes "key") ∷ list_tokens key in
-        let changes = Word (codes "set") ∷ (separated (set_tokens (scheme_of schemes relation)) sets ++ []) in
+        let changes = Word (codes "set") ∷ separated (set_tokens (scheme_of schemes relation)) sets in
         let tail = Word (codes "class") ∷ Word (label_name policy.labels key_class) ∷ Word (codes "from") ∷ Word (label_name policy.labels from) ∷ changes in
         let set_end = codes "set " ++ listed (set_text (scheme_of schemes relation)) sets in
         let from_end = codes "from " ++ (label_name policy.labels from ++ 32 ∷ set_end) in

@@ -6,9 +6,6 @@ use Rattle.mls_script.specs.declared.fault.ScriptCause.TheVariants.{TooLong, Mem
 use Rattle.mls_script.specs.declared.fault.LineFault.{LineFault}
 use Rattle.mls_script.specs.declared.fault.ScriptFault.{ScriptFault}
 use Rattle.mls_script.specs.declared.fault.TheConstants.{WORDS}
-use Rattle.mls_tokens.specs.declared.fault.TokenCause.{TokenCause}
-use Rattle.mls_tokens.specs.declared.fault.TokenCause.TheVariants as tokens
-use Rattle.mls_tokens.specs.declared.fault.TokenFault.{TokenFault}
 use Rattle.mls_parser.specs.declared.fault.TextCause.{TextCause}
 use Rattle.mls_parser.specs.declared.fault.TextCause.TheVariants as texts
 use Rattle.mls_parser.specs.declared.fault.PlacedFault.{PlacedFault}
@@ -35,29 +32,18 @@ line_fault at cause = record { at = at; cause = cause }
 abbrev pub in_line : ℕ → LineFault → ScriptFault
 in_line line f = record { line = line; column = f.at; cause = f.cause }
 
--- ---- faults of the tokens
+-- ---- faults of what is read
 
-abbrev pub lifted_cause : TokenCause → ScriptCause
-lifted_cause tokens.Token = Token
-lifted_cause tokens.Expected = Expected
-lifted_cause tokens.TooLong = TooLong
-lifted_cause tokens.Memory = Memory
+abbrev pub script_cause : TextCause → ScriptCause
+script_cause texts.Token = Token
+script_cause texts.Expected = Expected
+script_cause texts.UnknownName = UnknownName
+script_cause texts.Kind = Kind
+script_cause texts.Repeated = Repeated
+script_cause texts.Depth = Depth
+script_cause texts.TooLong = TooLong
+script_cause texts.LabelOrder = Kind
+script_cause texts.Memory = Memory
 
-abbrev pub lifted : TokenFault → LineFault
-lifted f = line_fault f.at (lifted_cause f.cause)
-
--- ---- faults of conditions
-
-abbrev pub condition_cause : TextCause → ScriptCause
-condition_cause texts.Token = Token
-condition_cause texts.Expected = Expected
-condition_cause texts.UnknownName = UnknownName
-condition_cause texts.Kind = Kind
-condition_cause texts.Repeated = Repeated
-condition_cause texts.Depth = Depth
-condition_cause texts.TooLong = TooLong
-condition_cause texts.LabelOrder = Kind
-condition_cause texts.Memory = Memory
-
-abbrev pub of_condition : PlacedFault → LineFault
-of_condition f = line_fault f.at (condition_cause f.cause)
+abbrev pub on_line : PlacedFault → LineFault
+on_line f = line_fault f.at (script_cause f.cause)

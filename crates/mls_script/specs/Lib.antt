@@ -6,8 +6,8 @@ pub mod RunFault
 pub mod Grammar
 pub mod Tokens
 pub mod QueryTokens
+pub mod ReadList
 pub mod ReadQuery
 pub mod Reading
-pub mod OnePass
 pub mod Script
 pub mod Writing

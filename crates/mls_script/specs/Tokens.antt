@@ -1,19 +1,19 @@
 -- The tokens that tell an event.
-use Rattle.std.specs.Prelude.{ℕ, List, [], ◌∷◌, ◌++◌, Option, Some, None, codes, flat_map}
+use Rattle.std.specs.Prelude.{ℕ, List, [], ◌∷◌, ◌++◌, Option, Some, None, codes}
 use Rattle.mls_lattice.specs.Canon.{label_name}
 use Rattle.mls_lattice.specs.Policy.{Name, Policy}
 use Rattle.mls_scheme.specs.declared.value.Value.{Value}
 use Rattle.mls_scheme.specs.declared.value.Value.TheVariants as values
 use Rattle.mls_scheme.specs.Scheme.{Scheme, Schemes, scheme_of, other_of}
+use Rattle.mls_scheme.specs.declared.write.Write.TheVariants.{Insert, Update, Delete}
 use Rattle.mls_tokens.specs.declared.token.Token.{Token}
 use Rattle.mls_tokens.specs.declared.token.Token.TheVariants.{Word, Int, Text, Sign}
 use Rattle.mls_tokens.specs.Text.{separated}
 use Rattle.mls_tokens.specs.declared.sign.Sign.TheVariants.{LeftParen, RightParen, Equals}
 use Rattle.mls_script.specs.declared.event.Event.{Event}
-use Rattle.mls_script.specs.declared.draft.Draft.{Draft}
-use Rattle.mls_script.specs.declared.grammar.Part.{Part}
-use Rattle.mls_script.specs.declared.grammar.Part.TheVariants as parts
-use Rattle.mls_script.specs.Grammar.{part_word, parts_of, verb_word, verb_of, drafted}
+use Rattle.mls_script.specs.declared.event.Command.{Command}
+use Rattle.mls_script.specs.declared.event.Command.TheVariants as commands
+use Rattle.mls_script.specs.Grammar.{verb_word, verb_of}
 
 -- ---- names by number
 
@@ -36,33 +36,36 @@ set_tokens scheme s = Word (other_of scheme s.0).0 ∷ Sign Equals ∷ value_tok
 
 -- ---- a line
 
-abbrev pub word_tokens : Option Name → List Token
-word_tokens None = []
-word_tokens (Some w) = Word w ∷ []
-
 module _ (policy : Policy) (schemes : Schemes) where
-  -- what a part says
-  abbrev pub said : Draft → Part → List Token
-  said d parts.Level = Word (label_name policy.labels d.level) ∷ []
-  said d parts.Session = Word d.session ∷ []
-  said d parts.Name = Word d.name ∷ []
-  said d parts.Relation = Word (relation_name schemes d.relation) ∷ []
-  said d parts.Key = list_tokens d.key
-  said d parts.Values = list_tokens d.values
-  said d parts.Arguments = list_tokens d.values
-  said d parts.At = Word (label_name policy.labels d.label) ∷ []
-  said d parts.Class = Word (label_name policy.labels d.label) ∷ []
-  said d parts.From = Word (label_name policy.labels d.from) ∷ []
-  said d parts.Sets = separated (set_tokens (scheme_of schemes d.relation)) d.sets
+  abbrev pub label_token : ℕ → Token
+  label_token label = Word (label_name policy.labels label)
 
-  abbrev pub part_tokens : Draft → Part → List Token
-  part_tokens d p = word_tokens (part_word p) ++ said d p
+  abbrev pub relation_token : ℕ → Token
+  relation_token relation = Word (relation_name schemes relation)
 
-  abbrev pub parts_tokens : Draft → List Part → List Token
-  parts_tokens d = flat_map (part_tokens d)
+  -- a relation and a key of it
+  abbrev pub keyed_tokens : ℕ → List (Option Value) → List Token
+  keyed_tokens relation key = relation_token relation ∷ Word (codes "key") ∷ list_tokens key
 
-  -- the level, the session, the verb and its parts
+  -- behind the verb; the query of a view stands behind these
+  abbrev pub command_tokens : Command → List Token
+  command_tokens (commands.Open user) = Word user ∷ []
+  command_tokens commands.Close = []
+  command_tokens commands.Audit = []
+  command_tokens (commands.View relation label query counts) =
+      relation_token relation ∷ Word (codes "at") ∷ label_token label ∷ []
+  command_tokens (commands.Dump relation) = relation_token relation ∷ []
+  command_tokens (commands.Write relation (Insert key values)) =
+      keyed_tokens relation key ++ Word (codes "values") ∷ list_tokens values
+  command_tokens (commands.Write relation (Update key key_class from sets)) =
+      keyed_tokens relation key
+      ++ Word (codes "class") ∷ label_token key_class ∷ Word (codes "from") ∷ label_token from
+      ∷ Word (codes "set") ∷ separated (set_tokens (scheme_of schemes relation)) sets
+  command_tokens (commands.Write relation (Delete key key_class)) =
+      keyed_tokens relation key ++ Word (codes "class") ∷ label_token key_class ∷ []
+  command_tokens (commands.Call tx args) = Word tx ∷ list_tokens args
+
+  -- the level, the session, the verb and what follows it
   abbrev pub event_tokens : Event → List Token
   event_tokens e =
-      parts_tokens (drafted e) (parts.Level ∷ parts.Session ∷ [])
-      ++ Word (verb_word (verb_of e.command)) ∷ parts_tokens (drafted e) (parts_of (verb_of e.command))
+      label_token e.level ∷ Word e.session ∷ Word (verb_word (verb_of e.command)) ∷ command_tokens e.command

@@ -1,10 +1,11 @@
 //! Why a script is refused, and where.
 ghost use Rattle.std.specs.Prelude.{◌≡◌};
-ghost use Rattle.mls_script.specs.Fault.{code_of, word_of, lifted, of_condition, in_line};
+ghost use Rattle.mls_parser.specs.declared.fault.TextCause.TheVariants.{Expected};
+ghost use Rattle.mls_parser.specs.Fault.{fault};
+ghost use Rattle.mls_script.specs.Fault.{code_of, word_of, on_line, in_line};
 
 use mls_lattice::words;
 use mls_parser::{PlacedFault, TextCause};
-use mls_tokens::{TokenCause, TokenFault};
 use std::fmt;
 use thiserror::Error;
 
@@ -88,27 +89,9 @@ impl LineFault {
     }
 }
 
-/// A fault of the tokens.
-impl From<TokenFault> for LineFault {
-    ghost from_gives = { λ f e. e ≡ lifted f };
-
-    fn from(fault: TokenFault) -> LineFault {
-        let cause = match fault.cause {
-            TokenCause::Token => ScriptCause::Token,
-            TokenCause::Expected => ScriptCause::Expected,
-            TokenCause::TooLong => ScriptCause::TooLong,
-            TokenCause::Memory => ScriptCause::Memory,
-        };
-        LineFault {
-            at: fault.at,
-            cause,
-        }
-    }
-}
-
-/// A fault of a condition, which has none of labels.
+/// A fault of what is read of a line, which has none of the order of labels.
 impl From<PlacedFault> for LineFault {
-    ghost from_gives = { λ f e. e ≡ of_condition f };
+    ghost from_gives = { λ f e. e ≡ on_line f };
 
     fn from(fault: PlacedFault) -> LineFault {
         let cause = match fault.cause {
@@ -125,5 +108,15 @@ impl From<PlacedFault> for LineFault {
             at: fault.at,
             cause,
         }
+    }
+}
+
+/// The fault of a token that nothing goes on with.
+pub(crate) fn unexpected(at: usize) -> PlacedFault
+    ensures { result ≡ fault at Expected }
+{
+    PlacedFault {
+        at,
+        cause: TextCause::Expected,
     }
 }

@@ -1,19 +1,18 @@
 //! Scripts: the events that a text tells, and why their runs stop.
 #![tactic(auto)]
 
+ghost use Rattle.mls_script.specs.Reading.{LinesAreJudged};
 ghost use Rattle.mls_script.specs.Script.{ScriptsAreOnce};
 ghost use Rattle.mls_script.specs.Writing.{LinesAreRead};
 
-mod draft;
+mod command;
 mod event;
 mod fault;
 mod grammar;
 mod lists;
-mod lookup;
 mod query;
 mod reading;
 mod run_fault;
-mod sentence;
 mod writing;
 
 pub use event::{Command, Event};
@@ -21,6 +20,11 @@ pub use fault::{ScriptCause, ScriptFault};
 pub use reading::script;
 pub use run_fault::{RunCause, RunFault};
 pub use writing::{is_writable, push_cell, push_event, push_value};
+
+/// Of all faults of names and kinds of a line whose form is right, the least is answered.
+pub fn lines_are_judged()
+    ensures { LinesAreJudged }
+{}
 
 /// A text tells the events of one list at most.
 pub fn scripts_are_read_once()

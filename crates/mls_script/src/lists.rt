@@ -1,38 +1,26 @@
-//! Lists of values, and new values.
-ghost use Rattle.std.specs.Prelude.{◌≡◌, ◌<◌, [], length, IfOk, IfErr, option_map};
-ghost use Rattle.mls_tokens.specs.declared.fault.TokenCause.TheVariants.{Memory};
-ghost use Rattle.mls_tokens.specs.Scanning.{Reads};
-ghost use Rattle.mls_script.specs.ReadQuery.{heard};
-ghost use Rattle.mls_script.specs.Reading.{value_of_token, pass_value, items_at, listed, values_at, pass_list};
-ghost use Rattle.mls_script.specs.Reading.{pass_setting, sets_from};
-ghost use Rattle.mls_script.specs.OnePass.{push_value, push_set};
+//! Values, lists of them, and new values of attributes, from the tokens that are left.
+ghost use Rattle.std.specs.Prelude.{◌≡◌, ◌<◌, [], length, map, nat_eq, option_map, IfSome, OnOk};
+ghost use Rattle.std.specs.List.{list_any};
+ghost use Rattle.mls_scheme.specs.Scheme.{other_of};
+ghost use Rattle.mls_scheme.specs.Value.{fits_kind};
+ghost use Rattle.mls_parser.specs.Names.{other_named};
+ghost use Rattle.mls_parser.specs.Noted.{Gives, note};
+ghost use Rattle.mls_parser.specs.ReadList.{items_at, with_set};
+ghost use Rattle.mls_script.specs.ReadList.{value_of_token, value_at, fits_attribute, attribute_at, are_as_many};
+ghost use Rattle.mls_script.specs.ReadList.{item_at, list_at, set_faults, set_at, sets_at};
 
-use crate::fault::LineFault;
-use crate::lookup::set_of;
-use mls_lattice::{Items, Str};
-use mls_scheme::{Scheme, Value};
-use mls_tokens::{Sign, Token, TokenCause, TokenFault, Tokens};
-use std::alloc::Global;
+use crate::fault::unexpected;
+use mls_lattice::Items;
+use mls_parser::{Name, PlacedFault, Reader, TextCause};
+use mls_scheme::{Attributes, Scheme, Value, fits_kind};
+use mls_tokens::{Sign, Token};
+use std::alloc::{AllocError, Global};
 
-/// The values of a list, the places of their first bytes in the same order, and the place of the list's end.
-#[derive(Drop)]
-pub(crate) struct Listed {
-    pub values: Items<Option<Value>>,
-    pub places: Items<usize>,
-    pub end: usize,
-}
+/// A value or null as it is written, and the place of its first byte.
+type PlacedValue = (Option<Value>, usize);
 
 /// New values of attributes outside the key, by their numbers.
 pub(crate) type Sets = Items<(usize, Option<Value>)>;
-
-/// An attribute's name and its new value, and their places.
-#[derive(Drop)]
-pub(crate) struct Setting {
-    pub name: Str,
-    pub name_at: usize,
-    pub value: Option<Value>,
-    pub value_at: usize,
-}
 
 /// The value or null that a token is, if it is one.
 fn value_of_token(token: Token) -> Option<Option<Value>>
@@ -53,140 +41,201 @@ fn value_of_token(token: Token) -> Option<Option<Value>>
 }
 
 /// Passes a value or null, and gives it with its place.
-fn value(tokens: &mut Tokens) -> Result<(Option<Value>, usize), TokenFault>
-    ensures exact { Reads (λ x. ((x.0, x.1), tokens.new)) result (pass_value tokens.old) }
-    ensures shorter { IfOk result (λ _. length tokens.new.placed < length tokens.old.placed) }
+fn value(reader: &mut Reader) -> Result<PlacedValue, PlacedFault>
+    ensures { Gives (λ x. ((x.0, x.1), reader.new)) result (value_at reader.old) }
 {
-    let Some(first) = tokens.pop() else {
-        return Err(tokens.stop());
-    };
-    match value_of_token(first.token) {
-        Some(value) => Ok((value, first.at)),
-        None => Err(TokenFault {
-            at: first.at,
-            cause: TokenCause::Expected,
-        }),
-    }
+    let first = reader.tokens.pop().ok_or(reader.tokens.stop())?;
+    let value = value_of_token(first.token).ok_or(unexpected(first.at))?;
+    Ok((value, first.at))
 }
 
-/// One value more, with its place.
-fn push_value(listed: Listed, value: Option<Value>, at: usize) -> Result<Listed, TokenFault>
-    ensures exact { IfOk result (λ l. l ≡ push_value listed (value, at)) }
-    ensures memory { IfErr result (λ e. e.cause ≡ Memory) }
-{
-    let Listed {
-        values,
-        places,
-        end,
-    } = listed;
-    let mut values = values.into_vec();
-    values.push(value)?;
-    let mut places = places.into_vec();
-    places.push(at)?;
-    Ok(Listed {
-        values: Items::from(values),
-        places: Items::from(places),
-        end,
-    })
-}
+// ---- lists
 
-fn none_listed(alloc: Global) -> Listed
-    ensures { result ≡ listed [] }
+/// Whether a value may stand at a place of a list.
+#[tactic(auto, using(crate::proofs::ItemSteps::slot_steps))]
+fn fits_attribute(attributes: Option<&Attributes>, place: usize, value: &Option<Value>) -> bool
+    ensures { result ≡ fits_attribute (attribute_at (option_map (λ a. a.now) attributes.entry) place) value.now }
 {
-    Listed {
-        values: Items::from(Vec::new(alloc)),
-        places: Items::from(Vec::new(alloc)),
-        end: 0,
-    }
-}
-
-/// Passes values with a comma between each two. No end is known yet.
-#[tactic(auto, using(crate::proofs::ItemSteps::item_steps))]
-fn values(alloc: Global, tokens: &mut Tokens) -> Result<Listed, TokenFault>
-    ensures { Reads (λ x. (x, tokens.new)) result (values_at tokens.old) }
-{
-    let mut listed = none_listed(alloc);
-    loop {
-        let (value, at) = value(tokens)?;
-        listed = push_value(listed, value, at)?;
-        let Some(_) = tokens.takes_sign(Sign::Comma) else {
-            return Ok(listed);
-        };
-    }
-}
-
-/// Passes a list of values.
-#[tactic(auto, unfolding(crate::specs::Reading::pass_list))]
-pub(crate) fn list(alloc: Global, tokens: &mut Tokens) -> Result<Listed, TokenFault>
-    ensures { Reads (λ x. (x, tokens.new)) result (pass_list tokens.old) }
-{
-    tokens.sign(Sign::LeftParen)?;
-    if let Some(end) = tokens.takes_sign(Sign::RightParen) {
-        let mut listed = none_listed(alloc);
-        listed.end = end;
-        return Ok(listed);
-    }
-    let mut listed = values(alloc, tokens)?;
-    listed.end = tokens.sign(Sign::RightParen)?;
-    Ok(listed)
-}
-
-/// Passes an attribute and its new value.
-#[tactic(auto, unfolding(crate::specs::Reading::pass_setting))]
-fn pass_setting(tokens: &mut Tokens) -> Result<Setting, TokenFault>
-    ensures exact { Reads (λ x. (x, tokens.new)) result (pass_setting tokens.old) }
-    ensures shorter { IfOk result (λ _. length tokens.new.placed < length tokens.old.placed) }
-{
-    let (name, name_at) = tokens.name()?;
-    tokens.sign(Sign::Equals)?;
-    let (value, value_at) = value(tokens)?;
-    Ok(Setting {
-        name,
-        name_at,
-        value,
-        value_at,
-    })
-}
-
-/// One new value more, unless there was a fault before.
-fn push_set(
-    scheme: Option<&Scheme>,
-    looked: Result<Sets, LineFault>,
-    setting: Setting,
-) -> Result<Result<Sets, LineFault>, TokenFault>
-    ensures exact { IfOk result (λ r. r ≡ push_set (option_map (λ s. s.now) scheme.entry) looked setting) }
-    ensures memory { IfErr result (λ e. e.cause ≡ Memory) }
-{
-    let sets = match looked {
-        Ok(sets) => sets,
-        Err(fault) => return Ok(Err(fault)),
-    };
-    match set_of(scheme, &sets, setting) {
-        Ok(set) => {
-            let mut sets = sets.into_vec();
-            sets.push(set)?;
-            Ok(Ok(Items::from(sets)))
+    match attributes {
+        Some(attributes) if place < attributes.len() => {
+            fits_kind(value, attributes.get(place).kind)
         }
-        Err(fault) => Ok(Err(fault)),
+        _ => true,
     }
 }
 
-/// Passes new values, one or more with a comma between each two.
-#[tactic(auto, using(crate::proofs::ItemSteps::item_steps))]
-pub(crate) fn new_sets(
-    alloc: Global,
-    scheme: Option<&Scheme>,
-    tokens: &mut Tokens,
-) -> Result<Result<Sets, LineFault>, TokenFault>
-    ensures { Reads (λ x. (x, tokens.new)) result
-        (heard (sets_from (option_map (λ s. s.now) scheme.entry) []) (items_at pass_setting tokens.old)) }
+/// Whether a list has a value for each attribute.
+fn are_as_many(attributes: Option<&Attributes>, count: usize) -> bool
+    ensures { result ≡ are_as_many (option_map (λ a. a.now) attributes.entry) count }
 {
-    let mut looked = Ok(Items::from(Vec::new(alloc)));
-    loop {
-        let setting = pass_setting(tokens)?;
-        looked = push_set(scheme, looked, setting)?;
-        let Some(_) = tokens.takes_sign(Sign::Comma) else {
-            return Ok(looked);
-        };
+    match attributes {
+        Some(attributes) => count == attributes.len(),
+        None => true,
     }
+}
+
+/// One value more, behind those before.
+#[tactic(auto, unfolding(crate::specs::ReadList::item_at))]
+fn item(
+    reader: &mut Reader,
+    attributes: Option<&Attributes>,
+    front: &mut Vec<Option<Value>>,
+) -> Result<(), PlacedFault>
+    ensures { Gives (λ _. (front.new.items, reader.new)) result
+        (item_at (option_map (λ a. a.now) attributes.entry) front.old.items reader.old) }
+{
+    let (value, at) = value(reader)?;
+    let fits = fits_attribute(attributes, front.as_slice().len(), &value);
+    reader.note(fits, at, TextCause::Kind)?;
+    front.push(value)?;
+    Ok(())
+}
+
+/// Values, one or more with a comma between each two.
+#[tactic(auto, using(crate::proofs::ItemSteps::item_steps))]
+fn items(
+    alloc: Global,
+    reader: &mut Reader,
+    attributes: Option<&Attributes>,
+) -> Result<Vec<Option<Value>>, PlacedFault>
+    ensures { Gives (λ v. (v.items, reader.new)) result
+        (items_at (item_at (option_map (λ a. a.now) attributes.entry)) [] reader.old) }
+{
+    let mut items = Vec::new(alloc);
+    loop {
+        item(reader, attributes, &mut items)?;
+        if reader.takes_sign(Sign::Comma).is_none() {
+            return Ok(items);
+        }
+    }
+}
+
+/// A list in parentheses, with a value for each of some attributes, or with any values.
+#[tactic(auto, unfolding(crate::specs::ReadList::list_at))]
+pub(crate) fn list(
+    alloc: Global,
+    reader: &mut Reader,
+    attributes: Option<&Attributes>,
+) -> Result<Items<Option<Value>>, PlacedFault>
+    ensures { Gives (λ vs. (vs, reader.new)) result
+        (list_at (option_map (λ a. a.now) attributes.entry) reader.old) }
+{
+    reader.sign(Sign::LeftParen)?;
+    if let Some(end) = reader.takes_sign(Sign::RightParen) {
+        reader.note(are_as_many(attributes, 0), end, TextCause::Kind)?;
+        return Ok(Items::from(Vec::new(alloc)));
+    }
+    let items = items(alloc, reader, attributes)?;
+    let end = reader.sign(Sign::RightParen)?;
+    let fits = are_as_many(attributes, items.as_slice().len());
+    reader.note(fits, end, TextCause::Kind)?;
+    Ok(Items::from(items))
+}
+
+// ---- new values
+
+/// Whether an attribute has a new value already.
+fn is_set(sets: &[(usize, Option<Value>)], number: usize) -> bool
+    ensures { result ≡ list_any (nat_eq number) (map (λ s. s.0) sets.now) }
+{
+    for set in sets {
+        if number == set.0 {
+            return true;
+        }
+    }
+    false
+}
+
+/// The number of an attribute outside the key.
+#[tactic(auto, unfolding(mls_parser::specs::Names::other_named))]
+fn other(scheme: &Scheme, name: &Name) -> Option<usize>
+    ensures exact { result ≡ other_named scheme.now name.now.0 }
+    ensures within { IfSome result (λ i. i < length scheme.now.others) }
+{
+    scheme.others().place(name.0.as_str())
+}
+
+/// Whether a value has the kind of an attribute outside the key.
+#[tactic(auto, using(crate::proofs::ItemSteps::kind_steps))]
+fn fits_other(scheme: &Scheme, number: usize, value: &Option<Value>) -> bool
+    requires { number < length scheme.now.others }
+    ensures { result ≡ fits_kind value.now (other_of scheme.now number).1.kind }
+{
+    fits_kind(value, scheme.others().get(number).kind)
+}
+
+/// The faults of an attribute that gets a value, behind those before.
+fn note_set(
+    reader: &mut Reader,
+    scheme: &Scheme,
+    front: &[(usize, Option<Value>)],
+    name: &Name,
+    value: &PlacedValue,
+) -> Result<(), AllocError>
+    ensures { OnOk result (reader.new
+        ≡ note (set_faults scheme.now front.now name.now (other_named scheme.now name.now.0) value.now) reader.old) }
+{
+    match other(scheme, name) {
+        Some(number) => {
+            let again = is_set(front, number);
+            reader.note(!again, name.1, TextCause::Repeated)?;
+            let fits = fits_other(scheme, number, &value.0);
+            reader.note(fits, value.1, TextCause::Kind)
+        }
+        None => reader.note(false, name.1, TextCause::UnknownName),
+    }
+}
+
+/// One new value more, where the attribute is known.
+fn push_set(
+    front: &mut Vec<(usize, Option<Value>)>,
+    number: Option<usize>,
+    value: Option<Value>,
+) -> Result<(), AllocError>
+    ensures { OnOk result (front.new.items ≡ with_set front.old.items number value) }
+{
+    if let Some(number) = number {
+        front.push((number, value))?;
+    }
+    Ok(())
+}
+
+/// An attribute and its new value, behind those before.
+#[tactic(auto, unfolding(crate::specs::ReadList::set_at))]
+fn set(
+    reader: &mut Reader,
+    scheme: &Scheme,
+    front: &mut Vec<(usize, Option<Value>)>,
+) -> Result<(), PlacedFault>
+    ensures { Gives (λ _. (front.new.items, reader.new)) result (set_at scheme.now front.old.items reader.old) }
+{
+    let name = reader.name()?;
+    reader.sign(Sign::Equals)?;
+    let value = value(reader)?;
+    note_set(reader, scheme, front.as_slice(), &name, &value)?;
+    push_set(front, other(scheme, &name), value.0)?;
+    Ok(())
+}
+
+/// New values, one or more with a comma between each two.
+#[tactic(auto, using(crate::proofs::ItemSteps::item_steps))]
+fn new_values(alloc: Global, reader: &mut Reader, scheme: &Scheme) -> Result<Sets, PlacedFault>
+    ensures { Gives (λ xs. (xs, reader.new)) result (items_at (set_at scheme.now) [] reader.old) }
+{
+    let mut sets = Vec::new(alloc);
+    loop {
+        set(reader, scheme, &mut sets)?;
+        if reader.takes_sign(Sign::Comma).is_none() {
+            return Ok(Items::from(sets));
+        }
+    }
+}
+
+/// A word, and new values behind it.
+#[tactic(auto, unfolding(crate::specs::ReadList::sets_at))]
+pub(crate) fn sets(alloc: Global, reader: &mut Reader, scheme: &Scheme) -> Result<Sets, PlacedFault>
+    ensures { Gives (λ xs. (xs, reader.new)) result (sets_at scheme.now reader.old) }
+{
+    reader.word("set")?;
+    new_values(alloc, reader, scheme)
 }

@@ -5,14 +5,15 @@ ghost use Rattle.mls_script.specs.declared.event.Event.{Event as TheEvent};
 ghost use Rattle.mls_script.specs.declared.fault.ScriptCause.TheVariants.{Memory};
 ghost use Rattle.mls_script.specs.Event.{EventFits};
 ghost use Rattle.mls_script.specs.Script.{ReadsScript};
-ghost use Rattle.mls_script.specs.ReadQuery.{Gives};
-ghost use Rattle.mls_script.specs.Reading.{IsRead, script_at};
-ghost use Rattle.mls_script.specs.OnePass.{line_heard};
+ghost use Rattle.mls_tokens.specs.Scanning.{tokens_at};
+ghost use Rattle.mls_parser.specs.Noted.{Gives as TextGives};
+ghost use Rattle.mls_script.specs.Reading.{Gives, IsRead, told_at, line_at, script_at};
 
+use crate::command::told;
 use crate::event::Event;
 use crate::fault::{LineFault, ScriptCause, ScriptFault};
-use crate::sentence::told;
 use mls_lattice::Policy;
+use mls_parser::{PlacedFault, Reader};
 use mls_scheme::Schemes;
 use mls_tokens::Tokens;
 use std::alloc::Global;
@@ -29,8 +30,22 @@ fn split_line(bytes: &[u8]) -> (&[u8], bool, &[u8])
     }
 }
 
+/// What a line tells, and the reader behind it.
+fn line_told(
+    alloc: Global,
+    policy: &Policy,
+    schemes: &Schemes,
+    line: &[u8],
+) -> Result<(Option<Event>, Reader), PlacedFault>
+    ensures { TextGives (λ x. (x.0, x.1)) result (told_at policy.now schemes.now ([], tokens_at line.now)) }
+{
+    let mut reader = Reader::new(alloc, Tokens::new(alloc, line)?);
+    let told = told(alloc, policy, schemes, &mut reader)?;
+    Ok((told, reader))
+}
+
 /// What a line tells, or its first fault.
-#[tactic(auto, unfolding(crate::specs::OnePass::line_heard))]
+#[tactic(auto, unfolding(crate::specs::Reading::line_at))]
 fn line_event(
     alloc: Global,
     policy: &Policy,
@@ -38,17 +53,19 @@ fn line_event(
     line: &[u8],
     ended: bool,
 ) -> Result<Option<Event>, LineFault>
-    ensures { Gives (λ e. e) result (line_heard policy.now schemes.now line.now ended) }
+    ensures { Gives (λ e. e) result (line_at policy.now schemes.now line.now ended) }
 {
-    let mut tokens = Tokens::new(alloc, line)?;
-    let told = told(alloc, policy, schemes, &mut tokens)?;
+    let (told, reader) = line_told(alloc, policy, schemes, line)?;
     if !ended {
         return Err(LineFault {
             at: line.len() + 1,
             cause: ScriptCause::Unterminated,
         });
     }
-    told.transpose()
+    match reader.least() {
+        Some(fault) => Err(LineFault::from(fault)),
+        None => Ok(told),
+    }
 }
 
 fn keep(events: &mut Vec<Event>, told: Option<Event>) -> Result<(), LineFault>
@@ -95,9 +112,10 @@ fn events_of(
 }
 
 /// The events of a script, in order. The first line that has a fault refuses the whole: on it 21 Token, 22
-/// Expected, 26 Depth, 27 TooLong and 30 Unterminated come before 23 UnknownName, 24 Kind and 25 Repeated. 29
-/// Memory may stand in place of any answer: at the token that is copied, or else at column 0 or 1 of the line.
-/// A call has any name and any values, since a script is read without the transactions.
+/// Expected, 26 Depth, 27 TooLong and 30 Unterminated come before 23 UnknownName, 24 Kind and 25 Repeated, of which
+/// the least is answered, by place and then by number. 29 Memory may stand in place of any answer: at the token that
+/// is copied, or else at column 0 or 1 of the line. A call has any name and any values, since a script is read
+/// without the transactions.
 pub fn script(
     alloc: Global,
     policy: &Policy,

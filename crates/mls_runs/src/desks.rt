@@ -23,7 +23,7 @@ use std::io::Write;
 
 /// A desk: lines that are answered.
 #[derive(Drop)]
-pub struct Desk<'l, 'o, L: TypedLines, W: Write> {
+pub(crate) struct Desk<'l, 'o, L: TypedLines, W: Write> {
     lines: &'l mut L,
     out: &'o mut W,
 }

@@ -47,7 +47,7 @@ pub fn run_over_base<B: Base, W: Write>(
 
 /// A script: events that are answered for an audience.
 #[derive(Drop)]
-pub struct Script<'e, 'o, W: Write> {
+pub(crate) struct Script<'e, 'o, W: Write> {
     events: &'e [Event],
     audience: Audience,
     out: &'o mut W,

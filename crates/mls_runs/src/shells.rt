@@ -25,7 +25,7 @@ use std::io::Write;
 
 /// A shell: the opening of a session, and lines that are answered.
 #[derive(Drop)]
-pub struct Shell<'s, 'f, 'l, 'o, 'e, L: TypedLines, W: Write, E: Write> {
+pub(crate) struct Shell<'s, 'f, 'l, 'o, 'e, L: TypedLines, W: Write, E: Write> {
     session: &'s ShellSession,
     first: &'f [Event],
     lines: &'l mut L,

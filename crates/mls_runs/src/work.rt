@@ -20,7 +20,7 @@ use mls_sessions::{RunFault, Stored};
 use std::alloc::Global;
 
 /// What is done over a base. It holds the streams that it reads and writes.
-pub trait Work {
+pub(crate) trait Work {
     /// How it ends.
     type End: Drop;
 
@@ -76,7 +76,7 @@ fn in_memory<K: Work>(
 }
 
 /// Does it over the database in a store of the host, or over an empty one in memory.
-pub fn over_store<H: Host, K: Work>(
+pub(crate) fn over_store<H: Host, K: Work>(
     alloc: Global,
     host: &mut H,
     store: Option<&str>,

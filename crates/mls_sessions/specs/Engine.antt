@@ -21,7 +21,8 @@ use Rattle.mls_queries.specs.Views.{AreViews}
 abbrev pub site : {B : Type 0} → Engine B → Site
 site e = site_of e.site
 
--- sessions may be held under a site: what is stored was read under its policy and schemes, and checked where it has a certificate
+-- sessions may be held under a site: what is stored was read under its policy and schemes, and checked where it has a
+-- certificate
 pub record MayServe (site : Site) : Type 0 where
   pub under : AreUnder (length site.policy.labels) site.schemes
   pub read : AreRead site

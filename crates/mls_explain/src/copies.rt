@@ -1,15 +1,12 @@
 //! Stores over copies of their files.
-ghost use Rattle.std.specs.Prelude.{◌≡◌, ◌⊎◌, Ok, Err, false, length, IsTrue, IfOk, IfErr, OnOk};
+ghost use Rattle.std.specs.Prelude.{◌≡◌, ◌⊎◌, Ok, Err, false, IsTrue, IfOk, IfErr, OnOk};
 ghost use Rattle.sqlite.specs.Files.{file_state};
 ghost use Rattle.sqlite.specs.Held.{state};
 ghost use Rattle.sqlite.specs.State.{HasCleanDisk};
-ghost use Rattle.mls_scheme.specs.Scheme.{AreUnder};
 ghost use Rattle.mls_fragments.specs.Opening.{IsFoundIn, IsOfOthers, IsBad};
 ghost use Rattle.mls_explain.specs.Diagnosis.{image, IsTakenOver, IsSoundIn, IsOthersIn, IsBadIn};
 
-use mls_fragments::{MemoryFile, OpenFault, SqlBase, connected};
-use mls_lattice::Policy;
-use mls_scheme::SchemesFile;
+use mls_fragments::{Design, MemoryFile, OpenFault, SqlBase, connected};
 use sqlite::{Alter, Connection, FileStore, Files, Options};
 use std::alloc::{AllocError, Global};
 
@@ -48,21 +45,20 @@ pub(crate) fn connection(
 fn adopted<S: Alter>(
     alloc: Global,
     conn: Connection<S>,
-    policy: &Policy,
-    file: &SchemesFile,
+    design: &Design<'_>,
 ) -> (Result<(), OpenFault>, Connection<S>)
-    requires under { AreUnder (length policy.now.labels) file.now.schemes }
     requires outside { HasCleanDisk (state S.Store conn) → IsTrue (state S.Store conn).is_open
         → (state S.Store conn).in_transaction ≡ false }
     ensures sound { HasCleanDisk (state S.Store result.1)
-        → OnOk result.0 (IsTakenOver policy.now file.now (state S.Store conn).now) }
+        → OnOk result.0 (IsTakenOver design.now.policy.now design.now.file.now (state S.Store conn).now) }
     ensures others { HasCleanDisk (state S.Store result.1) → IfErr result.0
-        (λ e. e ≡ OpenFault.OtherPolicy → IsOfOthers policy.now file.now (state S.Store conn).now) }
+        (λ e. e ≡ OpenFault.OtherPolicy
+        → IsOfOthers design.now.policy.now design.now.file.now (state S.Store conn).now) }
     ensures bad { HasCleanDisk (state S.Store result.1) → IfErr result.0
-        (λ e. e ≡ OpenFault.BadRows → IsBad policy.now file.now (state S.Store conn).now) }
+        (λ e. e ≡ OpenFault.BadRows → IsBad design.now.policy.now design.now.file.now (state S.Store conn).now) }
     ensures clean { HasCleanDisk (state S.Store result.1) → HasCleanDisk (state S.Store conn) }
 {
-    match SqlBase::adopt(alloc, conn, policy, file) {
+    match SqlBase::adopt(alloc, conn, design.policy, design.file) {
         Ok(base) => (Ok(()), base.into_connection()),
         Err((fault, conn)) => (Err(fault), conn),
     }
@@ -87,17 +83,17 @@ pub(crate) fn verdict(
     alloc: Global,
     log: &[u8],
     db: &[u8],
-    policy: &Policy,
-    file: &SchemesFile,
+    design: &Design<'_>,
 ) -> Result<(), OpenFault>
-    requires under { AreUnder (length policy.now.labels) file.now.schemes }
-    ensures sound { OnOk result (IsSoundIn policy.now file.now log.now db.now) }
-    ensures others { IfErr result (λ e. e ≡ OpenFault.OtherPolicy → IsOthersIn policy.now file.now log.now db.now) }
-    ensures bad { IfErr result (λ e. e ≡ OpenFault.BadRows → IsBadIn policy.now file.now log.now db.now) }
+    ensures sound { OnOk result (IsSoundIn design.now.policy.now design.now.file.now log.now db.now) }
+    ensures others { IfErr result (λ e. e ≡ OpenFault.OtherPolicy
+        → IsOthersIn design.now.policy.now design.now.file.now log.now db.now) }
+    ensures bad { IfErr result (λ e. e ≡ OpenFault.BadRows
+        → IsBadIn design.now.policy.now design.now.file.now log.now db.now) }
 {
     match connection(alloc, log, db) {
         Ok(conn) => {
-            let (outcome, conn) = adopted(alloc, conn, policy, file);
+            let (outcome, conn) = adopted(alloc, conn, design);
             verdict_of_opening(outcome, conn)
         }
         Err(fault) => Err(fault),

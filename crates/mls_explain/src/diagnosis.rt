@@ -7,7 +7,7 @@ use crate::copies::{connection, verdict};
 use crate::rows::tell_bad;
 use crate::teller::Told;
 use mls_advice::{difference_to, relations_to};
-use mls_fragments::{OpenFault, texts_of};
+use mls_fragments::{Design, OpenFault, texts_of};
 use mls_lattice::Policy;
 use mls_scheme::SchemesFile;
 use mls_tables::read_description;
@@ -35,13 +35,10 @@ pub struct Diagnosis {
 fn tell_others<S: Alter>(
     alloc: Global,
     text: &mut String,
-    policy: &Policy,
-    file: &SchemesFile,
+    design: &Design<'_>,
     conn: &mut Connection<S>,
-) -> Told
-    requires under { AreUnder (length policy.now.labels) file.now.schemes }
-{
-    let (labels, schemes) = texts_of(alloc, policy, file)?;
+) -> Told {
+    let (labels, schemes) = texts_of(alloc, design)?;
     let Ok(found) = read_description(conn, alloc) else {
         return Err(AllocError);
     };
@@ -70,11 +67,9 @@ fn lines_of(
     alloc: Global,
     log: &[u8],
     db: &[u8],
-    policy: &Policy,
-    file: &SchemesFile,
+    design: &Design<'_>,
     fault: OpenFault,
 ) -> Result<Vec<u8>, AllocError>
-    requires under { AreUnder (length policy.now.labels) file.now.schemes }
     ensures { IfOk result (λ _. fault ≢ OpenFault.Memory) }
 {
     let Some(advice) = advice_of(fault) else {
@@ -82,10 +77,8 @@ fn lines_of(
     };
     let mut text = String::new(alloc);
     match (fault, connection(alloc, log, db)) {
-        (OpenFault::OtherPolicy, Ok(mut conn)) => {
-            tell_others(alloc, &mut text, policy, file, &mut conn)?
-        }
-        (OpenFault::BadRows, Ok(mut conn)) => tell_bad(alloc, &mut text, policy, file, &mut conn)?,
+        (OpenFault::OtherPolicy, Ok(mut conn)) => tell_others(alloc, &mut text, design, &mut conn)?,
+        (OpenFault::BadRows, Ok(mut conn)) => tell_bad(alloc, &mut text, design, &mut conn)?,
         (OpenFault::Store, _) => {}
         _ => return Err(AllocError),
     }
@@ -105,14 +98,15 @@ pub fn diagnosis_of(
     requires under { AreUnder (length policy.now.labels) file.now.schemes }
     ensures { IfOk result (λ d. IsDiagnosis policy.now file.now log.now db.now d.fault) }
 {
-    match verdict(alloc, log, db, policy, file) {
+    let design = Design { policy, file };
+    match verdict(alloc, log, db, &design) {
         Ok(()) => Ok(Diagnosis {
             fault: None,
             text: Vec::new(alloc),
         }),
         Err(fault) => Ok(Diagnosis {
             fault: Some(fault),
-            text: lines_of(alloc, log, db, policy, file, fault)?,
+            text: lines_of(alloc, log, db, &design, fault)?,
         }),
     }
 }

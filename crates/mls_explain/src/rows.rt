@@ -1,14 +1,11 @@
 //! Stores with bad tables or rows: the row at which their opening stops.
-ghost use Rattle.std.specs.Prelude.{length};
-ghost use Rattle.mls_scheme.specs.Scheme.{AreUnder};
 
 use crate::teller::Told;
 use mls_advice::Names;
 use mls_audit::{EntryFault, entry_of};
-use mls_fragments::{OpenFault, bad_row};
-use mls_lattice::Policy;
+use mls_fragments::{Design, OpenFault, bad_row};
 use mls_rows::{Step, Where, tables_of};
-use mls_scheme::{RelNo, SchemesFile};
+use mls_scheme::RelNo;
 use mls_tables::{AdoptFault, AllRows, AuditRow, CellRow, NodeRow, read_description};
 use sqlite::{Alter, Connection};
 use std::alloc::{AllocError, Global};
@@ -130,23 +127,20 @@ fn tell_row(text: &mut String, names: &Names, at: &Where, rows: &AllRows) -> Tol
 pub(crate) fn tell_bad<S: Alter>(
     alloc: Global,
     text: &mut String,
-    policy: &Policy,
-    file: &SchemesFile,
+    design: &Design<'_>,
     conn: &mut Connection<S>,
-) -> Told
-    requires under { AreUnder (length policy.now.labels) file.now.schemes }
-{
+) -> Told {
     let described = match read_description(conn, alloc) {
         Ok(described) => described,
         Err(AdoptFault::BadRows) => return text.push_str(UNDESCRIBED),
         Err(AdoptFault::Store | AdoptFault::Memory) => return Err(AllocError),
     };
-    match bad_row(conn, alloc, policy, file, &described) {
+    match bad_row(conn, alloc, design, &described) {
         Ok(Some((at, rows))) => {
             let names = Names {
                 alloc,
-                policy,
-                schemes: &file.schemes,
+                policy: design.policy,
+                schemes: &design.file.schemes,
             };
             tell_row(text, &names, &at, &rows)
         }

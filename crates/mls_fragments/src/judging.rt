@@ -1,7 +1,6 @@
 //! All rows of a store, judged part by part: what is put together of one part is gone before the next.
 ghost use Rattle.std.specs.Prelude.{◌≡◌, [], pos, length, IfOk, IfErr, OnOk, IsPermutation};
 ghost use Rattle.std.specs.List.{AllByRecursion};
-ghost use Rattle.mls_scheme.specs.Scheme.{AreUnder};
 ghost use Rattle.mls_audit.specs.Spelling.{IsEntryOf};
 ghost use Rattle.mls_filterview.specs.Content.{Content};
 ghost use Rattle.mls_tables.specs.Adopting.{AreAll};
@@ -12,11 +11,11 @@ ghost use Rattle.mls_rows.specs.Holding.{Holds};
 ghost use Rattle.mls_fragments.specs.Parts.{Part, before, AreNodesInOrder, AreCellsInOrder, IsCut, IsTakenOff};
 ghost use Rattle.mls_fragments.specs.Parts.{IsJudged, rows_in};
 
+use crate::design::Design;
 use crate::noted::Noted;
 use crate::recalled::GhostContent;
-use mls_lattice::{Items, Policy};
+use mls_lattice::Items;
 use mls_rows::{RowFault, Where, entries_of, find};
-use mls_scheme::Schemes;
 use mls_tables::{AllRows, CellRow, NodeRow};
 use std::alloc::{AllocError, Global};
 
@@ -85,21 +84,21 @@ fn take_part(
 /// What nodes and cells in order hold, beside entries.
 fn judge_rows(
     alloc: Global,
-    policy: &Policy,
-    schemes: &Schemes,
+    design: &Design<'_>,
     labels: usize,
     mut nodes: Vec<NodeRow>,
     mut cells: Vec<CellRow>,
     entries: &[Items<u8>],
 ) -> Result<GhostContent, RowFault>
-    requires under { AreUnder (length policy.now.labels) schemes.now }
     requires order { AreNodesInOrder nodes.items × AreCellsInOrder cells.items }
     requires entries { AllByRecursion (IsEntryOf labels) entries.now }
-    ensures judged { IfOk result (λ c. IsJudged policy.now schemes.now labels (rows_in nodes.items cells.items) entries.now
-        (content_of c.changes)) }
+    ensures judged { IfOk result (λ c. IsJudged design.now.policy.now design.now.file.now.schemes labels
+        (rows_in nodes.items cells.items) entries.now (content_of c.changes)) }
     ensures only { (t : Tables) → IsPermutation t.nodes nodes.items → IsPermutation t.cells cells.items
-        → (c : Content) → Holds t c → IsSoundWithin policy.now schemes.now labels c → IfErr result IsMemory }
+        → (c : Content) → Holds t c → IsSoundWithin design.now.policy.now design.now.file.now.schemes labels c
+        → IfErr result IsMemory }
 {
+    let (policy, schemes) = (design.policy, &design.file.schemes);
     let mut content = GhostContent::new();
     content.find(&[], entries);
     'parts: for _ in 0..nodes.len() / PART {
@@ -120,18 +119,17 @@ fn judge_rows(
 /// What rows hold, as `find` finds it. Nothing of it is kept but what clauses read, and the number of the last entry.
 pub(crate) fn judge(
     alloc: Global,
-    policy: &Policy,
-    schemes: &Schemes,
+    design: &Design<'_>,
     labels: usize,
     rows: AllRows,
 ) -> Result<Noted, RowFault>
-    requires under { AreUnder (length policy.now.labels) schemes.now }
     ensures held { IfOk result (λ n. ((t : Tables) → AreAll t rows → Holds t (content_of n.content.changes))
         × HasByteClasses (content_of n.content.changes)) }
-    ensures sound { IfOk result (λ n. IsSoundWithin policy.now schemes.now labels (content_of n.content.changes)) }
+    ensures sound { IfOk result (λ n. IsSoundWithin design.now.policy.now design.now.file.now.schemes labels
+        (content_of n.content.changes)) }
     ensures last { IfOk result (λ n. n.last ≡ pos (length (content_of n.content.changes).audit)) }
     ensures only { (t : Tables) → AreAll t rows → (c : Content) → Holds t c
-        → IsSoundWithin policy.now schemes.now labels c → IfErr result IsMemory }
+        → IsSoundWithin design.now.policy.now design.now.file.now.schemes labels c → IfErr result IsMemory }
 {
     let AllRows {
         mut nodes,
@@ -139,13 +137,13 @@ pub(crate) fn judge(
         entries,
     } = rows;
     // for how many labels there are
-    let _labels = policy.label_count();
+    let _labels = design.policy.label_count();
     let entries = entries_of(alloc, labels, entries, &mut Where::start())?;
     let Ok(last) = i64::try_from(entries.len()) else {
         return Err(RowFault::Memory);
     };
     nodes.sort()?;
     cells.sort()?;
-    let content = judge_rows(alloc, policy, schemes, labels, nodes, cells, &entries)?;
+    let content = judge_rows(alloc, design, labels, nodes, cells, &entries)?;
     Ok(Noted { content, last })
 }

@@ -4,6 +4,7 @@
 mod again;
 mod base;
 mod connecting;
+mod design;
 mod in_memory;
 mod judging;
 mod laws;
@@ -18,6 +19,7 @@ mod refusing;
 
 pub use base::SqlBase;
 pub use connecting::connected;
+pub use design::Design;
 pub use in_memory::InMemory;
 pub use laws::{
     blank_is_nothing, database_has_one_holdings, given_back_is_taken, kept_is_found, kept_is_taken,

@@ -5,7 +5,6 @@ ghost use Rattle.std.specs.List.{AllZip};
 ghost use Rattle.sqlite.specs.Held.{state};
 ghost use Rattle.mls_lattice.specs.Canon as lattice;
 ghost use Rattle.mls_lattice.specs.Extending as older_lattice;
-ghost use Rattle.mls_scheme.specs.Scheme.{AreUnder};
 ghost use Rattle.mls_scheme.specs.Canon as scheme;
 ghost use Rattle.mls_scheme.specs.Extending as older_schemes;
 ghost use Rattle.mls_filterview.specs.Content.{Content};
@@ -15,10 +14,11 @@ ghost use Rattle.mls_rows.specs.Finding.{IsMemory};
 ghost use Rattle.mls_rows.specs.Holding.{Holds};
 ghost use Rattle.mls_fragments.specs.Migrating.{IsLineage, IsOther, IsBefore, wide_tables, IsSoundBefore, HasWidened};
 
+use crate::design::Design;
 use mls_filterview::{TupleMap, widened};
-use mls_lattice::{Policy, Version};
+use mls_lattice::Version;
 use mls_rows::{Found, RowFault, Where, find};
-use mls_scheme::{RelNo, Schemes, SchemesFile};
+use mls_scheme::{RelNo, Schemes};
 use mls_tables::{AllRows, MetaRow};
 use std::alloc::{AllocError, Global};
 
@@ -43,17 +43,18 @@ pub enum Lineage {
 /// What a store of these texts has, if policy and schemes extend them.
 fn older_of(
     alloc: Global,
-    policy: &Policy,
-    schemes: &Schemes,
+    design: &Design<'_>,
     found: &MetaRow,
 ) -> Result<Option<Older>, AllocError>
-    requires under { AreUnder (length policy.now.labels) schemes.now }
-    ensures found { IfOk result (λ o. IfSome o (λ older. older_lattice.Extends policy.now found.now.lattice older.labels
-        × older_schemes.Extends policy.now schemes.now found.now.schemes older.counts.items)) }
+    ensures found { IfOk result (λ o. IfSome o (λ older.
+        older_lattice.Extends design.now.policy.now found.now.lattice older.labels
+        × older_schemes.Extends design.now.policy.now design.now.file.now.schemes found.now.schemes
+        older.counts.items)) }
     ensures none { IfOk result (λ o. o ≡ None → (labels : ℕ) (counts : List ℕ)
-        → older_lattice.Extends policy.now found.now.lattice labels
-        → older_schemes.Extends policy.now schemes.now found.now.schemes counts → ⊥) }
+        → older_lattice.Extends design.now.policy.now found.now.lattice labels
+        → older_schemes.Extends design.now.policy.now design.now.file.now.schemes found.now.schemes counts → ⊥) }
 {
+    let (policy, schemes) = (design.policy, &design.file.schemes);
     let Some(labels) = policy.labels_before(alloc, found.lattice.as_str().as_bytes())? else {
         return Ok(None);
     };
@@ -68,29 +69,28 @@ fn older_of(
 /// in version 2 are another text, and the lines of a policy that a store keeps have none.
 pub fn lineage_of(
     alloc: Global,
-    policy: &Policy,
-    file: &SchemesFile,
+    design: &Design<'_>,
     texts: &(String, String),
     found: &MetaRow,
 ) -> Result<Option<Lineage>, AllocError>
-    requires under { AreUnder (length policy.now.labels) file.now.schemes }
-    requires lattice { string_bytes texts.now.0 ≡ lattice.lattice_of policy.now }
-    requires schemes { string_bytes texts.now.1 ≡ scheme.canon_of policy.now file.now.version file.now.schemes }
-    ensures found { IfOk result (λ o. IfSome o (IsLineage policy.now file.now found.now)) }
-    ensures none { IfOk result (λ o. o ≡ None → IsOther policy.now file.now found.now) }
+    requires lattice { string_bytes texts.now.0 ≡ lattice.lattice_of design.now.policy.now }
+    requires schemes { string_bytes texts.now.1
+        ≡ scheme.canon_of design.now.policy.now design.now.file.now.version design.now.file.now.schemes }
+    ensures found { IfOk result (λ o. IfSome o (IsLineage design.now.policy.now design.now.file.now found.now)) }
+    ensures none { IfOk result (λ o. o ≡ None → IsOther design.now.policy.now design.now.file.now found.now) }
 {
     let is_same_lattice = found.lattice.as_str() == texts.0.as_str();
     let are_same_schemes = found.schemes.as_str() == texts.1.as_str();
     if is_same_lattice && are_same_schemes {
         return Ok(Some(Lineage::Same));
     }
-    if !is_same_lattice && policy.version() != Version::Two {
+    if !is_same_lattice && design.policy.version() != Version::Two {
         return Ok(None);
     }
-    if !are_same_schemes && file.version != Version::Two {
+    if !are_same_schemes && design.file.version != Version::Two {
         return Ok(None);
     }
-    match older_of(alloc, policy, &file.schemes, found)? {
+    match older_of(alloc, design, found)? {
         Some(older) => Ok(Some(Lineage::Older(older))),
         None => Ok(None),
     }
@@ -124,25 +124,26 @@ fn widened_tables(
 /// and then widened.
 pub(crate) fn find_widened(
     alloc: Global,
-    policy: &Policy,
-    schemes: &Schemes,
+    design: &Design<'_>,
     older: &Older,
     rows: AllRows,
     at: &mut Where,
 ) -> Result<Found, RowFault>
-    requires under { AreUnder (length policy.now.labels) schemes.now }
-    requires before { IsBefore policy.now schemes.now older.now.labels older.now.counts.items }
-    ensures widened { IfOk result
-        (HasWidened policy.now schemes.now older.now.labels older.now.counts.items rows) }
+    requires before { IsBefore design.now.policy.now design.now.file.now.schemes older.now.labels
+        older.now.counts.items }
+    ensures widened { IfOk result (HasWidened design.now.policy.now design.now.file.now.schemes older.now.labels
+        older.now.counts.items rows) }
     ensures only { (t : Tables) → AreAll t rows → (c : Content) → Holds t c
-        → IsSoundBefore policy.now schemes.now older.now.labels older.now.counts.items c → IfErr result IsMemory }
+        → IsSoundBefore design.now.policy.now design.now.file.now.schemes older.now.labels older.now.counts.items c
+        → IfErr result IsMemory }
 {
+    let schemes = &design.file.schemes;
     let before = schemes.before(alloc, &older.counts)?;
     let Found {
         tables,
         entries,
         last,
-    } = find(alloc, policy, &before, older.labels, rows, at)?;
+    } = find(alloc, design.policy, &before, older.labels, rows, at)?;
     Ok(Found {
         tables: widened_tables(alloc, schemes, &older.counts, tables)?,
         entries,

@@ -24,31 +24,27 @@ ghost use Rattle.mls_fragments.specs.Opening.{IsStoreOrMemory, IsUnadopted, IsUn
 
 use crate::base::SqlBase;
 use crate::connecting::connected_at;
+use crate::design::Design;
 use crate::judging::judge;
 use crate::migrating::{Lineage, Older, find_widened, lineage_of};
 use crate::noted::Noted;
 use crate::open_fault::OpenFault;
 use mls_lattice::Policy;
 use mls_rows::{Found, Where, cell_rows, node_rows};
-use mls_scheme::{Schemes, SchemesFile};
+use mls_scheme::SchemesFile;
 use mls_tables::statements::creation::has_nothing;
 use mls_tables::{TableStore, read_description, read_store, rewrite_store};
 use sqlite::{Alter, Connection, FileFrom, FileStore, Start};
 use std::alloc::{AllocError, Global};
 
 /// The two texts that describe the stores of a policy and its schemes: of its labels, and of the schemes.
-pub fn texts_of(
-    alloc: Global,
-    policy: &Policy,
-    file: &SchemesFile,
-) -> Result<(String, String), AllocError>
-    requires under { AreUnder (length policy.now.labels) file.now.schemes }
-    ensures lattice { IfOk result (λ texts. string_bytes texts.0 ≡ lattice.lattice_of policy.now) }
+pub fn texts_of(alloc: Global, design: &Design<'_>) -> Result<(String, String), AllocError>
+    ensures lattice { IfOk result (λ texts. string_bytes texts.0 ≡ lattice.lattice_of design.now.policy.now) }
     ensures schemes { IfOk result (λ texts. string_bytes texts.1
-        ≡ scheme.canon_of policy.now file.now.version file.now.schemes) }
+        ≡ scheme.canon_of design.now.policy.now design.now.file.now.version design.now.file.now.schemes) }
 {
-    let lattice = String::from_utf8(policy.lattice_text(alloc)?).unwrap();
-    let schemes = String::from_utf8(file.canon(alloc, policy)?).unwrap();
+    let lattice = String::from_utf8(design.policy.lattice_text(alloc)?).unwrap();
+    let schemes = String::from_utf8(design.file.canon(alloc, design.policy)?).unwrap();
     Ok((lattice, schemes))
 }
 
@@ -56,19 +52,20 @@ pub fn texts_of(
 fn created<S: Alter>(
     alloc: Global,
     conn: Connection<S>,
-    policy: &Policy,
-    file: &SchemesFile,
+    design: &Design<'_>,
     texts: &(String, String),
 ) -> Result<SqlBase<S>, (OpenFault, Connection<S>)>
-    requires texts { AreTexts policy.now file.now (string_bytes texts.now.0) (string_bytes texts.now.1) }
+    requires texts { AreTexts design.now.policy.now design.now.file.now (string_bytes texts.now.0)
+        (string_bytes texts.now.1) }
     requires nothing { HasCleanDisk (state S.Store conn) → (state S.Store conn).now.schema ≡ no_schema }
     ensures content { IfOk result (λ b. state_of b ≡ record { now = no_content; kept = no_content; begun = false }) }
     ensures described { IfOk result (λ b. IsClean b.tables → HasCleanDisk (state S.Store conn)
-        × (b.tables.now ≡ described (version_number (later policy.now.version file.now.version))
-        (lattice.lattice_of policy.now) (scheme.canon_of policy.now file.now.version file.now.schemes))) }
+        × (b.tables.now ≡ described (version_number (later design.now.policy.now.version design.now.file.now.version))
+        (lattice.lattice_of design.now.policy.now)
+        (scheme.canon_of design.now.policy.now design.now.file.now.version design.now.file.now.schemes))) }
     ensures unmade { IfErr result (λ e. IsUnmade (state S.Store conn) (state S.Store e.1) e.0) }
 {
-    let version = policy.version().later(file.version);
+    let version = design.policy.version().later(design.file.version);
     match TableStore::create(alloc, conn, version.number() as u32, &texts.0, &texts.1) {
         Ok(store) => Ok(SqlBase::over_new(alloc, store)),
         Err((fault, conn)) => Err((OpenFault::from(fault), conn)),
@@ -79,23 +76,21 @@ fn created<S: Alter>(
 fn taken<S: Alter>(
     alloc: Global,
     mut conn: Connection<S>,
-    policy: &Policy,
-    schemes: &Schemes,
+    design: &Design<'_>,
 ) -> Result<SqlBase<S>, (OpenFault, Connection<S>)>
-    requires under { AreUnder (length policy.now.labels) schemes.now }
     requires described { HasCleanDisk (state S.Store conn) → AreRows is_meta_row ((state S.Store conn).now.trees 5)
         × HaveOneMeta (tables_of (state S.Store conn).now.trees) }
     ensures rows { IfOk result (λ b. IsClean b.tables → HasCleanDisk (state S.Store conn)
         × (b.tables.now ≡ tables_of (state S.Store conn).now.trees)) }
-    ensures content { IfOk result (HoldsContent policy.now schemes.now) }
-    ensures untaken { IfErr result (λ e.
-        IsUntaken (IsSoundContent policy.now schemes.now) (state S.Store conn) (state S.Store e.1) e.0) }
+    ensures content { IfOk result (HoldsContent design.now.policy.now design.now.file.now.schemes) }
+    ensures untaken { IfErr result (λ e. IsUntaken (IsSoundContent design.now.policy.now design.now.file.now.schemes)
+        (state S.Store conn) (state S.Store e.1) e.0) }
 {
     let rows = match read_store(&mut conn, alloc) {
         Ok(rows) => rows,
         Err(fault) => return Err((OpenFault::from(fault), conn)),
     };
-    match judge(alloc, policy, schemes, policy.label_count(), rows) {
+    match judge(alloc, design, design.policy.label_count(), rows) {
         Ok(noted) => Ok(SqlBase::over_found(alloc, TableStore::over(alloc, conn), noted)),
         Err(fault) => Err((OpenFault::from(fault), conn)),
     }
@@ -129,27 +124,26 @@ fn rewritten<S: Alter>(
 fn migrated<S: Alter>(
     alloc: Global,
     mut conn: Connection<S>,
-    policy: &Policy,
-    schemes: &Schemes,
+    design: &Design<'_>,
     texts: &(String, String),
     older: &Older,
 ) -> Result<SqlBase<S>, (OpenFault, Connection<S>)>
-    requires older { AreUnder (length policy.now.labels) schemes.now
-        × IsBefore policy.now schemes.now older.now.labels older.now.counts.items }
+    requires older { IsBefore design.now.policy.now design.now.file.now.schemes older.now.labels
+        older.now.counts.items }
     requires described { HasCleanDisk (state S.Store conn) → AreRows is_meta_row ((state S.Store conn).now.trees 5) }
-    ensures migrated { IfOk result (IsMigrated policy.now schemes.now older.now.labels older.now.counts.items
-        (first_meta 2 (string_bytes texts.now.0) (string_bytes texts.now.1)) (state S.Store conn)) }
-    ensures content { IfOk result (HoldsContent policy.now schemes.now) }
-    ensures untaken { IfErr result (λ e.
-        IsUntaken (IsSoundBefore policy.now schemes.now older.now.labels older.now.counts.items)
-        (state S.Store conn) (state S.Store e.1) e.0) }
+    ensures migrated { IfOk result (IsMigrated design.now.policy.now design.now.file.now.schemes older.now.labels
+        older.now.counts.items (first_meta 2 (string_bytes texts.now.0) (string_bytes texts.now.1))
+        (state S.Store conn)) }
+    ensures content { IfOk result (HoldsContent design.now.policy.now design.now.file.now.schemes) }
+    ensures untaken { IfErr result (λ e. IsUntaken (IsSoundBefore design.now.policy.now design.now.file.now.schemes
+        older.now.labels older.now.counts.items) (state S.Store conn) (state S.Store e.1) e.0) }
 {
     let rows = match read_store(&mut conn, alloc) {
         Ok(rows) => rows,
         Err(fault) => return Err((OpenFault::from(fault), conn)),
     };
     let mut at = Where::start();
-    let found = match find_widened(alloc, policy, schemes, older, rows, &mut at) {
+    let found = match find_widened(alloc, design, older, rows, &mut at) {
         Ok(found) => found,
         Err(fault) => return Err((OpenFault::from(fault), conn)),
     };
@@ -167,27 +161,24 @@ fn migrated<S: Alter>(
 fn opened<S: Alter>(
     alloc: Global,
     mut conn: Connection<S>,
-    policy: &Policy,
-    file: &SchemesFile,
+    design: &Design<'_>,
     texts: &(String, String),
 ) -> Result<SqlBase<S>, (OpenFault, Connection<S>)>
-    requires under { AreUnder (length policy.now.labels) file.now.schemes }
-    requires texts { AreTexts policy.now file.now (string_bytes texts.now.0) (string_bytes texts.now.1) }
+    requires texts { AreTexts design.now.policy.now design.now.file.now (string_bytes texts.now.0)
+        (string_bytes texts.now.1) }
     ensures over { IfOk result (λ b. IsClean b.tables → HasCleanDisk (state S.Store conn)
-        × IsBaseOf (HasHoldings (state S.Store conn).now) policy.now file.now b) }
-    ensures content { IfOk result (HoldsContent policy.now file.now.schemes) }
+        × IsBaseOf (HasHoldings (state S.Store conn).now) design.now.policy.now design.now.file.now b) }
+    ensures content { IfOk result (HoldsContent design.now.policy.now design.now.file.now.schemes) }
     ensures unopened { IfErr result (λ e.
-        IsUnopened policy.now file.now (state S.Store conn) (state S.Store e.1) e.0) }
+        IsUnopened design.now.policy.now design.now.file.now (state S.Store conn) (state S.Store e.1) e.0) }
 {
     let described = match read_description(&mut conn, alloc) {
         Ok(described) => described,
         Err(fault) => return Err((OpenFault::from(fault), conn)),
     };
-    match lineage_of(alloc, policy, file, texts, &described) {
-        Ok(Some(Lineage::Same)) => taken(alloc, conn, policy, &file.schemes),
-        Ok(Some(Lineage::Older(older))) => {
-            migrated(alloc, conn, policy, &file.schemes, texts, &older)
-        }
+    match lineage_of(alloc, design, texts, &described) {
+        Ok(Some(Lineage::Same)) => taken(alloc, conn, design),
+        Ok(Some(Lineage::Older(older))) => migrated(alloc, conn, design, texts, &older),
         Ok(None) => Err((OpenFault::OtherPolicy, conn)),
         Err(_) => Err((OpenFault::Memory, conn)),
     }
@@ -218,14 +209,15 @@ impl<S: Alter> SqlBase<S> {
         ensures refused { IfErr result (λ e.
             IsUnadopted policy.now file.now (state S.Store conn) (state S.Store e.1) e.0) }
     {
-        let texts = match texts_of(alloc, policy, file) {
+        let design = Design { policy, file };
+        let texts = match texts_of(alloc, &design) {
             Ok(texts) => texts,
             Err(_) => return Err((OpenFault::Memory, conn)),
         };
         if has_nothing(&conn) {
-            return created(alloc, conn, policy, file, &texts);
+            return created(alloc, conn, &design, &texts);
         }
-        opened(alloc, conn, policy, file, &texts)
+        opened(alloc, conn, &design, &texts)
     }
 }
 

@@ -1,18 +1,16 @@
 //! Which row stops the opening of a store.
-ghost use Rattle.std.specs.Prelude.{◌≡◌, length, OnOk};
+ghost use Rattle.std.specs.Prelude.{◌≡◌, OnOk};
 ghost use Rattle.sqlite.specs.Held.{state};
 ghost use Rattle.sqlite.specs.State.{HasCleanDisk};
-ghost use Rattle.mls_scheme.specs.Scheme.{AreUnder};
 ghost use Rattle.mls_tables.specs.Rows.{is_meta_row};
 ghost use Rattle.mls_tables.specs.Statements.{AreRows};
 ghost use Rattle.mls_fragments.specs.Opening.{IsRefused};
 
+use crate::design::Design;
 use crate::migrating::{Lineage, find_widened, lineage_of};
 use crate::open_fault::OpenFault;
 use crate::opening::texts_of;
-use mls_lattice::Policy;
 use mls_rows::{RowFault, Where, find};
-use mls_scheme::SchemesFile;
 use mls_tables::{AllRows, MetaRow, read_store};
 use sqlite::{Alter, Connection};
 use std::alloc::{AllocError, Global};
@@ -35,21 +33,16 @@ fn sorted_rows<S: Alter>(conn: &mut Connection<S>, alloc: Global) -> Result<AllR
 /// Where the judging of a store's rows stops, if it does.
 fn stop_of(
     alloc: Global,
-    policy: &Policy,
-    file: &SchemesFile,
+    design: &Design<'_>,
     described: &MetaRow,
     rows: AllRows,
-) -> Result<Option<Where>, AllocError>
-    requires under { AreUnder (length policy.now.labels) file.now.schemes }
-{
+) -> Result<Option<Where>, AllocError> {
     let mut at = Where::start();
-    let texts = texts_of(alloc, policy, file)?;
-    let schemes = &file.schemes;
-    let found = match lineage_of(alloc, policy, file, &texts, described)? {
+    let texts = texts_of(alloc, design)?;
+    let (policy, schemes) = (design.policy, &design.file.schemes);
+    let found = match lineage_of(alloc, design, &texts, described)? {
         Some(Lineage::Same) => find(alloc, policy, schemes, policy.label_count(), rows, &mut at),
-        Some(Lineage::Older(older)) => {
-            find_widened(alloc, policy, schemes, &older, rows, &mut at)
-        }
+        Some(Lineage::Older(older)) => find_widened(alloc, design, &older, rows, &mut at),
         None => return Ok(None),
     };
     match found {
@@ -64,17 +57,15 @@ fn stop_of(
 pub fn bad_row<S: Alter>(
     conn: &mut Connection<S>,
     alloc: Global,
-    policy: &Policy,
-    file: &SchemesFile,
+    design: &Design<'_>,
     described: &MetaRow,
 ) -> Result<Option<(Where, AllRows)>, OpenFault>
-    requires under { AreUnder (length policy.now.labels) file.now.schemes }
     requires described { HasCleanDisk (state S.Store conn.old)
         → AreRows is_meta_row ((state S.Store conn.old).now.trees 5) }
     ensures kept { IsRefused (state S.Store conn.old) (state S.Store conn.new) }
 {
     let rows = sorted_rows(conn, alloc)?;
-    match stop_of(alloc, policy, file, described, rows)? {
+    match stop_of(alloc, design, described, rows)? {
         Some(at) => Ok(Some((at, sorted_rows(conn, alloc)?))),
         None => Ok(None),
     }

@@ -7,7 +7,7 @@ use Rattle.mls_explain.proofs.copies.adopted.Goals as goal
 pub returns-in-Ok-clause-sound : goal.returns-in-Ok-clause-sound
 returns-in-Ok-clause-sound g c clean = (
   (state_of c.in-Ok.base).now,
-  base_is_taken (HasHoldings (state g.S.Store c.args.conn).now) c.args.policy.now c.args.file.now c.in-Ok.base (c.in-Ok.ensures.over (c.into_connection.ensures.clean clean)).1,
+  base_is_taken (HasHoldings (state g.S.Store c.args.conn).now) c.args.design.now.policy.now c.args.design.now.file.now c.in-Ok.base (c.in-Ok.ensures.over (c.into_connection.ensures.clean clean)).1,
 )
 
 pub returns-in-Ok-clause-clean : goal.returns-in-Ok-clause-clean

@@ -26,7 +26,7 @@ returns-clause-held c =
     let nodes = c.sort.new.self.items in
     let cells = c.sort-2.new.self.items in
     let content = content_of c.in_ok-content.content.changes in (
-      judged_holds c.args.policy.now c.args.schemes.now c.args.labels c.args.rows nodes cells c.in_ok-entries.entries content c.in_ok-sort.ensures.permutation c.in_ok-sort-2.ensures.permutation c.in_ok-entries.ensures.numbered
-          (subst (λ list. IsJudged c.args.policy.now c.args.schemes.now c.args.labels (rows_in nodes cells) list content) c.deref.ensures c.in_ok-content.ensures.judged),
-      content_bytes (labels_of c.args.policy.now) c.args.schemes.now content (few_labels c.args.policy.now c.label_count-labels.ensures.few) c.in_ok-content.ensures.judged.sound.content,
+      judged_holds c.args.design.now.policy.now c.args.design.now.file.now.schemes c.args.labels c.args.rows nodes cells c.in_ok-entries.entries content c.in_ok-sort.ensures.permutation c.in_ok-sort-2.ensures.permutation c.in_ok-entries.ensures.numbered
+          (subst (λ list. IsJudged c.args.design.now.policy.now c.args.design.now.file.now.schemes c.args.labels (rows_in nodes cells) list content) c.deref.ensures c.in_ok-content.ensures.judged),
+      content_bytes (labels_of c.args.design.now.policy.now) c.args.design.now.file.now.schemes content (few_labels c.args.design.now.policy.now c.label_count-labels.ensures.few) c.in_ok-content.ensures.judged.sound.content,
     )

@@ -22,38 +22,38 @@ use Rattle.mls_fragments.proofs.migrating.find_widened.Goals as goal
 pub before-requires : goal.before-requires
 before-requires c =
     let b = c.requires.before in
-    subst (λ ns. AllZip (λ n s. n ≤ length s.others) ns c.args.schemes.now) (sym c.deref.ensures.value) (extends_few c.args.policy.now c.args.schemes.now b.text c.args.older.now.counts.items b.extends)
+    subst (λ ns. AllZip (λ n s. n ≤ length s.others) ns c.args.design.now.file.now.schemes) (sym c.deref.ensures.value) (extends_few c.args.design.now.policy.now c.args.design.now.file.now.schemes b.text c.args.older.now.counts.items b.extends)
 
 pub find-requires : goal.find-requires
 find-requires c = record {
-  under = subst (AreUnder (length c.args.policy.now.labels)) (sym (c.in_ok-before.ensures ∙ ap (λ ns. schemes_before ns c.args.schemes.now) c.deref.ensures.value))
-      (before_under (length c.args.policy.now.labels) c.args.older.now.counts.items c.args.schemes.now c.requires.under);
+  under = subst (AreUnder (length c.args.design.now.policy.now.labels)) (sym (c.in_ok-before.ensures ∙ ap (λ ns. schemes_before ns c.args.design.now.file.now.schemes) c.deref.ensures.value))
+      (before_under (length c.args.design.now.policy.now.labels) c.args.older.now.counts.items c.args.design.now.file.now.schemes c.args.design.now.under);
 }
 
 pub returns-in_err-tables-clause-only : goal.returns-in_err-tables-clause-only
 returns-in_err-tables-clause-only c t all content holds sound =
-    let before = c.in_ok-before.ensures ∙ ap (λ ns. schemes_before ns c.args.schemes.now) c.deref.ensures.value in
-    let memory = c.in_err-tables.ensures.only t all content holds (subst (λ (ss : Schemes). IsSoundWithin c.args.policy.now ss c.args.older.now.labels content) (sym before) sound) in
+    let before = c.in_ok-before.ensures ∙ ap (λ ns. schemes_before ns c.args.design.now.file.now.schemes) c.deref.ensures.value in
+    let memory = c.in_err-tables.ensures.only t all content holds (subst (λ (ss : Schemes). IsSoundWithin c.args.design.now.policy.now ss c.args.older.now.labels content) (sym before) sound) in
     search rules
 
 pub widened_tables-requires-clause-counts : goal.widened_tables-requires-clause-counts
 widened_tables-requires-clause-counts c =
     let b = c.requires.before in
-    subst (λ ns. AllZip (λ n s. n ≤ length s.others) ns c.args.schemes.now) (sym c.deref-2.ensures.value) (extends_few c.args.policy.now c.args.schemes.now b.text c.args.older.now.counts.items b.extends)
+    subst (λ ns. AllZip (λ n s. n ≤ length s.others) ns c.args.design.now.file.now.schemes) (sym c.deref-2.ensures.value) (extends_few c.args.design.now.policy.now c.args.design.now.file.now.schemes b.text c.args.older.now.counts.items b.extends)
 
 pub widened_tables-requires-clause-count : goal.widened_tables-requires-clause-count
 widened_tables-requires-clause-count c =
     let b = c.requires.before in
-    c.in_ok-tables.ensures.found.count ∙ ap length (c.in_ok-before.ensures ∙ ap (λ ns. schemes_before ns c.args.schemes.now) c.deref.ensures.value)
-    ∙ before_long c.args.older.now.counts.items c.args.schemes.now (extends_long c.args.policy.now c.args.schemes.now b.text c.args.older.now.counts.items b.extends)
+    c.in_ok-tables.ensures.found.count ∙ ap length (c.in_ok-before.ensures ∙ ap (λ ns. schemes_before ns c.args.design.now.file.now.schemes) c.deref.ensures.value)
+    ∙ before_long c.args.older.now.counts.items c.args.design.now.file.now.schemes (extends_long c.args.design.now.policy.now c.args.design.now.file.now.schemes b.text c.args.older.now.counts.items b.extends)
 
 -- ---- what is found
 
 pub returns-clause-widened : goal.returns-clause-widened
 returns-clause-widened c =
-    let policy = c.args.policy.now in
+    let policy = c.args.design.now.policy.now in
     let ls = labels_of policy in
-    let schemes = c.args.schemes.now in
+    let schemes = c.args.design.now.file.now.schemes in
     let counts = c.args.older.now.counts.items in
     let b = c.requires.before in
     let f = c.in_ok-tables.ensures.found in
@@ -80,7 +80,7 @@ returns-clause-widened c =
     (extends_at policy schemes b.text counts b.extends rel within)
     (subst (λ n. IsUnder n (scheme_before (slice_index_or counts rel 0) (scheme_of schemes rel))) (sym (length-map policy.labels (λ l. l.value)))
     (subst (IsUnder (length policy.labels)) (before_at counts schemes rel long within)
-    (scheme_each (IsUnder (length policy.labels)) (schemes_before counts schemes) (before_under (length policy.labels) counts schemes c.requires.under) rel (omega (arith, within, before_long counts schemes long)))))
+    (scheme_each (IsUnder (length policy.labels)) (schemes_before counts schemes) (before_under (length policy.labels) counts schemes c.args.design.now.under) rel (omega (arith, within, before_long counts schemes long)))))
     (subst (λ s. IsContent ls s (table_in tables rel)) at (f.sound.content rel))) in
     record {
       widened = (

@@ -18,13 +18,13 @@ pub returns-in-Err-clause-untaken : goal.returns-in-Err-clause-untaken
 returns-in-Err-clause-untaken g c =
     let a = c.args in
     let read = c.in-Err.ensures.reading in
-    unread (state g.S.Store a.conn) (state g.S.Store c.read_store.new.conn) (IsSoundBefore a.policy.now a.schemes.now a.older.now.labels a.older.now.counts.items) c.in-Err.fault _ read.clean read.left read.bad c.from.ensures
+    unread (state g.S.Store a.conn) (state g.S.Store c.read_store.new.conn) (IsSoundBefore a.design.now.policy.now a.design.now.file.now.schemes a.older.now.labels a.older.now.counts.items) c.in-Err.fault _ read.clean read.left read.bad c.from.ensures
 
 pub returns-in-Err-find_widened-clause-untaken : goal.returns-in-Err-find_widened-clause-untaken
 returns-in-Err-find_widened-clause-untaken g c =
     let a = c.args in
     let read = c.in-Ok.ensures.reading in
-    unfound (state g.S.Store a.conn) (state g.S.Store c.read_store.new.conn) (IsSoundBefore a.policy.now a.schemes.now a.older.now.labels a.older.now.counts.items) c.in-Ok.rows c.in-Err-find_widened.fault _ read.clean read.was_open c.in-Ok.ensures.adopted c.from-in-Err-find_widened.ensures (λ clean sound.
+    unfound (state g.S.Store a.conn) (state g.S.Store c.read_store.new.conn) (IsSoundBefore a.design.now.policy.now a.design.now.file.now.schemes a.older.now.labels a.older.now.counts.items) c.in-Ok.rows c.in-Err-find_widened.fault _ read.clean read.was_open c.in-Ok.ensures.adopted c.from-in-Err-find_widened.ensures (λ clean sound.
     c.in-Err-find_widened.ensures.only _ (c.in-Ok.ensures.adopted clean).all sound.1.0 sound.1.1 sound.1.2)
 
 pub rewritten-requires-clause-tables : goal.rewritten-requires-clause-tables
@@ -55,7 +55,7 @@ returns-in-Ok-rewritten-clause-migrated g c =
             w.0,
             w.1 _ (c.in-Ok.ensures.adopted (c.in-Ok-rewritten.ensures.clean (disk clean))).all,
             w.2,
-            subst (λ (s : State). IsWidenedContent c.args.schemes.now c.args.older.now.counts.items w.0 s.now) (sym (c.over_found.ensures.content ∙ ap (λ changes. state_with (content_of changes) (content_of changes) false) c.find.ensures.content)) w.3,
+            subst (λ (s : State). IsWidenedContent c.args.design.now.file.now.schemes c.args.older.now.counts.items w.0 s.now) (sym (c.over_found.ensures.content ∙ ap (λ changes. state_with (content_of changes) (content_of changes) false) c.find.ensures.content)) w.3,
           );
       meta = λ clean.
           ap (λ (t : TableState). t.now.meta) tables ∙ (ap (λ (t : Tables). t.meta) (c.over.ensures.rows (subst IsClean tables clean)).0 ∙ (c.in-Ok-rewritten.ensures.rewritten (disk clean)).rows.meta);

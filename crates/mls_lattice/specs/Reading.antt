@@ -17,20 +17,20 @@ abbrev pub ◌>>=◌ : {A B E : Type 0} → Result A E → (A → Result B E) �
 (Ok x) >>= f = f x
 (Err e) >>= f = Err e
 
--- What a function returned, seen by view, is what reading gives.
+-- What a function returned, seen by view, is what reading gives: its value, or the fault that the error tells.
+abbrev pub Answers : {E F X Y : Type 0} → (E → (F → Type 0) → Type 0) → (X → Y) → Result X E → Result Y F → Type 0
+Answers Tells view (Ok x) read = read ≡ Ok (view x)
+Answers Tells view (Err e) read = Tells e (λ fault. read ≡ Err fault)
+
+-- Of functions that need no memory, and of those whose want of it is told apart by a type, or by a test.
 abbrev pub Shows : {F X Y : Type 0} → (X → Y) → Result X F → Result Y F → Type 0
-Shows view (Ok x) read = read ≡ Ok (view x)
-Shows view (Err fault) read = read ≡ Err fault
+Shows = Answers (λ fault Says. Says fault)
 
--- The same, but memory may run out.
 abbrev pub Gives : {F X Y : Type 0} → (X → Y) → Result X (Failed F) → Result Y F → Type 0
-Gives view (Ok x) read = read ≡ Ok (view x)
-Gives view (Err failed) read = (fault : _) → failed ≡ Fault fault → read ≡ Err fault
+Gives = Answers (λ failed Says. (fault : _) → failed ≡ Fault fault → Says fault)
 
--- The same, unless the fault is one of these, as want of memory is.
 abbrev pub GivesUnless : {E X Y : Type 0} → (E → Type 0) → (X → Y) → Result X E → Result Y E → Type 0
-GivesUnless OutOfMemory view (Ok x) read = read ≡ Ok (view x)
-GivesUnless OutOfMemory view (Err e) read = (OutOfMemory e → ⊥) → read ≡ Err e
+GivesUnless OutOfMemory = Answers (λ e Says. (OutOfMemory e → ⊥) → Says e)
 
 -- the value at a key
 abbrev pub wanted : List ℕ → Members → Result Data FieldFault

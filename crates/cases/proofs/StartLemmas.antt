@@ -30,8 +30,3 @@ last_holds {A = A} P xs front (Some x) is h = behind front (subst (AllByRecursio
     behind : (ys : List A) → AllByRecursion P (ys ++ x ∷ []) → P x
     behind [] g = g.0
     behind (y ∷ ys) g = behind ys g.1
-
--- with one more item what holds of all of a list and of the item holds of all
-pub all_more : {A : Type 0} (P : A → Type 0) (xs : List A) (x : A) → AllByRecursion P xs → P x → AllByRecursion P (xs ++ x ∷ [])
-all_more P [] x h k = (k, tt)
-all_more P (y ∷ ys) x h k = (h.0, all_more P ys x h.1 k)

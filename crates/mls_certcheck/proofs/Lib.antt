@@ -1,4 +1,3 @@
-pub mod EachLemmas
 pub mod LoopLemmas
 pub mod LabelLemmas
 pub mod WalkLemmas

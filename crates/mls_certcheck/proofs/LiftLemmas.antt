@@ -25,7 +25,7 @@ use Rattle.mls_certcheck.specs.declared.flow.Source.TheVariants.{Held, Parameter
 use Rattle.mls_certcheck.specs.declared.flow.Flow.{Flow}
 use Rattle.mls_certcheck.specs.declared.flow.Flow.TheVariants.{Into, Kept, Within, Under}
 use Rattle.mls_certcheck.specs.declared.refusal.Rule.{Rule}
-use Rattle.mls_certcheck.proofs.EachLemmas.{all_both, all_map, all_zip, each_flat}
+use Rattle.mls_lattice.proofs.EachLemmas.{all_append, all_if, all_zip, each_flat}
 use Rattle.mls_certcheck.proofs.LabelLemmas.{above_bottom}
 
 -- rows that are all one
@@ -80,12 +80,12 @@ module _ (count : ℕ) where
     stmt_bounds : (b : ℕ) (rows : List ℕ) (stmt : Stmt) → AllByRecursion BoundsOf (stmt_lines n b rows stmt)
     stmt_bounds b rows (Assign x e) = ((is, tt), tt)
     stmt_bounds b rows (Write_at relation w writing outcome) =
-        all_both BoundsOf (write n b rows w writing outcome) (order n w writing) (tt, (tt, by_each n _ (outcome_flows n w outcome) (outcome_bounds w outcome))) (order_bounds w writing)
+        all_append BoundsOf (write n b rows w writing outcome) (order n w writing) (tt, (tt, by_each n _ (outcome_flows n w outcome) (outcome_bounds w outcome))) (order_bounds w writing)
     stmt_bounds b rows (Release e to into) = (tt, (tt, ((is, tt), tt)))
     stmt_bounds b rows (Emit e label) = (tt, (tt, tt))
 
     own_bounds : (b : ℕ) (rows : List ℕ) (node : Node) → AllByRecursion BoundsOf (own_lines n b rows node)
-    own_bounds b rows (Plain stmt) = all_both BoundsOf (stmt_lines n b rows stmt) (rest n b stmt) (stmt_bounds b rows stmt) (is, tt)
+    own_bounds b rows (Plain stmt) = all_append BoundsOf (stmt_lines n b rows stmt) (rest n b stmt) (stmt_bounds b rows stmt) (is, tt)
     own_bounds b rows (Branching guard inner ends) = (statements_after inner, by_each n _ (map (λ m. Kept m n None) ends) (ends_bound ends))
     own_bounds b rows (Looping label inner ends) = (tt, (statements_after inner, by_each n _ (map (λ m. Kept m n None) ends) (ends_bound ends)))
 
@@ -97,21 +97,21 @@ module _ (count : ℕ) where
   are_places (Do stmt rest) n a b rows least most = (record { least = least; most = omega (arith, most) }, are_places rest (n + 1) a n rows (omega (arith, least)) (omega (arith, most)))
   are_places (If guard one other rest) n a b rows least most = (
     record { least = least; most = omega (arith, most) },
-    all_both IsPlace (places (n + 1) n b rows one) _ (are_places one (n + 1) n b rows (omega (arith, least)) (omega (arith, most)))
-        (all_both IsPlace (places (n + 1 + statements one) n b rows other) _ (are_places other (n + 1 + statements one) n b rows (omega (arith, least)) (omega (arith, most)))
+    all_append IsPlace (places (n + 1) n b rows one) _ (are_places one (n + 1) n b rows (omega (arith, least)) (omega (arith, most)))
+        (all_append IsPlace (places (n + 1 + statements one) n b rows other) _ (are_places other (n + 1 + statements one) n b rows (omega (arith, least)) (omega (arith, most)))
         (are_places rest (n + (1 + statements one + statements other)) a n rows (omega (arith, least)) (omega (arith, most)))),
   )
   are_places (For row relation label body rest) n a b rows least most = (
     record { least = least; most = omega (arith, most) },
-    all_both IsPlace (places (n + 1) n n (label ∷ rows) body) _ (are_places body (n + 1) n n (label ∷ rows) (omega (arith, least)) (omega (arith, most)))
+    all_append IsPlace (places (n + 1) n n (label ∷ rows) body) _ (are_places body (n + 1) n n (label ∷ rows) (omega (arith, least)) (omega (arith, most)))
         (are_places rest (n + (1 + statements body)) a n rows (omega (arith, least)) (omega (arith, most))),
   )
 
   lines_bound : (tx : Tx) → statements tx.body ≡ count → AllByRecursion BoundsOf (lines tx)
   lines_bound tx all =
-      all_both BoundsOf (tx_lines tx) (flat_map (lines_at (length tx.vars)) (all_places tx))
+      all_append BoundsOf (tx_lines tx) (flat_map (lines_at (length tx.vars)) (all_places tx))
       (tt, by_each 0 _ (flat_map (λ p. within_ends p.1.label) tx.params) (each_flat (Bounds count) (λ p. within_ends p.1.label) tx.params (ends tx.params)))
-      (each_flat BoundsOf (lines_at (length tx.vars)) (all_places tx) (all_map IsPlace (λ p. AllByRecursion BoundsOf (lines_at (length tx.vars) p)) (λ p is. (tt, ((tt, tt), own_bounds p.number is p.before p.rows p.node)))
+      (each_flat BoundsOf (lines_at (length tx.vars)) (all_places tx) (all_if IsPlace (λ p. AllByRecursion BoundsOf (lines_at (length tx.vars) p)) (λ p is. (tt, ((tt, tt), own_bounds p.number is p.before p.rows p.node)))
       (all_places tx) (are_places tx.body 1 0 0 [] (omega arith) (omega (arith, all)))))
     where
       ends : (ps : List (Name × Given)) → AllByRecursion (λ p. AllByRecursion (Bounds count) (within_ends p.1.label)) ps
@@ -160,7 +160,7 @@ module _ (policy : Policy) (tx : Tx) (one : Cert) (two : Cert2) (lift : IsLift o
 
   over_lifts : (p q : Pair) (ss : List Source) → q ≡ p → IsOver k p ss → IsOver j q ss
   over_lifts p q ss e h =
-      subst (λ r. IsOver j r ss) (sym e) (all_map (λ s. Dominates p (source_label k s)) (λ s. Dominates p (source_label j s)) (λ s d. Dominates-trans p (source_label k s) (source_label j s) d (source_under s)) ss h)
+      subst (λ r. IsOver j r ss) (sym e) (all_if (λ s. Dominates p (source_label k s)) (λ s. Dominates p (source_label j s)) (λ s d. Dominates-trans p (source_label k s) (source_label j s) d (source_under s)) ss h)
 
   flow_lifts : (f : Flow) → Bounds (length two.rows) f → Holds k f → Holds j f
   flow_lifts (Into ts ss) is h =
@@ -176,7 +176,7 @@ lift_rules policy tx one two lift rules =
     let pcs : length two.pc_labels ≡ statements tx.body = ap length lift.pcs ∙ rules.stmt_count in
     let rows : length two.rows ≡ statements tx.body = lift.count ∙ pcs in
     record {
-      var_count = all_map (λ row. row ≡ one.var_labels) (λ row. length row ≡ length tx.vars) (λ row e. ap length e ∙ rules.var_count.0) two.rows lift.rows;
+      var_count = all_if (λ row. row ≡ one.var_labels) (λ row. length row ≡ length tx.vars) (λ row e. ap length e ∙ rules.var_count.0) two.rows lift.rows;
       stmt_count = (rows, pcs);
       lines = all_zip (BoundsOf (length two.rows)) (λ l. Holds k l.flow) (λ l. Holds j l.flow) (λ l. flow_lifts policy tx one two lift l.flow) (lines tx) (lines_bound (length two.rows) tx (sym rows)) rules.lines;
     }

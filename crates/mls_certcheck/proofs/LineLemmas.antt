@@ -13,7 +13,7 @@ use Rattle.mls_certcheck.specs.declared.flow.Slot.TheVariants.{Statement}
 use Rattle.mls_certcheck.specs.declared.flow.Source.{Source}
 use Rattle.mls_certcheck.specs.declared.flow.Source.TheVariants.{Held, Declared}
 use Rattle.mls_certcheck.specs.declared.flow.Flow.TheVariants.{Into, Kept}
-use Rattle.mls_certcheck.proofs.EachLemmas.{all_front, all_back, all_map, flat_each}
+use Rattle.mls_lattice.proofs.EachLemmas.{all_front, all_back, all_if, flat_each}
 use Rattle.mls_certcheck.proofs.LabelLemmas.{above_bottom}
 
 module _ (c : Claim) where
@@ -77,7 +77,7 @@ module _ (c : Claim) where
       pub write_operands : (outcome : Option ℕ) → ObeysAt (Plain (Write_at relation w writing outcome)) → AllByRecursion (λ e. Dominates (label_of c.labels w) (lab b rows e)) (operands writing)
       write_operands outcome h =
           let l = label_of c.labels w in
-          all_map (λ e. IsOver c l (names b rows e)) (λ e. Dominates l (lab b rows e)) (λ e. over_names b rows e l) (operands writing)
+          all_if (λ e. IsOver c l (names b rows e)) (λ e. Dominates l (lab b rows e)) (λ e. over_names b rows e l) (operands writing)
           (flat_each (λ s. Dominates l (source_label c s)) (names b rows) (operands writing) h.1.1.0.1)
 
       pub write_into : (outcome : Option ℕ) → ObeysAt (Plain (Write_at relation w writing outcome)) → IfSome outcome (λ x. Dominates (after c n x) (label_of c.labels w))

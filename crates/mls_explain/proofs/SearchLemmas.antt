@@ -1,17 +1,17 @@
 -- The search back from the ends of chains finds a shortest one.
-use Rattle.std.proofs.Common.{◌≡◌, ℕ, zero, suc, ◌+◌, ◌<◌, true, false, List, [], ◌∷◌, ◌++◌, length, map, get_or, take, refl, sym, ap, ◌∙◌, subst, arith, inl, inr, Option, Some, None, ◌⊎◌, Contains, true≢false}
+use Rattle.std.proofs.Common.{◌≡◌, ℕ, zero, suc, ◌+◌, ◌<◌, true, false, List, [], ◌∷◌, ◌++◌, length, map, get_or, take, refl, sym, ap, ◌∙◌, subst, arith, length-append, inl, inr, Option, Some, None, ◌⊎◌, Contains, true≢false}
 use Rattle.std.specs.List.{AllByRecursion}
 use Rattle.std.proofs.Math.ListN.{get_or-map}
 use Rattle.std.proofs.lemmas.List.{take_more, length-map}
 use Rattle.std.proofs.lemmas.List.Elements.{Contains-append_left, Contains-append_right, Contains-append_cases, Contains-push, Contains-push_cases}
 use Rattle.mls_lattice.specs.Policy.{Policy}
+use Rattle.mls_lattice.proofs.EachLemmas.{all_at}
 use Rattle.mls_translang.specs.Tx.{Tx}
 use Rattle.mls_certcheck.specs.declared.flow.Slot.{Slot}
 use Rattle.mls_certcheck.specs.declared.flow.Source.{Source}
 use Rattle.mls_certcheck.specs.declared.flow.Source.TheVariants.{Held}
 use Rattle.mls_certcheck.specs.declared.flow.Line.{Line}
 use Rattle.mls_certcheck.specs.declared.refusal.Refusal.{Refusal}
-use Rattle.mls_certcheck.proofs.EachLemmas.{all_at, length_more}
 use Rattle.mls_explain.specs.declared.chain.Chain.{Chain}
 use Rattle.mls_explain.specs.declared.search.Tail.{Tail}
 use Rattle.mls_explain.specs.declared.step.Step.{Step}
@@ -76,7 +76,7 @@ module _ (tails : List Tail) (left : List (ℕ × Step)) (l : ℕ × Step) (more
           | inl old ↦ let h = round.taken c old in (h.0, Contains-append_left left (l ∷ []) h.0 h.1, h.2)
           | inr e ↦ (l, Contains-push left l, subst (IsTaken tails l) e is)
         ];
-    count = omega (arith, round.count, length_more more b, length_more left l);
+    count = omega (arith, round.count, length-append more (b ∷ []), length-append left (l ∷ []));
   }
 
   pub round_left : AllByRecursion (λ a. IsAt l.0 l.1.target a → ⊥) tails → IsRound tails (left ++ l ∷ []) more (rest ++ l ∷ [])
@@ -92,7 +92,7 @@ module _ (tails : List Tail) (left : List (ℕ × Step)) (l : ℕ × Step) (more
           | inr e ↦ (subst (Contains (left ++ l ∷ [])) e (Contains-push left l), λ a among. subst (λ (n : ℕ × Step). IsAt n.0 n.1.target a → ⊥) e (contained_at (λ a. IsAt l.0 l.1.target a → ⊥) tails a none among))
         ];
     taken = λ c k. let h = round.taken c k in (h.0, Contains-append_left left (l ∷ []) h.0 h.1, h.2);
-    count = omega (arith, round.count, length_more rest l, length_more left l);
+    count = omega (arith, round.count, length-append rest (l ∷ []), length-append left (l ∷ []));
   }
 
 -- what was ahead of a tail that is no root is ahead of those of the next round

@@ -15,7 +15,7 @@ use Rattle.mls_certcheck.specs.declared.flow.Flow.{Flow}
 use Rattle.mls_certcheck.specs.declared.flow.Flow.TheVariants.{Into, Kept, Within, Under}
 use Rattle.mls_certcheck.specs.declared.refusal.Rule.{Rule}
 use Rattle.mls_certcheck.specs.declared.refusal.Rule.TheVariants as rule
-use Rattle.mls_certcheck.proofs.EachLemmas.{all_both, all_back, all_map, all_zip}
+use Rattle.mls_lattice.proofs.EachLemmas.{all_append, all_back, all_if, all_zip}
 use Rattle.mls_labeller.specs.Flows.{body_lines, IsBounded}
 use Rattle.mls_labeller.specs.Least.{Meets, Below}
 
@@ -35,7 +35,7 @@ module _ (c : Claim) where
   rules_meet r = record {
     var_count = r.var_count;
     stmt_count = r.stmt_count;
-    bounds = all_map (λ line. Holds c line.flow) Bounded (λ line. is_bounded line.flow) (lines c.tx) r.lines;
+    bounds = all_if (λ line. Holds c line.flow) Bounded (λ line. is_bounded line.flow) (lines c.tx) r.lines;
   }
 
   -- those of the transaction itself raise none
@@ -44,7 +44,7 @@ module _ (c : Claim) where
   ends_bounded label r (x ∷ xs) = (tt, (tt, ends_bounded label r xs))
 
   pub all_bounded : AllByRecursion Bounded (body_lines c.tx) → AllByRecursion Bounded (lines c.tx)
-  all_bounded h = all_both Bounded (tx_lines c.tx) (body_lines c.tx) (tt, ends_bounded (λ p. p.1.label) rule.Context c.tx.params) h
+  all_bounded h = all_append Bounded (tx_lines c.tx) (body_lines c.tx) (tt, ends_bounded (λ p. p.1.label) rule.Context c.tx.params) h
 
   pub body_bounded : AllByRecursion Bounded (lines c.tx) → AllByRecursion Bounded (body_lines c.tx)
   body_bounded h = all_back Bounded (tx_lines c.tx) (body_lines c.tx) h
@@ -65,7 +65,7 @@ module _ (ls : Labels) (tx : Tx) (x y : Certificate) where
     source_falls (Declared label) = Dominates-refl _
 
     pub over_falls : (p : Pair) (ss : List Source) → IsOver cy p ss → IsOver cx p ss
-    over_falls p ss h = all_map (λ s. Dominates p (source_label cy s)) (λ s. Dominates p (source_label cx s)) (λ s d. Dominates-trans p (source_label cy s) (source_label cx s) d (source_falls s)) ss h
+    over_falls p ss h = all_if (λ s. Dominates p (source_label cy s)) (λ s. Dominates p (source_label cx s)) (λ s d. Dominates-trans p (source_label cy s) (source_label cx s) d (source_falls s)) ss h
 
     flow_falls : (f : Flow) → IsBounded cx f → Holds cy f → Holds cx f
     flow_falls (Into ts ss) h g = h

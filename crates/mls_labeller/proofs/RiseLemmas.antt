@@ -10,7 +10,7 @@ use Rattle.mls_certcheck.specs.Walk.{IsJoin}
 use Rattle.mls_certcheck.specs.declared.flow.Slot.{Slot}
 use Rattle.mls_certcheck.specs.declared.flow.Source.{Source}
 use Rattle.mls_certcheck.specs.declared.flow.Flow.TheVariants.{Into}
-use Rattle.mls_certcheck.proofs.EachLemmas.{all_map}
+use Rattle.mls_lattice.proofs.EachLemmas.{all_if}
 use Rattle.mls_certcheck.proofs.RulesLemmas.{over_to, to_over}
 use Rattle.mls_labeller.specs.Flows.{IsBounded, body_lines}
 use Rattle.mls_labeller.specs.Least.{Meets, Below, IsLeast}
@@ -78,7 +78,7 @@ module _ (k : Rising) where
     pub rises_pour : (ts : List Slot) (y : List (List Label)) (rose : Bool) → Rises k (λ c. AllByRecursion (λ t. Dominates (slot_label c t) p) ts) x y rose → Rises k (λ c. IsBounded c (Into ts ss)) x y rose
     rises_pour ts y rose h =
         let poured : List (List Label) → Type 0 = λ w. AllByRecursion (λ t. Dominates (slot_label (at w) t) p) ts in
-        let flows : poured x → IsBounded (at x) (Into ts ss) = all_map (λ t. Dominates (slot_label (at x) t) p) (λ t. IsOver (at x) (slot_label (at x) t) ss) (λ t. join_over (at x) ss p (slot_label (at x) t) j) ts in
+        let flows : poured x → IsBounded (at x) (Into ts ss) = all_if (λ t. Dominates (slot_label (at x) t) p) (λ t. IsOver (at x) (slot_label (at x) t) ss) (λ t. join_over (at x) ss p (slot_label (at x) t) j) ts in
         record { stands = h.stands; still = λ e. let same = (h.still e).0 in (same, subst (λ w. poured w → IsBounded (at w) (Into ts ss)) (sym same) flows (h.still e).1); falls = h.falls }
 
   -- ---- the lowest labels

@@ -10,7 +10,7 @@ use Rattle.mls_certcheck.specs.Lines.{stmt_lines, own_lines, rest as rest_lines,
 use Rattle.mls_labeller.specs.Flows.{body_lines}
 use Rattle.mls_labeller.specs.Rising.{HasStatement, HasSlot, HasTargets}
 use Rattle.mls_certcheck.specs.declared.flow.Slot.TheVariants.{Variable, Statement}
-use Rattle.mls_certcheck.proofs.EachLemmas.{all_both, each_flat}
+use Rattle.mls_lattice.proofs.EachLemmas.{all_append, each_flat}
 
 module _ (tx : Tx) where
   abbrev vars : ℕ
@@ -51,7 +51,7 @@ module _ (tx : Tx) where
     has_stmt b rows (Emit e label) h = (tt, (tt, tt))
 
     has_own : (b : ℕ) (rows : List ℕ) (stmt : Stmt) → StmtIsOwn s stmt → AllByRecursion Has (own_lines n b rows (Plain stmt))
-    has_own b rows stmt h = all_both Has (stmt_lines n b rows stmt) (rest_lines n b stmt) (has_stmt b rows stmt h) (has, tt)
+    has_own b rows stmt h = all_append Has (stmt_lines n b rows stmt) (rest_lines n b stmt) (has_stmt b rows stmt h) (has, tt)
 
   abbrev HasAt : Place → Type 0
   HasAt p = AllByRecursion Has (lines_at vars p)
@@ -63,16 +63,16 @@ module _ (tx : Tx) where
       ((tt, ((has, tt), has_own s count n has b rows stmt own.0)), has_places s count (n + 1) around n rows rest (omega arith) (omega (arith, high)) own.1)
   has_places s count n around b rows (If guard one other rest) low high own =
       let has : HasStatement tx n = (low, omega (arith, high)) in
-      let inner = all_both (HasStatement tx) (directs (n + 1) one) (directs (n + 1 + statements one) other) (has_inner (n + 1) one (omega arith) (omega (arith, high))) (has_inner (n + 1 + statements one) other (omega arith) (omega (arith, high))) in (
+      let inner = all_append (HasStatement tx) (directs (n + 1) one) (directs (n + 1 + statements one) other) (has_inner (n + 1) one (omega arith) (omega (arith, high))) (has_inner (n + 1 + statements one) other (omega arith) (omega (arith, high))) in (
         (tt, ((has, tt), (has_map (directs (n + 1) one ++ directs (n + 1 + statements one) other) inner, (has, (has, tt))))),
-        all_both HasAt (places (n + 1) n b rows one) _ (has_places s count (n + 1) n b rows one (omega arith) (omega (arith, high)) own.1)
-            (all_both HasAt (places (n + 1 + statements one) n b rows other) _ (has_places s count (n + 1 + statements one) n b rows other (omega arith) (omega (arith, high)) own.2)
+        all_append HasAt (places (n + 1) n b rows one) _ (has_places s count (n + 1) n b rows one (omega arith) (omega (arith, high)) own.1)
+            (all_append HasAt (places (n + 1 + statements one) n b rows other) _ (has_places s count (n + 1 + statements one) n b rows other (omega arith) (omega (arith, high)) own.2)
             (has_places s count (n + (1 + statements one + statements other)) around n rows rest (omega (arith, low)) (omega (arith, high)) own.3)),
       )
   has_places s count n around b rows (For row relation label body rest) low high own =
       let has : HasStatement tx n = (low, omega (arith, high)) in (
         (tt, ((has, tt), (tt, (has_map (directs (n + 1) body) (has_inner (n + 1) body (omega arith) (omega (arith, high))), (has, (has, tt)))))),
-        all_both HasAt (places (n + 1) n n (label ∷ rows) body) _ (has_places (in_loop s row relation) count (n + 1) n n (label ∷ rows) body (omega arith) (omega (arith, high)) own.1)
+        all_append HasAt (places (n + 1) n n (label ∷ rows) body) _ (has_places (in_loop s row relation) count (n + 1) n n (label ∷ rows) body (omega arith) (omega (arith, high)) own.1)
             (has_places s count (n + (1 + statements body)) around n rows rest (omega (arith, low)) (omega (arith, high)) own.2),
       )
 

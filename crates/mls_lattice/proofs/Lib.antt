@@ -1,3 +1,4 @@
+pub mod EachLemmas
 pub mod CanonLemmas
 pub mod CategoryLemmas
 pub mod ReadingLemmas

@@ -1,6 +1,6 @@
 -- The tables of a policy, seen through the view of its labels.
-use Rattle.std.proofs.Common.{◌≡◌, ℕ, zero, suc, arith, ◌<◌, Bool, List, [], ◌∷◌, length, map, get_or, cond, not, nat_lt, ◌+◌, Some, None, refl, ap, ◌∙◌, position, bytes_eq}
-use Rattle.std.specs.List.{prefix_len, AllByRecursion}
+use Rattle.std.proofs.Common.{◌≡◌, ℕ, ◌<◌, Bool, List, [], ◌∷◌, length, map, get_or, cond, not, nat_lt, ◌+◌, Some, None, refl, ap, ◌∙◌, position, bytes_eq}
+use Rattle.std.specs.List.{prefix_len}
 use Rattle.std.proofs.lemmas.List.{get_or-map, length-map}
 use Rattle.mls_lattice.specs.Lattice.{pair_of, bottom}
 use Rattle.mls_lattice.specs.Labels.{label_of}
@@ -25,9 +25,3 @@ position-named ls name =
 
 pub length-named : (ls : List NamedLabel) → length (map named ls) ≡ length ls
 length-named ls = length-map ls named
-
--- what each row has, the row of a number has
-pub row-at : {B : Type 0} (P : B → Type 0) (rows : List B) (i : ℕ) (d : B) → AllByRecursion P rows → i < length rows → P (get_or rows i d)
-row-at P [] i d all lt = absurd (omega arith)
-row-at P (row ∷ rows) zero d all lt = all.0
-row-at P (row ∷ rows) (suc i) d all lt = row-at P rows i d all.1 (omega (arith, lt))

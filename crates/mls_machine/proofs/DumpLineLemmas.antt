@@ -3,6 +3,7 @@ use Rattle.std.proofs.Common.{ℕ, zero, suc, Bool, true, false, cond, List, [],
 use Rattle.std.specs.List.{AllByRecursion}
 use Rattle.mls_lattice.specs.Policy.{Name}
 use Rattle.mls_lattice.specs.Canon.{label_name}
+use Rattle.mls_lattice.proofs.EachLemmas.{all}
 use Rattle.mls_scheme.specs.declared.value.Value.{Value}
 use Rattle.mls_scheme.specs.declared.tuple.Tuple.{Tuple}
 use Rattle.mls_scheme.specs.Scheme.{Attribute, Scheme, no_attribute, scheme_of, other_of}
@@ -16,7 +17,7 @@ use Rattle.mls_certcheck.specs.Site.{Site, site_labels, site_scheme}
 use Rattle.mls_machine.specs.Dumping.{own_sets, class_below, dump_command, dump_event}
 use Rattle.mls_machine.specs.Output.{dump_heading, script_text}
 use Rattle.mls_machine.specs.Parting.{IsOneLine, HasPlainNames, IsPlain}
-use Rattle.mls_machine.proofs.OneLineLemmas.{one_line-append, one_line-flat_map, each}
+use Rattle.mls_machine.proofs.OneLineLemmas.{one_line-append, one_line-flat_map}
 use Rattle.mls_machine.proofs.RowLineLemmas.{cell_line, scheme_line, label_line}
 
 pub dump_line : (s : Scheme) → HasPlainNames s → IsOneLine (dump_heading s)
@@ -28,7 +29,7 @@ listed_line : {X : Type 0} (text : X → List ℕ) → ((x : X) → IsOneLine (t
 listed_line text h [] = refl
 listed_line text h (x ∷ xs) =
     one_line-append (text x) (flat_map (behind_comma text) xs) (h x)
-    (one_line-flat_map (behind_comma text) xs (each (λ y. IsOneLine (behind_comma text y)) (λ y. one_line-append (codes ", ") (text y) refl (h y)) xs))
+    (one_line-flat_map (behind_comma text) xs (all (λ y. IsOneLine (behind_comma text y)) (λ y. one_line-append (codes ", ") (text y) refl (h y)) xs))
 
 list_line : (vs : List (Option Value)) → IsOneLine (list_text vs)
 list_line vs =

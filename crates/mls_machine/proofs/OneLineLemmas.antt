@@ -1,16 +1,18 @@
 -- Texts in which no line feed stands.
-use Rattle.std.proofs.Common.{◌≡◌, ℕ, zero, suc, ◌+◌, ◌<◌, ◌/◌, ◌%◌, Bool, true, false, cond, ◌&&◌, ◌||◌, ◌==◌, List, [], ◌∷◌, ◌++◌, map, refl, sym, ap, ◌∙◌, subst, inl, inr, arith, ℤ, pos, negsuc, not, codes, nat_lt, slice_get, slice_index, option_map, ◌-◌, unwrap_or, flat_map, decimal}
+use Rattle.std.proofs.Common.{◌≡◌, ℕ, zero, suc, ◌+◌, ◌<◌, ◌/◌, ◌%◌, Bool, true, false, cond, ◌&&◌, ◌||◌, ◌==◌, List, [], ◌∷◌, ◌++◌, refl, sym, ap, ◌∙◌, subst, inl, inr, arith, ℤ, pos, negsuc, codes, nat_lt, slice_get, slice_index, option_map, ◌-◌, unwrap_or, flat_map, decimal}
 use Rattle.std.specs.List.{list_all, AllByRecursion}
 use Rattle.std.specs.Fmt.{signed_decimal, digits, digits_onto, digit_glyph}
 use Rattle.std.proofs.lemmas.Bool.{cases_Bool, and_parts}
 use Rattle.std.proofs.lemmas.Bool.Decides.{nat_tests}
 use Rattle.std.proofs.lemmas.List.Folds.{list_any-append}
 use Rattle.std.proofs.Math.ListN.{replicate}
+use Rattle.mls_lattice.proofs.EachLemmas.{all}
 use Rattle.mls_tokens.specs.Writing.{is_control, hex_digit, printable_byte, printable, is_escaped, quoted_byte, quoted}
 use Rattle.mls_tokens.specs.Screen.{is_hidden, is_c1, hex_escape, pending, shown_byte, written, escaped_from, escaped}
 use Rattle.mls_tokens.specs.Table.{columns, padding, padded, ruled}
+use Rattle.mls_certcheck.proofs.NameLemmas.{name_bytes}
 use Rattle.mls_machine.specs.Parting.{is_line_feed, IsOneLine}
-use Rattle.mls_lattice.specs.Name.{is_name, is_name_byte, is_reserved}
+use Rattle.mls_lattice.specs.Name.{is_name, is_name_byte}
 
 -- ---- texts of texts
 
@@ -27,22 +29,6 @@ one_line-cons b xs p q = neither (is_line_feed b) _ (grind (arith, nat_tests)) q
 pub one_line-flat_map : {A : Type 0} (f : A → List ℕ) (xs : List A) → AllByRecursion (λ x. IsOneLine (f x)) xs → IsOneLine (flat_map f xs)
 one_line-flat_map f [] h = refl
 one_line-flat_map f (x ∷ xs) h = one_line-append (f x) (flat_map f xs) h.0 (one_line-flat_map f xs h.1)
-
-pub each : {A : Type 0} (P : A → Type 0) → ((x : A) → P x) → (xs : List A) → AllByRecursion P xs
-each P h [] = tt
-each P h (x ∷ xs) = (h x, each P h xs)
-
-pub each_if : {A : Type 0} (P Q : A → Type 0) → ((x : A) → P x → Q x) → (xs : List A) → AllByRecursion P xs → AllByRecursion Q xs
-each_if P Q h [] all = tt
-each_if P Q h (x ∷ xs) all = (h x all.0, each_if P Q h xs all.1)
-
-pub each-append : {A : Type 0} (P : A → Type 0) (xs ys : List A) → AllByRecursion P xs → AllByRecursion P ys → AllByRecursion P (xs ++ ys)
-each-append P [] ys h k = k
-each-append P (x ∷ xs) ys h k = (h.0, each-append P xs ys h.1 k)
-
-pub each-map : {A B : Type 0} (P : B → Type 0) (f : A → B) (xs : List A) → AllByRecursion (λ x. P (f x)) xs → AllByRecursion P (map f xs)
-each-map P f [] h = tt
-each-map P f (x ∷ xs) h = (h.0, each-map P f xs h.1)
 
 -- ---- names by number
 
@@ -81,10 +67,10 @@ quoted_byte_line b =
     ]
 
 pub one_line-printable : (text : List ℕ) → IsOneLine (printable text)
-one_line-printable text = one_line-flat_map printable_byte text (each (λ b. IsOneLine (printable_byte b)) printable_byte_line text)
+one_line-printable text = one_line-flat_map printable_byte text (all (λ b. IsOneLine (printable_byte b)) printable_byte_line text)
 
 pub one_line-quoted : (text : List ℕ) → IsOneLine (quoted text)
-one_line-quoted text = one_line-append (flat_map quoted_byte text) (34 ∷ []) (one_line-flat_map quoted_byte text (each (λ b. IsOneLine (quoted_byte b)) quoted_byte_line text)) refl
+one_line-quoted text = one_line-append (flat_map quoted_byte text) (34 ∷ []) (one_line-flat_map quoted_byte text (all (λ b. IsOneLine (quoted_byte b)) quoted_byte_line text)) refl
 
 -- ---- numbers
 
@@ -168,7 +154,7 @@ one_line-padded widths k (cell ∷ cells) h =
     (one_line-padded widths (k + 1) cells h.1)
 
 pub one_line-ruled : (widths : List ℕ) → IsOneLine (flat_map ruled widths)
-one_line-ruled widths = one_line-flat_map ruled widths (each (λ w. IsOneLine (ruled w)) (λ w. one_line-append (replicate w 45) (codes "-+-") (replicate_line w 45 refl) refl) widths)
+one_line-ruled widths = one_line-flat_map ruled widths (all (λ w. IsOneLine (ruled w)) (λ w. one_line-append (replicate w 45) (codes "-+-") (replicate_line w 45 refl) refl) widths)
 
 -- ---- names
 
@@ -177,5 +163,4 @@ name_bytes_line [] h = refl
 name_bytes_line (b ∷ text) h = let p = and_parts (is_name_byte b) _ h in neither (is_line_feed b) _ (grind (arith, nat_tests)) (name_bytes_line text p.1)
 
 pub one_line-name : (text : List ℕ) → is_name text ≡ true → IsOneLine text
-unfolding is_name
-one_line-name text h = name_bytes_line text (and_parts _ (list_all is_name_byte text) (and_parts _ (not (is_reserved text)) h).0).1
+one_line-name text h = name_bytes_line text (name_bytes text h)

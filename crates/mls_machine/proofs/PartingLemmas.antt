@@ -4,11 +4,12 @@ use Rattle.std.specs.List.{AllByRecursion, slice_split}
 use Rattle.std.proofs.lemmas.List.Folds.{list_any-append}
 use Rattle.std.proofs.lemmas.List.Elements.{All-cons}
 use Rattle.std.proofs.lemmas.List.Splits.{slice_split_at}
+use Rattle.mls_lattice.proofs.EachLemmas.{all_front, all_back, all, all_if, all_append, all_map}
 use Rattle.mls_tokens.specs.Writing.{printable}
 use Rattle.mls_lattice.specs.Policy.{Name}
 use Rattle.mls_lattice.specs.Name.{is_name}
 use Rattle.mls_lattice.specs.Canon.{label_name, user_name}
-use Rattle.mls_scheme.specs.Scheme.{Scheme, Attribute, IsScheme, scheme_of}
+use Rattle.mls_scheme.specs.Scheme.{Scheme, IsScheme, scheme_of}
 use Rattle.mls_scheme.specs.declared.tuple.Tuple.{Tuple}
 use Rattle.mls_updates.specs.declared.outcome.Outcome.{Outcome}
 use Rattle.mls_updates.specs.declared.outcome.Outcome.TheVariants as outcomes
@@ -33,7 +34,7 @@ use Rattle.mls_machine.specs.Output.{Line, row_text, entry_text, outcome_text, d
 use Rattle.mls_machine.specs.Observation.{heard, out}
 use Rattle.mls_machine.specs.Turning.{turn_line}
 use Rattle.mls_machine.specs.Parting.{is_line_feed, IsOneLine, HasPlainNames, IsPlain, PoliciesArePlain, RepliesAreLines, RunsAreLines, TurningsAreLines, RunsPartIntoLines}
-use Rattle.mls_machine.proofs.OneLineLemmas.{one_line-append, one_line-at, each, each_if, each-append, each-map, one_line-printable, one_line-decimal, one_line-escaped, one_line-name, first_of, second_of}
+use Rattle.mls_machine.proofs.OneLineLemmas.{one_line-append, one_line-at, one_line-printable, one_line-decimal, one_line-escaped, one_line-name, first_of, second_of}
 use Rattle.mls_machine.proofs.DumpLineLemmas.{dump_line, made_line}
 use Rattle.mls_machine.proofs.RowLineLemmas.{cell_line, scheme_line, label_line, row_line, heading_line, count_line, table_lines, entry_line}
 
@@ -71,7 +72,7 @@ module _ (site : Site) (plain : IsPlain site) where
   view_lines (commands.View relation label query true) tuples = (count_line site.policy plain.labels (scheme_of site.schemes relation) label query (length tuples) (scheme_line site.schemes relation plain.relations), tt)
   view_lines (commands.View relation label query false) tuples = (
     heading_line site.policy plain.labels (scheme_of site.schemes relation) label query (scheme_line site.schemes relation plain.relations),
-    each-map IsOneLine (row_text site.policy) tuples (each (λ t. IsOneLine (row_text site.policy t)) (row_line site.policy plain.labels) tuples),
+    all_map IsOneLine (row_text site.policy) tuples (all (λ t. IsOneLine (row_text site.policy t)) (row_line site.policy plain.labels) tuples),
   )
   view_lines _ tuples = tt
 
@@ -89,8 +90,8 @@ module _ (site : Site) (plain : IsPlain site) where
   dump_lines : (session : Name) → IsOneLine session → (command : Command) (tuples : List Tuple) → AllByRecursion IsOneLine (dump_texts site session command tuples)
   dump_lines session h (commands.Dump relation) tuples = (
     dump_line (scheme_of site.schemes relation) (scheme_line site.schemes relation plain.relations),
-    each-map IsOneLine (λ t. script_text site (dump_event site session relation t)) tuples
-        (each (λ t. IsOneLine (script_text site (dump_event site session relation t))) (λ t. made_line site plain session h relation t) tuples),
+    all_map IsOneLine (λ t. script_text site (dump_event site session relation t)) tuples
+        (all (λ t. IsOneLine (script_text site (dump_event site session relation t))) (λ t. made_line site plain session h relation t) tuples),
   )
   dump_lines session h _ tuples = tt
 
@@ -104,7 +105,7 @@ module _ (site : Site) (plain : IsPlain site) where
   reply_text_lines session command (Dumped tuples) = dump_lines (printable session) (one_line-printable session) command tuples
   reply_text_lines session command (Wrote o) = (outcome_line o, tt)
   reply_text_lines session command (Ran run) = call_lines command
-  reply_text_lines session command (Entries es) = (refl, each-map IsOneLine (entry_text site.policy) es (each (λ e. IsOneLine (entry_text site.policy e)) (entry_line site.policy plain.labels) es))
+  reply_text_lines session command (Entries es) = (refl, all_map IsOneLine (entry_text site.policy) es (all (λ e. IsOneLine (entry_text site.policy e)) (entry_line site.policy plain.labels) es))
   reply_text_lines session command (Denied d) = (denial_line d, tt)
 
   table_text_lines : (session : Name) (command : Command) (r : Reply) → AllByRecursion IsOneLine (texts_in_table site session command r)
@@ -130,38 +131,38 @@ module _ (site : Site) (plain : IsPlain site) where
   whole_item e deed item h = whole_line e item.0 (deed ++ cell_text item.1) (one_line-append deed (cell_text item.1) h (cell_line item.1))
 
   whole_map : (e : Event) (deed : List ℕ) → IsOneLine deed → (items : List Item) → AllByRecursion Whole (map (item_line site.policy e deed) items)
-  whole_map e deed h items = each-map Whole (item_line site.policy e deed) items (each (λ i. Whole (item_line site.policy e deed i)) (λ i. whole_item e deed i h) items)
+  whole_map e deed h items = all_map Whole (item_line site.policy e deed) items (all (λ i. Whole (item_line site.policy e deed i)) (λ i. whole_item e deed i h) items)
 
   whole_items : (e : Event) (r : Reply) → AllByRecursion Whole (item_lines site.policy e r)
   whole_items e (Ran run) =
-      each-append Whole (map (item_line site.policy e (codes "emit ")) run.emitted) (map (item_line site.policy e (codes "release ")) run.released)
+      all_append Whole (map (item_line site.policy e (codes "emit ")) run.emitted) (map (item_line site.policy e (codes "release ")) run.released)
       (whole_map e (codes "emit ") refl run.emitted) (whole_map e (codes "release ") refl run.released)
   whole_items e _ = tt
 
   whole_lines : (e : Event) (texts : List (List ℕ)) (r : Reply) → AllByRecursion IsOneLine texts → AllByRecursion Whole (lines_with site e texts r)
   whole_lines e texts r h =
-      each-append Whole (map (line site.policy e e.level) texts) (item_lines site.policy e r)
-      (each-map Whole (line site.policy e e.level) texts (each_if IsOneLine (λ t. Whole (line site.policy e e.level t)) (λ t k. whole_line e e.level t k) texts h))
+      all_append Whole (map (line site.policy e e.level) texts) (item_lines site.policy e r)
+      (all_map Whole (line site.policy e e.level) texts (all_if IsOneLine (λ t. Whole (line site.policy e e.level t)) (λ t k. whole_line e e.level t k) texts h))
       (whole_items e r)
 
   whole_reply : (form : Form) (e : Event) (r : Reply) → AllByRecursion Whole (reply_lines_in form site e r)
   whole_reply Lines e r = whole_lines e (reply_texts site e.session e.command r) r (reply_text_lines e.session e.command r)
   whole_reply Table e r =
       let lines = lines_with site e (texts_in_table site e.session e.command r) r in
-      each-map Whole escaped_line lines (each_if Whole (λ l. Whole (escaped_line l)) (λ l k. one_line-escaped l.text k) lines (whole_lines e (texts_in_table site e.session e.command r) r (table_text_lines e.session e.command r)))
+      all_map Whole escaped_line lines (all_if Whole (λ l. Whole (escaped_line l)) (λ l k. one_line-escaped l.text k) lines (whole_lines e (texts_in_table site e.session e.command r) r (table_text_lines e.session e.command r)))
 
   whole_run : (form : Form) (w : World) (es : List Event) → AllByRecursion Whole (run_lines form site w es)
   unfolding run_lines
   whole_run form w [] = tt
   whole_run form w (e ∷ es) =
       let s = step site w e in
-      each-append Whole (reply_lines_in form site e s.reply) (run_lines form site s.world es) (whole_reply form e s.reply) (whole_run form s.world es)
+      all_append Whole (reply_lines_in form site e s.reply) (run_lines form site s.world es) (whole_reply form e s.reply) (whole_run form s.world es)
 
 pub turnings_whole : TurningsAreLines
 turnings_whole site plain entries =
     let p = site.policy in
-    each-map Whole (turn_line p) entries
-    (each (λ e. Whole (turn_line p e))
+    all_map Whole (turn_line p) entries
+    (all (λ e. Whole (turn_line p e))
     (λ e. one_line-append (label_name p.labels (label_of e) ++ codes " ") (entry_text p e) (one_line-append (label_name p.labels (label_of e)) (codes " ") (label_line p plain.labels (label_of e)) refl) (entry_line p plain.labels e))
     entries)
 
@@ -193,14 +194,10 @@ names_from_map : {A : Type 0} (f : A → Name) (xs : List A) → AllByRecursion 
 names_from_map f [] h = tt
 names_from_map f (x ∷ xs) h = (one_line-name (f x) h.0, names_from_map f xs h.1)
 
-first_part : {A : Type 0} (P : A → Type 0) (xs ys : List A) → AllByRecursion P (xs ++ ys) → AllByRecursion P xs × AllByRecursion P ys
-first_part P [] ys h = (tt, h)
-first_part P (x ∷ xs) ys h = let k = first_part P xs ys h.1 in ((h.0, k.0), k.1)
-
 plain_scheme : (s : Scheme) → IsScheme s → HasPlainNames s
 plain_scheme s h =
-    let both = first_part (λ (a : Attribute). IsOneLine a.0) s.keys s.others (names_from_map (λ a. a.0) (s.keys ++ s.others) h.names) in
-    record { name = one_line-name s.name h.named; keys = both.0; others = both.1 }
+    let names = names_from_map (λ a. a.0) (s.keys ++ s.others) h.names in
+    record { name = one_line-name s.name h.named; keys = all_front _ s.keys s.others names; others = all_back _ s.keys s.others names }
 
 -- ---- the laws
 
@@ -208,7 +205,7 @@ pub policies_plain : PoliciesArePlain
 policies_plain site policy schemes = record {
   labels = names_from_map (λ l. l.name) site.policy.labels policy.label_names;
   users = names_from_map (λ u. u.name) site.policy.users policy.user_names;
-  relations = each_if IsScheme HasPlainNames plain_scheme site.schemes schemes.each;
+  relations = all_if IsScheme HasPlainNames plain_scheme site.schemes schemes.each;
 }
 
 pub replies_whole : RepliesAreLines

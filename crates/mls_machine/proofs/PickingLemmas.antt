@@ -4,12 +4,14 @@ use Rattle.std.specs.List.{list_all, before_first, prefix_len, AllByRecursion}
 use Rattle.std.proofs.lemmas.Bool.{and_parts}
 use Rattle.std.proofs.lemmas.Bool.Decides.{nat_tests}
 use Rattle.std.proofs.lemmas.List.Elements.{filter-append}
+use Rattle.mls_lattice.proofs.EachLemmas.{all, all_if, all_append, all_map}
 use Rattle.mls_tokens.specs.Writing.{printable}
 use Rattle.mls_lattice.specs.Labels.{below}
-use Rattle.mls_lattice.specs.Name.{is_name, is_name_byte, is_reserved}
+use Rattle.mls_lattice.specs.Name.{is_name, is_name_byte}
 use Rattle.mls_lattice.specs.Policy.{Policy, IsPolicy}
 use Rattle.mls_lattice.specs.Canon.{label_name}
 use Rattle.mls_lattice.proofs.NamedLemmas.{label_found, label_again, label_is_name}
+use Rattle.mls_certcheck.proofs.NameLemmas.{name_bytes}
 use Rattle.mls_certcheck.specs.Meaning.{Item}
 use Rattle.mls_script.specs.declared.event.Event.{Event}
 use Rattle.mls_machine.specs.declared.form.Form.TheVariants.{Lines}
@@ -21,7 +23,6 @@ use Rattle.mls_script.specs.Writing.{cell_text}
 use Rattle.mls_machine.specs.Output.{Line, reply_texts, front, line, item_line, item_lines, reply_lines, run_lines, EntriesAreKnown, ItemsAreKnown, ReplyIsKnown}
 use Rattle.mls_machine.specs.Observation.{AreStored, EventsFit, everyone, out}
 use Rattle.mls_machine.specs.Parting.{is_space, label_told, may_see, LinesArePicked}
-use Rattle.mls_machine.proofs.OneLineLemmas.{each, each_if, each-append, each-map}
 use Rattle.mls_machine.proofs.PartingLemmas.{policies_plain, runs_part}
 use Rattle.mls_machine.proofs.CalledLemmas.{all_read}
 use Rattle.mls_machine.proofs.KeepingLemmas.{step_stored}
@@ -40,10 +41,6 @@ word_of (b ∷ name) rest h =
     let other : is_space b ≡ false = grind (arith, nat_tests) in
     ap (λ t. take (cond (not t) (1 + n) 0) (b ∷ (name ++ 32 ∷ rest))) other
     ∙ front_of b (name ++ 32 ∷ rest) n ∙ ap (λ xs. b ∷ xs) (word_of name rest p.1)
-
-name_bytes : (text : List ℕ) → is_name text ≡ true → list_all is_name_byte text ≡ true
-unfolding is_name
-name_bytes text h = (and_parts _ (list_all is_name_byte text) (and_parts _ (not (is_reserved text)) h).0).1
 
 not_a_name : is_name [] ≡ true → ⊥
 unfolding is_name
@@ -76,12 +73,12 @@ module _ (p : Policy) (policy : IsPolicy p) where
 
   tells_map : (e : Event) (deed : List ℕ) (items : List Item) → ItemsAreKnown p items → AllByRecursion Tells (map (item_line p e deed) items)
   tells_map e deed items h =
-      each-map Tells (item_line p e deed) items
-      (each_if (λ i. i.0 < length p.labels) (λ i. Tells (item_line p e deed i)) (λ i k. tells_line e i.0 (deed ++ cell_text i.1) k) items h)
+      all_map Tells (item_line p e deed) items
+      (all_if (λ i. i.0 < length p.labels) (λ i. Tells (item_line p e deed i)) (λ i k. tells_line e i.0 (deed ++ cell_text i.1) k) items h)
 
   tells_items : (e : Event) (r : Reply) → ReplyIsKnown p r → AllByRecursion Tells (item_lines p e r)
   tells_items e (Ran run) h =
-      each-append Tells (map (item_line p e (codes "emit ")) run.emitted) (map (item_line p e (codes "release ")) run.released)
+      all_append Tells (map (item_line p e (codes "emit ")) run.emitted) (map (item_line p e (codes "release ")) run.released)
       (tells_map e (codes "emit ") run.emitted h.0) (tells_map e (codes "release ") run.released h.1)
   tells_items e _ h = tt
 
@@ -89,9 +86,9 @@ module _ (site : Site) (policy : IsPolicy site.policy) (read : AreRead site) whe
   tells_reply : (e : Event) (r : Reply) → e.level < length site.policy.labels → ReplyIsKnown site.policy r → AllByRecursion (Tells site.policy policy) (reply_lines site e r)
   tells_reply e r within h =
       let texts = reply_texts site e.session e.command r in
-      each-append (Tells site.policy policy) (map (line site.policy e e.level) texts) (item_lines site.policy e r)
-      (each-map (Tells site.policy policy) (line site.policy e e.level) texts
-      (each (λ t. Tells site.policy policy (line site.policy e e.level t)) (λ t. tells_line site.policy policy e e.level t within) texts))
+      all_append (Tells site.policy policy) (map (line site.policy e e.level) texts) (item_lines site.policy e r)
+      (all_map (Tells site.policy policy) (line site.policy e e.level) texts
+      (all (λ t. Tells site.policy policy (line site.policy e e.level t)) (λ t. tells_line site.policy policy e e.level t within) texts))
       (tells_items site.policy policy e r h)
 
   tells_run : (w : World) (es : List Event) → AreStored site w.db → EntriesAreKnown site.policy w.audit → EventsFit site es → AllByRecursion (Tells site.policy policy) (run_lines Lines site w es)
@@ -99,7 +96,7 @@ module _ (site : Site) (policy : IsPolicy site.policy) (read : AreRead site) whe
   tells_run w [] stored known fits = tt
   tells_run w (e ∷ es) stored known fits =
       let s = step_known site policy.distinct read w stored known e fits.0.level in
-      each-append (Tells site.policy policy) (reply_lines site e (step site w e).reply) (run_lines Lines site (step site w e).world es)
+      all_append (Tells site.policy policy) (reply_lines site e (step site w e).reply) (run_lines Lines site (step site w e).world es)
       (tells_reply e (step site w e).reply fits.0.level s.reply)
       (tells_run (step site w e).world es (step_stored site policy.distinct w e stored fits.0 (all_read site read e.command)) s.audit fits.1)
 

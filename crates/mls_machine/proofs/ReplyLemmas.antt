@@ -1,5 +1,5 @@
 -- Over content of the stored form the numbers in a reply are those of the policy.
-use Rattle.std.proofs.Common.{nat_eq, ◌≡◌, ℕ, suc, ◌<◌, Bool, true, false, cond, not, List, [], ◌∷◌, ◌++◌, length, map, Option, Some, None, Ok, Err, inl, inr, refl, sym, subst, arith, filter, flat_map, IfSome}
+use Rattle.std.proofs.Common.{nat_eq, ◌≡◌, ℕ, suc, ◌<◌, Bool, true, false, cond, not, List, [], ◌∷◌, ◌++◌, length, map, Option, Some, None, Ok, Err, inl, inr, refl, sym, subst, arith, filter, IfSome}
 use Rattle.std.specs.List.{AllByRecursion, list_any}
 use Rattle.std.specs.FinMap.{get, entries}
 use Rattle.std.proofs.lemmas.List.{length-map}
@@ -26,7 +26,7 @@ use Rattle.mls_updates.specs.Writes.{Write}
 use Rattle.mls_translang.specs.declared.query.Query.{Query}
 use Rattle.mls_queries.specs.Query.{has_class, meets, is_above, highest_of, first_of, found}
 use Rattle.mls_queries.proofs.PlaceLemmas.{all_filter}
-use Rattle.mls_certcheck.proofs.EachLemmas.{all_take}
+use Rattle.mls_lattice.proofs.EachLemmas.{all, all_take, each_flat}
 use Rattle.mls_audit.specs.declared.entry.Entry.{Entry}
 use Rattle.mls_audit.specs.Entry.{label_of}
 use Rattle.mls_script.specs.declared.event.Event.{Event}
@@ -42,14 +42,9 @@ use Rattle.mls_machine.specs.Machine.{World, Step, unless, denial_entry, release
 use Rattle.mls_machine.specs.Output.{EntriesAreKnown, ItemsAreKnown, ReplyIsKnown}
 use Rattle.mls_machine.specs.Observation.{AreStored}
 use Rattle.mls_machine.proofs.DenyingLemmas.{user_below}
-use Rattle.mls_machine.proofs.OneLineLemmas.{each-append}
 use Rattle.mls_machine.proofs.CalledLemmas.{certified_of, all_read}
 
 -- ---- rows
-
-each-flat_map : {A B : Type 0} (P : B → Type 0) (f : A → List B) → ((x : A) → AllByRecursion P (f x)) → (xs : List A) → AllByRecursion P (flat_map f xs)
-each-flat_map P f h [] = tt
-each-flat_map P f h (x ∷ xs) = each-append P (f x) (flat_map f xs) (h x) (each-flat_map P f h xs)
 
 all_below : (n : ℕ) (es : List Element) → ((i : ℕ) → i < length es → (at es i).class < n) → AllByRecursion (λ e. e.class < n) es
 all_below n [] h = tt
@@ -73,7 +68,7 @@ module _ (ls : Labels) (n : ℕ) (T : Table) (stored : IsStored ls n T) where
   low_below c =
       let es = entries (low ls c T) in
       let has = each_among (λ e. get T e.0 ≡ Some e.1) es (λ e i. (from_low ls c T (tuple_at e.0 e.1) e.0.class (among_entries (low ls c T) e i)).0) in
-      each-flat_map (HasClassesBelow (length ls)) (of_class es) (λ m. (let p = (λ (e : Place × List Element). nat_eq e.0.class m) in tuples_below (filter p es) (all_filter (λ e. get T e.0 ≡ Some e.1) p es has))) (upward ls)
+      each_flat (HasClassesBelow (length ls)) (of_class es) (upward ls) (all _ (λ m. (let p = (λ (e : Place × List Element). nat_eq e.0.class m) in tuples_below (filter p es) (all_filter (λ e. get T e.0 ≡ Some e.1) p es has))) (upward ls))
 
   rows_below : AreDistinct ls → (c : ℕ) → AllByRecursion (HasClassesBelow (length ls)) (rows ls c T)
   rows_below distinct c =

@@ -2,6 +2,7 @@
 use Rattle.std.proofs.Common.{ℕ, zero, suc, Bool, true, false, cond, List, [], ◌∷◌, ◌++◌, map, Option, Some, None, refl, codes, is_some, flat_map, decimal}
 use Rattle.std.specs.List.{AllByRecursion}
 use Rattle.std.proofs.lemmas.List.Folds.{list_any-append}
+use Rattle.mls_lattice.proofs.EachLemmas.{all, all_if, all_append, all_map}
 use Rattle.mls_tokens.specs.Writing.{printable}
 use Rattle.mls_tokens.specs.Table.{padded, ruled}
 use Rattle.mls_lattice.specs.Lattice.{Pair, same_pair}
@@ -18,7 +19,7 @@ use Rattle.mls_audit.specs.declared.entry.Entry.TheVariants as entries
 use Rattle.mls_machine.specs.Parting.{IsOneLine, HasPlainNames}
 use Rattle.mls_script.specs.Writing.{value_text, cell_text}
 use Rattle.mls_machine.specs.Output.{name_of, cell_entry, row_text, word_if, query_words, asked, heading, count_text, table_cell, tuple_cells, name_cells, table_row, table_of, entry_front, entry_text}
-use Rattle.mls_machine.proofs.OneLineLemmas.{one_line-append, one_line-flat_map, one_line-at, each, each_if, each-append, each-map, one_line-printable, one_line-quoted, one_line-decimal, one_line-signed, one_line-escaped, one_line-padded, one_line-ruled}
+use Rattle.mls_machine.proofs.OneLineLemmas.{one_line-append, one_line-flat_map, one_line-at, one_line-printable, one_line-quoted, one_line-decimal, one_line-signed, one_line-escaped, one_line-padded, one_line-ruled}
 
 -- ---- values
 
@@ -57,14 +58,14 @@ module _ (p : Policy) (labels : AllByRecursion (λ l. IsOneLine l.name) p.labels
 
   pub row_line : (t : Tuple) → IsOneLine (row_text p t)
   row_line t =
-      let keys = one_line-flat_map (λ v. cell_entry p.labels t.key_class (Some v)) t.key (each (λ v. IsOneLine (cell_entry p.labels t.key_class (Some v))) (λ v. entry_cell_line t.key_class (Some v)) t.key) in
-      let others = one_line-flat_map (λ e. cell_entry p.labels e.class e.value) t.elements (each (λ e. IsOneLine (cell_entry p.labels e.class e.value)) (λ e. entry_cell_line e.class e.value) t.elements) in
+      let keys = one_line-flat_map (λ v. cell_entry p.labels t.key_class (Some v)) t.key (all (λ v. IsOneLine (cell_entry p.labels t.key_class (Some v))) (λ v. entry_cell_line t.key_class (Some v)) t.key) in
+      let others = one_line-flat_map (λ e. cell_entry p.labels e.class e.value) t.elements (all (λ e. IsOneLine (cell_entry p.labels e.class e.value)) (λ e. entry_cell_line e.class e.value) t.elements) in
       simp (list_any-append, keys, others, class_line t)
 
   spaced_line : (s : Scheme) → HasPlainNames s → IsOneLine (flat_map (λ a. codes " " ++ a.0) s.keys) × IsOneLine (flat_map (λ a. codes " " ++ a.0) s.others)
   spaced_line s h = (
-    one_line-flat_map (λ a. codes " " ++ a.0) s.keys (each_if (λ a. IsOneLine a.0) (λ a. IsOneLine (codes " " ++ a.0)) (λ a k. k) s.keys h.keys),
-    one_line-flat_map (λ a. codes " " ++ a.0) s.others (each_if (λ a. IsOneLine a.0) (λ a. IsOneLine (codes " " ++ a.0)) (λ a k. k) s.others h.others),
+    one_line-flat_map (λ a. codes " " ++ a.0) s.keys (all_if (λ a. IsOneLine a.0) (λ a. IsOneLine (codes " " ++ a.0)) (λ a k. k) s.keys h.keys),
+    one_line-flat_map (λ a. codes " " ++ a.0) s.others (all_if (λ a. IsOneLine a.0) (λ a. IsOneLine (codes " " ++ a.0)) (λ a k. k) s.others h.others),
   )
 
   -- ---- what was asked
@@ -102,14 +103,14 @@ module _ (p : Policy) (labels : AllByRecursion (λ l. IsOneLine l.name) p.labels
 
   tuple_cells_line : (t : Tuple) → AllByRecursion IsOneLine (tuple_cells p t)
   tuple_cells_line t =
-      each-append IsOneLine (map (λ v. table_cell p.labels t.key_class (Some v)) t.key) (map (λ e. table_cell p.labels e.class e.value) t.elements)
-      (each-map IsOneLine (λ v. table_cell p.labels t.key_class (Some v)) t.key (each (λ v. IsOneLine (table_cell p.labels t.key_class (Some v))) (λ v. table_cell_line t.key_class (Some v)) t.key))
-      (each-map IsOneLine (λ e. table_cell p.labels e.class e.value) t.elements (each (λ e. IsOneLine (table_cell p.labels e.class e.value)) (λ e. table_cell_line e.class e.value) t.elements))
+      all_append IsOneLine (map (λ v. table_cell p.labels t.key_class (Some v)) t.key) (map (λ e. table_cell p.labels e.class e.value) t.elements)
+      (all_map IsOneLine (λ v. table_cell p.labels t.key_class (Some v)) t.key (all (λ v. IsOneLine (table_cell p.labels t.key_class (Some v))) (λ v. table_cell_line t.key_class (Some v)) t.key))
+      (all_map IsOneLine (λ e. table_cell p.labels e.class e.value) t.elements (all (λ e. IsOneLine (table_cell p.labels e.class e.value)) (λ e. table_cell_line e.class e.value) t.elements))
 
   name_cells_line : (s : Scheme) → HasPlainNames s → AllByRecursion IsOneLine (name_cells s)
   name_cells_line s h =
-      each-append IsOneLine (map (λ a. a.0) s.keys) (map (λ a. a.0) s.others)
-      (each-map IsOneLine (λ a. a.0) s.keys h.keys) (each-map IsOneLine (λ a. a.0) s.others h.others)
+      all_append IsOneLine (map (λ a. a.0) s.keys) (map (λ a. a.0) s.others)
+      (all_map IsOneLine (λ a. a.0) s.keys h.keys) (all_map IsOneLine (λ a. a.0) s.others h.others)
 
   pub table_lines : (s : Scheme) (label : ℕ) (q : Query) (widths : List ℕ) (tuples : List Tuple) → HasPlainNames s → AllByRecursion IsOneLine (table_of p s label q widths tuples)
   table_lines s label q widths tuples h =
@@ -119,7 +120,7 @@ module _ (p : Policy) (labels : AllByRecursion (λ l. IsOneLine l.name) p.labels
           one_line-append (padded widths 0 (name_cells s)) (codes "class") (one_line-padded widths 0 (name_cells s) (name_cells_line s h)) refl,
           (
             one_line-append (flat_map ruled widths) (codes "-----") (one_line-ruled widths) refl,
-            each-map IsOneLine (table_row p widths) tuples (each (λ t. IsOneLine (table_row p widths t)) row tuples),
+            all_map IsOneLine (table_row p widths) tuples (all (λ t. IsOneLine (table_row p widths t)) row tuples),
           ),
         ),
       )

@@ -1,11 +1,13 @@
 -- What holds of kept views holds after one is taken, kept or given up.
 use Rattle.std.proofs.Common.{◌≡◌, ℕ, zero, suc, ◌<◌, Bool, true, false, cond, not, List, [], ◌∷◌, ◌++◌, map, take, Option, Some, None, refl, sym, ap, ◌∙◌, subst, eqb-true, ◌+◌, ◌≤◌, length, arith, ◌&&◌, nat_eq, IfSome, filter}
+use Rattle.std.proofs.SliceLists.{all_by_recursion_push}
 use Rattle.std.specs.List.{AllByRecursion, list_any}
 use Rattle.std.specs.FinMap.{entries}
 use Rattle.std.specs.Map.{lookup, lookup_entry, remove_entry}
 use Rattle.std.specs.Option.{option_map_or}
 use Rattle.std.proofs.lemmas.Bool.{and_parts}
 use Rattle.mls_lattice.specs.Labels.{Labels, below}
+use Rattle.mls_lattice.proofs.EachLemmas.{all_take}
 use Rattle.mls_scheme.specs.declared.place.Place.{Place}
 use Rattle.mls_scheme.specs.declared.tuple.Tuple.{Tuple}
 use Rattle.mls_scheme.specs.Table.{Table, Database, tuple_at}
@@ -23,11 +25,6 @@ use Rattle.mls_queries.proofs.KeptSeenLemmas.{noted_agrees}
 -- ---- lists
 
 module _ (P : Entry → Type 0) where
-  all_taken : (n : ℕ) (es : Kept) → AllByRecursion P es → AllByRecursion P (take n es)
-  all_taken zero es h = tt
-  all_taken (suc n) [] h = tt
-  all_taken (suc n) (e ∷ es) h = (h.0, all_taken n es h.1)
-
   all_removed : (test : ViewKey → Bool) (es : Kept) → AllByRecursion P es → AllByRecursion P (remove_entry test es)
   all_removed test [] h = tt
   all_removed test (e ∷ es) h = elim (test e.0) as (λ b. AllByRecursion P (cond b es (e ∷ remove_entry test es))) [
@@ -38,7 +35,7 @@ module _ (P : Entry → Type 0) where
   module _ (relation label : ℕ) (tuples : List Tuple) (own : (k : ViewKey) → is_view relation label k ≡ true → P (k, fresh tuples)) (es : Kept) (h : AllByRecursion P es) where
     all_put_by : (o : Option Entry) → lookup_entry (is_view relation label) es ≡ o
         → AllByRecursion P (option_map_or (λ e. (e.0, fresh tuples) ∷ remove_entry (is_view relation label) es) o ((key_of relation label, fresh tuples) ∷ take 31 es))
-    all_put_by None is = (own (key_of relation label) (key_refl (key_of relation label)), all_taken 31 es h)
+    all_put_by None is = (own (key_of relation label) (key_refl (key_of relation label)), all_take P es 31 h)
     all_put_by (Some e) is = (own e.0 (Contains-lookup_entry (is_view relation label) es e is).1, all_removed (is_view relation label) es h)
 
     all_put : AllByRecursion P (put_view relation label tuples es)
@@ -96,14 +93,10 @@ pub put_declared : (count relation label : ℕ) (tuples : List Tuple) (es : Kept
 put_declared count relation label tuples es within h =
     all_put (λ e. (e.0.label < count) × AllByRecursion (IsNamed count) e.1.written) relation label tuples (λ k is. (subst (λ l. l < count) (key_parts relation label k is).1 within, tt)) es h
 
-one_more : {A : Type 0} (P : A → Type 0) (xs : List A) (x : A) → AllByRecursion P xs → P x → AllByRecursion P (xs ++ x ∷ [])
-one_more P [] x h k = (k, tt)
-one_more P (y ∷ xs) x h k = (h.0, one_more P xs x h.1 k)
-
 pub noted_named : (count : ℕ) (p : Place) (v : Seen) → IsNamed count p → AllByRecursion (IsNamed count) v.written → AllByRecursion (IsNamed count) (noted p v).written
 noted_named count p v named h = elim (list_any (is_entity p) v.written) as (λ b. AllByRecursion (IsNamed count) (cond b v (record { tuples = v.tuples; written = v.written ++ p ∷ [] })).written) [
   | true ↦ h
-  | false ↦ one_more (IsNamed count) v.written p h named
+  | false ↦ all_by_recursion_push (IsNamed count) v.written p h named
 ]
 
 pub followed_declared : (count : ℕ) (ls : Labels) (relation w : ℕ) (p : Place) (es new : Kept) → p.key_class < count → AreFollowed ls relation w p es new → AreDeclared count es → AreDeclared count new

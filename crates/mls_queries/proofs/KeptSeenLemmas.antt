@@ -1,7 +1,8 @@
 -- A view and the entities that were written since: after one more, and after one is mended.
 use Rattle.std.proofs.Common.{◌≡◌, ℕ, Bool, true, false, cond, not, ◌||◌, List, [], ◌∷◌, ◌++◌, refl, sym, ap, ◌∙◌, append_assoc, filter, true≢false}
-use Rattle.std.specs.List.{list_any, AllByRecursion}
+use Rattle.std.specs.List.{list_any}
 use Rattle.mls_lattice.specs.Labels.{Labels}
+use Rattle.mls_lattice.proofs.EachLemmas.{all}
 use Rattle.mls_scheme.specs.declared.place.Place.{Place}
 use Rattle.mls_scheme.specs.declared.tuple.Tuple.{Tuple}
 use Rattle.mls_scheme.specs.Table.{Table, place_of}
@@ -12,10 +13,6 @@ use Rattle.mls_filterview.proofs.FilteredLemmas.{filter_append, filter_where, wi
 use Rattle.mls_filterview.proofs.MendLemmas.{before_other, behind_other, own_rows, rows_in_three}
 use Rattle.mls_filterview.proofs.PartLemmas.{same_entity, entity_same_as}
 use Rattle.mls_queries.specs.Views.{Seen, is_outside, AgreesWith, noted}
-
-each : {A : Type 0} (P : A → Type 0) → ((x : A) → P x) → (xs : List A) → AllByRecursion P xs
-each P f [] = tt
-each P f (x ∷ xs) = (f x, each P f xs)
 
 -- ---- an entity more
 
@@ -59,10 +56,10 @@ module _ (p : Place) (old new : List Tuple) (others : filter (λ t. not (is_of p
   more : (ws : List Place) → ((t : Tuple) → is_outside ws t ≡ true → is_outside v.written t ≡ true) → ((t : Tuple) → is_outside ws t ≡ true → not (is_of p t) ≡ true)
       → filter (is_outside ws) v.tuples ≡ filter (is_outside ws) new
   more ws fewer apart =
-      sym (filter_where (is_outside ws) (is_outside v.written) v.tuples (each _ fewer v.tuples)) ∙ ap (filter (is_outside ws)) agrees
-      ∙ filter_where (is_outside ws) (is_outside v.written) old (each _ fewer old)
-      ∙ sym (filter_where (is_outside ws) (λ t. not (is_of p t)) old (each _ apart old)) ∙ ap (filter (is_outside ws)) (sym others)
-      ∙ filter_where (is_outside ws) (λ t. not (is_of p t)) new (each _ apart new)
+      sym (filter_where (is_outside ws) (is_outside v.written) v.tuples (all _ fewer v.tuples)) ∙ ap (filter (is_outside ws)) agrees
+      ∙ filter_where (is_outside ws) (is_outside v.written) old (all _ fewer old)
+      ∙ sym (filter_where (is_outside ws) (λ t. not (is_of p t)) old (all _ apart old)) ∙ ap (filter (is_outside ws)) (sym others)
+      ∙ filter_where (is_outside ws) (λ t. not (is_of p t)) new (all _ apart new)
 
   with_one : (ws : List Place) → ws ≡ v.written ++ p ∷ [] → filter (is_outside ws) v.tuples ≡ filter (is_outside ws) new
   with_one ws is =

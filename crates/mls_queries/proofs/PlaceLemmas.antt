@@ -1,9 +1,10 @@
 -- Rows at places.
-use Rattle.std.proofs.Common.{◌≡◌, ℕ, zero, suc, ◌+◌, ◌<◌, Bool, true, false, cond, ◌&&◌, List, [], ◌∷◌, ◌++◌, length, take, Option, Some, None, refl, sym, ap, ◌∙◌, subst, arith, not, is_none, slice_index_or, filter, true≢false}
+use Rattle.std.proofs.Common.{◌≡◌, ℕ, suc, ◌+◌, ◌<◌, Bool, true, false, cond, ◌&&◌, List, [], ◌∷◌, ◌++◌, length, take, Option, Some, None, refl, sym, ap, ◌∙◌, subst, arith, not, is_none, slice_index_or, filter, true≢false}
 use Rattle.std.specs.List.{AllByRecursion}
 use Rattle.std.proofs.lemmas.Bool.{and_parts, not-true}
 use Rattle.std.proofs.lemmas.List.{map-append, take-map, take_more}
 use Rattle.mls_lattice.specs.Labels.{Labels}
+use Rattle.mls_lattice.proofs.EachLemmas.{all_append, all_take}
 use Rattle.mls_scheme.specs.declared.tuple.Tuple.{Tuple}
 use Rattle.mls_filterview.specs.Rules.{no_tuple}
 use Rattle.mls_filterview.proofs.FilteredLemmas.{map_filter}
@@ -18,15 +19,6 @@ all_filter P p [] h = tt
 all_filter P p (x ∷ xs) h =
     elim (p x) as (λ b. AllByRecursion P (cond b (x ∷ filter p xs) (filter p xs))) [ true ↦ (h.0, all_filter P p xs h.1) | false ↦ all_filter P p xs h.1 ]
 
-pub all_append : {A : Type 0} (P : A → Type 0) (xs ys : List A) → AllByRecursion P xs → AllByRecursion P ys → AllByRecursion P (xs ++ ys)
-all_append P [] ys h k = k
-all_append P (x ∷ xs) ys h k = (h.0, all_append P xs ys h.1 k)
-
-all_take : {A : Type 0} (P : A → Type 0) (n : ℕ) (xs : List A) → AllByRecursion P xs → AllByRecursion P (take n xs)
-all_take P zero xs h = tt
-all_take P (suc n) [] h = tt
-all_take P (suc n) (x ∷ xs) h = (h.0, all_take P n xs h.1)
-
 -- two tests, one after the other
 pub filter_both : {A : Type 0} (p q : A → Bool) (xs : List A) → filter (λ x. p x && q x) xs ≡ filter q (filter p xs)
 filter_both p q [] = refl
@@ -40,7 +32,7 @@ filter_both p q (x ∷ xs) =
 
 pub first_within : (ts : List Tuple) (o : Option ℕ) (ps : List ℕ) → AreWithin ts ps → AreWithin ts (first_of o ps)
 first_within ts None ps h = h
-first_within ts (Some n) ps h = all_take (λ p. p < length ts) n ps h
+first_within ts (Some n) ps h = all_take (λ p. p < length ts) ps n h
 
 pub rows_first : (ts : List Tuple) (o : Option ℕ) (ps : List ℕ) → rows_at ts (first_of o ps) ≡ first_of o (rows_at ts ps)
 rows_first ts None ps = refl

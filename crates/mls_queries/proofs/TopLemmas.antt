@@ -11,6 +11,7 @@ use Rattle.std.proofs.lemmas.Cmp.{tied_itself, lists_total}
 use Rattle.std.proofs.lemmas.Bool.{and_parts, false_from_ne_true}
 use Rattle.std.proofs.lemmas.List.{map-append}
 use Rattle.mls_lattice.specs.Labels.{Labels}
+use Rattle.mls_lattice.proofs.EachLemmas.{all_append}
 use Rattle.mls_scheme.specs.declared.value.Value.{Value}
 use Rattle.mls_scheme.specs.declared.tuple.Tuple.{Tuple}
 use Rattle.mls_scheme.specs.declared.place.Place.{Place}
@@ -25,7 +26,7 @@ use Rattle.mls_filterview.proofs.AmongLemmas.{all_at, any_left, any_right}
 use Rattle.mls_filterview.proofs.EntryLemmas.{Entry, sorted_filter, so_true}
 use Rattle.mls_queries.specs.Query.{is_key, is_above, is_strictly_below, tops}
 use Rattle.mls_queries.specs.Places.{rows_at, AreWithin, AreByKey, is_top, places_from}
-use Rattle.mls_queries.proofs.PlaceLemmas.{all_append, rows_from, from_within}
+use Rattle.mls_queries.proofs.PlaceLemmas.{rows_from, from_within}
 
 -- ---- keys
 

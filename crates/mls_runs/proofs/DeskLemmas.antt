@@ -5,6 +5,7 @@ use Rattle.std.specs.Io.KnownBytes.{Appends}
 use Rattle.std.proofs.KnownBytes.{Appends-nil, Appends-trans}
 use Rattle.std.proofs.Math.Seq.{take-append-add}
 use Rattle.mls_lattice.specs.Policy.{Policy}
+use Rattle.mls_lattice.proofs.EachLemmas.{all_append}
 use Rattle.mls_scheme.specs.Scheme.{Schemes}
 use Rattle.mls_filterview.specs.Content.{State}
 use Rattle.mls_script.specs.declared.event.Event.{Event}
@@ -23,7 +24,7 @@ use Rattle.mls_host.specs.Ending.{ending_if}
 use Rattle.mls_runs.specs.Running.{standing}
 use Rattle.mls_runs.specs.declared.shell_session.Fate.{Fate}
 use Rattle.mls_runs.specs.Shell.{Turn, IsShellTurn, events_of, events_in, is_last, is_failed, is_lost, FateFits, IsRead}
-use Rattle.mls_runs.proofs.ShellLemmas.{end_of-append, all-append, events-snoc, any-snoc, none_failed, failed_there}
+use Rattle.mls_runs.proofs.ShellLemmas.{end_of-append, events-snoc, any-snoc, none_failed, failed_there}
 use Rattle.mls_runs.proofs.TalkLemmas.{fate_fits, last_line, failed_last}
 use Rattle.mls_runs.specs.Marks.{mark_of}
 use Rattle.mls_runs.specs.Desk.{IsFate, AreLines, answer_of, desk, IsFollowed, IsService, at_line, between}
@@ -110,7 +111,7 @@ module _ {B : Type 0} (state : B → State) (is_clean : B → Type 0) (echo : Li
       turns = s.turns ++ turn ∷ []
 
       fits_now : EventsFit at (events_in turns)
-      fits_now = subst (EventsFit at) (sym (events-snoc s.turns turn)) (all-append _ (events_in s.turns) (events_of turn.fate) s.fits (subst (λ (x : Fate). EventsFit at (events_of x)) (sym l.read.same) (fate_fits at fate l.fits)))
+      fits_now = subst (EventsFit at) (sym (events-snoc s.turns turn)) (all_append _ (events_in s.turns) (events_of turn.fate) s.fits (subst (λ (x : Fate). EventsFit at (events_of x)) (sym l.read.same) (fate_fits at fate l.fits)))
 
       lines_now : AreLines echo at.policy at.schemes given over turns
       lines_now = lines-snoc echo at.policy at.schemes given left over s.turns turn s.lines s.last_is l.read.is_turn

@@ -1,5 +1,5 @@
 -- Histories grow by runs at their end, over the files of one store.
-use Rattle.std.proofs.Common.{◌≡◌, ℕ, zero, suc, ◌+◌, ◌-◌, if◌then◌else◌, List, [], ◌∷◌, ◌++◌, map, length, take, Option, Some, None, Result, Ok, Err, OnOk, IfErr, IfSome, refl, sym, ap, subst, ◌∙◌, arith, append-nil, append_assoc, length-append}
+use Rattle.std.proofs.Common.{◌≡◌, ℕ, ◌+◌, ◌-◌, if◌then◌else◌, List, [], ◌∷◌, ◌++◌, map, length, Option, Some, None, Result, Ok, Err, OnOk, IfErr, IfSome, refl, sym, ap, subst, ◌∙◌, arith, append-nil, append_assoc, length-append}
 use Rattle.std.specs.List.{AllByRecursion, concat}
 use Rattle.std.specs.Io.KnownBytes.{Appends}
 use Rattle.std.proofs.KnownBytes.{Appends-trans}
@@ -10,6 +10,7 @@ use Rattle.sqlite.specs.Files.{image_of}
 use Rattle.sqlite.specs.WalReads.{AreClean}
 use Rattle.mls_lattice.specs.Labels.{Labels, AreDistinct}
 use Rattle.mls_lattice.specs.Policy.{Policy, labels_of}
+use Rattle.mls_lattice.proofs.EachLemmas.{all_append, all_take}
 use Rattle.mls_scheme.specs.Scheme.{Schemes}
 use Rattle.mls_scheme.specs.declared.file.SchemesFile.{SchemesFile}
 use Rattle.mls_filterview.specs.Content.{Content}
@@ -28,7 +29,6 @@ use Rattle.mls_machine.specs.Output.{run_lines, printed}
 use Rattle.mls_machine.specs.Observation.{EventsFit, heard}
 use Rattle.mls_machine.specs.History.{RunAt, settled, run_at, run_start, run_end, turning_lines, history_end, history_lines, history_bytes, HistoryFits, IsHistoryUnder, IsSiteUnder, ShowsOnlyReleasesInHistory}
 use Rattle.mls_machine.proofs.HistoryLemmas.{histories_keep, accepted_histories, histories_show}
-use Rattle.mls_machine.proofs.OneLineLemmas.{each-append}
 use Rattle.mls_script.specs.declared.run_fault.RunFault.{RunFault}
 use Rattle.mls_runs.specs.Running.{IsRun}
 use Rattle.mls_runs.specs.declared.history.Run.{Run}
@@ -81,12 +81,6 @@ told site audience es P Q (Err fault) first left f h = record {
   shown = h.shown;
 }
 
--- the first n of a list
-all_taken : {A : Type 0} (P : A → Type 0) (n : ℕ) (xs : List A) → AllByRecursion P xs → AllByRecursion P (take n xs)
-all_taken P zero xs h = tt
-all_taken P (suc n) [] h = tt
-all_taken P (suc n) (x ∷ xs) h = (h.0, all_taken P n xs h.1)
-
 -- ---- runs that are prepared
 
 module _ (policy : Policy) (schemes : Schemes) where
@@ -106,7 +100,7 @@ module _ (policy : Policy) (schemes : Schemes) where
   -- so is a run up to where it stopped
   ready_to : (r : RunAt) (end : Result (Unit {0}) RunFault) → IsReady r → IsReady (run_to r end)
   ready_to r (Ok u) h = h
-  ready_to r (Err fault) h = (h.0, all_taken _ (if fault.done then fault.event else fault.event - 1) r.events h.1, h.2)
+  ready_to r (Err fault) h = (h.0, all_take _ r.events (if fault.done then fault.event else fault.event - 1) h.1, h.2)
 
   under : (rs : List RunAt) → AreReady rs → IsHistoryUnder (labels_of policy) schemes rs
   under [] h = tt
@@ -169,7 +163,7 @@ module _ (policy : Policy) (schemes : Schemes) where
       stands_behind rs P Wrote end first last left h before r =
           let w = world_of policy first in
           let s = run_to At end in
-          history_is (rs ++ s ∷ []) first left (each-append IsReady rs (s ∷ []) h (ready_to At end ready, tt)) before.begins
+          history_is (rs ++ s ∷ []) first left (all_append IsReady rs (s ∷ []) h (ready_to At end ready, tt)) before.begins
           (end_more w rs (s ∷ []) ∙ end_one (history_end w rs) s ∙ ap (λ v. run_end v s) before.history.left_by ∙ left_world Wrote end last left r)
 
     -- whole runs behind others
@@ -179,7 +173,7 @@ module _ (policy : Policy) (schemes : Schemes) where
         let ls = labels_of policy in
         let w = world_of policy first in
         let bytes = bytes_more ls audience w rs ss ∙ ap (λ v. concat (history_bytes ls audience w rs) ++ concat (history_bytes ls audience v ss)) h.history.left_by in
-        history_run audience (rs ++ ss) R first left (each-append IsReady rs ss ready later) h.begins (subst R (sym bytes) (f _ _ h.written k.written))
+        history_run audience (rs ++ ss) R first left (all_append IsReady rs ss ready later) h.begins (subst R (sym bytes) (f _ _ h.written k.written))
         (end_more w rs ss ∙ ap (λ v. history_end v ss) h.history.left_by ∙ k.history.left_by) k.sound
 
 -- what is written of whole runs may be told of otherwise

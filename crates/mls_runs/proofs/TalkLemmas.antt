@@ -3,6 +3,7 @@ use Rattle.std.proofs.Common.{◌≡◌, ℕ, suc, ◌+◌, ◌<◌, Bool, true,
 use Rattle.std.specs.List.{list_any}
 use Rattle.std.specs.Io.KnownBytes.{Appends, IsAtEnd}
 use Rattle.std.proofs.KnownBytes.{Appends-trans}
+use Rattle.mls_lattice.proofs.EachLemmas.{all_append}
 use Rattle.mls_filterview.specs.Content.{State}
 use Rattle.mls_script.specs.declared.event.Event.{Event}
 use Rattle.mls_machine.specs.declared.form.Audience.{Audience}
@@ -28,7 +29,7 @@ use Rattle.mls_host.specs.Ending.{ending_if}
 use Rattle.mls_host.specs.Hosting.{IsTold}
 use Rattle.mls_host.proofs.HostingLemmas.{told_nothing, told_more}
 use Rattle.mls_runs.specs.Shell.{audience_at, verdicts_in, Turn, IsFate, events_of, events_in, opening, is_open, is_last, is_failed, is_lost, verdict_of, is_short, end_told, prompt_of, told_of, AreTold, AreAllTold, answers, after_opening, transcript, shown_to, AreTurns, tally_of, IsSilent, FateFits, IsAnswered, IsFollowed, IsRead, IsConversation}
-use Rattle.mls_runs.proofs.ShellLemmas.{nothing_done, whole_more, stopped_more, fault_more, first_part, all-append, length-snoc, events-snoc, told-snoc, world-snoc, transcript-snoc, shown_before, shown_behind, shown_from, turns-snoc, AreFew, few_more, tally-snoc, none_failed, failed_there, silent_turn, silent_lines, any-snoc}
+use Rattle.mls_runs.proofs.ShellLemmas.{nothing_done, whole_more, stopped_more, fault_more, first_part, length-snoc, events-snoc, told-snoc, world-snoc, transcript-snoc, shown_before, shown_behind, shown_from, turns-snoc, AreFew, few_more, tally-snoc, none_failed, failed_there, silent_turn, silent_lines, any-snoc}
 
 -- the events of a line are answered
 pub followed_whole : (at : Site) (audience : Audience) (w : World) (es : List Event) (was is : Option (List ℕ)) (new : World) (line : ℕ)
@@ -228,7 +229,7 @@ module _ {B E : Type 0} (state : B → State) (is_clean : B → Type 0) (content
           number = let e = s.count_is in omega arith
 
       fits_now : EventsFit at (events_in turns)
-      fits_now = subst (EventsFit at) (sym (events-snoc s.turns turn)) (all-append _ (events_in s.turns) (events_of turn.fate) s.fits (subst (λ (x : Fate). EventsFit at (events_of x)) (sym l.read.same) (fate_fits at fate l.fits)))
+      fits_now = subst (EventsFit at) (sym (events-snoc s.turns turn)) (all_append _ (events_in s.turns) (events_of turn.fate) s.fits (subst (λ (x : Fate). EventsFit at (events_of x)) (sym l.read.same) (fate_fits at fate l.fits)))
 
       lines_now : is_clean now.base → AreTurns echo at session (after_opening at session w) given over turns
       lines_now c = turns-snoc at session w echo given left over s.turns turn (s.lines c) s.last_is (subst (λ u. is_open session u ≡ true) (s.world c) l.was_open) l.read.is_turn

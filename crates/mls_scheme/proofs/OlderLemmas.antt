@@ -3,6 +3,7 @@ use Rattle.std.proofs.Common.{◌≡◌, ℕ, zero, suc, arith, ◌+◌, ◌<◌
 use Rattle.std.specs.List.{AllZip, AllByRecursion, IsDistinct}
 use Rattle.std.proofs.lemmas.List.{drop_more}
 use Rattle.mls_lattice.specs.Policy.{Name, Policy, AreNames}
+use Rattle.mls_lattice.proofs.EachLemmas.{all_take}
 use Rattle.mls_scheme.specs.declared.attributes.Column.{Column}
 use Rattle.mls_scheme.specs.Named.{has_name}
 use Rattle.mls_scheme.specs.Scheme.{Attribute, Scheme, Schemes, IsScheme, AreSchemes, IsAmongLabels, AreUnder, scheme_of, no_scheme, column_of}
@@ -12,16 +13,9 @@ use Rattle.mls_scheme.proofs.GatherLemmas.{fresh}
 
 -- ---- the first of a list
 
-all_first : {X : Type 0} (P : X → Type 0) (xs ys : List X) → AllByRecursion P (xs ++ ys) → AllByRecursion P xs
-all_first P [] ys h = tt
-all_first P (x ∷ xs) ys h = (h.0, all_first P xs ys h.1)
-
 -- what holds of a key and others holds of the key and the first of the others
 split_first : {X : Type 0} (keys others : List X) (n : ℕ) → keys ++ others ≡ (keys ++ take n others) ++ drop n others
 split_first keys others n = ap (λ xs. keys ++ xs) (sym (take-append-drop n others)) ∙ sym (append_assoc keys (take n others) (drop n others))
-
-all_take : {X : Type 0} (P : X → Type 0) (xs : List X) (n : ℕ) → AllByRecursion P xs → AllByRecursion P (take n xs)
-all_take P xs n h = all_first P (take n xs) (drop n xs) (subst (AllByRecursion P) (sym (take-append-drop n xs)) h)
 
 abbrev name_of : Attribute → Name
 name_of a = a.0

@@ -4,6 +4,7 @@ use Rattle.std.specs.List.{AllByRecursion, cons_option}
 use Rattle.std.proofs.lemmas.List.Elements.{filter_map-append}
 use Rattle.std.proofs.lemmas.Option.{none-some}
 use Rattle.mls_lattice.specs.Policy.{Name, Policy}
+use Rattle.mls_lattice.proofs.EachLemmas.{all_append}
 use Rattle.mls_scheme.specs.declared.value.Kind.{Kind}
 use Rattle.mls_scheme.specs.declared.value.Value.{Value}
 use Rattle.mls_scheme.specs.Value.{fits_kind}
@@ -66,10 +67,6 @@ module _ (site : Site) (level user : ℕ) (name : Name) (args : List (Option Val
     counted = (may_run site level user k.tx args none).count
 
 -- ---- entries
-
-all_append : {X : Type 0} (P : X → Type 0) (xs ys : List X) → AllByRecursion P xs → AllByRecursion P ys → AllByRecursion P (xs ++ ys)
-all_append P [] ys h k = k
-all_append P (x ∷ xs) ys h k = (h.0, all_append P xs ys h.1 k)
 
 module _ (count : ℕ) where
   abbrev Below : List Entry → Type 0

@@ -1,14 +1,11 @@
 use Rattle.std.proofs.Common.{◌≡◌, ◌+◌, ◌<◌, ◌++◌, ℕ, List, [], ◌∷◌, length, get_or, take, sym, ap, ◌∙◌, subst, flat_map, take_all}
 use Rattle.std.specs.List.{AllByRecursion}
 use Rattle.std.proofs.lemmas.List.{flat_map_more, take_more}
-use Rattle.mls_lattice.proofs.PolicyLemmas.{row-at}
+use Rattle.std.proofs.SliceLists.{all_by_recursion_push}
+use Rattle.mls_lattice.proofs.EachLemmas.{all_at}
 use Rattle.mls_scheme.specs.declared.value.Value.{Value}
 use Rattle.mls_scheme.specs.Spelling.{value_spelling, IsValue, IsShort}
 use Rattle.mls_scheme.proofs.key_writing.key_bytes.Goals as goal
-
-all_push : {A : Type 0} (P : A → Type 0) (xs : List A) (x : A) → AllByRecursion P xs → P x → AllByRecursion P (xs ++ x ∷ [])
-all_push P [] x h p = (p, tt)
-all_push P (y ∷ ys) x h p = (h.0, all_push P ys x h.1 p)
 
 module _ (key : List Value) (i : ℕ) (v : Value) (within : i < length key) (is : v ≡ get_or key i v) where
   next : take i key ++ v ∷ [] ≡ take (i + 1) key
@@ -19,11 +16,11 @@ module _ (key : List Value) (i : ℕ) (v : Value) (within : i < length key) (is 
       more ∙ ap (λ l. l ++ value_spelling v) so_far ∙ flat_map_more value_spelling (n ∷ []) (take i key) v ∙ ap (λ l. n ∷ flat_map value_spelling l) next
 
   whole_more : AllByRecursion IsValue (take i key) → IsValue v → AllByRecursion IsValue (take (i + 1) key)
-  whole_more all whole = subst (AllByRecursion IsValue) next (all_push IsValue (take i key) v all whole)
+  whole_more all whole = subst (AllByRecursion IsValue) next (all_by_recursion_push IsValue (take i key) v all whole)
 
 pub put_value-requires : goal.put_value-requires
 put_value-requires c =
-    subst IsShort (sym c.value-item.is) (row-at IsShort c.args.key.now c.loop-value.value-index c.value-item.result c.requires.short c.loop-value-test.true)
+    subst IsShort (sym c.value-item.is) (all_at IsShort c.args.key.now c.loop-value.value-index c.value-item.result c.loop-value-test.true c.requires.short)
 
 pub loop-value-preserved : goal.loop-value-preserved
 loop-value-preserved c =

@@ -8,7 +8,7 @@ use Rattle.mls_translang.specs.declared.block.Stmt.{Stmt}
 use Rattle.mls_translang.specs.Tree.{Do, If, For, Assign, Release, Emit, End}
 use Rattle.mls_translang.specs.Blocks.{block_of}
 use Rattle.mls_translang.proofs.BlockLemmas.{size_step}
-use Rattle.mls_certcheck.proofs.EachLemmas.{all_at}
+use Rattle.mls_lattice.proofs.EachLemmas.{all_at}
 use Rattle.mls_certcheck.specs.Expressions.{is_true, eval}
 use Rattle.mls_trusted.specs.Frames.{around_of, progress_of, MayRun, run_of, rows_of, loop_of, IsCallReady, IsRun}
 use Rattle.mls_trusted.proofs.RunLemmas.{run_none, run_start, run_stmts, may_here, branch_one, branch_other, loop_same, run_rows_more, ok_same, ok_step, ready_read, may_each, entered, entered_around}

@@ -5,7 +5,7 @@ use Rattle.mls_lattice.specs.Lattice.{Dominates, pair_of}
 use Rattle.mls_certcheck.specs.Rules.{Claim, slot_label, IsOver}
 use Rattle.mls_certcheck.specs.declared.flow.Slot.{Slot}
 use Rattle.mls_certcheck.specs.declared.flow.Slot.TheVariants.{Variable}
-use Rattle.mls_certcheck.proofs.EachLemmas.{all_at, all_both}
+use Rattle.mls_lattice.proofs.EachLemmas.{all_at, all_append}
 use Rattle.mls_labeller.specs.Rising.{rows_of, claim_at, Rises}
 use Rattle.mls_labeller.proofs.RiseLemmas.{rises_then, join_due, rises_pour}
 use Rattle.mls_labeller.proofs.least.Rising.pour.Goals as goal
@@ -24,7 +24,7 @@ loop-slot-preserved c =
     let t = get_or ts i (Variable 0 0) in
     let over : Claim → Slot → Type 0 = λ a s. Dominates (slot_label a s) (pair_of c.joined-low.result) in
     let more = take_more ts i (Variable 0 0) c.loop-slot-test.true in
-    rises_then c.args.self.now (λ a. AllByRecursion (over a) (take i ts)) (λ a. over a t) _ (λ a f g. subst (AllByRecursion (over a)) (sym more) (all_both (over a) (take i ts) (t ∷ []) f (g, tt))) _ _ _ _ _ c.loop-slot.invariant c.raise-rose.ensures
+    rises_then c.args.self.now (λ a. AllByRecursion (over a) (take i ts)) (λ a. over a t) _ (λ a f g. subst (AllByRecursion (over a)) (sym more) (all_append (over a) (take i ts) (t ∷ []) f (g, tt))) _ _ _ _ _ c.loop-slot.invariant c.raise-rose.ensures
 
 pub returns : goal.returns
 returns c =

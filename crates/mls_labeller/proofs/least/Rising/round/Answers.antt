@@ -1,6 +1,6 @@
 use Rattle.std.proofs.Common.{sym, subst}
 use Rattle.mls_certcheck.specs.declared.flow.Line.{Line}
-use Rattle.mls_certcheck.proofs.EachLemmas.{all_at}
+use Rattle.mls_lattice.proofs.EachLemmas.{all_at}
 use Rattle.mls_labeller.specs.Flows.{IsBounded}
 use Rattle.mls_labeller.specs.Rising.{claim_at, HasTargets}
 use Rattle.mls_labeller.proofs.least.Rising.round.Goals as goal

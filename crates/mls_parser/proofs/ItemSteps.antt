@@ -1,7 +1,8 @@
 -- Items with a comma between each two, item by item.
-use Rattle.std.proofs.Common.{◌≡◌, ℕ, zero, suc, ◌<◌, ◌≤◌, true, List, [], ◌∷◌, ◌++◌, length, Option, Some, None, option_map, is_some, Ok, Err, refl, sym, ap, ◌∙◌, arith, slice_get}
+use Rattle.std.proofs.Common.{◌≡◌, ℕ, zero, suc, ◌<◌, ◌≤◌, Bool, true, List, [], ◌∷◌, ◌++◌, length, Option, Some, None, option_map, is_some, Ok, Err, refl, sym, ap, ◌∙◌, arith, slice_get}
 use Rattle.mls_lattice.specs.Reading.{◌>>=◌}
 use Rattle.mls_scheme.specs.declared.attributes.Column.{Column}
+use Rattle.mls_scheme.specs.declared.value.Kind.{Kind}
 use Rattle.mls_lattice.proofs.ReadingLemmas.{ok_is, bind_ok}
 use Rattle.mls_scheme.specs.Scheme.{Attribute, Scheme, column_of}
 use Rattle.mls_tokens.specs.declared.sign.Sign.TheVariants.{Comma, Equals}
@@ -10,35 +11,36 @@ use Rattle.mls_tokens.specs.Passing.{PlacedName}
 use Rattle.mls_tokens.proofs.PassedLemmas.{passed_shorter}
 use Rattle.mls_translang.specs.Tokens.{Place}
 use Rattle.mls_translang.specs.Tree.{Expr}
+use Rattle.mls_parser.specs.declared.fault.TextCause.TheVariants as cause
 use Rattle.mls_parser.specs.declared.fault.PlacedFault.{PlacedFault}
+use Rattle.mls_parser.specs.Fault.{unless}
 use Rattle.mls_parser.specs.declared.inferred.Inferred.{Inferred}
 use Rattle.mls_parser.specs.Infer.{may_be, may_be_value}
-use Rattle.mls_parser.specs.declared.given.Given.{Given}
 use Rattle.mls_parser.specs.Names.{other_named}
 use Rattle.mls_parser.specs.Noted.{State, Read, note, takes_sign, sign_at, name_at}
 use Rattle.mls_parser.specs.ReadExpr.{whole_at}
-use Rattle.mls_parser.specs.ReadList.{after_item, items_from, items_at, tested, fits_item, item_at, with_set, set_faults, set_at}
+use Rattle.mls_parser.specs.ReadList.{after_item, items_from, items_at, with_set, numbered_in, target_faults, target_at, item_of, set_of, fits_item, item_at, set_at}
 use Rattle.mls_parser.proofs.ExprFound.{whole_shorter}
 use Rattle.mls_parser.proofs.PassedLemmas.{sign_found, takes_shorter, name_found}
 
--- ---- one item
+-- ---- the attribute of a number
 
-slot : (o : Option Attribute) (c : Column) (given : Inferred) → option_map column_of o ≡ Some c → may_be given c.kind ≡ fits_item o given
-slot None c given h = absurd cc
-slot (Some a) c given h =
+pub slot : (o : Option Attribute) (c : Column) → option_map column_of o ≡ Some c → (fits : Option Attribute → Bool) (is : Kind → Bool) → ((a : Attribute) → fits (Some a) ≡ is a.1.kind) → is c.kind ≡ fits o
+slot None c h fits is some = absurd cc
+slot (Some a) c h fits is some =
     let same : column_of a ≡ c = cc in
-    ap (λ (d : Column). may_be given d.kind) (sym same)
+    ap (λ (d : Column). is d.kind) (sym same) ∙ sym (some a)
 
-no_slot : (attributes : List Attribute) (i : ℕ) → length attributes ≤ i → slice_get attributes i ≡ None
-no_slot [] i le = refl
-no_slot (a ∷ rest) zero le = absurd (omega arith)
-no_slot (a ∷ rest) (suc i) le = no_slot rest i (omega arith)
+pub no_slot : (attributes : List Attribute) (i : ℕ) → (i < length attributes → ⊥) → slice_get attributes i ≡ None
+no_slot [] i past = refl
+no_slot (a ∷ rest) zero past = absurd (past (omega arith))
+no_slot (a ∷ rest) (suc i) past = no_slot rest i (λ lt. past (omega (arith, lt)))
 
 pub slot_kind : (attributes : List Attribute) (i : ℕ) (c : Column) (given : Inferred) → option_map column_of (slice_get attributes i) ≡ Some c → may_be given c.kind ≡ fits_item (slice_get attributes i) given
-slot_kind attributes i c given h = slot (slice_get attributes i) c given h
+slot_kind attributes i c given h = slot (slice_get attributes i) c h (λ o. fits_item o given) (may_be given) (λ a. refl)
 
 pub slot_value : (attributes : List Attribute) (i : ℕ) (given : Inferred) → (i < length attributes → ⊥) → may_be_value given ≡ fits_item (slice_get attributes i) given
-slot_value attributes i given past = ap (λ o. fits_item o given) (sym (no_slot attributes i (omega (arith, past))))
+slot_value attributes i given past = ap (λ o. fits_item o given) (sym (no_slot attributes i past))
 
 pub ruleset slot_steps = (slot_kind, slot_value)
 
@@ -79,34 +81,51 @@ module _ {A : Type 0} (next : A → State → Read A) (first : A) (start : State
       items_next None l some e less = absurd cc
       items_next (Some at) l some e less = items_more at l (sym e) (less at (sym e))
 
--- the comma behind an item is nearer to the end
-pub item_less : (p : Place) (attributes : List Attribute) (front : List Expr) (s : State) (x : List Expr) (m l : State) (at : ℕ)
-    → item_at p attributes front s ≡ Ok (x, m) → takes_sign Comma m ≡ Some (at, l) → length l.1.placed < length s.1.placed
-unfolding item_at
-item_less p attributes front s x m l at is e =
-    let next : Given × State → List Expr × State =
-    λ g. (front ++ g.0.expr ∷ [], note (tested (fits_item (slice_get attributes (length front)) g.0.gives) g.0) g.1) in
-    let g = bind_ok (whole_at p s) (λ g. Ok (next g)) (x, m) is in
-    let same = ok_is (next g.0) (x, m) g.2 in
-    omega (arith, whole_shorter p s g.0 g.1, ap (λ (y : List Expr × State). length y.1.1.placed) same, takes_shorter Comma m at l e)
+-- ---- the comma behind an item is nearer to the end
 
-pub set_less : (p : Place) (scheme : Scheme) (front : List (ℕ × Expr)) (s : State) (x : List (ℕ × Expr)) (m l : State) (at : ℕ)
-    → set_at p scheme front s ≡ Ok (x, m) → takes_sign Comma m ≡ Some (at, l) → length l.1.placed < length s.1.placed
-unfolding set_at
-set_less p scheme front s x m l at is e =
-    let next : PlacedName × State → Given × State → List (ℕ × Expr) × State =
-    λ n v. (with_set front (other_named scheme n.0.0) v.0.expr, note (set_faults scheme front n.0 (other_named scheme n.0.0) v.0) v.1) in
-    let n = bind_ok (name_at s) (λ n. sign_at Equals n.1 >>= λ q. whole_at p q.1 >>= λ v. Ok (next n v)) (x, m) is in
-    let q = bind_ok (sign_at Equals n.0.1) (λ q. whole_at p q.1 >>= λ v. Ok (next n.0 v)) (x, m) n.2 in
-    let v = bind_ok (whole_at p q.0.1) (λ v. Ok (next n.0 v)) (x, m) q.2 in
-    let same = ok_is (next n.0 v.0) (x, m) v.2 in
+target_shorter : {X : Type 0} (scheme : Scheme) (front : List (ℕ × X)) (s : State) (o : Option ℕ × State) → target_at scheme front s ≡ Ok o → length o.1.1.placed < length s.1.placed
+unfolding target_at
+target_shorter scheme front s o is =
+    let next : PlacedName × State → ℕ × State → Option ℕ × State = λ n e. (other_named scheme n.0.0, note (target_faults front n.0 (other_named scheme n.0.0)) e.1) in
+    let n = bind_ok (name_at s) (λ n. sign_at Equals n.1 >>= λ e. Ok (next n e)) o is in
+    let e = bind_ok (sign_at Equals n.0.1) (λ e. Ok (next n.0 e)) o n.2 in
+    let same = ok_is (next n.0 e.0) o e.2 in
     omega (
       arith,
       passed_shorter (Word n.0.0.0 ∷ []) s.1 n.0.1.1 (name_found s n.0 n.1).name.passed,
-      passed_shorter (Sign Equals ∷ []) n.0.1.1 q.0.1.1 (sign_found Equals n.0.1 q.0 q.1).passed,
-      whole_shorter p q.0.1 v.0 v.1,
-      ap (λ (y : List (ℕ × Expr) × State). length y.1.1.placed) same,
-      takes_shorter Comma m at l e,
+      passed_shorter (Sign Equals ∷ []) n.0.1.1 e.0.1.1 (sign_found Equals n.0.1 e.0 e.1).passed,
+      ap (λ (y : Option ℕ × State). length y.1.1.placed) same,
     )
+
+module _ {V X : Type 0} (value_at : State → Read V) (item : V → X) (place : V → ℕ) (fits : Option Attribute → V → Bool)
+    (shorter : (s : State) (v : V × State) → value_at s ≡ Ok v → length v.1.1.placed < length s.1.placed) where
+  pub item_of_less : (attribute : ℕ → Option Attribute) (front : List X) (s : State) (x : List X) (m l : State) (at : ℕ)
+      → item_of value_at item place fits attribute front s ≡ Ok (x, m) → takes_sign Comma m ≡ Some (at, l) → length l.1.placed < length s.1.placed
+  item_of_less attribute front s x m l at is e =
+      let next : V × State → List X × State = λ v. (front ++ item v.0 ∷ [], note (unless (fits (attribute (length front)) v.0) (place v.0) cause.Kind) v.1) in
+      let v = bind_ok (value_at s) (λ v. Ok (next v)) (x, m) is in
+      let same = ok_is (next v.0) (x, m) v.2 in
+      omega (arith, shorter s v.0 v.1, ap (λ (y : List X × State). length y.1.1.placed) same, takes_shorter Comma m at l e)
+
+  pub set_of_less : (scheme : Scheme) (front : List (ℕ × X)) (s : State) (x : List (ℕ × X)) (m l : State) (at : ℕ)
+      → set_of value_at item place fits scheme front s ≡ Ok (x, m) → takes_sign Comma m ≡ Some (at, l) → length l.1.placed < length s.1.placed
+  set_of_less scheme front s x m l at is e =
+      let next : Option ℕ × State → V × State → List (ℕ × X) × State = λ o v. (with_set front o.0 (item v.0), note (unless (fits (numbered_in scheme.others o.0) v.0) (place v.0) cause.Kind) v.1) in
+      let o = bind_ok (target_at scheme front s) (λ o. value_at o.1 >>= λ v. Ok (next o v)) (x, m) is in
+      let v = bind_ok (value_at o.0.1) (λ v. Ok (next o.0 v)) (x, m) o.2 in
+      let same = ok_is (next o.0 v.0) (x, m) v.2 in
+      omega (arith, target_shorter scheme front s o.0 o.1, shorter o.0.1 v.0 v.1, ap (λ (y : List (ℕ × X) × State). length y.1.1.placed) same, takes_shorter Comma m at l e)
+
+-- of expressions
+module _ (p : Place) where
+  pub item_less : (attributes : List Attribute) (front : List Expr) (s : State) (x : List Expr) (m l : State) (at : ℕ)
+      → item_at p attributes front s ≡ Ok (x, m) → takes_sign Comma m ≡ Some (at, l) → length l.1.placed < length s.1.placed
+  unfolding item_at
+  item_less attributes = item_of_less (whole_at p) (λ g. g.expr) (λ g. g.at) (λ a g. fits_item a g.gives) (whole_shorter p) (slice_get attributes)
+
+  pub set_less : (scheme : Scheme) (front : List (ℕ × Expr)) (s : State) (x : List (ℕ × Expr)) (m l : State) (at : ℕ)
+      → set_at p scheme front s ≡ Ok (x, m) → takes_sign Comma m ≡ Some (at, l) → length l.1.placed < length s.1.placed
+  unfolding set_at
+  set_less = set_of_less (whole_at p) (λ g. g.expr) (λ g. g.at) (λ a g. fits_item a g.gives) (whole_shorter p)
 
 pub ruleset item_steps = (items_none, items_err, items_end, items_more, item_less, set_less)

@@ -14,6 +14,7 @@ pub mod FoundLemmas
 pub mod NextLemmas
 pub mod FoundSteps
 pub mod OrderLemmas
+pub mod ValueLemmas
 pub mod ExprAgain
 pub mod ListAgain
 pub mod StmtAgain

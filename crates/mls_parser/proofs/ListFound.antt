@@ -1,5 +1,5 @@
 -- What is read is what stands there: lists of expressions.
-use Rattle.std.proofs.Common.{◌≡◌, ℕ, ◌+◌, ◌<◌, ◌==◌, true, List, [], ◌∷◌, ◌++◌, length, drop, get_or, slice_get, Some, Ok, refl, sym, ap, ◌∙◌, subst, arith, length-append}
+use Rattle.std.proofs.Common.{◌≡◌, ℕ, ◌+◌, ◌<◌, ◌==◌, true, List, [], ◌∷◌, length, drop, get_or, slice_get, Option, Some, Ok, sym, ap, ◌∙◌, subst, arith, length-append}
 use Rattle.std.specs.List.{AllByRecursion}
 use Rattle.std.proofs.lemmas.Bool.Decides.{nat_tests}
 use Rattle.std.proofs.lemmas.List.{drop_more}
@@ -9,7 +9,7 @@ use Rattle.mls_scheme.specs.Scheme.{Attribute, no_attribute}
 use Rattle.mls_tokens.specs.declared.token.Token.{Token}
 use Rattle.mls_tokens.specs.declared.sign.Sign.TheVariants as sign
 use Rattle.mls_translang.specs.Fits.{ExprFits, ListFits}
-use Rattle.mls_translang.specs.Kinds.{HaveKinds}
+use Rattle.mls_translang.specs.Kinds.{HasKind, HaveKinds}
 use Rattle.mls_translang.specs.Tokens.{Place, expr_tokens, list_tokens}
 use Rattle.mls_translang.specs.Tree.{Expr}
 use Rattle.mls_translang.specs.Tx.{IsOwn}
@@ -17,13 +17,13 @@ use Rattle.mls_parser.specs.declared.fault.TextCause.TheVariants as cause
 use Rattle.mls_parser.specs.declared.given.Given.{Given}
 use Rattle.mls_parser.specs.Noted.{State}
 use Rattle.mls_parser.specs.ReadExpr.{whole_at}
-use Rattle.mls_parser.specs.ReadList.{tested, fits_item, item_at, list_at}
+use Rattle.mls_parser.specs.ReadList.{fits_item, item_at, list_at}
 use Rattle.mls_parser.proofs.ExprFound.{IsRight, whole_found}
-use Rattle.mls_parser.proofs.FaultLemmas.{holds}
-use Rattle.mls_parser.proofs.FoundSteps.{Found, found_noted}
-use Rattle.mls_parser.proofs.OrderLemmas.{IsNext, AllFit, behind}
+use Rattle.mls_parser.proofs.FoundSteps.{Found}
+use Rattle.mls_parser.proofs.OrderLemmas.{AllFit, behind}
 use Rattle.mls_parser.proofs.OrderLemmas as order
 use Rattle.mls_parser.proofs.SortLemmas.{as_kind}
+use Rattle.mls_parser.proofs.ValueLemmas.{item_read}
 
 -- ---- expressions
 
@@ -34,30 +34,29 @@ right_read p s x e =
 
 -- ---- lists of expressions
 
-module _ (p : Place) (attributes : List Attribute) where
-  -- of the kind of its attribute
-  record IsItem (front : List Expr) (e : Expr) : Type 0 where
-    own : IsOwn p.scope e
-    fits : ExprFits p.schemes p.scope e
-    kind : (a : Attribute) → slice_get attributes (length front) ≡ Some a → HaveKinds p.schemes p.scope (a ∷ []) (e ∷ [])
+pub same_number : (m n : ℕ) → (m == n) ≡ true → m ≡ n
+same_number m n h = grind (arith, nat_tests)
 
-  item_read : (front : List Expr) (s : State) (x : List Expr × State) → item_at p attributes front s ≡ Ok x → Found (IsNext (expr_tokens p) IsItem front) s x
-  unfolding item_at
-  item_read front s =
-      found_noted (IsNext (expr_tokens p) IsItem front) s (whole_at p s) (λ g. front ++ g.expr ∷ []) (λ g. tested (fits_item (slice_get attributes (length front)) g.gives) g)
-      (right_read p s)
-      (λ g ts none r. record {
-        item = g.expr;
-        whole = refl;
-        tokens = r.tokens;
-        fits = record {
-          own = record { nesting = r.nesting; numbers = r.sound.own };
-          fits = r.sound.fits;
-          kind = λ a is.
-              let fit = holds (fits_item (slice_get attributes (length front)) g.gives) g.at _ none in
-              (as_kind p g.gives a.1.kind g.expr (ap (λ o. fits_item o g.gives) (sym is) ∙ fit) r.sound.gives, tt);
-        };
-      })
+module _ (p : Place) where
+  -- of the kind of its attribute
+  pub record IsRightExpr (o : Option Attribute) (e : Expr) : Type 0 where
+    pub own : IsOwn p.scope e
+    pub fits : ExprFits p.schemes p.scope e
+    pub kind : (a : Attribute) → o ≡ Some a → HasKind p.schemes p.scope a.1.kind e
+
+  pub right_expr : (o : Option Attribute) (g : Given) (ts : List Token) → fits_item o g.gives ≡ true → IsRight p 16 [] ts g → (ts ≡ expr_tokens p g.expr) × IsRightExpr o g.expr
+  right_expr o g ts fit r = (
+    r.tokens,
+    record {
+      own = record { nesting = r.nesting; numbers = r.sound.own };
+      fits = r.sound.fits;
+      kind = λ a is. as_kind p g.gives a.1.kind g.expr (ap (λ o. fits_item o g.gives) (sym is) ∙ fit) r.sound.gives;
+    },
+  )
+
+module _ (p : Place) (attributes : List Attribute) where
+  abbrev IsItem : List Expr → Expr → Type 0
+  IsItem front e = IsRightExpr p (slice_get attributes (length front)) e
 
   are_own : (front es : List Expr) → AllFit behind IsItem front es → AllByRecursion (IsOwn p.scope) es
   are_own front [] h = tt
@@ -75,7 +74,7 @@ module _ (p : Place) (attributes : List Attribute) where
       let longer : length (behind front e) ≡ at + 1 = length-append front (e ∷ []) in
       let first = h.0.kind (get_or attributes at no_attribute) (slice_get-get_or attributes at no_attribute lt) in
       let others = have_kinds (behind front e) es (omega (arith, n, longer)) h.1 in
-      subst (λ as'. HaveKinds p.schemes p.scope as' (e ∷ es)) (sym (drop_more attributes at no_attribute lt)) (first.0, subst (λ k. HaveKinds p.schemes p.scope (drop k attributes) es) longer others)
+      subst (λ as'. HaveKinds p.schemes p.scope as' (e ∷ es)) (sym (drop_more attributes at no_attribute lt)) (first, subst (λ k. HaveKinds p.schemes p.scope (drop k attributes) es) longer others)
 
   -- one for each attribute
   pub record IsList (ts : List Token) (es : List Expr) : Type 0 where
@@ -84,13 +83,11 @@ module _ (p : Place) (attributes : List Attribute) where
     pub fits : ListFits p.schemes p.scope attributes es
     pub kinds : HaveKinds p.schemes p.scope attributes es
 
-  same_number : (m n : ℕ) → (m == n) ≡ true → m ≡ n
-  same_number m n h = grind (arith, nat_tests)
-
   pub list_read : (s : State) (x : List Expr × State) → list_at p attributes s ≡ Ok x → Found IsList s x
-  unfolding list_at
+  unfolding item_at list_at
   list_read s x e =
-      let h = order.list_read (item_at p attributes) (expr_tokens p) IsItem item_read (λ n. n == length attributes) s x e in
+      let read = item_read (whole_at p) (λ g. g.expr) (λ g. g.at) (λ a g. fits_item a g.gives) (expr_tokens p) (IsRightExpr p) (λ ts g. IsRight p 16 [] ts g) (right_read p) (right_expr p) (slice_get attributes) in
+      let h = order.list_read (item_at p attributes) (expr_tokens p) IsItem read (λ n. n == length attributes) s x e in
       record {
         tokens = h.tokens;
         passed = h.passed;

@@ -1,11 +1,8 @@
 -- What stands behind numbers of names.
-use Rattle.std.proofs.Common.{◌≡◌, ℕ, zero, suc, ◌<◌, List, [], ◌∷◌, length, get_or, Option, Some, None, option_map, slice_get, sym, ap, ◌∙◌, arith, IfSome, position, bytes_eq}
+use Rattle.std.proofs.Common.{◌≡◌, ℕ, zero, suc, ◌<◌, List, [], ◌∷◌, length, get_or, Option, Some, None, sym, ap, arith, IfSome, position, bytes_eq}
 use Rattle.std.specs.List.{AllByRecursion}
 use Rattle.mls_lattice.specs.Policy.{Name, Policy}
-use Rattle.mls_scheme.specs.declared.attributes.Column.{Column}
-use Rattle.mls_scheme.specs.Scheme.{Attribute, Scheme, no_attribute, column_of, other_of}
 use Rattle.mls_lattice.proofs.NamedLemmas.{label_found}
-use Rattle.mls_scheme.proofs.SchemeNameLemmas.{column_there}
 use Rattle.mls_translang.specs.declared.row.LoopRow.{LoopRow}
 
 -- ---- labels
@@ -15,18 +12,6 @@ label_place policy name None e = tt
 label_place policy name (Some i) e = (label_found policy.labels name i (sym e)).0
 
 pub ruleset place_steps = (label_place)
-
--- ---- kinds of attributes
-
-pub attribute_kind_at : (attributes : List Attribute) (i : ℕ) (c : Column) → i < length attributes → option_map column_of (slice_get attributes i) ≡ Some c
-    → (get_or attributes i no_attribute).1.kind ≡ c.kind
-attribute_kind_at attributes i c within column = ap (λ (d : Column). d.kind) (column_there attributes i c within column)
-
-pub other_kind_at : (scheme : Scheme) (os : List Attribute) (i : ℕ) (c : Column) → os ≡ scheme.others → i < length scheme.others → option_map column_of (slice_get os i) ≡ Some c
-    → c.kind ≡ (other_of scheme i).1.kind
-other_kind_at scheme os i c e lt column = sym (attribute_kind_at scheme.others i c lt (ap (λ ys. option_map column_of (slice_get ys i)) (sym e) ∙ column))
-
-pub ruleset kind_steps = (other_kind_at)
 
 -- ---- rows
 

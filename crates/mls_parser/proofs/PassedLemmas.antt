@@ -10,7 +10,7 @@ use Rattle.mls_tokens.specs.declared.token.Token.TheVariants.{Word, Sign}
 use Rattle.mls_tokens.specs.declared.token.Placed.{Placed}
 use Rattle.mls_tokens.specs.declared.sign.Sign.{Sign as Mark}
 use Rattle.mls_tokens.specs.Scanning.{Left}
-use Rattle.mls_tokens.specs.Text.{Spells}
+use Rattle.mls_tokens.specs.Text.{Spells, AreTokens}
 use Rattle.mls_tokens.specs.Passing.{left, is_word, is_sign, taken, pass, PlacedName, pass_name}
 use Rattle.mls_tokens.proofs.PassedLemmas.{Passed, passed_more, word_taken as word_passes, word_found as word_passed, sign_taken as sign_passes, sign_found as sign_passed, taken_shorter, NameFound, alone, name_found as name_passed}
 use Rattle.mls_parser.specs.declared.fault.PlacedFault.{PlacedFault}
@@ -116,6 +116,10 @@ IsSpelled t = (text : List ℕ) × Spells t text
 
 abbrev pub AreSpelled : List Token → Type 0
 AreSpelled = AllByRecursion IsSpelled
+
+pub all_spelled : (ts : List Token) (bytes : List ℕ) → AreTokens ts bytes → AreSpelled ts
+all_spelled [] bytes h = tt
+all_spelled (t ∷ ts) bytes h = ((h.1.text, h.1.spells), all_spelled ts h.0 h.2)
 
 pub split : (xs ys : List Token) → AreSpelled (xs ++ ys) → AreSpelled xs × AreSpelled ys
 split [] ys h = (tt, h)

@@ -41,7 +41,7 @@ use Rattle.mls_parser.proofs.FaultLemmas.{neither, holds}
 use Rattle.mls_parser.proofs.FoundSteps.{Found, found_none, found_next, found_noted, found_made, sign_read, word_read, name_read, behind_read}
 use Rattle.mls_parser.proofs.HeaderFound.{none_apart, names_of, AreDeclared, AreAllParams, params_read, Any, vars_read, roomy}
 use Rattle.mls_parser.proofs.NumberLemmas.{label_spelled}
-use Rattle.mls_parser.proofs.PassedLemmas.{AreSpelled, split}
+use Rattle.mls_parser.proofs.PassedLemmas.{all_spelled, AreSpelled, split}
 use Rattle.mls_parser.proofs.StmtFound.{label_known}
 
 -- ---- the heading
@@ -361,7 +361,3 @@ module _ (policy : Policy) (schemes : Schemes) where
       same_names : (ds : List Draft) → drafted ds ≡ map (λ tx. tx.name) (map tx_of ds)
       same_names [] = refl
       same_names (d ∷ ds) = λ i. d.name ∷ same_names ds i
-
-      all_spelled : (ts : List Token) (bytes : List ℕ) → AreTokens ts bytes → AreSpelled ts
-      all_spelled [] bytes h = tt
-      all_spelled (t ∷ ts) bytes h = ((h.1.text, h.1.spells), all_spelled ts h.0 h.2)

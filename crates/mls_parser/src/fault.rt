@@ -138,7 +138,7 @@ impl PlacedFault {
 }
 
 /// The fault of a form.
-pub(crate) fn ill_formed(at: usize, cause: TextCause) -> PlacedFault
+pub fn ill_formed(at: usize, cause: TextCause) -> PlacedFault
     ensures { result ≡ fault at cause }
 {
     PlacedFault { at, cause }

@@ -22,10 +22,11 @@ mod read_tx;
 mod reader;
 mod words;
 
-pub use fault::{PlacedFault, TextCause, TextFault};
+pub use fault::{PlacedFault, TextCause, TextFault, ill_formed};
 pub use names::Name;
 pub use parser::parse;
 pub use read_condition::condition;
+pub use read_list::with_set;
 pub use reader::Reader;
 
 /// Tokens that tell a condition are read as it, where no condition goes on with what stands behind them.

@@ -1,6 +1,5 @@
 //! What names refer to.
 ghost use Rattle.std.specs.Prelude.{◌≡◌, ◌<◌, length, position, IfSome, bytes_eq};
-ghost use Rattle.mls_scheme.specs.Scheme.{other_of};
 ghost use Rattle.mls_translang.specs.Fits.{width};
 ghost use Rattle.mls_translang.specs.Kinds.{field_of};
 ghost use Rattle.mls_parser.specs.Names.{attribute_named, other_named};
@@ -44,17 +43,7 @@ pub(crate) fn other(scheme: &Scheme, name: &Name) -> Option<usize>
     scheme.others().place(name.0.as_str())
 }
 
-/// The kind of an attribute outside the key, by its number.
-#[tactic(auto, using(crate::proofs::NameLemmas::kind_steps))]
-pub(crate) fn other_kind(scheme: &Scheme, place: usize) -> Kind
-    requires { place < length scheme.now.others }
-    ensures { result ≡ (other_of scheme.now place).1.kind }
-{
-    scheme.others().get(place).kind
-}
-
 /// The kind of an attribute of a row, by its number.
-
 pub(crate) fn attribute_kind(scheme: &Scheme, attribute: usize) -> Kind
     requires { attribute < width scheme.now }
     ensures { result ≡ (field_of scheme.now attribute).1.kind }

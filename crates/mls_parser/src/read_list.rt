@@ -1,17 +1,14 @@
 //! Lists of expressions, and new values of attributes, from the tokens that are left.
-ghost use Rattle.std.specs.Prelude.{◌≡◌, ◌<◌, [], nat_eq, map, slice_get, IfSome, OnOk};
+ghost use Rattle.std.specs.Prelude.{◌≡◌, [], nat_eq, map, OnOk};
 ghost use Rattle.std.specs.List.{list_any};
-ghost use Rattle.mls_scheme.specs.Scheme.{IsScheme};
-ghost use Rattle.mls_parser.specs.Noted.{Gives, note};
-ghost use Rattle.mls_parser.specs.ReadList.{fits_item, items_at, item_at, list_at, with_set, set_faults, set_at};
-ghost use Rattle.mls_parser.specs.ReadList.{sets_at};
-ghost use Rattle.mls_parser.specs.Names.{other_named};
+ghost use Rattle.mls_parser.specs.Noted.{Gives};
+ghost use Rattle.mls_parser.specs.ReadList.{with_set, numbered_in, target_at, fits_item, items_at, item_at, list_at};
+ghost use Rattle.mls_parser.specs.ReadList.{set_at, sets_at};
 
 use crate::context::Context;
 use crate::fault::{PlacedFault, TextCause};
-use crate::given::Given;
 use crate::inferred::Inferred;
-use crate::names::{Name, other, other_kind};
+use crate::names::other;
 use crate::reader::Reader;
 use mls_lattice::Items;
 use mls_scheme::{Attributes, Scheme};
@@ -19,20 +16,10 @@ use mls_tokens::Sign;
 use mls_translang::Expr;
 use std::alloc::{AllocError, Global};
 
-/// Whether what an expression gives may stand at a place of a list.
-#[tactic(auto, using(crate::proofs::ItemSteps::slot_steps))]
-fn fits_item(attributes: &Attributes, place: usize, gives: Inferred) -> bool
-    ensures { result ≡ fits_item (slice_get attributes.now place) gives }
-{
-    if place < attributes.len() {
-        gives.may_be(attributes.get(place).kind)
-    } else {
-        gives.may_be_value()
-    }
-}
+// ---- new values
 
 /// Whether an attribute has a new value already.
-fn is_set(sets: &[(usize, Expr)], number: usize) -> bool
+fn is_set<T>(sets: &[(usize, T)], number: usize) -> bool
     ensures { result ≡ list_any (nat_eq number) (map (λ s. s.0) sets.now) }
 {
     for set in sets {
@@ -43,45 +30,53 @@ fn is_set(sets: &[(usize, Expr)], number: usize) -> bool
     false
 }
 
-/// The faults of an attribute that gets a value, behind those before.
-fn note_set(
-    reader: &mut Reader,
-    scheme: &Scheme,
-    front: &[(usize, Expr)],
-    name: &Name,
-    given: &Given,
-) -> Result<(), AllocError>
-    requires { IsScheme scheme.now }
-    ensures { OnOk result (reader.new
-        ≡ note (set_faults scheme.now front.now name.now (other_named scheme.now name.now.0) given.now) reader.old) }
-{
-    match other(scheme, name) {
-        Some(number) => {
-            let again = is_set(front, number);
-            reader.note(!again, name.1, TextCause::Repeated)?;
-            let fits = given.gives.may_be(other_kind(scheme, number));
-            reader.note(fits, given.at, TextCause::Kind)
-        }
-        None => {
-            reader.note(false, name.1, TextCause::UnknownName)?;
-            reader.note(given.gives.may_be_value(), given.at, TextCause::Kind)
-        }
-    }
-}
-
 /// One new value more, where the attribute is known.
-fn with_set(
-    front: &mut Vec<(usize, Expr)>,
+pub fn with_set<T: Drop>(
+    front: &mut Vec<(usize, T)>,
     number: Option<usize>,
-    value: Expr,
+    value: T,
 ) -> Result<(), AllocError>
-    requires { IfSome number (λ n. n < 16) }
     ensures { OnOk result (front.new.items ≡ with_set front.old.items number value) }
 {
     if let Some(number) = number {
         front.push((number, value))?;
     }
     Ok(())
+}
+
+impl Reader {
+    /// Passes the name of an attribute outside the key that gets a value behind those before, and the sign behind
+    /// it; an unknown name stands for none.
+    #[tactic(auto, unfolding(crate::specs::ReadList::target_at))]
+    pub fn target<T>(
+        &mut self,
+        scheme: &Scheme,
+        front: &[(usize, T)],
+    ) -> Result<Option<usize>, PlacedFault>
+        ensures { Gives (λ o. (o, self.new)) result (target_at scheme.now front.now self.old) }
+    {
+        let name = self.name()?;
+        self.sign(Sign::Equals)?;
+        let number = other(scheme, &name);
+        match number {
+            Some(number) => self.note(!is_set(front, number), name.1, TextCause::Repeated)?,
+            None => self.note(false, name.1, TextCause::UnknownName)?,
+        }
+        Ok(number)
+    }
+}
+
+// ---- expressions
+
+/// Whether what an expression gives may stand for the attribute of a number, or where there is none.
+#[tactic(auto, using(crate::proofs::ItemSteps::slot_steps))]
+fn fits_item(attributes: &Attributes, number: Option<usize>, gives: Inferred) -> bool
+    ensures { result ≡ fits_item (numbered_in attributes.now number) gives }
+{
+    match number {
+        Some(number) if number < attributes.len() => gives.may_be(attributes.get(number).kind),
+        _ => gives.may_be_value(),
+    }
 }
 
 impl Context<'_> {
@@ -98,7 +93,7 @@ impl Context<'_> {
             (item_at self.now attributes.now front.old.items reader.old) }
     {
         let given = self.whole(alloc, reader)?;
-        let fits = fits_item(attributes, front.as_slice().len(), given.gives);
+        let fits = fits_item(attributes, Some(front.as_slice().len()), given.gives);
         reader.note(fits, given.at, TextCause::Kind)?;
         front.push(given.expr)?;
         Ok(())
@@ -154,15 +149,14 @@ impl Context<'_> {
         scheme: &Scheme,
         front: &mut Vec<(usize, Expr)>,
     ) -> Result<(), PlacedFault>
-        requires { IsScheme scheme.now }
         ensures { Gives (λ _. (front.new.items, reader.new)) result
             (set_at self.now scheme.now front.old.items reader.old) }
     {
-        let name = reader.name()?;
-        reader.sign(Sign::Equals)?;
+        let number = reader.target(scheme, front.as_slice())?;
         let given = self.whole(alloc, reader)?;
-        note_set(reader, scheme, front.as_slice(), &name, &given)?;
-        with_set(front, other(scheme, &name), given.expr)?;
+        let fits = fits_item(scheme.others(), number, given.gives);
+        reader.note(fits, given.at, TextCause::Kind)?;
+        with_set(front, number, given.expr)?;
         Ok(())
     }
 
@@ -174,7 +168,6 @@ impl Context<'_> {
         reader: &mut Reader,
         scheme: &Scheme,
     ) -> Result<Items<(usize, Expr)>, PlacedFault>
-        requires { IsScheme scheme.now }
         ensures { Gives (λ xs. (xs, reader.new)) result (sets_at self.now scheme.now reader.old) }
     {
         let mut sets = Vec::new(alloc);

@@ -142,7 +142,6 @@ impl Context<'_> {
         reader: &mut Reader,
         scheme: &Scheme,
     ) -> Result<(Items<(usize, Expr)>, Option<u8>), PlacedFault>
-        requires { IsScheme scheme.now }
         ensures { Gives (λ x. ((x.0, x.1), reader.new)) result (changes_at self.now scheme.now reader.old) }
     {
         reader.word("set")?;

@@ -19,7 +19,7 @@ use Rattle.mls_parser.specs.Fault.{least}
 use Rattle.mls_parser.specs.Noted.{State}
 use Rattle.mls_parser.specs.Parsing.{answer}
 use Rattle.mls_parser.proofs.LeastLemmas.{answered_right, answered_least}
-use Rattle.mls_parser.proofs.PassedLemmas.{token_ok}
+use Rattle.mls_parser.proofs.PassedLemmas.{token_ok, all_spelled}
 use Rattle.mls_script.specs.declared.event.Event.{Event}
 use Rattle.mls_script.specs.declared.fault.ScriptCause.TheVariants.{Unterminated}
 use Rattle.mls_script.specs.declared.fault.LineFault.{LineFault}
@@ -27,7 +27,6 @@ use Rattle.mls_script.specs.declared.fault.ScriptFault.{ScriptFault}
 use Rattle.mls_script.specs.Event.{EventFits}
 use Rattle.mls_script.specs.Reading.{end_at, event_at, told_at, placed_on, line_at, in_script, lines_at, split_lines, script_at, IsJudged, LinesAreJudged, IsRead}
 use Rattle.mls_script.specs.Script.{Line, Tells, IsLineOf, ReadsScript}
-use Rattle.mls_script.proofs.KindLemmas.{all_spelled}
 use Rattle.mls_script.proofs.CommandFound.{event_read}
 
 -- ---- a line

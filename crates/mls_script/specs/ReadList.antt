@@ -1,22 +1,15 @@
 -- Values, lists of them, and new values of attributes, from the tokens that are left.
-use Rattle.std.specs.Prelude.{ℕ, Bool, true, not, ◌==◌, nat_eq, if◌then◌else◌, List, [], ◌∷◌, ◌++◌, map, length, codes}
-use Rattle.std.specs.Prelude.{slice_get, Option, Some, None, Ok, bytes_eq}
-use Rattle.std.specs.List.{list_any}
+use Rattle.std.specs.Prelude.{ℕ, Bool, true, ◌==◌, if◌then◌else◌, List, [], length, codes}
+use Rattle.std.specs.Prelude.{slice_get, Option, Some, None, bytes_eq}
 use Rattle.mls_lattice.specs.Reading.{◌>>=◌}
 use Rattle.mls_scheme.specs.declared.value.Value.{Value}
 use Rattle.mls_scheme.specs.declared.value.Value.TheVariants as values
 use Rattle.mls_scheme.specs.Value.{fits_kind}
-use Rattle.mls_scheme.specs.Scheme.{Attribute, Scheme, other_of}
+use Rattle.mls_scheme.specs.Scheme.{Attribute, Scheme}
 use Rattle.mls_tokens.specs.declared.token.Token.{Token}
 use Rattle.mls_tokens.specs.declared.token.Token.TheVariants.{Word, Int, Text, Sign}
-use Rattle.mls_tokens.specs.declared.sign.Sign.TheVariants.{Equals}
-use Rattle.mls_tokens.specs.Passing.{PlacedName}
-use Rattle.mls_parser.specs.declared.fault.TextCause.TheVariants.{UnknownName, Kind, Repeated}
-use Rattle.mls_parser.specs.declared.fault.PlacedFault.{PlacedFault}
-use Rattle.mls_parser.specs.Fault.{fault, unless}
-use Rattle.mls_parser.specs.Names.{other_named}
-use Rattle.mls_parser.specs.Noted.{State, Read, note, token, sign_at, word_at, name_at}
-use Rattle.mls_parser.specs.ReadList.{items_at, list_of, with_set}
+use Rattle.mls_parser.specs.Noted.{State, Read, token, word_at}
+use Rattle.mls_parser.specs.ReadList.{items_at, list_of, item_of, set_of}
 use Rattle.mls_parser.specs.Words.{pass_any}
 use Rattle.mls_script.specs.Event.{Sets}
 
@@ -60,33 +53,17 @@ module _ (attributes : Option (List Attribute)) where
 
   -- a value more, behind those before
   unfoldable pub item_at : List (Option Value) → State → Read (List (Option Value))
-  item_at front s = do
-    v ← value_at s
-    Ok (front ++ v.0.0 ∷ [], note (unless (fits_attribute (attribute_at (length front)) v.0.0) v.0.1 Kind) v.1)
+  item_at front s = item_of value_at (λ v. v.0) (λ v. v.1) (λ a v. fits_attribute a v.0) attribute_at front s
 
   unfoldable pub list_at : State → Read (List (Option Value))
   list_at s = list_of item_at are_as_many s
 
 -- ---- new values
 
--- of an attribute outside the key, which has none yet
-abbrev pub set_faults : Scheme → Sets → PlacedName → Option ℕ → PlacedValue → List PlacedFault
-set_faults scheme front name None v = fault name.1 UnknownName ∷ []
-set_faults scheme front name (Some i) v =
-    unless (not (list_any (nat_eq i) (map (λ x. x.0) front))) name.1 Repeated
-    ++ unless (fits_kind v.0 (other_of scheme i).1.kind) v.1 Kind
-
 module _ (scheme : Scheme) where
-  -- ATTRIBUTE = VALUE, behind those before; an unknown name sets nothing
+  -- an attribute and its new value, behind those before
   unfoldable pub set_at : Sets → State → Read Sets
-  set_at front s = do
-    n ← name_at s
-    e ← sign_at Equals n.1
-    v ← value_at e.1
-    Ok (
-      with_set front (other_named scheme n.0.0) v.0.0,
-      note (set_faults scheme front n.0 (other_named scheme n.0.0) v.0) v.1,
-    )
+  set_at front s = set_of value_at (λ v. v.0) (λ v. v.1) (λ a v. fits_attribute a v.0) scheme front s
 
   unfoldable pub sets_at : State → Read Sets
   sets_at s = word_at (codes "set") s >>= λ w. items_at set_at [] w.1

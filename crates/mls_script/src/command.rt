@@ -6,12 +6,11 @@ ghost use Rattle.mls_script.specs.Reading.{verb_of_token, view_at, keyed_at, ins
 ghost use Rattle.mls_script.specs.Reading.{command_at, event_at, told_at};
 
 use crate::event::{Command, Event};
-use crate::fault::unexpected;
 use crate::grammar::{VERBS, Verb, verb_among};
 use crate::lists::{list, sets};
 use crate::query::query;
 use mls_lattice::{Items, Policy};
-use mls_parser::{PlacedFault, Reader};
+use mls_parser::{PlacedFault, Reader, TextCause, ill_formed};
 use mls_scheme::{RelNo, Schemes, Value};
 use mls_tokens::Token;
 use std::alloc::Global;
@@ -30,7 +29,7 @@ fn verb(reader: &mut Reader) -> Result<(Verb, usize), PlacedFault>
     ensures { Gives (λ x. ((x.0, x.1), reader.new)) result (token (pass_known verb_of_token) reader.old) }
 {
     let first = reader.tokens.pop().ok_or(reader.tokens.refused())?;
-    let verb = verb_of_token(&first.token).ok_or(unexpected(first.at))?;
+    let verb = verb_of_token(&first.token).ok_or(ill_formed(first.at, TextCause::Expected))?;
     Ok((verb, first.at))
 }
 

@@ -1,7 +1,5 @@
 //! Why a script is refused, and where.
 ghost use Rattle.std.specs.Prelude.{◌≡◌};
-ghost use Rattle.mls_parser.specs.declared.fault.TextCause.TheVariants.{Expected};
-ghost use Rattle.mls_parser.specs.Fault.{fault};
 ghost use Rattle.mls_script.specs.Fault.{code_of, word_of, on_line, in_line};
 
 use mls_lattice::words;
@@ -108,15 +106,5 @@ impl From<PlacedFault> for LineFault {
             at: fault.at,
             cause,
         }
-    }
-}
-
-/// The fault of a token that nothing goes on with.
-pub(crate) fn unexpected(at: usize) -> PlacedFault
-    ensures { result ≡ fault at Expected }
-{
-    PlacedFault {
-        at,
-        cause: TextCause::Expected,
     }
 }

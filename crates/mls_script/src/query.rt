@@ -5,9 +5,8 @@ ghost use Rattle.mls_parser.specs.Words.{pass_known};
 ghost use Rattle.mls_script.specs.ReadQuery.{comparison_of_sign, comparison_of, class_at, number_of, is_count};
 ghost use Rattle.mls_script.specs.ReadQuery.{count_of, first_at, where_at, query_at};
 
-use crate::fault::unexpected;
 use mls_lattice::Policy;
-use mls_parser::{PlacedFault, Reader, TextCause};
+use mls_parser::{PlacedFault, Reader, TextCause, ill_formed};
 use mls_scheme::{RelNo, Schemes};
 use mls_tokens::{Sign, Token};
 use mls_translang::{ClassTest, Comparison, Expr, Query};
@@ -41,7 +40,7 @@ fn comparison(reader: &mut Reader) -> Result<(Comparison, usize), PlacedFault>
     ensures { Gives (λ x. ((x.0, x.1), reader.new)) result (token (pass_known comparison_of) reader.old) }
 {
     let first = reader.tokens.pop().ok_or(reader.tokens.refused())?;
-    let comparison = comparison_of(&first.token).ok_or(unexpected(first.at))?;
+    let comparison = comparison_of(&first.token).ok_or(ill_formed(first.at, TextCause::Expected))?;
     Ok((comparison, first.at))
 }
 
@@ -72,7 +71,7 @@ fn number(reader: &mut Reader) -> Result<(i64, usize), PlacedFault>
     ensures { Gives (λ x. ((x.0, x.1), reader.new)) result (token (pass_known number_of) reader.old) }
 {
     let first = reader.tokens.pop().ok_or(reader.tokens.refused())?;
-    let number = number_of(&first.token).ok_or(unexpected(first.at))?;
+    let number = number_of(&first.token).ok_or(ill_formed(first.at, TextCause::Expected))?;
     Ok((number, first.at))
 }
 

@@ -3,7 +3,6 @@ use Rattle.std.proofs.Common.{◌≡◌, ℕ, Bool, true, false, List, [], ◌�
 use Rattle.std.specs.Prelude.{⊤}
 use Rattle.std.proofs.lemmas.Slice.Eq.{bytes_eq-Decides}
 use Rattle.mls_lattice.specs.Name.{is_name}
-use Rattle.mls_lattice.specs.Reading.{◌>>=◌}
 use Rattle.mls_tokens.specs.declared.fault.TokenCause.TheVariants as causes
 use Rattle.mls_tokens.specs.declared.fault.TokenFault.{TokenFault}
 use Rattle.mls_tokens.specs.declared.token.Token.{Token}
@@ -14,8 +13,6 @@ use Rattle.mls_tokens.specs.Sign.{sign_text}
 use Rattle.mls_tokens.specs.Scanning.{Left, without_places}
 use Rattle.mls_tokens.specs.Passing.{left, is_word, is_sign, take_first, taken, or_refused, pass, name_of_token, named_first, pass_name, is_expected, over_with}
 
--- ---- steps
-
 -- a reading that gives such a value, before these tokens
 pub record Gets {X E : Type 0} (r : Result (X × Left) E) (l : Left) (P : X → Type 0) (us : List Token) : Type 0 where
   pub value : X
@@ -24,22 +21,6 @@ pub record Gets {X E : Type 0} (r : Result (X × Left) E) (l : Left) (P : X → 
   pub holds : P value
   pub tokens : without_places rest.placed ≡ us
   pub stop : rest.stop ≡ l.stop
-
-pub gets_more : {X Y E : Type 0} {r : Result (X × Left) E} (g : X × Left → Result (Y × Left) E) {l : Left} {P : X → Type 0} {us : List Token} {Q : Y → Type 0} {vs : List Token}
-    → Gets r l P us → ((x : X) (m : Left) → P x → without_places m.placed ≡ us → Gets (g (x, m)) m Q vs) → Gets (r >>= g) l Q vs
-gets_more g a next =
-    let b = next a.value a.rest a.holds a.tokens in
-    record { value = b.value; rest = b.rest; is = ap (λ z. z >>= g) a.is ∙ b.is; holds = b.holds; tokens = b.tokens; stop = b.stop ∙ a.stop }
-
-abbrev pub done : {X E : Type 0} → X → Left → Result (X × Left) E
-done x l = Ok (x, l)
-
-pub gets_done : {X E : Type 0} (x : X) (l : Left) (P : X → Type 0) (us : List Token) → P x → without_places l.placed ≡ us → Gets {E = E} (done x l) l P us
-gets_done x l P us h t = record { value = x; rest = l; is = refl; holds = h; tokens = t; stop = refl }
-
--- the same reading
-pub gets_is : {X E : Type 0} (r s : Result (X × Left) E) (l : Left) (P : X → Type 0) (us : List Token) → r ≡ s → Gets s l P us → Gets r l P us
-gets_is r s l P us e h = record { value = h.value; rest = h.rest; is = e ∙ h.is; holds = h.holds; tokens = h.tokens; stop = h.stop }
 
 -- ---- the next token
 

@@ -57,19 +57,16 @@ module _ {B : Type 0} (state : B → State) (old new : Engine B) (audience : Aud
       answered p = record { bytes = subst (Appends a b) text_is p; world = h.world }
 
 pub stored_at : {B : Type 0} (state : B → State) (is_clean : B → Type 0) (e : Engine B) → IsEngineReady state is_clean e → is_clean e.base → AreStored (site e) (world_of state e).db
-stored_at state is_clean e ready c relation = ((ready.sound c).content relation).stored
+stored_at state is_clean e ready c relation = ((ready.rest.sound c).content relation).stored
 
 -- a notice is noted
 module _ {B : Type 0} (state : B → State) (is_clean : B → Type 0) where
   ready_noted : (e : Engine B) (notice : Option Notice) → IsEngineReady state is_clean e → IsEngineReady state is_clean (record e { notice = notice })
   ready_noted e notice ready = record {
-    under = ready.under;
+    serves = ready.serves;
     distinct = ready.distinct;
-    read = ready.read;
-    certified = ready.certified;
     users = ready.users;
-    idle = ready.idle;
-    sound = ready.sound;
+    rest = record { idle = ready.rest.idle; sound = ready.rest.sound };
     views = ready.views;
   }
 
@@ -83,7 +80,7 @@ module _ {B : Type 0} (state : B → State) (is_clean : B → Type 0) (old new :
   reply_known h kept ready c fits =
       subst (λ at. ReplyIsKnown (site_of at).policy r) (sym kept)
       (subst (ReplyIsKnown (site old).policy) (sym h.reply)
-      (step_known (site old) ready.distinct ready.read (world_of state old) (stored_at state is_clean old ready c)
+      (step_known (site old) ready.distinct ready.serves.read (world_of state old) (stored_at state is_clean old ready c)
       (entries_known (length (site old).policy.labels) (state old.base).now.audit) event fits.level).reply)
 
 -- ---- the cause of the store

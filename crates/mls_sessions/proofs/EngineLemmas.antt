@@ -148,10 +148,10 @@ module _ {B : Type 0} (state : B → State) (is_clean : B → Type 0) (failures 
     over_sound : (r : Result Reply BaseFault) → IsTurn is_clean failures now old.base b r → is_clean b → Over r → IsSoundContent (site old).policy (site old).schemes (now b)
     over_sound (Ok r) t c h = record {
       content = subst (AreContent (site_labels (site old)) (site old).schemes) (sym (ap (λ (x : World). x.db) (over_world r h)))
-          (step_content (site old) ready.distinct ready.read w event (ready.sound (t.clean c)).content fits);
-      entries = h.entries (ready.sound (t.clean c)).entries;
+          (step_content (site old) ready.distinct ready.serves.read w event (ready.rest.sound (t.clean c)).content fits);
+      entries = h.entries (ready.rest.sound (t.clean c)).entries;
     }
-    over_sound (Err e) t c h = subst (IsSoundContent (site old).policy (site old).schemes) (sym (t.fault.same c)) (ready.sound (t.clean c))
+    over_sound (Err e) t c h = subst (IsSoundContent (site old).policy (site old).schemes) (sym (t.fault.same c)) (ready.rest.sound (t.clean c))
 
     -- views of the content that the event leaves
     abbrev Are : Kept → Type 0
@@ -168,13 +168,10 @@ module _ {B : Type 0} (state : B → State) (is_clean : B → Type 0) (failures 
       kept = record {
         site = refl;
         ready = record {
-          under = ready.under;
+          serves = ready.serves;
           distinct = ready.distinct;
-          read = ready.read;
-          certified = ready.certified;
           users = ready.users;
-          idle = idle;
-          sound = λ c. over_sound r t c (h c);
+          rest = record { idle = idle; sound = λ c. over_sound r t c (h c) };
           views = are;
         };
       };
@@ -193,7 +190,7 @@ module _ {B : Type 0} (state : B → State) (is_clean : B → Type 0) (failures 
     with_them = record old { sessions = sessions }
 
     them_kept : IsKept state is_clean old with_them
-    them_kept = record { site = refl; ready = record { under = ready.under; distinct = ready.distinct; read = ready.read; certified = ready.certified; users = users; idle = ready.idle; sound = ready.sound; views = ready.views } }
+    them_kept = record { site = refl; ready = record { serves = ready.serves; distinct = ready.distinct; users = users; rest = ready.rest; views = ready.views } }
 
     pub answers_closed : sessions_of sessions.items ≡ with_session (sessions_of old.sessions.items) event.level event.session None → s ≡ closed w event → Answered with_them (Ok Closed)
     answers_closed h is = record {

@@ -1,10 +1,13 @@
 -- What runs leave of an engine and of its base, put together.
-use Rattle.std.proofs.Common.{◌≡◌, ℕ, ◌<◌, ◌≤◌, Result, Ok, Err, IfErr, refl, sym, ◌∙◌, subst, arith, IsErrAnd}
+use Rattle.std.proofs.Common.{◌≡◌, ℕ, ◌<◌, ◌≤◌, Result, Ok, Err, IfErr, refl, sym, ap, ◌∙◌, subst, arith, IsErrAnd}
 use Rattle.mls_filterview.specs.Content.{State}
+use Rattle.mls_certcheck.specs.Site.{Site}
 use Rattle.mls_script.specs.declared.run_fault.RunCause.TheVariants.{Store, Memory}
 use Rattle.mls_script.specs.declared.run_fault.RunFault.{RunFault}
 use Rattle.mls_sessions.specs.declared.engine.Engine.{Engine}
-use Rattle.mls_sessions.specs.Engine.{IsEngineReady, Continues, Leaves}
+use Rattle.mls_sessions.specs.Engine.{site, world_of, IsAtRest, IsEngineReady, IsKept, Continues, Leaves}
+use Rattle.mls_sessions.specs.Sessions.{site_of, sessions_of}
+use Rattle.mls_sessions.specs.World.{world_at}
 
 -- an error that is passed on
 pub carried : {A F : Type 0} (P : Result A F → Type 0) (r : Result A F) (f : F) → IsErrAnd r (λ e. e ≡ f) → P (Err f) → P r
@@ -64,4 +67,17 @@ module _ {B : Type 0} (state : B → State) (is_clean : B → Type 0) (failures 
   pub left_behind : {A : Type 0} (base : B) (old new : Engine B) (left : B) (r : Result A RunFault) → old.base ≡ base → left ≡ new.base → Goes old new r → Leaves state is_clean failures base left r
   left_behind base old new left r from to h =
       subst (λ b. Leaves state is_clean failures base b r) (sym to) (subst (λ b. Leaves state is_clean failures b new.base r) from
-      (record { clean = h.clean; idle = h.kept.ready.idle; count = h.count; store = h.store }))
+      (record { clean = h.clean; idle = h.kept.ready.rest.idle; count = h.count; store = h.store }))
+
+  -- at the site that it kept to, the base is at rest, and the world is the one that the engine held
+  pub record GivesBack (at : Site) (new : Engine B) (left : B) : Type 0 where
+    pub rest : IsAtRest state is_clean at.policy at.schemes left
+    pub world : world_of state new ≡ world_at at (sessions_of new.sessions.items) (state left).now
+
+  pub given_back : (at : Site) (first new : Engine B) (left : B) → site first ≡ at → IsKept state is_clean first new → left ≡ new.base → GivesBack at new left
+  given_back at first new left from kept to =
+      let same : site new ≡ at = ap site_of kept.site ∙ from in
+      record {
+        rest = subst (IsAtRest state is_clean at.policy at.schemes) (sym to) (subst (λ (x : Site). IsAtRest state is_clean x.policy x.schemes new.base) same kept.ready.rest);
+        world = λ i. world_at (same i) (sessions_of new.sessions.items) (state (sym to i)).now;
+      }

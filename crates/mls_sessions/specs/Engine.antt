@@ -41,13 +41,10 @@ module _ {B : Type 0} (state : B → State) where
   -- (no invariant of its type: that needs a code for the value, and a stored transaction keeps a proof, which
   -- has none)
   pub record IsEngineReady (is_clean : B → Type 0) (e : Engine B) : Type 0 where
-    pub under : AreUnder (length (site e).policy.labels) (site e).schemes
+    pub serves : MayServe (site e)
     pub distinct : AreDistinct (site_labels (site e))
-    pub read : AreRead (site e)
-    pub certified : AreCertified (site e)
     pub users : AreForUsers (length (site e).policy.users) e.sessions.items
-    pub idle : (state e.base).begun ≡ false
-    pub sound : is_clean e.base → IsSoundContent (site e).policy (site e).schemes (state e.base).now
+    pub rest : IsAtRest is_clean (site e).policy (site e).schemes e.base
     pub views : AreViews (site e).policy is_clean state e.base e.views
 
   -- an event was answered, and the world left, as by a step of the machine

@@ -1,14 +1,13 @@
-use Rattle.std.proofs.Common.{◌≡◌, sym, ap, subst, ◌∙◌}
+use Rattle.std.proofs.Common.{ap, subst}
 use Rattle.mls_lattice.specs.Labels.{AreDistinct}
-use Rattle.mls_audit.specs.Sound.{IsSoundContent}
 use Rattle.mls_certcheck.specs.Site.{Site, site_labels, site_of as site_for}
 use Rattle.mls_sessions.specs.World.{world_at}
-use Rattle.mls_sessions.specs.Sessions.{site_of, sessions_of}
+use Rattle.mls_sessions.specs.Sessions.{sessions_of}
 use Rattle.mls_host.specs.Hosting.{IsAppended}
 use Rattle.mls_runs.specs.Running.{first_world}
 use Rattle.mls_runs.proofs.DeskLemmas.{service_at}
 use Rattle.mls_runs.proofs.DeskEndLemmas.{desk_at}
-use Rattle.mls_sessions.proofs.FrameLemmas.{left_behind}
+use Rattle.mls_sessions.proofs.FrameLemmas.{left_behind, given_back}
 use Rattle.mls_runs.proofs.desk.desk_over_base.Goals as goal
 
 pub serve-outcome-requires-clause-policy : goal.serve-outcome-requires-clause-policy
@@ -30,15 +29,12 @@ returns-clause-desk g c = λ clean.
     let first = (g.B.Base.state c.args.base).now in
     let left = (g.B.Base.state c.finish.result).now in
     let sessions = sessions_of new.sessions.items in
-    let same : site_of new.site ≡ at = ap site_of c.serve-outcome.ensures.continues.kept.site ∙ c.new-engine.ensures.site in
-    let held : (g.B.Base.state new.base).now ≡ left = ap (λ b. (g.B.Base.state b).now) (sym c.finish.ensures) in
-    let sound : IsSoundContent at.policy at.schemes left = subst (IsSoundContent at.policy at.schemes) held (subst (λ (x : Site). IsSoundContent x.policy x.schemes (g.B.Base.state new.base).now) same (c.serve-outcome.ensures.continues.kept.ready.sound was)) in
-    let last : world_at (site_of new.site) sessions (g.B.Base.state new.base).now ≡ world_at at sessions left = λ i. world_at (same i) sessions (held i) in
+    let back = given_back g.B.Base.state g.B.Base.is_clean g.B.Base.failures at c.new-engine.result new c.finish.result c.new-engine.ensures.site c.serve-outcome.ensures.continues.kept c.finish.ensures in
     let distinct : AreDistinct (site_labels at) = subst (λ (s : Site). AreDistinct (site_labels s)) c.new-engine.ensures.site c.new-engine.ensures.ready.distinct in
     let start = c.requires.rest.sound (subst g.B.Base.is_clean c.new-engine.ensures.base (c.serve-outcome.ensures.continues.clean was)) in
     let before = g.L.TypedLines.remaining c.args.lines.now in
     let after = g.L.TypedLines.remaining c.serve-outcome.new.lines in
     let Broken = g.L.TypedLines.breaks c.serve-outcome.new.lines in
     let Wrote = IsAppended g.W.Write.contents c.args.out.now c.serve-outcome.new.out in
-    desk_at g.L.TypedLines.echo at sessions first left before after Broken Wrote c.serve-outcome.result distinct c.requires.may.read c.requires.may.certified start sound
-    (service_at g.L.TypedLines.echo before after Broken Wrote c.serve-outcome.result _ at _ (first_world at first) _ (world_at at sessions left) c.new-engine.ensures.site c.new-engine.ensures.world last (c.serve-outcome.ensures.service was))
+    desk_at g.L.TypedLines.echo at sessions first left before after Broken Wrote c.serve-outcome.result distinct c.requires.may.read c.requires.may.certified start (back.rest.sound clean)
+    (service_at g.L.TypedLines.echo before after Broken Wrote c.serve-outcome.result _ at _ (first_world at first) _ (world_at at sessions left) c.new-engine.ensures.site c.new-engine.ensures.world back.world (c.serve-outcome.ensures.service was))

@@ -1,5 +1,4 @@
-use Rattle.std.proofs.Common.{◌≡◌, sym, ap, subst, ◌∙◌}
-use Rattle.mls_audit.specs.Sound.{IsSoundContent}
+use Rattle.std.proofs.Common.{sym, subst}
 use Rattle.mls_certcheck.specs.Site.{Site, site_of as site_for}
 use Rattle.mls_machine.specs.Observation.{EventsFit}
 use Rattle.mls_sessions.specs.World.{world_at}
@@ -7,7 +6,7 @@ use Rattle.mls_sessions.specs.Engine.{world_of}
 use Rattle.mls_sessions.specs.Sessions.{site_of, sessions_of}
 use Rattle.mls_runs.specs.Running.{first_world}
 use Rattle.mls_runs.proofs.RunningLemmas.{IsEngineRun, run_at}
-use Rattle.mls_sessions.proofs.FrameLemmas.{left_behind}
+use Rattle.mls_sessions.proofs.FrameLemmas.{left_behind, given_back}
 use Rattle.mls_runs.proofs.running.run_over_base.Goals as goal
 
 pub run_to-outcome-requires-clause-fits : goal.run_to-outcome-requires-clause-fits
@@ -25,12 +24,9 @@ returns-clause-run g c = λ clean.
     let new = c.run_to-outcome.new.engine in
     let left = (g.B.Base.state c.finish.result).now in
     let sessions = sessions_of new.sessions.items in
-    let same : site_of new.site ≡ at = ap site_of c.run_to-outcome.ensures.continues.kept.site ∙ c.new-engine.ensures.site in
-    let held : (g.B.Base.state new.base).now ≡ left = ap (λ b. (g.B.Base.state b).now) (sym c.finish.ensures) in
-    let sound : IsSoundContent at.policy at.schemes left = subst (IsSoundContent at.policy at.schemes) held (subst (λ (x : Site). IsSoundContent x.policy x.schemes (g.B.Base.state new.base).now) same (c.run_to-outcome.ensures.continues.kept.ready.sound was)) in
-    let last : world_at (site_of new.site) sessions (g.B.Base.state new.base).now ≡ world_at at sessions left = λ i. world_at (same i) sessions (held i) in
-    run_at at c.args.audience sessions (g.B.Base.state c.args.base).now left c.args.events.now (g.W.Write.contents c.args.out.now) (g.W.Write.contents c.run_to-outcome.new.out) c.run_to-outcome.result sound
-    (subst (λ w. IsEngineRun at c.args.audience (first_world at (g.B.Base.state c.args.base).now) c.args.events.now (g.W.Write.contents c.args.out.now) (g.W.Write.contents c.run_to-outcome.new.out) w c.run_to-outcome.result) last
+    let back = given_back g.B.Base.state g.B.Base.is_clean g.B.Base.failures at c.new-engine.result new c.finish.result c.new-engine.ensures.site c.run_to-outcome.ensures.continues.kept c.finish.ensures in
+    run_at at c.args.audience sessions (g.B.Base.state c.args.base).now left c.args.events.now (g.W.Write.contents c.args.out.now) (g.W.Write.contents c.run_to-outcome.new.out) c.run_to-outcome.result (back.rest.sound clean)
+    (subst (λ w. IsEngineRun at c.args.audience (first_world at (g.B.Base.state c.args.base).now) c.args.events.now (g.W.Write.contents c.args.out.now) (g.W.Write.contents c.run_to-outcome.new.out) w c.run_to-outcome.result) back.world
     (subst (λ v. IsEngineRun at c.args.audience v c.args.events.now (g.W.Write.contents c.args.out.now) (g.W.Write.contents c.run_to-outcome.new.out) (world_at (site_of new.site) sessions (g.B.Base.state new.base).now) c.run_to-outcome.result) c.new-engine.ensures.world
     (subst (λ s. IsEngineRun s c.args.audience (world_of g.B.Base.state c.new-engine.result) c.args.events.now (g.W.Write.contents c.args.out.now) (g.W.Write.contents c.run_to-outcome.new.out) (world_at (site_of new.site) sessions (g.B.Base.state new.base).now) c.run_to-outcome.result) c.new-engine.ensures.site
     (record { ok = c.run_to-outcome.ensures.ok was; err = c.run_to-outcome.ensures.err was; fault = c.run_to-outcome.ensures.fault; integrity = c.run_to-outcome.ensures.integrity was; secret = c.run_to-outcome.ensures.secret was }))))

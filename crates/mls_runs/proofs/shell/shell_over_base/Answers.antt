@@ -1,15 +1,14 @@
-use Rattle.std.proofs.Common.{◌≡◌, ◌∷◌, [], sym, ap, subst, ◌∙◌}
+use Rattle.std.proofs.Common.{◌∷◌, [], sym, ap, subst}
 use Rattle.mls_lattice.specs.Labels.{AreDistinct}
-use Rattle.mls_audit.specs.Sound.{IsSoundContent}
 use Rattle.mls_certcheck.specs.Site.{Site, site_labels, site_of as site_for}
 use Rattle.mls_machine.specs.Observation.{EventsFit}
 use Rattle.mls_sessions.specs.World.{world_at}
-use Rattle.mls_sessions.specs.Sessions.{site_of, sessions_of}
+use Rattle.mls_sessions.specs.Sessions.{sessions_of}
 use Rattle.mls_host.specs.Hosting.{IsTold}
 use Rattle.mls_runs.specs.Running.{first_world}
 use Rattle.mls_runs.specs.Shell.{opening}
 use Rattle.mls_runs.proofs.ShellEndLemmas.{opening_fits, conversation_at, shell_at}
-use Rattle.mls_sessions.proofs.FrameLemmas.{left_behind}
+use Rattle.mls_sessions.proofs.FrameLemmas.{left_behind, given_back}
 use Rattle.mls_runs.proofs.shell.shell_over_base.Goals as goal
 
 pub converse-outcome-requires-clause-policy : goal.converse-outcome-requires-clause-policy
@@ -35,13 +34,10 @@ returns-clause-shell g c = λ clean.
     let first = (g.B.Base.state c.args.base).now in
     let left = (g.B.Base.state c.finish.result).now in
     let sessions = sessions_of new.sessions.items in
-    let same : site_of new.site ≡ at = ap site_of c.converse-outcome.ensures.continues.kept.site ∙ c.new-engine.ensures.site in
-    let held : (g.B.Base.state new.base).now ≡ left = ap (λ b. (g.B.Base.state b).now) (sym c.finish.ensures) in
-    let sound : IsSoundContent at.policy at.schemes left = subst (IsSoundContent at.policy at.schemes) held (subst (λ (x : Site). IsSoundContent x.policy x.schemes (g.B.Base.state new.base).now) same (c.converse-outcome.ensures.continues.kept.ready.sound was)) in
-    let last : world_at (site_of new.site) sessions (g.B.Base.state new.base).now ≡ world_at at sessions left = λ i. world_at (same i) sessions (held i) in
+    let back = given_back g.B.Base.state g.B.Base.is_clean g.B.Base.failures at c.new-engine.result new c.finish.result c.new-engine.ensures.site c.converse-outcome.ensures.continues.kept c.finish.ensures in
     let distinct : AreDistinct (site_labels at) = subst (λ (s : Site). AreDistinct (site_labels s)) c.new-engine.ensures.site c.new-engine.ensures.ready.distinct in
     let start = c.requires.rest.sound (subst g.B.Base.is_clean c.new-engine.ensures.base (c.converse-outcome.ensures.continues.clean was)) in
     shell_at g.L.TypedLines.echo at c.args.session.now sessions first left (g.L.TypedLines.remaining c.args.lines.now) (g.L.TypedLines.remaining c.converse-outcome.new.lines) (g.W.Write.contents c.args.out.now) (g.W.Write.contents c.converse-outcome.new.out) (g.L.TypedLines.breaks c.converse-outcome.new.lines)
-    (IsTold g.E.Write.contents c.args.err.now c.converse-outcome.new.err) c.converse-outcome.result distinct c.requires.may.serves.read c.requires.may.serves.certified start sound
+    (IsTold g.E.Write.contents c.args.err.now c.converse-outcome.new.err) c.converse-outcome.result distinct c.requires.may.serves.read c.requires.may.serves.certified start (back.rest.sound clean)
     (conversation_at g.L.TypedLines.echo c.args.session.now (g.L.TypedLines.remaining c.args.lines.now) (g.L.TypedLines.remaining c.converse-outcome.new.lines) (g.W.Write.contents c.args.out.now) (g.W.Write.contents c.converse-outcome.new.out) (g.L.TypedLines.breaks c.converse-outcome.new.lines)
-    (IsTold g.E.Write.contents c.args.err.now c.converse-outcome.new.err) c.converse-outcome.result _ at _ (first_world at first) _ (world_at at sessions left) c.new-engine.ensures.site c.new-engine.ensures.world last (c.converse-outcome.ensures.conversation was))
+    (IsTold g.E.Write.contents c.args.err.now c.converse-outcome.new.err) c.converse-outcome.result _ at _ (first_world at first) _ (world_at at sessions left) c.new-engine.ensures.site c.new-engine.ensures.world back.world (c.converse-outcome.ensures.conversation was))

@@ -1,14 +1,8 @@
-use Rattle.std.proofs.Common.{sym, ap, ◌∙◌, subst}
-use Rattle.mls_audit.specs.Sound.{IsSoundContent}
-use Rattle.mls_certcheck.specs.Site.{Site}
-use Rattle.mls_sessions.specs.Engine.{site, IsAtRest}
+use Rattle.mls_certcheck.specs.Site.{site_of}
+use Rattle.mls_sessions.proofs.FrameLemmas.{given_back}
 use Rattle.cases.proofs.faults.runs.run_over.Goals as goal
 
 pub returns : goal.returns
 returns g c =
-    let ready = c.run-end.ensures.continues.kept.ready in
-    let at = ap (λ r. site (record c.run-end.new.engine { site = r })) c.run-end.ensures.continues.kept.site ∙ c.new-engine.ensures.site in
-    subst (IsAtRest g.B.Base.state g.B.Base.is_clean c.args.sample.now.policy.now c.args.sample.now.schemes.now) (sym c.finish.ensures) (record {
-      idle = ready.idle;
-      sound = λ clean. subst (λ (x : Site). IsSoundContent x.policy x.schemes (g.B.Base.state c.run-end.new.engine.base).now) at (ready.sound clean);
-    })
+    (given_back g.B.Base.state g.B.Base.is_clean g.B.Base.failures (site_of c.args.sample.now.policy.now c.args.sample.now.schemes.now c.args.stored) c.new-engine.result c.run-end.new.engine c.finish.result
+    c.new-engine.ensures.site c.run-end.ensures.continues.kept c.finish.ensures).rest

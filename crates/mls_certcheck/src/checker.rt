@@ -2,6 +2,7 @@
 ghost use Rattle.std.specs.Prelude.{◌≡◌, map, slice_index, slice_index_or};
 ghost use Rattle.mls_lattice.specs.Lattice.{bottom, pair_of, ◌⊑◌};
 ghost use Rattle.mls_lattice.specs.Labels.{label_of};
+ghost use Rattle.mls_lattice.specs.Policy.{labels_of};
 ghost use Rattle.mls_certcheck.specs.declared.cert.Certificate.TheVariants.{Two};
 ghost use Rattle.mls_certcheck.specs.Lines.{names};
 ghost use Rattle.mls_certcheck.specs.Rules.{hi, pc, after, param_label, pc_labels, row_after};
@@ -21,28 +22,55 @@ pub(crate) struct Checker<'a> {
     pub cert: &'a Certificate,
 }
 
+/// The bottom of the labels.
 #[tactic(auto, using(crate::proofs::LabelLemmas::bottom_pair))]
-pub(crate) fn lowest() -> Label
+pub fn lowest() -> Label
     ensures { pair_of result ≡ bottom }
 {
     Label { rank: 0, cats: 0 }
 }
 
+/// What a number stands for; one that no label has stands for the bottom.
+#[tactic(auto, using(crate::proofs::LabelLemmas::past_labels))]
+pub fn declared(policy: &Policy, label: LabelNo) -> Label
+    ensures { pair_of result ≡ label_of (labels_of policy.now) label }
+{
+    if label.index() < policy.label_count() {
+        policy.value(label)
+    } else {
+        lowest()
+    }
+}
+
 /// Whether information may flow from the one label to the other.
-pub(crate) fn flows(low: Label, high: Label) -> bool
+pub fn flows(low: Label, high: Label) -> bool
     ensures { result ≡ (pair_of low ⊑ pair_of high) }
 {
     high.dominates(low)
 }
 
+/// A label of a list; behind its end, the bottom.
 #[tactic(auto, using(crate::proofs::LabelLemmas::label_places))]
-fn nth(labels: &[Label], place: usize) -> Label
+pub fn nth_label(labels: &[Label], place: usize) -> Label
     ensures { pair_of result ≡ slice_index_or (map pair_of labels.now) place bottom }
 {
     if place < labels.len() {
         labels[place]
     } else {
         lowest()
+    }
+}
+
+/// The number of a parameter's label.
+pub fn parameter_no(tx: &Tx, place: u8) -> LabelNo
+    ensures { result ≡ slice_index (map (λ p. p.1.label) tx.now.params) place }
+{
+    let params = tx.params();
+    let place = usize::from(place);
+    if place < params.len() {
+        params.get(place).label
+    } else {
+        LabelNo::new(0)
     }
 }
 
@@ -60,23 +88,11 @@ fn row_of(cert: &Cert2, number: usize) -> &[Label]
 }
 
 impl Checker<'_> {
-    /// What a number of a label stands for.
-    #[tactic(auto, using(crate::proofs::LabelLemmas::past_labels))]
-    pub(crate) fn declared(&self, label: LabelNo) -> Label
-        ensures { pair_of result ≡ label_of (claim_of self.now).labels label }
-    {
-        if label.index() < self.policy.label_count() {
-            self.policy.value(label)
-        } else {
-            lowest()
-        }
-    }
-
     /// The ceiling.
     pub(crate) fn hi(&self) -> Label
         ensures { pair_of result ≡ hi (claim_of self.now) }
     {
-        self.declared(self.tx.hi())
+        declared(self.policy, self.tx.hi())
     }
 
     fn pc_labels(&self) -> &[Label]
@@ -93,9 +109,9 @@ impl Checker<'_> {
         ensures { pair_of result ≡ pc (claim_of self.now) number }
     {
         if number == 0 {
-            self.declared(self.tx.lo())
+            declared(self.policy, self.tx.lo())
         } else {
-            nth(self.pc_labels(), number - 1)
+            nth_label(self.pc_labels(), number - 1)
         }
     }
 
@@ -112,26 +128,14 @@ impl Checker<'_> {
     pub(crate) fn after(&self, number: usize, place: usize) -> Label
         ensures { pair_of result ≡ after (claim_of self.now) number place }
     {
-        nth(self.row_after(number), place)
-    }
-
-    fn parameter_no(&self, place: u8) -> LabelNo
-        ensures { result ≡ slice_index (map (λ p. p.1.label) self.now.tx.now.params) place }
-    {
-        let params = self.tx.params();
-        let place = usize::from(place);
-        if place < params.len() {
-            params.get(place).label
-        } else {
-            LabelNo::new(0)
-        }
+        nth_label(self.row_after(number), place)
     }
 
     /// The label of a parameter.
     pub(crate) fn parameter(&self, place: u8) -> Label
         ensures { pair_of result ≡ param_label (claim_of self.now) place }
     {
-        self.declared(self.parameter_no(place))
+        declared(self.policy, parameter_no(self.tx, place))
     }
 
     /// The join of the labels of the names in an expression: it flows just where each of them does.
@@ -143,7 +147,7 @@ impl Checker<'_> {
             Term::Known(_) | Term::Null => lowest(),
             Term::Variable(place) => self.after(here.before, usize::from(*place)),
             Term::Parameter(place) => self.parameter(*place),
-            Term::Field { depth, .. } => self.declared(here.loops.label(*depth)),
+            Term::Field { depth, .. } => declared(self.policy, here.loops.label(*depth)),
             Term::Not(expr) => self.label(here, expr),
             Term::Op(_, left, right) => self.label(here, left).join(self.label(here, right)),
         }

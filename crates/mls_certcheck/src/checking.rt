@@ -9,7 +9,7 @@ ghost use Rattle.mls_certcheck.specs.Checks.{First, count_verdict, counts, holds
 ghost use Rattle.mls_certcheck.specs.Walk.{claim_of, Says};
 
 use crate::Certificate;
-use crate::checker::{Checker, flows};
+use crate::checker::{Checker, declared, flows};
 use crate::refusal::{Refusal, Rule};
 use crate::walking::walk;
 use mls_lattice::{LabelNo, Policy};
@@ -43,7 +43,7 @@ impl Checker<'_> {
     fn parameter_holds(&self, label: LabelNo) -> bool
         ensures { result ≡ list_all (holds (claim_of self.now)) (within_ends label) }
     {
-        let label = self.declared(label);
+        let label = declared(self.policy, label);
         flows(self.pc(0), label) && flows(label, self.hi())
     }
 

@@ -12,7 +12,7 @@ ghost use Rattle.mls_certcheck.specs.Lent.{slots_of, names_here, more_of, source
 ghost use Rattle.mls_certcheck.specs.Walk.{claim_of, IsJoin};
 ghost use Rattle.mls_certcheck.specs.declared.flow.Slot.TheVariants.{Statement};
 
-use crate::checker::{Checker, flows, lowest};
+use crate::checker::{Checker, declared, flows, lowest};
 use crate::flow::{Slot, Source};
 use crate::lent::{Here, LentFlow, More, Targets};
 use crate::refusal::{Refusal, Rule};
@@ -77,7 +77,7 @@ impl Checker<'_> {
     {
         match more {
             More::Nothing => lowest(),
-            More::Label(label) => self.declared(*label),
+            More::Label(label) => declared(self.policy, *label),
             More::Variables(count) => self.variables(here.number, *count),
             More::Names(expr) => self.label(here, expr),
             More::Operands(write) => self.operands(here, write),
@@ -99,7 +99,7 @@ impl Checker<'_> {
         match source {
             Source::Held(slot) => self.slot(slot),
             Source::Parameter(place) => self.parameter(place),
-            Source::Declared(label) => self.declared(label),
+            Source::Declared(label) => declared(self.policy, label),
         }
     }
 
@@ -155,7 +155,7 @@ impl Checker<'_> {
             }
             LentFlow::Kept { from, but } => self.keeps(*from, here.number, *but),
             LentFlow::Within(limit, one, more) => {
-                flows(self.bound(here, *one, more), self.declared(*limit))
+                flows(self.bound(here, *one, more), declared(self.policy, *limit))
             }
             LentFlow::Under(one, more) => flows(self.bound(here, *one, more), self.hi()),
         }

@@ -11,7 +11,7 @@ ghost use Rattle.mls_explain.specs.Search.{longer, IsAt};
 
 use crate::step::Step;
 use crate::teller::Told;
-use mls_certcheck::{Flow, Line, Refusal, Slot, Source};
+use mls_certcheck::{Flow, Line, Refusal, Slot, Source, declared, flows, parameter_no};
 use mls_labeller::Labeller;
 use mls_lattice::{Items, LabelNo};
 use std::alloc::{AllocError, Global};
@@ -63,7 +63,10 @@ fn tail_at(tails: &[Tail], limit: LabelNo, slot: Slot) -> Option<&Tail>
 fn is_above(labeller: &Labeller, limit: LabelNo, label: LabelNo) -> bool
     ensures { result ≡ is_above labeller.now.policy.now limit label }
 {
-    !labeller.declared(limit).dominates(labeller.declared(label))
+    !flows(
+        declared(labeller.policy, label),
+        declared(labeller.policy, limit),
+    )
 }
 
 #[tactic(auto, unfolding(crate::specs::Chains::is_root))]
@@ -82,7 +85,7 @@ fn is_root(labeller: &Labeller, limit: LabelNo, source: Source) -> bool
 {
     match source {
         Source::Held(slot) => slot_is_root(labeller, limit, slot),
-        Source::Parameter(place) => is_above(labeller, limit, labeller.parameter_no(place)),
+        Source::Parameter(place) => is_above(labeller, limit, parameter_no(labeller.tx, place)),
         Source::Declared(label) => is_above(labeller, limit, label),
     }
 }

@@ -1,9 +1,7 @@
 //! The labels rise until every lower bound holds.
-ghost use Rattle.std.specs.Prelude.{◌≡◌, ◌↔◌, IsTrue, Some, IfOk, slice_index, slice_index_or, map};
+ghost use Rattle.std.specs.Prelude.{◌≡◌, ◌↔◌, IsTrue, Some, IfOk};
 ghost use Rattle.std.specs.List.{AllByRecursion};
-ghost use Rattle.mls_lattice.specs.Lattice.{Dominates, pair_of, bottom};
-ghost use Rattle.mls_lattice.specs.Labels.{label_of};
-ghost use Rattle.mls_lattice.specs.Policy.{labels_of};
+ghost use Rattle.mls_lattice.specs.Lattice.{Dominates, pair_of};
 ghost use Rattle.mls_translang.specs.Tree.{statements};
 ghost use Rattle.mls_certcheck.specs.Rules.{slot_label, source_label};
 ghost use Rattle.mls_certcheck.specs.Walk.{IsJoin};
@@ -14,7 +12,7 @@ ghost use Rattle.mls_labeller.specs.Rising.{Stands, Rises};
 ghost use Rattle.mls_certcheck.specs.declared.flow.Flow.TheVariants.{Into, Kept};
 
 use crate::labels::{Labels, cell};
-use mls_certcheck::{Flow, Line, Slot, Source, Version};
+use mls_certcheck::{Flow, Line, Slot, Source, Version, declared, lowest, nth_label, parameter_no};
 use mls_lattice::{Label, LabelNo, Policy};
 use mls_translang::{Tx, statements};
 use std::alloc::{AllocError, Global};
@@ -26,24 +24,6 @@ pub struct Labeller<'a> {
     pub tx: &'a Tx,
 }
 
-#[tactic(auto, using(mls_certcheck::proofs::LabelLemmas::bottom_pair))]
-fn lowest() -> Label
-    ensures { pair_of result ≡ bottom }
-{
-    Label { rank: 0, cats: 0 }
-}
-
-#[tactic(auto, using(mls_certcheck::proofs::LabelLemmas::label_places))]
-fn nth(labels: &[Label], place: usize) -> Label
-    ensures { pair_of result ≡ slice_index_or (map pair_of labels.now) place bottom }
-{
-    if place < labels.len() {
-        labels[place]
-    } else {
-        lowest()
-    }
-}
-
 /// Whether it is this variable.
 fn is_it(variable: Option<u8>, place: usize) -> bool
     ensures { IsTrue result ↔ (variable ≡ Some place) }
@@ -51,33 +31,6 @@ fn is_it(variable: Option<u8>, place: usize) -> bool
     match variable {
         Some(other) => usize::from(other) == place,
         None => false,
-    }
-}
-
-impl Labeller<'_> {
-    /// What a number of a label stands for.
-    #[tactic(auto, using(mls_certcheck::proofs::LabelLemmas::past_labels))]
-    pub fn declared(&self, label: LabelNo) -> Label
-        ensures { pair_of result ≡ label_of (labels_of self.now.policy.now) label }
-    {
-        if label.index() < self.policy.label_count() {
-            self.policy.value(label)
-        } else {
-            lowest()
-        }
-    }
-
-    /// The number of a parameter's label.
-    pub fn parameter_no(&self, place: u8) -> LabelNo
-        ensures { result ≡ slice_index (map (λ p. p.1.label) self.now.tx.now.params) place }
-    {
-        let params = self.tx.params();
-        let place = usize::from(place);
-        if place < params.len() {
-            params.get(place).label
-        } else {
-            LabelNo::new(0)
-        }
     }
 }
 
@@ -94,9 +47,9 @@ impl Rising<'_> {
         ensures { pair_of result ≡ slot_label (claim_at self.now (rows_of labels.now)) slot }
     {
         match slot {
-            Slot::Variable { after, place } => nth(labels.after(self.version, after), place),
-            Slot::Statement(0) => self.labeller.declared(self.labeller.tx.lo()),
-            Slot::Statement(number) => nth(labels.stmts(self.version), number - 1),
+            Slot::Variable { after, place } => nth_label(labels.after(self.version, after), place),
+            Slot::Statement(0) => declared(self.labeller.policy, self.labeller.tx.lo()),
+            Slot::Statement(number) => nth_label(labels.stmts(self.version), number - 1),
         }
     }
 
@@ -105,8 +58,11 @@ impl Rising<'_> {
     {
         match source {
             Source::Held(slot) => self.held(labels, slot),
-            Source::Parameter(place) => self.labeller.declared(self.labeller.parameter_no(place)),
-            Source::Declared(label) => self.labeller.declared(label),
+            Source::Parameter(place) => declared(
+                self.labeller.policy,
+                parameter_no(self.labeller.tx, place),
+            ),
+            Source::Declared(label) => declared(self.labeller.policy, label),
         }
     }
 

@@ -1,5 +1,4 @@
 pub mod DataLemmas
-pub mod ClassLemmas
 pub mod ConditionLemmas
 pub mod PlaceLemmas
 pub mod TopLemmas

@@ -1,50 +1,32 @@
 //! Classes of rows, and how they stand to labels.
 ghost use Rattle.std.specs.Prelude.{◌≡◌};
-ghost use Rattle.mls_lattice.specs.Lattice.{pair_of, ◌⊑◌};
-ghost use Rattle.mls_lattice.specs.Labels.{label_of};
+ghost use Rattle.mls_lattice.specs.Lattice.{pair_of};
 ghost use Rattle.mls_lattice.specs.Policy.{labels_of};
 ghost use Rattle.mls_scheme.specs.Tuple.{tuple_class};
 ghost use Rattle.mls_queries.specs.Query.{is_strictly_below, stands, has_class};
 
-use mls_lattice::{Label, LabelNo, Policy};
+use mls_certcheck::{declared, flows};
+use mls_lattice::{Label, Policy};
 use mls_scheme::Tuple;
 use mls_translang::{ClassTest, Comparison};
 
-/// What a number stands for. A store that is not clean may give any number: one of no label stands for the bottom.
-#[tactic(auto, using(crate::proofs::ClassLemmas::class_steps))]
-fn label_of(policy: &Policy, label: LabelNo) -> Label
-    ensures { pair_of result ≡ label_of (labels_of policy.now) label }
-{
-    if label.index() < policy.label_count() {
-        policy.value(label)
-    } else {
-        Label { rank: 0, cats: 0 }
-    }
-}
-
-/// The class of a row: the join of its key class and the classes of its elements.
+/// The class of a row: the join of its key class and the classes of its elements. A store that is not clean may give
+/// any numbers for these.
 pub(crate) fn class_of(policy: &Policy, row: &Tuple) -> Label
     ensures { pair_of result ≡ tuple_class (labels_of policy.now) row.now }
 {
-    let mut class = label_of(policy, row.key_class);
+    let mut class = declared(policy, row.key_class);
     for element in row.elements.as_slice() {
-        class = class.join(label_of(policy, element.class));
+        class = class.join(declared(policy, element.class));
     }
     class
-}
-
-/// Whether a label dominates another.
-fn is_at_most(low: Label, high: Label) -> bool
-    ensures { result ≡ (pair_of low ⊑ pair_of high) }
-{
-    high.dominates(low)
 }
 
 /// Whether a label dominates another, and is another.
 pub(crate) fn is_strictly_below(low: Label, high: Label) -> bool
     ensures { result ≡ is_strictly_below (pair_of low) (pair_of high) }
 {
-    is_at_most(low, high) && !is_at_most(high, low)
+    flows(low, high) && !flows(high, low)
 }
 
 /// Whether a class stands so to a label.
@@ -55,9 +37,9 @@ fn stands(comparison: Comparison, class: Label, label: Label) -> bool
         Comparison::Equal => class.same(label),
         Comparison::Unequal => !class.same(label),
         Comparison::Less => is_strictly_below(class, label),
-        Comparison::AtMost => is_at_most(class, label),
+        Comparison::AtMost => flows(class, label),
         Comparison::Greater => is_strictly_below(label, class),
-        Comparison::AtLeast => is_at_most(label, class),
+        Comparison::AtLeast => flows(label, class),
     }
 }
 
@@ -70,7 +52,7 @@ pub(crate) fn has_class(policy: &Policy, test: Option<ClassTest>, row: &Tuple) -
         Some(test) => stands(
             test.comparison,
             class_of(policy, row),
-            label_of(policy, test.label),
+            declared(policy, test.label),
         ),
     }
 }

@@ -108,8 +108,7 @@ pub fn check(policy: &Policy, tx: &Tx, cert: &Certificate) -> Result<(), Refusal
     // So the transaction tells no level more than it may see, but for what it releases to it.
     ensures secure { IfOk result (λ _. Secure policy.now tx.now) }
 {
-    // That the labels of a policy are distinct.
-    let _count = policy.label_count();
+    policy.use_invariant();
     let checker = Checker { policy, tx, cert };
     checker.verdict()
 }

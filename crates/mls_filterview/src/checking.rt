@@ -24,8 +24,7 @@ pub fn integrity(policy: &Policy, scheme: &Scheme, tuples: &[Tuple]) -> Option<B
     ensures none { (result ≡ None) ↔ IsStoredList (labels_of policy.now) scheme.now tuples.now }
     ensures first { IfSome result (λ b. IsFirstBroken (labels_of policy.now) scheme.now tuples.now b.row b.rule) }
 {
-    // for the distinctness of labels
-    let _labels = policy.label_count();
+    policy.use_invariant();
     for row in 0..tuples.len() {
         if let Some(rule) = broken_rule(policy, scheme, tuples, row) {
             return Some(Broken { row, rule });

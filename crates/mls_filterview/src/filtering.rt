@@ -37,8 +37,7 @@ pub fn filter(
     ensures rows { IfOk result (λ v. (n : ℕ) (T : Table) → IsStored (labels_of policy.now) n T
         → ((t : SpecTuple) → IsAmong t tuples.now ↔ IsIn T t) → v.items ≡ rows (labels_of policy.now) label T) }
 {
-    // for the distinctness of labels
-    let _labels = policy.label_count();
+    policy.use_invariant();
     let seen = seen(alloc, policy, tuples, label)?;
     let mut rows = rows_of(alloc, policy, seen)?;
     arrange(&mut rows)?;

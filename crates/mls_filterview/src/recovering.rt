@@ -124,8 +124,7 @@ pub fn is_content(
     requires under { IsUnder (length policy.now.labels) scheme.now }
     ensures { IfOk result (λ b. IsTrue b ↔ IsContent (labels_of policy.now) scheme.now (table_of rows.now.entries)) }
 {
-    // for the distinctness of labels
-    let _labels = policy.label_count();
+    policy.use_invariant();
     for (place, elements) in rows.iter() {
         if !is_stored_row(policy, scheme, rows, place, elements)? {
             return Ok(false);

@@ -53,8 +53,7 @@ fn low_fragment<B: Base>(
         (λ f. AreLow (labels_of policy.now) ((B.state base.old).now.db relation) label
         (length policy.now.labels) f.nodes f.cells) }
 {
-    // That the labels of a policy are distinct.
-    let _count = policy.label_count();
+    policy.use_invariant();
     let labels = settle(base, low_labels(alloc, policy, label))?;
     base.fragments(relation, &labels)
 }

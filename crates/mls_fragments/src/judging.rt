@@ -136,8 +136,7 @@ pub(crate) fn judge(
         mut cells,
         entries,
     } = rows;
-    // for how many labels there are
-    let _labels = design.policy.label_count();
+    design.policy.use_invariant();
     let entries = entries_of(alloc, labels, entries, &mut Where::start())?;
     let Ok(last) = i64::try_from(entries.len()) else {
         return Err(RowFault::Memory);

@@ -54,8 +54,7 @@ pub(crate) fn label_or_first(policy: &Policy, name: &Name) -> LabelNo
     ensures exact { result ≡ numbered (label_named policy.now name.now.0) }
     ensures within { result < length policy.now.labels }
 {
-    // a policy has some label
-    let _count = policy.label_count();
+    policy.use_invariant();
     match label(policy, name) {
         Some(number) => number,
         None => LabelNo::new(0),
@@ -76,8 +75,7 @@ pub(crate) fn relation_or_first(schemes: &Schemes, name: &Name) -> RelNo
     ensures exact { result ≡ numbered (relation_named schemes.now name.now.0) }
     ensures within { result < length schemes.now }
 {
-    // there is some relation
-    let _count = schemes.count();
+    schemes.use_invariant();
     match relation(schemes, name) {
         Some(number) => number,
         None => RelNo::new(0),

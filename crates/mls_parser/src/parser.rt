@@ -80,8 +80,8 @@ pub fn parse(
     ensures read { IfOk result (λ txs. AreReadUnder policy.now schemes.now txs) }
     ensures each { IfOk result (λ txs. AllByRecursion IsTx txs) }
 {
-    // what holds of every policy and of all schemes
-    let _counts = (policy.label_count(), schemes.count());
+    policy.use_invariant();
+    schemes.use_invariant();
     match placed(alloc, policy, schemes, bytes) {
         Ok(txs) => Ok(txs),
         Err(fault) => Err(fault.in_text(bytes)),

@@ -220,8 +220,7 @@ fn tests_of_row(
     requires { relation < length schemes.now }
     ensures { Gives (λ e. (e, reader.new)) result (condition_at policy.now schemes.now relation reader.old) }
 {
-    // a policy has some label
-    let _count = policy.label_count();
+    policy.use_invariant();
     let scheme = schemes.scheme(relation);
     let rows = [LoopRow {
         name: Str::copy_of(alloc, scheme.name())?,

@@ -212,8 +212,7 @@ pub fn find(
         cells,
         entries,
     } = rows;
-    // for how many labels there are
-    let _labels = policy.label_count();
+    policy.use_invariant();
     if !are_within(labels, &nodes, at) {
         return Err(RowFault::BadRow);
     }

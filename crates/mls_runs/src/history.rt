@@ -119,8 +119,7 @@ pub fn run_history<D: Disk + Drop, W: Write>(
     ensures broken { IfErr result.0 (IsHistoryFault D.Disk policy.now file.now audience files
         (map (run_of policy.now file.now.schemes) runs.items) (IsAppended W.contents out.old out.new) result.1) }
 {
-    // That the labels of a policy are distinct.
-    let _labels = policy.label_count();
+    policy.use_invariant();
     let mut left = files;
     let mut number = 0;
     for run in runs {

@@ -193,8 +193,8 @@ pub(crate) fn next_fate<L: TypedLines, W: Write>(
         (W.contents out.old) (W.contents out.new) (L.breaks lines.new) result }
     ensures fits { FateFits policy.now schemes.now result }
 {
-    // What every policy and schemes promise: a text tells the events of one list at most.
-    let _names = (policy.label_count(), schemes.count());
+    policy.use_invariant();
+    schemes.use_invariant();
     match lines.next_line(alloc, out) {
         Ok(Typed::Line(line)) => {
             let fate = fate_of(alloc, policy, schemes, session, &line);

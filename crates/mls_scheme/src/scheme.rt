@@ -107,10 +107,16 @@ impl Schemes {
         &self.relations
     }
 
+    /// What holds of all schemes. A caller sees of a value what its getters tell, and not its invariant.
+    pub fn use_invariant(&self)
+        ensures { AreSchemes self.now }
+    {
+        let _relations = &self.relations;
+    }
+
     /// How many relations there are.
     pub fn count(&self) -> usize
-        ensures count { result ≡ length self.now }
-        ensures valid { AreSchemes self.now }
+        ensures { result ≡ length self.now }
     {
         self.relations.len()
     }
@@ -162,8 +168,7 @@ impl Schemes {
         requires { AllZip (λ n s. n ≤ length s.others) counts.now self.now }
         ensures { IfOk result (λ s. s ≡ schemes_before counts.now self.now) }
     {
-        // for what holds of these schemes
-        let _count = self.count();
+        self.use_invariant();
         let older = relations_of(alloc, self.relations(), counts)?;
         Ok(Schemes::new(older))
     }

@@ -132,7 +132,7 @@ pub fn script(
     // Each event keeps to the numbers and kinds of policy and schemes.
     ensures fits { IfOk result (λ v. AllByRecursion (EventFits policy.now schemes.now) v.items) }
 {
-    // What every policy and schemes promise: no two labels, relations or attributes of a relation have one name.
-    let _names = (policy.label_count(), schemes.count());
+    policy.use_invariant();
+    schemes.use_invariant();
     events_of(alloc, policy, schemes, bytes)
 }

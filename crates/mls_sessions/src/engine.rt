@@ -49,8 +49,7 @@ impl<'a, B: Base> Engine<'a, B> {
             ≡ world_at (site_of policy.now schemes.now stored) no_sessions (B.state base).now }
         ensures ready { IsEngineReady B.state B.is_clean result }
     {
-        // That the labels of a policy are distinct.
-        let _count = policy.label_count();
+        policy.use_invariant();
         let site = RunSite {
             alloc,
             policy,

@@ -80,8 +80,7 @@ pub(crate) fn rows_at<B: Base>(
         ((B.state base.old).now.db relation)) }
     ensures views { AreViews call.now.policy.now B.is_clean B.state base.new views.new }
 {
-    // That the labels of a policy are distinct.
-    let _count = call.policy.label_count();
+    call.policy.use_invariant();
     let rows = views.view(call.alloc, base, call.policy, relation, label)?;
     if are_of_kinds(call.schemes.scheme(relation), rows.as_slice()) {
         Ok(rows)

@@ -86,8 +86,7 @@ pub fn delete<B: Base>(
     if !base.is_begun() {
         return Err(BaseFault::NotBegun);
     }
-    // That the labels of a policy are distinct, and that a scheme has one to four key attributes.
-    let _count = policy.label_count();
+    policy.use_invariant();
     let _scheme = schemes.scheme(relation);
     if has_null(key) {
         return Ok(Outcome::KeyNull);

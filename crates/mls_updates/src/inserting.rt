@@ -65,8 +65,7 @@ pub fn insert<B: Base>(
     if !base.is_begun() {
         return Err(BaseFault::NotBegun);
     }
-    // That the labels of a policy are distinct.
-    let _count = policy.label_count();
+    policy.use_invariant();
     let scheme = schemes.scheme(relation);
     if has_null(key) {
         return Ok(Outcome::KeyNull);

@@ -33,6 +33,7 @@ pub(crate) fn downwards(
     requires { w < length policy.now.labels }
     ensures { IfOk result (λ order. AreAbove (labels_of policy.now) w order.items) }
 {
+    policy.use_invariant();
     let mut order = Vec::new(alloc);
     for number in 0..policy.label_count() {
         let label = LabelNo::new(number as u8);

@@ -58,8 +58,7 @@ fn derive<B: Base>(
     ensures done { B.is_clean base.new → IfOk result
         (IsDerived (labels_of policy.now) scheme.now relation place from sets.now (B.state base.old) (B.state base.new)) }
 {
-    // That the labels of a policy are distinct.
-    let _count = policy.label_count();
+    policy.use_invariant();
     let is_there = has_tuple(base, relation, &place)?;
     let outcome = below_outcome(
         policy,

@@ -38,8 +38,7 @@ pub fn update<B: Base>(
     if has_null(key) {
         return Ok(Outcome::KeyNull);
     }
-    // That the labels of a policy are distinct.
-    let _count = policy.label_count();
+    policy.use_invariant();
     let scheme = schemes.scheme(relation);
     let place = settle(base, place_of(alloc, key, key_class, from))?;
     if from == w {

@@ -6,4 +6,4 @@ pub returns-clause-rules : goal.returns-clause-rules
 returns-clause-rules c = says_rules (claim c.args.policy.now c.args.tx.now c.args.cert.now) _ c.verdict.ensures
 
 pub returns-clause-secure : goal.returns-clause-secure
-returns-clause-secure c = says_secure c.args.policy.now c.label_count-count.ensures.distinct c.args.tx.now c.args.cert.now _ c.verdict.ensures
+returns-clause-secure c = says_secure c.args.policy.now c.use_invariant.ensures.distinct c.args.tx.now c.args.cert.now _ c.verdict.ensures

@@ -16,7 +16,7 @@ bounded policy ts h = subst (λ k. AllByRecursion (HasClassesBelow k) ts) (sym (
 
 broken : (c : goal.In-Some) → IsFirstBroken (labels_of c.args.policy.now) c.args.scheme.now c.args.tuples.now c.loop-row.row c.in-Some.rule
 broken c =
-    first_broken (labels_of c.args.policy.now) c.label_count-labels.ensures.distinct c.args.scheme.now c.args.tuples.now (bounded c.args.policy.now c.args.tuples.now c.requires.classes)
+    first_broken (labels_of c.args.policy.now) c.use_invariant.ensures.distinct c.args.scheme.now c.args.tuples.now (bounded c.args.policy.now c.args.tuples.now c.requires.classes)
     c.loop-row.row c.in-Some.rule c.loop-row-test.true c.loop-row.invariant (sym c.in-Some.ensures)
 
 pub returns-in-Some-clause-none : goal.returns-in-Some-clause-none
@@ -24,7 +24,7 @@ returns-in-Some-clause-none c = (
   (λ h. absurd (none-some _ (sym h))),
   (λ h.
       absurd
-      (not_stored (labels_of c.args.policy.now) c.label_count-labels.ensures.distinct c.args.scheme.now c.args.tuples.now (bounded c.args.policy.now c.args.tuples.now c.requires.classes) c.loop-row.row c.in-Some.rule (broken c) h)),
+      (not_stored (labels_of c.args.policy.now) c.use_invariant.ensures.distinct c.args.scheme.now c.args.tuples.now (bounded c.args.policy.now c.args.tuples.now c.requires.classes) c.loop-row.row c.in-Some.rule (broken c) h)),
 )
 
 pub returns-in-Some-clause-first : goal.returns-in-Some-clause-first
@@ -39,7 +39,7 @@ loop-row-preserved c = λ j l. here j l (cases_lt j c.loop-row.row)
 
 pub returns-clause-none : goal.returns-clause-none
 returns-clause-none c = (
-  (λ h. all_unbroken (labels_of c.args.policy.now) c.label_count-labels.ensures.distinct c.args.scheme.now c.args.tuples.now
+  (λ h. all_unbroken (labels_of c.args.policy.now) c.use_invariant.ensures.distinct c.args.scheme.now c.args.tuples.now
       (bounded c.args.policy.now c.args.tuples.now c.requires.classes) (λ j l. c.loop-row.invariant j (omega arith))),
   (λ h. refl),
 )

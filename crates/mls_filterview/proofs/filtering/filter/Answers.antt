@@ -48,5 +48,5 @@ pub returns-clause-rows : goal.returns-clause-rows
 returns-clause-rows c =
     let ls = labels_of c.args.policy.now in
     if_ok c.maximal_tuples.result _ _ (λ v e n T stored same.
-    e ∙ rows-stored ls (c.label_count-labels.ensures.distinct) n T stored c.args.label c.args.tuples.now same (maximal c.arrange.new.items.items) (own c)
+    e ∙ rows-stored ls (c.use_invariant.ensures.distinct) n T stored c.args.label c.args.tuples.now same (maximal c.arrange.new.items.items) (own c)
     (maximal-view ls c.args.label c.args.tuples.now c.arrange.new.items.items (are_rows c))) c.maximal_tuples.ensures

@@ -26,7 +26,7 @@ returns-then-not-branch c =
     let es = c.args.rows.now.entries in
     let test : Entry → Bool = is_stored_row (length policy.labels) (labels_of policy) scheme found in
     let fails : test (c.in-Some.place.now, c.in-Some.elements.now) ≡ false = sym c.in_ok-is_stored_row.ensures ∙ c.if-not-branch.true in
-    content_told (labels_of policy) c.label_count-labels.ensures.distinct scheme es c.iter-place-items.ensures.ordered false
+    content_told (labels_of policy) c.use_invariant.ensures.distinct scheme es c.iter-place-items.ensures.ordered false
     (sym (ap (λ b. b && list_all test c.next.new.self) fails) ∙ sym (ap (list_all test) c.in-Some.ensures.steps) ∙ c.loop-place.invariant ∙ same_test policy scheme found es)
 
 pub returns : goal.returns
@@ -36,5 +36,5 @@ returns c =
     let found = get place_cmp c.args.rows.now in
     let es = c.args.rows.now.entries in
     let test : Entry → Bool = is_stored_row (length policy.labels) (labels_of policy) scheme found in
-    content_told (labels_of policy) c.label_count-labels.ensures.distinct scheme es c.iter-place-items.ensures.ordered true
+    content_told (labels_of policy) c.use_invariant.ensures.distinct scheme es c.iter-place-items.ensures.ordered true
     (sym (ap (list_all test) c.in-None.ensures.steps.0) ∙ c.loop-place.invariant ∙ same_test policy scheme found es)

@@ -28,5 +28,5 @@ returns-clause-held c =
     let content = content_of c.in_ok-content.content.changes in (
       judged_holds c.args.design.now.policy.now c.args.design.now.file.now.schemes c.args.labels c.args.rows nodes cells c.in_ok-entries.entries content c.in_ok-sort.ensures.permutation c.in_ok-sort-2.ensures.permutation c.in_ok-entries.ensures.numbered
           (subst (λ list. IsJudged c.args.design.now.policy.now c.args.design.now.file.now.schemes c.args.labels (rows_in nodes cells) list content) c.deref.ensures c.in_ok-content.ensures.judged),
-      content_bytes (labels_of c.args.design.now.policy.now) c.args.design.now.file.now.schemes content (few_labels c.args.design.now.policy.now c.label_count-labels.ensures.few) c.in_ok-content.ensures.judged.sound.content,
+      content_bytes (labels_of c.args.design.now.policy.now) c.args.design.now.file.now.schemes content (few_labels c.args.design.now.policy.now c.use_invariant.ensures.few_labels) c.in_ok-content.ensures.judged.sound.content,
     )

@@ -49,7 +49,7 @@ returns-clause-found c =
             (subst (λ ns. list_all (is_within c.args.labels) ns ≡ true) c.deref.ensures.value (sym c.are_within.ensures ∙ c.if-not-are_within.false)) rel;
         entries = c.in_ok-entries.ensures.entries;
       };
-      classes = content_bytes ls schemes content (few_labels c.args.policy.now c.label_count-labels.ensures.few) all_content;
+      classes = content_bytes ls schemes content (few_labels c.args.policy.now c.use_invariant.ensures.few_labels) all_content;
       few = search rules;
       spelled = tables_spelled (λ t. t.entries) c.deref-2.result.now c.deref-3.result.now c.in_ok-tables.tables.items c.in_ok-tables.ensures.assembled;
       sorted = tables_each (λ es. IsStrictlySortedBy place_cmp (keys_of es)) (λ t. t.entries) c.in_ok-tables.tables.items (λ rel l. (c.in_ok-tables.ensures.assembled rel l).sorted);
@@ -68,7 +68,7 @@ returns-then-not-are_within-clause-only c t all content holds sound =
 pub returns-in_err-tables-clause-only : goal.returns-in_err-tables-clause-only
 returns-in_err-tables-clause-only c t all content holds sound =
     let ls = labels_of c.args.policy.now in
-    let few = few_labels c.args.policy.now c.label_count-labels.ensures.few in
+    let few = few_labels c.args.policy.now c.use_invariant.ensures.few_labels in
     let nodes = node_rows_read ls few c.args.schemes.now t c.args.rows all content holds sound.content in
     let cells = cell_rows_read ls few c.args.schemes.now t c.args.rows all content holds sound.content in
     let memory = c.in_err-tables.ensures.only (subst (AllByRecursion IsNodeRow) (sym c.deref-2.ensures.value) nodes) (subst (AllByRecursion IsCellRow) (sym c.deref-3.ensures.value) cells) in
@@ -79,7 +79,7 @@ returns-then-not-branch-clause-only c t all content holds sound =
     let tables = map (λ t. t.entries) c.in_ok-tables.tables.items in
     let made = subst₂ (λ nodes cells. AreAssembled nodes cells tables) c.deref-2.ensures.value c.deref-3.ensures.value c.in_ok-tables.ensures.assembled in
     let count = length-map c.in_ok-tables.tables.items (λ t. t.entries) ∙ c.in_ok-tables.ensures.count ∙ c.count.ensures.count in
-    let are = tables_are (labels_of c.args.policy.now) (few_labels c.args.policy.now c.label_count-labels.ensures.few) c.args.schemes.now t c.args.rows all content holds sound.content tables count made in
+    let are = tables_are (labels_of c.args.policy.now) (few_labels c.args.policy.now c.use_invariant.ensures.few_labels) c.args.schemes.now t c.args.rows all content holds sound.content tables count made in
     absurd (true≢false (sym (c.in_ok-are_content.ensures.1 (subst (λ ts. AreTables (labels_of c.args.policy.now) c.args.schemes.now (map (λ t. t.entries) ts)) (sym c.deref-4.ensures.value) are)) ∙ c.if-not-branch.true))
 
 pub returns-then-not-branch-2-clause-only : goal.returns-then-not-branch-2-clause-only
@@ -87,8 +87,8 @@ returns-then-not-branch-2-clause-only c t all content holds sound =
     let tables = map (λ t. t.entries) c.in_ok-tables.tables.items in
     let made = subst₂ (λ nodes cells. AreAssembled nodes cells tables) c.deref-2.ensures.value c.deref-3.ensures.value c.in_ok-tables.ensures.assembled in
     let count = length-map c.in_ok-tables.tables.items (λ t. t.entries) ∙ c.in_ok-tables.ensures.count ∙ c.count.ensures.count in
-    let nodes = same_node_rows (labels_of c.args.policy.now) (few_labels c.args.policy.now c.label_count-labels.ensures.few) c.args.schemes.now t c.args.rows all content holds sound.content tables count made in
-    let cells = same_cell_rows (labels_of c.args.policy.now) (few_labels c.args.policy.now c.label_count-labels.ensures.few) c.args.schemes.now t c.args.rows all content holds sound.content tables count made in
+    let nodes = same_node_rows (labels_of c.args.policy.now) (few_labels c.args.policy.now c.use_invariant.ensures.few_labels) c.args.schemes.now t c.args.rows all content holds sound.content tables count made in
+    let cells = same_cell_rows (labels_of c.args.policy.now) (few_labels c.args.policy.now c.use_invariant.ensures.few_labels) c.args.schemes.now t c.args.rows all content holds sound.content tables count made in
     let same = c.in_ok-have_rows.ensures.only
     (subst (λ ts. AreAlike (λ r. r.rel) (node_rows 0 (map (λ t. t.entries) ts)) c.args.rows.nodes.items) (sym c.deref-5.ensures.value) nodes)
     (subst (λ ts. AreAlike (λ r. r.rel) (cell_rows 0 (map (λ t. t.entries) ts)) c.args.rows.cells.items) (sym c.deref-5.ensures.value) cells) in

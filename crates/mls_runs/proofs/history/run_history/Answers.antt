@@ -18,7 +18,7 @@ returns-in-Err-clause-broken g c =
     let goes = subst (λ rs. Goes g.D.Disk policy file c.args.audience c.args.runs.items c.args.files before l.yielded rs l.number l.left after) c.in-Some.ensures.steps.0 l.invariant in
     let broken = subst (λ r. IfErr r (IsBrokenOff g.D.Disk policy file c.args.audience l.left [] (run_of policy file.schemes c.in-Some.run') (IsAppended g.W.Write.contents l.out c.run_over_files-outcome.new.out) now))
     c.in-Err.is c.run_over_files-outcome.ensures.broken in
-    goes_broken g.D.Disk policy file c.args.audience c.args.runs.items c.args.files before c.label_count-labels.ensures.distinct c.requires.prepared l.yielded rest c.in-Some.run' l.number l.left now after last goes c.in-Err.cause broken
+    goes_broken g.D.Disk policy file c.args.audience c.args.runs.items c.args.files before c.use_invariant.ensures.distinct c.requires.prepared l.yielded rest c.in-Some.run' l.number l.left now after last goes c.in-Err.cause broken
 
 pub loop-run-preserved : goal.loop-run-preserved
 loop-run-preserved g c =
@@ -33,7 +33,7 @@ loop-run-preserved g c =
     let goes = subst (λ rs. Goes g.D.Disk policy file c.args.audience c.args.runs.items c.args.files before l.yielded rs l.number l.left after) c.in-Some.ensures.steps.0 l.invariant in
     let whole = subst (λ r. OnOk r (AreRunsOver g.D.Disk policy file c.args.audience l.left (run_of policy file.schemes c.in-Some.run' ∷ []) (IsAppended g.W.Write.contents l.out c.run_over_files-outcome.new.out) now))
     c.in_default.is c.run_over_files-outcome.ensures.whole in
-    goes_more g.D.Disk policy file c.args.audience c.args.runs.items c.args.files before c.label_count-labels.ensures.distinct c.requires.prepared l.yielded rest c.in-Some.run' l.number l.left now after last goes whole
+    goes_more g.D.Disk policy file c.args.audience c.args.runs.items c.args.files before c.use_invariant.ensures.distinct c.requires.prepared l.yielded rest c.in-Some.run' l.number l.left now after last goes whole
 
 pub returns-clause-whole : goal.returns-clause-whole
 returns-clause-whole g c =

@@ -9,7 +9,7 @@ use Rattle.mls_runs.proofs.typed.next_fate.Goals as goal
 pub returns-in-Ok-Line-clause-read : goal.returns-in-Ok-Line-clause-read
 returns-in-Ok-Line-clause-read g c =
     let (next, shown, short) = rw c.in-Ok-Line.field-0-is at c.in-Ok-Line.ensures.typed in
-    read_whole c.args.policy.now c.args.schemes.now c.args.session.now g.L.TypedLines.echo _ _ _ _ _ c.label_count.ensures.valid c.count.ensures.valid c.in-Ok-Line.line.items next short shown c.fate_of-fate.result
+    read_whole c.args.policy.now c.args.schemes.now c.args.session.now g.L.TypedLines.echo _ _ _ _ _ c.use_invariant.ensures c.use_invariant-2.ensures c.in-Ok-Line.line.items next short shown c.fate_of-fate.result
     (subst (λ line. Becomes (fate_of c.args.policy.now c.args.schemes.now c.args.session.now line) c.fate_of-fate.result) c.deref.ensures.value c.fate_of-fate.ensures.is)
 
 pub returns-in-Ok-TooLong-clause-read : goal.returns-in-Ok-TooLong-clause-read

@@ -9,4 +9,4 @@ pub returns-clause-fits : goal.returns-clause-fits
 returns-clause-fits c = fits_found c.args.policy.now c.args.schemes.now (λ v. v.items) c.args.bytes.now c.events_of.result c.events_of.ensures
 
 pub returns-clause-refused : goal.returns-clause-refused
-returns-clause-refused c = read_refused c.args.policy.now c.args.schemes.now c.label_count.ensures.valid c.count.ensures.valid (λ v. v.items) c.args.bytes.now c.events_of.result c.events_of.ensures
+returns-clause-refused c = read_refused c.args.policy.now c.args.schemes.now c.use_invariant.ensures c.use_invariant-2.ensures (λ v. v.items) c.args.bytes.now c.events_of.result c.events_of.ensures

@@ -33,7 +33,7 @@ returns g c =
     let here : c.in_ok-place.place ≡ p = subst (λ r. IfOk r (λ q. q ≡ p)) c.in_ok-place.ensures.value c.place_of.ensures in
     let same : g.B.Base.state c.settle.new.base ≡ s = ap g.B.Base.state c.in_ok-place.ensures.same in
     step_written g.B.Base.is_clean g.B.Base.failures g.B.Base.state c.args.policy.now c.args.schemes.now c.args.relation c.args.w wr c.args.base.now (sym c.if-not-is_begun.ensures) c.requires.stored
-    c.label_count-count.ensures.distinct tt tt c.settle.new.base c.delete_at.new.base c.delete_at.result c.in_ok-place.ensures.same c.delete_at.ensures.step
+    c.use_invariant.ensures.distinct tt tt c.settle.new.base c.delete_at.new.base c.delete_at.result c.in_ok-place.ensures.same c.delete_at.ensures.step
     (λ clean. IfOk-weaker c.delete_at.result (λ o. (x : Scheme) → IsDeleted ls x c.args.relation c.in_ok-place.place (g.B.Base.state c.settle.new.base) u o) _
     (λ o done. write_left ls scheme c.args.relation c.args.w s wr u o (sym c.if-has_null.ensures)
     (subst (λ x. IsDeleted ls scheme c.args.relation p x u o) same

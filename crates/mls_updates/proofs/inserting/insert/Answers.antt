@@ -35,7 +35,7 @@ returns g c =
     let same : g.B.Base.state c.settle.new.base ≡ s = ap g.B.Base.state c.in_ok-place.ensures.same in
     let declared = subst (λ n. w < n) (sym (length-map policy.labels (λ l. l.value))) c.requires.label in
     step_written g.B.Base.is_clean g.B.Base.failures g.B.Base.state policy c.args.schemes.now c.args.relation w wr c.args.base.now (sym c.if-not-is_begun.ensures) c.requires.stored
-    c.label_count-count.ensures.distinct (declared, AllZip-long _ scheme.others values c.requires.kinds.1) c.requires.kinds c.settle.new.base c.insert_at.new.base c.insert_at.result
+    c.use_invariant.ensures.distinct (declared, AllZip-long _ scheme.others values c.requires.kinds.1) c.requires.kinds c.settle.new.base c.insert_at.new.base c.insert_at.result
     c.in_ok-place.ensures.same c.insert_at.ensures.step
     (λ clean. IfOk-weaker c.insert_at.result (IsInserted ls c.scheme-scheme.result.now c.args.relation c.in_ok-place.place values (g.B.Base.state c.settle.new.base) u) _
     (λ o done. write_left ls scheme c.args.relation w s wr u o (sym c.if-has_null.ensures)

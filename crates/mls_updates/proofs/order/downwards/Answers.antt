@@ -24,7 +24,7 @@ loop-number-preserved c =
 pub returns : goal.returns
 returns c =
     let n : length (labels_of c.args.policy.now) ≡ length c.args.policy.now.labels = length-map c.args.policy.now.labels (λ l. l.value) in
-    downward_above (labels_of c.args.policy.now) c.label_count-number-end.ensures.distinct c.args.w c.loop-number.order.items c.loop-number.number
+    downward_above (labels_of c.args.policy.now) c.use_invariant.ensures.distinct c.args.w c.loop-number.order.items c.loop-number.number
     (let l = c.loop-number-test.false in let m = c.label_count-number-end.ensures.count in omega (arith, n, l, m))
     (let l = c.loop-number.auto.number-end in let m = c.label_count-number-end.ensures.count in omega (arith, n, l, m))
     c.loop-number.invariant.0

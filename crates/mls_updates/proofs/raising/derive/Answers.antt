@@ -63,7 +63,7 @@ add_outline-requires g c =
             derived p.class sets tuple.0,
             made_alike ((g.B.Base.state c.has_tuple.new.base).now.db c.args.relation) T p p c.deref.result.now (classes tuple.0) sets (derived p.class sets tuple.0)
                 (ap (λ x. x.now.db c.args.relation) (c.in_ok-is_there.ensures.read.same clean)) refl (c.deref.ensures ∙ tuple.2)
-                (outline_made ls c.label_count-count.ensures.distinct (length c.args.scheme.now.others) T (c.requires.can.stored start) (with_class p from) tuple.0 tuple.1 p.class declared tuple.4 c.requires.can.other sets),
+                (outline_made ls c.use_invariant.ensures.distinct (length c.args.scheme.now.others) T (c.requires.can.stored start) (with_class p from) tuple.0 tuple.1 p.class declared tuple.4 c.requires.can.other sets),
           );
     }
 
@@ -84,7 +84,7 @@ returns-clause-done g c = λ clean.
     let declared = subst (λ n. p.class < n) (sym (length-map c.args.policy.now.labels (λ l. l.value))) c.requires.can.at.class in
     let made = made_alike ((g.B.Base.state c.has_tuple.new.base).now.db c.args.relation) T p p c.deref.result.now (classes tuple.0) sets (derived p.class sets tuple.0)
     (ap (λ x. x.now.db c.args.relation) same) refl (c.deref.ensures ∙ tuple.2)
-    (outline_made ls c.label_count-count.ensures.distinct (length c.args.scheme.now.others) T (c.requires.can.stored start) (with_class p from) tuple.0 tuple.1 p.class declared tuple.4 c.requires.can.other sets) in
+    (outline_made ls c.use_invariant.ensures.distinct (length c.args.scheme.now.others) T (c.requires.can.stored start) (with_class p from) tuple.0 tuple.1 p.class declared tuple.4 c.requires.can.other sets) in
     left_done c.args.relation s (g.B.Base.state c.add_outline.new.base) c.below_outcome-outcome.result _ _ first (sym c.if-not-is_done.ensures)
     (c.in_ok-add_outline.ensures.done clean (derived p.class sets tuple.0) made
     ∙ (λ i. with_relation (same i) c.args.relation (insert ((same i).now.db c.args.relation) p (derived p.class sets (unwrap_or (sym tuple.1 i) [])))))

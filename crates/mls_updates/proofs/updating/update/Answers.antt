@@ -46,7 +46,7 @@ returns-then-eq g c =
     let same : g.B.Base.state c.settle.new.base ≡ s = ap g.B.Base.state c.in_ok-place.ensures.same in
     let declared = subst (λ n. c.args.w < n) (sym (length-map policy.labels (λ l. l.value))) c.requires.label in
     step_written g.B.Base.is_clean g.B.Base.failures g.B.Base.state policy c.args.schemes.now c.args.relation c.args.w wr c.args.base.now (sym c.if-not-is_begun.ensures) c.requires.stored
-    c.label_count-count.ensures.distinct (declared, c.requires.named, c.requires.fits) c.requires.kinds c.settle.new.base c.update_own.new.base c.update_own.result
+    c.use_invariant.ensures.distinct (declared, c.requires.named, c.requires.fits) c.requires.kinds c.settle.new.base c.update_own.new.base c.update_own.result
     c.in_ok-place.ensures.same c.update_own.ensures.step
     (λ clean. IfOk-weaker c.update_own.result (λ o. (x : Scheme) → IsChanged ls x c.args.relation c.in_ok-place.place sets (g.B.Base.state c.settle.new.base) u o) _
     (λ o done. own_left ls scheme c.args.relation c.args.w s key kc c.args.from sets u o (sym c.if-has_null.ensures) e
@@ -71,7 +71,7 @@ returns g c =
     let same : g.B.Base.state c.settle.new.base ≡ s = ap g.B.Base.state c.in_ok-place.ensures.same in
     let declared = subst (λ n. w < n) (sym (length-map policy.labels (λ l. l.value))) c.requires.label in
     step_written g.B.Base.is_clean g.B.Base.failures g.B.Base.state policy c.args.schemes.now c.args.relation w wr c.args.base.now (sym c.if-not-is_begun.ensures) c.requires.stored
-    c.label_count-count.ensures.distinct (declared, c.requires.named, c.requires.fits) c.requires.kinds c.settle.new.base c.update_below.new.base c.update_below.result
+    c.use_invariant.ensures.distinct (declared, c.requires.named, c.requires.fits) c.requires.kinds c.settle.new.base c.update_below.new.base c.update_below.result
     c.in_ok-place.ensures.same c.update_below.ensures.step
     (λ clean. IfOk-weaker c.update_below.result (IsDerived ls c.scheme-scheme.result.now c.args.relation (with_class c.in_ok-place.place w) c.in_ok-place.place.class sets (g.B.Base.state c.settle.new.base) u) _
     (λ o done. below_left ls scheme c.args.relation w s key kc c.args.from sets u o (sym c.if-has_null.ensures) (λ e. true≢false (sym (eq-eqb c.args.from w e) ∙ sym c.if-eq.ensures))

@@ -66,11 +66,11 @@ impl Base for Broken {
     ghost use Rattle.std.specs.Prelude.{false};
     ghost use Rattle.mls_filterview.specs.Content.{no_content};
 
-    ghost state = { λ _. record { now = no_content; kept = no_content; begun = false } };
-
-    ghost failures = { λ b. b.failures };
-
-    ghost is_clean = { λ _. ⊥ };
+    ghost seen = { λ b. record {
+      state = record { now = no_content; kept = no_content; begun = false };
+      failures = b.failures;
+      is_clean = ⊥;
+    } };
 
     fn is_begun(&self) -> bool {
         false

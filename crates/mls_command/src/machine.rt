@@ -31,16 +31,17 @@ pub trait Opens<B: Base, L: Left> {
     /// The base over the store at a path, which is made where there is none.
     fn open(&mut self, path: &str, policy: &Policy, file: &SchemesFile) -> Result<B, OpenFault>
         requires under { AreUnder (length policy.now.labels) file.now.schemes }
-        ensures idle { IfOk result (λ b. (B.state b).begun ≡ false) }
-        ensures sound { IfOk result (λ b. IsSoundContent policy.now file.now.schemes (B.state b).now) }
-        ensures held { IfOk result (λ b. B.is_clean b
-            → IsTakenOf (FindsHoldings image) policy.now file.now (B.state b).now) }
+        ensures idle { IfOk result (λ b. (B.seen b).state.begun ≡ false) }
+        ensures sound { IfOk result (λ b. IsSoundContent policy.now file.now.schemes (B.seen b).state.now) }
+        ensures held { IfOk result (λ b. (B.seen b).is_clean
+            → IsTakenOf (FindsHoldings image) policy.now file.now (B.seen b).state.now) }
         ensures barred { IfErr result (L.bars image policy.now file.now) };
 
     /// Closes the store of a base, and gives what is left of it.
     fn close(&self, store: B) -> (Result<(), CloseFault>, L)
-        requires idle { (B.state store).begun ≡ false }
-        ensures kept { B.is_clean store → (row : MetaRow) × L.keeps result.1 (holdings_of row (B.state store).now) }
+        requires idle { (B.seen store).state.begun ≡ false }
+        ensures kept { (B.seen store).is_clean → (row : MetaRow) × L.keeps result.1 (holdings_of row
+            (B.seen store).state.now) }
         ensures closed { L.is_open result.1 ↔ IsErr result.0 };
 }
 
@@ -108,7 +109,7 @@ impl<'a, B: Base + Drop, L: Left + Drop, O: Opens<B, L> + Drop> Host for Machine
     ghost use Rattle.mls_command.specs.AnsweringOver.{hosting};
 
     ghost hosting = { hosting
-        (record { is_clean = B.is_clean; failures = B.failures })
+        B.seen
         (record { image = O.image; bars = L.bars; keeps = L.keeps; is_open = L.is_open }) };
 
     type Store = B;

@@ -29,7 +29,7 @@ fn answer<B: Base + Drop, L: Left + Drop, O: Opens<B, L> + Drop, W: Write, E: Wr
     out: &mut W,
     err: &mut Errors<E>,
 ) -> u8
-    ensures { IsAnsweredHere O (record { is_clean = B.is_clean; failures = B.failures })
+    ensures { IsAnsweredHere O B.seen
         (record { image = O.image; bars = L.bars; keeps = L.keeps; is_open = L.is_open }) (texts_of words.now)
         (IsAppended W.contents out.old out.new) (IsTold E.contents err.old err.new) result }
 {

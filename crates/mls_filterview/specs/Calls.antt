@@ -10,7 +10,7 @@ use Rattle.mls_scheme.specs.declared.tuple.Element.{Element}
 use Rattle.mls_scheme.specs.Spelling.{HasSpelling, IsSpelledKey}
 use Rattle.mls_filterview.specs.declared.fragment.Node.{Node}
 use Rattle.mls_filterview.specs.declared.fragment.Cell.{Cell}
-use Rattle.mls_filterview.specs.Content.{State, after}
+use Rattle.mls_filterview.specs.Content.{Seen, after}
 use Rattle.mls_filterview.specs.Stored.{IsStored}
 use Rattle.mls_filterview.specs.Fragment.{IsMadeOf, place_of_node, HasCell, IsAlone, IsCellOf}
 use Rattle.mls_filterview.specs.declared.base.BaseFault.{BaseFault}
@@ -28,73 +28,73 @@ abbrev pub IsServed : BaseFault → Type 0
 IsServed e = (e ≡ NotBegun → ⊥) × (e ≡ Begun → ⊥)
 
 -- of a base: whether its store is clean, how many calls of the store have failed, and what it holds
-module _ {Self : Type 0} (is_clean : Self → Type 0) (failures : Self → ℕ) (state : Self → State) where
+module _ {Self : Type 0} (seen : Self → Seen) where
   -- what a fault leaves: the store failed where Store came, and was not asked where the call was refused; Store and Memory
   -- end a change
   pub record IsFault (e : BaseFault) (old new : Self) : Type 0 where
-    pub store : e ≡ Store → failures old < failures new
-    pub not_begun : e ≡ NotBegun → failures new ≡ failures old
-    pub begun : e ≡ Begun → failures new ≡ failures old
-    pub mode : (state new).begun ≡ begun_after e (state old).begun
-    pub content : is_clean new → state new ≡ after e (state old)
+    pub store : e ≡ Store → (seen old).failures < (seen new).failures
+    pub not_begun : e ≡ NotBegun → (seen new).failures ≡ (seen old).failures
+    pub begun : e ≡ Begun → (seen new).failures ≡ (seen old).failures
+    pub mode : (seen new).state.begun ≡ begun_after e (seen old).state.begun
+    pub content : (seen new).is_clean → (seen new).state ≡ after e (seen old).state
 
   -- a store that is clean after the call was clean before it
   pub record IsCall {A : Type 0} (old new : Self) (result : Result A BaseFault) : Type 0 where
-    pub clean : is_clean new → is_clean old
-    pub count : failures old ≤ failures new
+    pub clean : (seen new).is_clean → (seen old).is_clean
+    pub count : (seen old).failures ≤ (seen new).failures
     pub fault : IfErr result (λ e. IsFault e old new)
 
   -- a call that reads: it is refused nowhere, and an answer leaves all as it was
   pub record IsRead {A : Type 0} (old new : Self) (result : Result A BaseFault) : Type 0 where
     pub call : IsCall old new result
     pub served : IfErr result IsServed
-    pub mode : OnOk result ((state new).begun ≡ (state old).begun)
-    pub same : is_clean new → OnOk result (state new ≡ state old)
+    pub mode : OnOk result ((seen new).state.begun ≡ (seen old).state.begun)
+    pub same : (seen new).is_clean → OnOk result ((seen new).state ≡ (seen old).state)
 
   -- a step of a change that is begun: an answer leaves it begun
   pub record IsStep {A : Type 0} (old new : Self) (result : Result A BaseFault) : Type 0 where
     pub call : IsCall old new result
     pub served : IfErr result IsServed
-    pub mode : OnOk result ((state new).begun ≡ true)
+    pub mode : OnOk result ((seen new).state.begun ≡ true)
 
   -- a call that belongs into a change: it is refused just where none is begun, and whether one is begun after an answer
   pub record IsChange {A : Type 0} (then : Bool) (old new : Self) (result : Result A BaseFault) : Type 0 where
     pub call : IsCall old new result
-    pub not_begun : (result ≡ Err NotBegun) ↔ ((state old).begun ≡ false)
+    pub not_begun : (result ≡ Err NotBegun) ↔ ((seen old).state.begun ≡ false)
     pub no_other : IsErrOf result Begun → ⊥
-    pub mode : OnOk result ((state new).begun ≡ then)
+    pub mode : OnOk result ((seen new).state.begun ≡ then)
 
   -- a call that belongs into no change: it is refused just where one is begun, and whether one is begun after an answer
   pub record IsOutside {A : Type 0} (then : Bool) (old new : Self) (result : Result A BaseFault) : Type 0 where
     pub call : IsCall old new result
-    pub begun : (result ≡ Err Begun) ↔ ((state old).begun ≡ true)
+    pub begun : (result ≡ Err Begun) ↔ ((seen old).state.begun ≡ true)
     pub no_other : IsErrOf result NotBegun → ⊥
-    pub mode : OnOk result ((state new).begun ≡ then)
+    pub mode : OnOk result ((seen new).state.begun ≡ then)
 
 -- ---- what may be asked of a base
 
-module _ {Self : Type 0} (is_clean : Self → Type 0) (state : Self → State) (base : Self) (relation : ℕ) where
+module _ {Self : Type 0} (seen : Self → Seen) (base : Self) (relation : ℕ) where
   -- a declared label looks at a relation of the stored form
   pub record CanSee (policy : Policy) (c : ℕ) : Type 0 where
     pub label : c < length policy.labels
-    pub stored : is_clean base → (n : ℕ) × IsStored (labels_of policy) n ((state base).now.db relation)
+    pub stored : (seen base).is_clean → (n : ℕ) × IsStored (labels_of policy) n ((seen base).state.now.db relation)
 
   -- a tuple is added where none is, with the cells of its class, and its other elements in the tuples there
   pub record CanAdd (n : Node) (ds : List Cell) : Type 0 where
     pub key : IsSpelledKey n.key
     pub cells : AllByRecursion (IsCellOf n) ds
-    pub absent : is_clean base → get ((state base).now.db relation) (place_of_node n) ≡ None
-    pub made : is_clean base → (es : List Element) × IsMadeOf ((state base).now.db relation) n ds es
+    pub absent : (seen base).is_clean → get ((seen base).state.now.db relation) (place_of_node n) ≡ None
+    pub made : (seen base).is_clean → (es : List Element) × IsMadeOf ((seen base).state.now.db relation) n ds es
 
   -- a cell is set that a tuple has
   pub record CanSet (p : Place) (i : ℕ) (v : Option Value) : Type 0 where
     pub key : IsSpelledKey p.key
     pub attr : i < 15
     pub value : IfSome v HasSpelling
-    pub there : is_clean base → HasCell ((state base).now.db relation) p i
+    pub there : (seen base).is_clean → HasCell ((seen base).state.now.db relation) p i
 
   -- a tuple is dropped whose cells no other has
   pub record CanDrop (p : Place) : Type 0 where
     pub key : IsSpelledKey p.key
-    pub there : is_clean base → get ((state base).now.db relation) p ≢ None
-    pub alone : is_clean base → IsAlone ((state base).now.db relation) p
+    pub there : (seen base).is_clean → get ((seen base).state.now.db relation) p ≢ None
+    pub alone : (seen base).is_clean → IsAlone ((seen base).state.now.db relation) p

@@ -22,6 +22,13 @@ pub record State : Type 0 where
   pub kept : Content
   pub begun : Bool
 
+-- what contracts see of a base: its state, how many calls of its store have failed, and that the store gives back what
+-- was written to it
+pub record Seen : Type 1 where
+  pub state : State
+  pub failures : ℕ
+  pub is_clean : Type 0
+
 abbrev pub begun_change : State → State
 begun_change s = record { now = s.now; kept = s.now; begun = true }
 

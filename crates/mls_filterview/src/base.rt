@@ -1,11 +1,11 @@
 //! Bases: what keeps content, and what each of their calls promises.
-ghost use Rattle.std.specs.Prelude.{◌≡◌, ◌<◌, ◌≤◌, ℕ, List, false, true, IfOk, IfErr, OnOk, Ok, option_map};
+ghost use Rattle.std.specs.Prelude.{◌≡◌, ◌<◌, ◌≤◌, List, false, true, IfOk, IfErr, OnOk, Ok, option_map};
 ghost use Rattle.std.specs.List.{AllByRecursion};
 ghost use Rattle.std.specs.FinMap.{get, insert, remove};
 ghost use Rattle.mls_scheme.specs.declared.tuple.Element.{Element as SpecElement};
 ghost use Rattle.mls_scheme.specs.Table.{change};
 ghost use Rattle.mls_scheme.specs.Spelling.{IsSpelledKey};
-ghost use Rattle.mls_filterview.specs.Content.{State, begun_change, committed, ended, failed, with_relation};
+ghost use Rattle.mls_filterview.specs.Content.{Seen, begun_change, committed, ended, failed, with_relation};
 ghost use Rattle.mls_filterview.specs.Content.{with_entry, with_no_entries};
 ghost use Rattle.mls_filterview.specs.Calls.{IsCall, IsRead, IsChange, IsOutside, IsServed, CanAdd, CanSet, CanDrop};
 ghost use Rattle.mls_filterview.specs.Fragment.{IsFragment, AreFragments, IsEntityPart, classes, IsMadeOf};
@@ -63,47 +63,48 @@ impl<T: Drop> From<AllocFailed<T>> for BaseFault {
 ///
 /// Keys and values that a call takes have a spelling as bytes.
 pub trait Base {
-    ghost state: { Self → State };
-
-    ghost failures: { Self → ℕ };
-
-    ghost is_clean: { Self → Type 0 };
+    ghost seen: { Self → Seen };
 
     /// Whether a change is begun.
     fn is_begun(&self) -> bool
-        ensures { result ≡ (state self.now).begun };
+        ensures { result ≡ (seen self.now).state.begun };
 
     /// Begins a change. `Begun` where one is begun.
     fn begin(&mut self) -> Result<(), BaseFault>
-        ensures outside { IsOutside is_clean failures state true self.old self.new result }
-        ensures done { is_clean self.new → OnOk result (state self.new ≡ begun_change (state self.old)) };
+        ensures outside { IsOutside seen true self.old self.new result }
+        ensures done { (seen self.new).is_clean → OnOk result ((seen self.new).state
+            ≡ begun_change (seen self.old).state) };
 
     /// Keeps what the change did, and ends it. `NotBegun` where none is begun.
     fn commit(&mut self) -> Result<(), BaseFault>
-        ensures change { IsChange is_clean failures state false self.old self.new result }
-        ensures done { is_clean self.new → OnOk result (state self.new ≡ committed (state self.old)) };
+        ensures change { IsChange seen false self.old self.new result }
+        ensures done { (seen self.new).is_clean → OnOk result ((seen self.new).state
+            ≡ committed (seen self.old).state) };
 
     /// Goes back to the last commit, and ends the change. `NotBegun` where none is begun.
     fn rollback(&mut self) -> Result<(), BaseFault>
-        ensures change { IsChange is_clean failures state false self.old self.new result }
-        ensures done { is_clean self.new → OnOk result (state self.new ≡ ended (state self.old)) };
+        ensures change { IsChange seen false self.old self.new result }
+        ensures done { (seen self.new).is_clean → OnOk result ((seen self.new).state ≡ ended (seen self.old).state) };
 
     /// What a label holds of a relation.
     fn fragment(&mut self, relation: RelNo, label: LabelNo) -> Result<Fragment, BaseFault>
-        ensures read { IsRead is_clean failures state self.old self.new result }
-        ensures found { is_clean self.new → IfOk result (IsFragment ((state self.old).now.db relation) label) };
+        ensures read { IsRead seen self.old self.new result }
+        ensures found { (seen self.new).is_clean → IfOk result (IsFragment
+            ((seen self.old).state.now.db relation) label) };
 
     /// What these labels hold of a relation, as one. Each of them is below 64.
     fn fragments(&mut self, relation: RelNo, labels: &[LabelNo]) -> Result<Fragment, BaseFault>
         requires few { AllByRecursion (λ m. m < 64) labels.now }
-        ensures read { IsRead is_clean failures state self.old self.new result }
-        ensures found { is_clean self.new → IfOk result (AreFragments ((state self.old).now.db relation) labels.now) };
+        ensures read { IsRead seen self.old self.new result }
+        ensures found { (seen self.new).is_clean → IfOk result (AreFragments
+            ((seen self.old).state.now.db relation) labels.now) };
 
     /// What the class of a place holds of the place's entity: the part of the fragment that belongs to it.
     fn entity(&mut self, relation: RelNo, place: &Place) -> Result<Fragment, BaseFault>
         requires key { IsSpelledKey place.now.key }
-        ensures read { IsRead is_clean failures state self.old self.new result }
-        ensures found { is_clean self.new → IfOk result (IsEntityPart ((state self.old).now.db relation) place.now) };
+        ensures read { IsRead seen self.old self.new result }
+        ensures found { (seen self.new).is_clean → IfOk result (IsEntityPart
+            ((seen self.old).state.now.db relation) place.now) };
 
     /// The classes of the elements of the tuple at a place, where there is one. Nothing of the tuple is read but its node.
     fn pattern(
@@ -112,21 +113,22 @@ pub trait Base {
         place: &Place,
     ) -> Result<Option<Items<LabelNo>>, BaseFault>
         requires key { IsSpelledKey place.now.key }
-        ensures read { IsRead is_clean failures state self.old self.new result }
-        ensures found { is_clean self.new → IfOk result (λ pattern. pattern
-            ≡ option_map classes (get ((state self.old).now.db relation) place.now)) };
+        ensures read { IsRead seen self.old self.new result }
+        ensures found { (seen self.new).is_clean → IfOk result (λ pattern. pattern
+            ≡ option_map classes (get ((seen self.old).state.now.db relation) place.now)) };
 
     /// Adds a tuple: its node, and the cells of its class in the order of attributes. The node's pattern says
     /// which these are, so a base sorts nothing and looks for no cell. An element of another class stands at
     /// its place in the entity's tuple of that class, which is long enough to have it: else it would have no
     /// row. `NotBegun` where no change is begun.
     fn add(&mut self, relation: RelNo, node: Node, cells: &[Cell]) -> Result<(), BaseFault>
-        requires { CanAdd is_clean state self.old relation node cells.now }
-        ensures change { IsChange is_clean failures state (state self.old).begun self.old self.new result }
-        ensures done { is_clean self.new → (es : List SpecElement)
-            → IsMadeOf ((state self.old).now.db relation) node cells.now es
-            → OnOk result (state self.new
-            ≡ with_relation (state self.old) relation (insert ((state self.old).now.db relation) (place_of_node node) es)) };
+        requires { CanAdd seen self.old relation node cells.now }
+        ensures change { IsChange seen (seen self.old).state.begun self.old self.new result }
+        ensures done { (seen self.new).is_clean → (es : List SpecElement)
+            → IsMadeOf ((seen self.old).state.now.db relation) node cells.now es
+            → OnOk result ((seen self.new).state
+            ≡ with_relation (seen self.old).state relation (insert ((seen self.old).state.now.db relation)
+            (place_of_node node) es)) };
 
     /// Sets the value of a cell, in every tuple of the entity that has it. `place` names the entity and the cell's class;
     /// `attr` is below 15. `NotBegun` where no change is begun.
@@ -137,35 +139,39 @@ pub trait Base {
         attr: usize,
         value: Option<Value>,
     ) -> Result<(), BaseFault>
-        requires { CanSet is_clean state self.old relation place.now attr value }
-        ensures change { IsChange is_clean failures state (state self.old).begun self.old self.new result }
-        ensures done { is_clean self.new → OnOk result (state self.new
-            ≡ with_relation (state self.old) relation
-            (change (set_in place.now attr value) ((state self.old).now.db relation))) };
+        requires { CanSet seen self.old relation place.now attr value }
+        ensures change { IsChange seen (seen self.old).state.begun self.old self.new result }
+        ensures done { (seen self.new).is_clean → OnOk result ((seen self.new).state
+            ≡ with_relation (seen self.old).state relation
+            (change (set_in place.now attr value) ((seen self.old).state.now.db relation))) };
 
     /// Removes the tuple at a place and its cells, which no other tuple may have. `NotBegun` where no change is begun.
     fn drop_at(&mut self, relation: RelNo, place: &Place) -> Result<(), BaseFault>
-        requires { CanDrop is_clean state self.old relation place.now }
-        ensures change { IsChange is_clean failures state (state self.old).begun self.old self.new result }
-        ensures done { is_clean self.new → OnOk result (state self.new
-            ≡ with_relation (state self.old) relation (remove ((state self.old).now.db relation) place.now)) };
+        requires { CanDrop seen self.old relation place.now }
+        ensures change { IsChange seen (seen self.old).state.begun self.old self.new result }
+        ensures done { (seen self.new).is_clean → OnOk result ((seen self.new).state
+            ≡ with_relation (seen self.old).state relation (remove
+            ((seen self.old).state.now.db relation) place.now)) };
 
     /// Adds an entry at the end of the audit list. `NotBegun` where no change is begun.
     fn audit_add(&mut self, bytes: &[u8]) -> Result<(), BaseFault>
-        ensures change { IsChange is_clean failures state (state self.old).begun self.old self.new result }
-        ensures done { is_clean self.new → OnOk result (state self.new ≡ with_entry (state self.old) bytes.now) };
+        ensures change { IsChange seen (seen self.old).state.begun self.old self.new result }
+        ensures done { (seen self.new).is_clean → OnOk result ((seen self.new).state
+            ≡ with_entry (seen self.old).state bytes.now) };
 
     /// Removes all entries of the audit list. `NotBegun` where no change is begun.
     fn audit_clear(&mut self) -> Result<(), BaseFault>
-        ensures change { IsChange is_clean failures state (state self.old).begun self.old self.new result }
-        ensures done { is_clean self.new → OnOk result (state self.new ≡ with_no_entries (state self.old)) };
+        ensures change { IsChange seen (seen self.old).state.begun self.old self.new result }
+        ensures done { (seen self.new).is_clean → OnOk result ((seen self.new).state
+            ≡ with_no_entries (seen self.old).state) };
 
     /// The entries of the audit list, in the order in which they were added.
     fn audit_all(&mut self) -> Result<Items<Items<u8>>, BaseFault>
-        ensures read { IsRead is_clean failures state self.old self.new result }
-        ensures found { is_clean self.new → IfOk result (λ entries. entries ≡ (state self.old).now.audit) };
+        ensures read { IsRead seen self.old self.new result }
+        ensures found { (seen self.new).is_clean → IfOk result (λ entries. entries ≡ (seen self.old).state.now.audit) };
 
-    ghost settled: { (b : Self) → is_clean b → (state b).begun ≡ false → (state b).kept ≡ (state b).now };
+    ghost settled: { (b : Self) → (seen b).is_clean → (seen b).state.begun ≡ false → (seen b).state.kept
+        ≡ (seen b).state.now };
 }
 
 /// Ends the change, if one is begun, as each call of a base does before it answers `Store` or `Memory`.
@@ -173,10 +179,10 @@ pub trait Base {
 /// A call over a base that meets a fault of its own, as a refused growth, or a fault after some of its steps, does so
 /// before it answers the fault: the state is then as if it had failed at once.
 pub fn abandon<B: Base>(base: &mut B)
-    ensures clean { B.is_clean base.new → B.is_clean base.old }
-    ensures count { B.failures base.old ≤ B.failures base.new }
-    ensures mode { (B.state base.new).begun ≡ false }
-    ensures failed { B.is_clean base.new → B.state base.new ≡ failed (B.state base.old) }
+    ensures clean { (B.seen base.new).is_clean → (B.seen base.old).is_clean }
+    ensures count { (B.seen base.old).failures ≤ (B.seen base.new).failures }
+    ensures mode { (B.seen base.new).state.begun ≡ false }
+    ensures failed { (B.seen base.new).is_clean → (B.seen base.new).state ≡ failed (B.seen base.old).state }
 {
     let _ = base.rollback();
 }
@@ -184,7 +190,7 @@ pub fn abandon<B: Base>(base: &mut B)
 /// What a call over a base made for itself; where a growth was refused the change is ended.
 pub fn settle<T, B: Base>(base: &mut B, growth: Result<T, AllocError>) -> Result<T, BaseFault>
     ensures value { IfOk result (λ x. growth ≡ Ok x) }
-    ensures call { IsCall B.is_clean B.failures B.state base.old base.new result }
+    ensures call { IsCall B.seen base.old base.new result }
     ensures served { IfErr result IsServed }
     ensures same { OnOk result (base.new ≡ base.old) }
 {

@@ -69,12 +69,12 @@ fn own_rows<B: Base>(
     label: LabelNo,
     place: &mut Place,
 ) -> Result<Vec<Tuple>, BaseFault>
-    requires see { CanSee B.is_clean B.state base.old relation policy.now label }
+    requires see { CanSee B.seen base.old relation policy.now label }
     requires key_class { place.old.key_class < length policy.now.labels }
     requires key { IsSpelledKey place.old.key }
-    ensures read { IsRead B.is_clean B.failures B.state base.old base.new result }
-    ensures rows { B.is_clean base.new → IfOk result (λ v. v.items ≡ rows (labels_of policy.now) label
-        (of_entity place.old ((B.state base.old).now.db relation))) }
+    ensures read { IsRead B.seen base.old base.new result }
+    ensures rows { (B.seen base.new).is_clean → IfOk result (λ v. v.items ≡ rows (labels_of policy.now) label
+        (of_entity place.old ((B.seen base.old).state.now.db relation))) }
     ensures key { place.new.key ≡ place.old.key }
     ensures entity { OnOk result (place.new.key_class ≡ place.old.key_class) }
 {
@@ -97,12 +97,13 @@ pub fn mend<B: Base>(
     place: Place,
     seen: Vec<Tuple>,
 ) -> Result<Vec<Tuple>, BaseFault>
-    requires see { CanSee B.is_clean B.state base.old relation policy.now label }
+    requires see { CanSee B.seen base.old relation policy.now label }
     requires key_class { place.key_class < length policy.now.labels }
     requires key { IsSpelledKey place.key }
-    ensures read { IsRead B.is_clean B.failures B.state base.old base.new result }
-    ensures rows { B.is_clean base.new → IfOk result (λ v. v.items ≡ mended place (rows (labels_of policy.now) label
-        (of_entity place ((B.state base.old).now.db relation))) seen.items) }
+    ensures read { IsRead B.seen base.old base.new result }
+    ensures rows { (B.seen base.new).is_clean → IfOk result (λ v. v.items
+        ≡ mended place (rows (labels_of policy.now) label
+        (of_entity place ((B.seen base.old).state.now.db relation))) seen.items) }
 {
     let mut place = place;
     let own = own_rows(alloc, base, policy, relation, label, &mut place)?;

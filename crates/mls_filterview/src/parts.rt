@@ -48,12 +48,12 @@ pub fn entity_parts<B: Base>(
     key_class: LabelNo,
     place: &mut Place,
 ) -> Result<Fragment, BaseFault>
-    requires see { CanSee B.is_clean B.state base.old relation policy.now label }
+    requires see { CanSee B.seen base.old relation policy.now label }
     requires key_class { key_class < length policy.now.labels }
     requires key { IsSpelledKey place.old.key }
-    ensures read { IsRead B.is_clean B.failures B.state base.old base.new result }
-    ensures parts { B.is_clean base.new → IfOk result (λ f. AreOf (IsOfEntity (labels_of policy.now)
-        ((B.state base.old).now.db relation) label place.old.key key_class (length (labels_of policy.now)))
+    ensures read { IsRead B.seen base.old base.new result }
+    ensures parts { (B.seen base.new).is_clean → IfOk result (λ f. AreOf (IsOfEntity (labels_of policy.now)
+        ((B.seen base.old).state.now.db relation) label place.old.key key_class (length (labels_of policy.now)))
         f.nodes f.cells) }
     ensures key { place.new.key ≡ place.old.key }
     ensures entity { OnOk result (place.new.key_class ≡ key_class) }

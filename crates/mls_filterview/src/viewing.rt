@@ -48,9 +48,9 @@ fn low_fragment<B: Base>(
 ) -> Result<Fragment, BaseFault>
     requires { label < length policy.now.labels }
     ensures distinct { AreDistinct (labels_of policy.now) }
-    ensures read { IsRead B.is_clean B.failures B.state base.old base.new result }
-    ensures low { B.is_clean base.new → IfOk result
-        (λ f. AreLow (labels_of policy.now) ((B.state base.old).now.db relation) label
+    ensures read { IsRead B.seen base.old base.new result }
+    ensures low { (B.seen base.new).is_clean → IfOk result
+        (λ f. AreLow (labels_of policy.now) ((B.seen base.old).state.now.db relation) label
         (length policy.now.labels) f.nodes f.cells) }
 {
     policy.use_invariant();
@@ -93,10 +93,10 @@ pub fn low_tuples<B: Base>(
     relation: RelNo,
     label: LabelNo,
 ) -> Result<Vec<Tuple>, BaseFault>
-    requires { CanSee B.is_clean B.state base.old relation policy.now label }
-    ensures read { IsRead B.is_clean B.failures B.state base.old base.new result }
-    ensures tuples { B.is_clean base.new → IfOk result (λ v. v.items
-        ≡ low_tuples (labels_of policy.now) label ((B.state base.old).now.db relation)) }
+    requires { CanSee B.seen base.old relation policy.now label }
+    ensures read { IsRead B.seen base.old base.new result }
+    ensures tuples { (B.seen base.new).is_clean → IfOk result (λ v. v.items
+        ≡ low_tuples (labels_of policy.now) label ((B.seen base.old).state.now.db relation)) }
 {
     let low = low_fragment(alloc, base, policy, relation, label)?;
     let tuples = settle(base, tuples_by_reach(alloc, policy, low))?;
@@ -114,13 +114,14 @@ pub fn view<B: Base>(
     relation: RelNo,
     label: LabelNo,
 ) -> Result<Vec<Tuple>, BaseFault>
-    requires { CanSee B.is_clean B.state base.old relation policy.now label }
-    ensures read { IsRead B.is_clean B.failures B.state base.old base.new result }
-    ensures rows { B.is_clean base.new → IfOk result (λ v. v.items
-        ≡ rows (labels_of policy.now) label ((B.state base.old).now.db relation)) }
-    ensures seen { B.is_clean base.new → IfOk result (λ v. (t : SpecTuple)
-        → IsAmong t v.items ↔ View (labels_of policy.now) (IsIn ((B.state base.old).now.db relation)) label t) }
-    ensures ordered { B.is_clean base.new → IfOk result (λ v. AreInOrder ((B.state base.old).now.db relation) v.items) }
+    requires { CanSee B.seen base.old relation policy.now label }
+    ensures read { IsRead B.seen base.old base.new result }
+    ensures rows { (B.seen base.new).is_clean → IfOk result (λ v. v.items
+        ≡ rows (labels_of policy.now) label ((B.seen base.old).state.now.db relation)) }
+    ensures seen { (B.seen base.new).is_clean → IfOk result (λ v. (t : SpecTuple)
+        → IsAmong t v.items ↔ View (labels_of policy.now) (IsIn ((B.seen base.old).state.now.db relation)) label t) }
+    ensures ordered { (B.seen base.new).is_clean → IfOk result (λ v. AreInOrder
+        ((B.seen base.old).state.now.db relation) v.items) }
 {
     let low = low_fragment(alloc, base, policy, relation, label)?;
     let tuples = settle(base, tuples_of(alloc, low))?;

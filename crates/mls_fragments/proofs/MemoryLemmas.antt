@@ -1,5 +1,5 @@
 -- Bases over files in memory.
-use Rattle.std.proofs.Common.{◌≡◌, ◌≢◌, ℕ, Result, Ok, Err, IfErr, refl, ap, subst, arith}
+use Rattle.std.proofs.Common.{◌≡◌, ◌≢◌, Result, Ok, Err, IfErr, refl, ap, subst, arith}
 use Rattle.sqlite_trees.proofs.Doubt.{no_doubt}
 use Rattle.sqlite.proofs.OpenLemmas.{pool_files}
 use Rattle.sqlite.specs.Held.{Held}
@@ -7,7 +7,7 @@ use Rattle.sqlite.specs.State.{HasCleanDisk}
 use Rattle.sqlite.specs.Files.{file_state}
 use Rattle.sqlite.specs.declared.FileStore.{FileStore}
 use Rattle.mls_filterview.specs.Calls.{IsCall, IsFault}
-use Rattle.mls_filterview.specs.Content.{State}
+use Rattle.mls_filterview.specs.Content.{Seen}
 use Rattle.mls_filterview.specs.declared.base.BaseFault.{BaseFault}
 use Rattle.mls_filterview.specs.declared.base.BaseFault.TheVariants.{Store, Memory}
 use Rattle.mls_fragments.specs.declared.memory_file.MemoryFile.{MemoryFile}
@@ -17,29 +17,33 @@ use Rattle.mls_fragments.specs.MemoryFile.{over_memory}
 pub memory_files_are_clean : (c : Held (FileStore MemoryFile over_memory)) → HasCleanDisk (file_state c)
 memory_files_are_clean c = no_doubt _ (pool_files c.store.pool).1
 
-module _ {Self : Type 0} (is_clean : Self → Type 0) (failures : Self → ℕ) (state : Self → State) (old new : Self) where
+-- as nothing of a store fails
+abbrev forgiven : {Self : Type 0} → (Self → Seen) → Self → Seen
+forgiven seen b = record (seen b) { failures = 0 }
+
+module _ {Self : Type 0} (seen : Self → Seen) (old new : Self) where
   -- a fault that is none of the store's
-  memory_fault : (e : BaseFault) → e ≢ Store → IsFault is_clean failures state e old new → IsFault is_clean (λ _. 0) state e old new
+  memory_fault : (e : BaseFault) → e ≢ Store → IsFault seen e old new → IsFault (forgiven seen) e old new
   memory_fault e other fault =
       record { store = λ is. absurd (other is); not_begun = λ is. refl; begun = λ is. refl; mode = fault.mode; content = fault.content }
 
-module _ {Self A : Type 0} (is_clean : Self → Type 0) (failures : Self → ℕ) (state : Self → State) (old new : Self) where
+module _ {Self A : Type 0} (seen : Self → Seen) (old new : Self) where
   -- a call that answers Memory where the store failed
-  pub memory_call : (r : Result A BaseFault) → r ≡ Err Store → IsCall is_clean failures state old new r → IsCall is_clean (λ _. 0) state {A = A} old new (Err Memory)
+  pub memory_call : (r : Result A BaseFault) → r ≡ Err Store → IsCall seen old new r → IsCall (forgiven seen) {A = A} old new (Err Memory)
   memory_call r is call =
-      let failed = subst (IsCall is_clean failures state old new) is call in
+      let failed = subst (IsCall seen old new) is call in
       record {
         clean = failed.clean;
         count = omega arith;
         fault = record { store = λ e. absurd cc; not_begun = λ e. refl; begun = λ e. refl; mode = failed.fault.mode; content = failed.fault.content };
       }
 
-  faults : (r : Result A BaseFault) → r ≢ Err Store → IfErr r (λ e. IsFault is_clean failures state e old new) → IfErr r (λ e. IsFault is_clean (λ _. 0) state e old new)
+  faults : (r : Result A BaseFault) → r ≢ Err Store → IfErr r (λ e. IsFault seen e old new) → IfErr r (λ e. IsFault (forgiven seen) e old new)
   faults (Ok a) other fault = tt
-  faults (Err e) other fault = memory_fault is_clean failures state old new e (λ is. other (ap Err is)) fault
+  faults (Err e) other fault = memory_fault seen old new e (λ is. other (ap Err is)) fault
 
   -- a call that answers so where it did not fail
-  pub memory_answer : (r : Result A BaseFault) → r ≢ Err Store → IsCall is_clean failures state old new r → IsCall is_clean (λ _. 0) state old new r
+  pub memory_answer : (r : Result A BaseFault) → r ≢ Err Store → IsCall seen old new r → IsCall (forgiven seen) old new r
   memory_answer r other call = record { clean = call.clean; count = omega arith; fault = faults r other call.fault }
 
 pub ruleset memory_calls = (memory_call, memory_answer)

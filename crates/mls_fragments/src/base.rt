@@ -137,11 +137,7 @@ impl<S: Alter> Base for SqlBase<S> {
     ghost use Rattle.mls_tables.specs.Store.{IsClean};
     ghost use Rattle.mls_fragments.specs.Based.{state_of, settled};
 
-    ghost state = { state_of };
-
-    ghost failures = { λ b. b.tables.failures };
-
-    ghost is_clean = { λ b. IsClean b.tables };
+    ghost seen = { λ b. record { state = state_of b; failures = b.tables.failures; is_clean = IsClean b.tables } };
 
     ghost settled = { λ b clean. settled b };
 

@@ -12,12 +12,8 @@ pub struct InMemory<B: Base> {
 
 #[tactic(auto, using(crate::proofs::MemoryLemmas::memory_calls))]
 impl<B: Base> Base for InMemory<B> {
-    ghost state = { λ b. B.state b.base };
-
     // No call fails but for want of memory.
-    ghost failures = { λ _. 0 };
-
-    ghost is_clean = { λ b. B.is_clean b.base };
+    ghost seen = { λ b. record { state = (B.seen b.base).state; failures = 0; is_clean = (B.seen b.base).is_clean } };
 
     ghost settled = { λ b clean. B.settled b.base clean };
 

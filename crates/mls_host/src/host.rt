@@ -102,10 +102,11 @@ pub trait Host {
         file: &SchemesFile,
     ) -> Result<Self::Store, OpenFault>
         requires under { AreUnder (length policy.now.labels) file.now.schemes }
-        ensures idle { IfOk result (λ b. (Self.Store.Base.state b).begun ≡ false) }
-        ensures sound { IfOk result (λ b. IsSoundContent policy.now file.now.schemes (Self.Store.Base.state b).now) }
-        ensures kept { IfOk result (λ b. Self.Store.Base.is_clean b
-            → IsTakenOf ((hosting self.old).keeps path.now) policy.now file.now (Self.Store.Base.state b).now) }
+        ensures idle { IfOk result (λ b. (Self.Store.Base.seen b).state.begun ≡ false) }
+        ensures sound { IfOk result (λ b. IsSoundContent policy.now file.now.schemes
+            (Self.Store.Base.seen b).state.now) }
+        ensures kept { IfOk result (λ b. (Self.Store.Base.seen b).is_clean
+            → IsTakenOf ((hosting self.old).keeps path.now) policy.now file.now (Self.Store.Base.seen b).state.now) }
         ensures barred { IfErr result ((hosting self.old).bars path.now policy.now file.now) }
         ensures same { OnErr result (KeepSame (hosting self.old) (hosting self.new)) };
 
@@ -116,11 +117,11 @@ pub trait Host {
 
     /// Takes the store at a path back, with what a run left in it, and closes it.
     fn keep(&mut self, path: &str, store: Self::Store) -> Result<(), CloseFault>
-        requires idle { (Self.Store.Base.state store).begun ≡ false }
-        ensures honest { (hosting self.new).is_honest ↔ Self.Store.Base.is_clean store }
+        requires idle { (Self.Store.Base.seen store).state.begun ≡ false }
+        ensures honest { (hosting self.new).is_honest ↔ (Self.Store.Base.seen store).is_clean }
         ensures kept { (hosting self.new).is_honest → (row : MetaRow) × (hosting self.new).keeps path.now
-            (holdings_of row (Self.Store.Base.state store).now) }
-        ensures failed { (hosting self.new).has_failed ↔ (0 < Self.Store.Base.failures store) }
+            (holdings_of row (Self.Store.Base.seen store).state.now) }
+        ensures failed { (hosting self.new).has_failed ↔ (0 < (Self.Store.Base.seen store).failures) }
         ensures closed { (hosting self.new).is_unclosed ↔ IsErr result };
 }
 

@@ -18,19 +18,19 @@ abbrev pub ◌>>=◌ : {A B E : Type 0} → Result A E → (A → Result B E) �
 (Err e) >>= f = Err e
 
 -- What a function returned, seen by view, is what reading gives: its value, or the fault that the error tells.
-abbrev pub Answers : {E F X Y : Type 0} → (E → (F → Type 0) → Type 0) → (X → Y) → Result X E → Result Y F → Type 0
-Answers Tells view (Ok x) read = read ≡ Ok (view x)
-Answers Tells view (Err e) read = Tells e (λ fault. read ≡ Err fault)
+abbrev pub GivesBy : {E F X Y : Type 0} → (E → (F → Type 0) → Type 0) → (X → Y) → Result X E → Result Y F → Type 0
+GivesBy Tells view (Ok x) read = read ≡ Ok (view x)
+GivesBy Tells view (Err e) read = Tells e (λ fault. read ≡ Err fault)
 
 -- Of functions that need no memory, and of those whose want of it is told apart by a type, or by a test.
 abbrev pub Shows : {F X Y : Type 0} → (X → Y) → Result X F → Result Y F → Type 0
-Shows = Answers (λ fault Says. Says fault)
+Shows = GivesBy (λ fault Says. Says fault)
 
 abbrev pub Gives : {F X Y : Type 0} → (X → Y) → Result X (Failed F) → Result Y F → Type 0
-Gives = Answers (λ failed Says. (fault : _) → failed ≡ Fault fault → Says fault)
+Gives = GivesBy (λ failed Says. (fault : _) → failed ≡ Fault fault → Says fault)
 
 abbrev pub GivesUnless : {E X Y : Type 0} → (E → Type 0) → (X → Y) → Result X E → Result Y E → Type 0
-GivesUnless OutOfMemory = Answers (λ e Says. (OutOfMemory e → ⊥) → Says e)
+GivesUnless OutOfMemory = GivesBy (λ e Says. (OutOfMemory e → ⊥) → Says e)
 
 -- the value at a key
 abbrev pub wanted : List ℕ → Members → Result Data FieldFault

@@ -18,7 +18,7 @@ use Rattle.mls_filterview.specs.View.{low, rows}
 use Rattle.mls_filterview.proofs.MendLemmas.{others_stay}
 use Rattle.lru.proofs.CallerLemmas.{Contains-lookup_entry}
 use Rattle.mls_queries.specs.declared.views.ViewKey.{ViewKey}
-use Rattle.mls_queries.specs.Views.{Kept, Seen, fresh, noted, is_outside, AgreesWith, IsNamed, AreRows, AreDeclared, AreFollowed, key_of, is_view, put_view, most_views}
+use Rattle.mls_queries.specs.Views.{Kept, KeptView, fresh, noted, is_outside, AgreesWith, IsNamed, AreRows, AreDeclared, AreFollowed, key_of, is_view, put_view, most_views}
 use Rattle.mls_queries.proofs.ViewsLemmas.{Entry, key_refl, all_followed, followed_fewer}
 use Rattle.mls_queries.proofs.KeptSeenLemmas.{noted_agrees}
 
@@ -93,7 +93,7 @@ pub put_declared : (count relation label : ℕ) (tuples : List Tuple) (es : Kept
 put_declared count relation label tuples es within h =
     all_put (λ e. (e.0.label < count) × AllByRecursion (IsNamed count) e.1.written) relation label tuples (λ k is. (subst (λ l. l < count) (key_parts relation label k is).1 within, tt)) es h
 
-pub noted_named : (count : ℕ) (p : Place) (v : Seen) → IsNamed count p → AllByRecursion (IsNamed count) v.written → AllByRecursion (IsNamed count) (noted p v).written
+pub noted_named : (count : ℕ) (p : Place) (v : KeptView) → IsNamed count p → AllByRecursion (IsNamed count) v.written → AllByRecursion (IsNamed count) (noted p v).written
 noted_named count p v named h = elim (list_any (is_entity p) v.written) as (λ b. AllByRecursion (IsNamed count) (cond b v (record { tuples = v.tuples; written = v.written ++ p ∷ [] })).written) [
   | true ↦ h
   | false ↦ all_by_recursion_push (IsNamed count) v.written p h named
@@ -104,15 +104,15 @@ followed_declared count ls relation w p es new within =
     let P : Entry → Type 0 = λ e. (e.0.label < count) × AllByRecursion (IsNamed count) e.1.written in
     all_followed ls relation w p P P (λ e b k. k) (λ e b spelled k. (k.0, noted_named count p e.1 (record { key = spelled; key_class = within }) k.1)) es new
 
-some_seen : (a b : Seen) → Some a ≡ Some b → a ≡ b
+some_seen : (a b : KeptView) → Some a ≡ Some b → a ≡ b
 some_seen a b e = cc
 
-none_seen : {A : Type 0} (a : Seen) → Some a ≡ None → A
+none_seen : {A : Type 0} (a : KeptView) → Some a ≡ None → A
 none_seen a e = absurd cc
 
 -- what is found is one of them, of the relation and the label
-module _ (P : Entry → Type 0) (Q : Seen → Type 0) (relation label : ℕ) (to : (e : Entry) → is_view relation label e.0 ≡ true → P e → Q e.1) where
-  found_has : (es : Kept) → AllByRecursion P es → (v : Seen) → Some v ≡ lookup (is_view relation label) es → Q v
+module _ (P : Entry → Type 0) (Q : KeptView → Type 0) (relation label : ℕ) (to : (e : Entry) → is_view relation label e.0 ≡ true → P e → Q e.1) where
+  found_has : (es : Kept) → AllByRecursion P es → (v : KeptView) → Some v ≡ lookup (is_view relation label) es → Q v
   found_has [] h v is = none_seen v is
   found_has (e ∷ es) h v is =
       (elim (is_view relation label e.0) as (λ b. is_view relation label e.0 ≡ b → Some v ≡ cond b (Some e.1) (lookup (is_view relation label) es) → Q v) [
@@ -120,11 +120,11 @@ module _ (P : Entry → Type 0) (Q : Seen → Type 0) (relation label : ℕ) (to
         | false ↦ λ t k. found_has es h.1 v k
       ]) refl is
 
-  pub if_found : (es : Kept) → AllByRecursion P es → (o : Option Seen) → o ≡ lookup (is_view relation label) es → IfSome o Q
+  pub if_found : (es : Kept) → AllByRecursion P es → (o : Option KeptView) → o ≡ lookup (is_view relation label) es → IfSome o Q
   if_found es h None is = tt
   if_found es h (Some v) is = found_has es h v is
 
-pub if_found_named : (count relation label : ℕ) (es : Kept) → AreDeclared count es → (o : Option Seen) → o ≡ lookup (is_view relation label) es → IfSome o (λ v. AllByRecursion (IsNamed count) v.written)
+pub if_found_named : (count relation label : ℕ) (es : Kept) → AreDeclared count es → (o : Option KeptView) → o ≡ lookup (is_view relation label) es → IfSome o (λ v. AllByRecursion (IsNamed count) v.written)
 if_found_named count relation label =
     if_found (λ e. (e.0.label < count) × AllByRecursion (IsNamed count) e.1.written) (λ v. AllByRecursion (IsNamed count) v.written) relation label (λ e t h. h.1)
 
@@ -135,7 +135,7 @@ module _ (ls : Labels) (db : Database) where
   of_key : (relation label : ℕ) (k : ViewKey) → is_view relation label k ≡ true → rows ls label (db relation) ≡ rows ls k.label (db k.relation)
   of_key relation label k h = let parts = key_parts relation label k h in λ i. rows ls (parts.1 i) (db (parts.0 i))
 
-  pub if_found_rows : (relation label : ℕ) (es : Kept) → AreRows ls db es → (o : Option Seen) → o ≡ lookup (is_view relation label) es → IfSome o (AgreesWith (rows ls label (db relation)))
+  pub if_found_rows : (relation label : ℕ) (es : Kept) → AreRows ls db es → (o : Option KeptView) → o ≡ lookup (is_view relation label) es → IfSome o (AgreesWith (rows ls label (db relation)))
   if_found_rows relation label =
       if_found (λ e. AgreesWith (rows ls e.0.label (db e.0.relation)) e.1) (AgreesWith (rows ls label (db relation))) relation label
       (λ e t h. subst (λ ts. AgreesWith ts e.1) (sym (of_key relation label e.0 t)) h)

@@ -12,7 +12,7 @@ use Rattle.mls_filterview.specs.View.{rows}
 use Rattle.mls_filterview.proofs.FilteredLemmas.{filter_append, filter_where, within_filter}
 use Rattle.mls_filterview.proofs.MendLemmas.{before_other, behind_other, own_rows, rows_in_three}
 use Rattle.mls_filterview.proofs.PartLemmas.{same_entity, entity_same_as}
-use Rattle.mls_queries.specs.Views.{Seen, is_outside, AgreesWith, noted}
+use Rattle.mls_queries.specs.Views.{KeptView, is_outside, AgreesWith, noted}
 
 -- ---- an entity more
 
@@ -51,7 +51,7 @@ not_among p (q ∷ ps) t h out = elim (is_entity p q) as (λ b. is_entity p q �
         sym (entity_same_as q (place_of 0 t) (sym a.0 ∙ o.0) (sym a.1 ∙ o.1)) ∙ or_left (is_of q t) (list_any (λ r. is_of r t) ps) out
     other false own same = refl
 
-module _ (p : Place) (old new : List Tuple) (others : filter (λ t. not (is_of p t)) new ≡ filter (λ t. not (is_of p t)) old) (v : Seen) (agrees : AgreesWith old v) where
+module _ (p : Place) (old new : List Tuple) (others : filter (λ t. not (is_of p t)) new ≡ filter (λ t. not (is_of p t)) old) (v : KeptView) (agrees : AgreesWith old v) where
   -- outside of more entities, that of p among them
   more : (ws : List Place) → ((t : Tuple) → is_outside ws t ≡ true → is_outside v.written t ≡ true) → ((t : Tuple) → is_outside ws t ≡ true → not (is_of p t) ≡ true)
       → filter (is_outside ws) v.tuples ≡ filter (is_outside ws) new

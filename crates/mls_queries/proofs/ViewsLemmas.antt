@@ -10,13 +10,13 @@ use Rattle.mls_scheme.specs.Spelling.{IsSpelledKey}
 use Rattle.lru.specs.LruCache.{LruCache, lru_cache, last_entry, promoted, put_entries}
 use Rattle.lru.proofs.Pairs.{last_of_push, cut_end}
 use Rattle.mls_queries.specs.declared.views.ViewKey.{ViewKey}
-use Rattle.mls_queries.specs.Views.{Kept, Seen, same_key, outlives, noted, no_place, IsFollowedBy, AreFollowed}
+use Rattle.mls_queries.specs.Views.{Kept, KeptView, same_key, outlives, noted, no_place, IsFollowedBy, AreFollowed}
 
 abbrev pub Entry : Type 0
-Entry = ViewKey × Seen
+Entry = ViewKey × KeptView
 
 abbrev pub Cache : Type 0
-Cache = LruCache ViewKey Seen
+Cache = LruCache ViewKey KeptView
 
 -- ---- keys
 
@@ -65,7 +65,7 @@ module _ (c : Cache) (es : Kept) (e : Entry) (is : c.entries ≡ es ++ e ∷ [])
   last_is : last_entry c.entries ≡ Some e
   last_is = ap last_entry is ∙ (last_of_push es e).0
 
-  pub the_last : (k : ViewKey) (v : Seen) → Some (k, v) ≡ last_entry c.entries → (k, v) ≡ e
+  pub the_last : (k : ViewKey) (v : KeptView) → Some (k, v) ≡ last_entry c.entries → (k, v) ≡ e
   the_last k v last = some_entry (k, v) e (last ∙ last_is)
 
   -- without the last one
@@ -73,12 +73,12 @@ module _ (c : Cache) (es : Kept) (e : Entry) (is : c.entries ≡ es ++ e ∷ [])
   popped = ap (λ l. lru_cache l c.cap) (ap (λ l. take (length l - 1) l) is ∙ (last_of_push es e).1)
 
   -- with another one of its key, as the first
-  pub put_again : IsDistinct same_key (keys_of c.entries) → length c.entries ≤ c.cap → (v : Seen) → put_entries same_key (lru_cache es c.cap) e.0 v ≡ (e.0, v) ∷ es
+  pub put_again : IsDistinct same_key (keys_of c.entries) → length c.entries ≤ c.cap → (v : KeptView) → put_entries same_key (lru_cache es c.cap) e.0 v ≡ (e.0, v) ∷ es
   put_again distinct room v =
       ap (λ o. option_map_or (λ (f : Entry). (f.0, v) ∷ remove_entry (same_key e.0) es) o ((e.0, v) ∷ take (c.cap - 1) es)) (last_apart es e (subst (λ l. IsDistinct same_key (keys_of l)) is distinct))
       ∙ ap (λ l. (e.0, v) ∷ l) (take_all (c.cap - 1) es (let a : length c.entries ≡ length es + 1 = ap length is ∙ length-append es (e ∷ []) in omega (arith, a, room)))
 
-module _ (ls : Labels) (relation w : ℕ) (p : Place) (c : Cache) (k : ViewKey) (v : Seen) (last : Some (k, v) ≡ last_entry c.entries) (es : Kept) (e : Entry) (is : c.entries ≡ es ++ e ∷ []) where
+module _ (ls : Labels) (relation w : ℕ) (p : Place) (c : Cache) (k : ViewKey) (v : KeptView) (last : Some (k, v) ≡ last_entry c.entries) (es : Kept) (e : Entry) (is : c.entries ≡ es ++ e ∷ []) where
   abbrev Next : Cache → Type 0
   Next d = (new : Kept) × (d ≡ lru_cache new c.cap) × IsFollowedBy ls relation w p e es new
 

@@ -8,7 +8,7 @@ use Rattle.mls_lattice.specs.Policy.{Policy, labels_of}
 use Rattle.mls_scheme.specs.declared.tuple.Tuple.{Tuple}
 use Rattle.mls_scheme.specs.Table.{Table, Database}
 use Rattle.mls_scheme.specs.Scheme.{Scheme}
-use Rattle.mls_filterview.specs.Content.{State, with_table}
+use Rattle.mls_filterview.specs.Content.{Seen, State, with_table}
 use Rattle.mls_filterview.specs.Entities.{AgreeOutside}
 use Rattle.mls_filterview.specs.Stored.{IsStored}
 use Rattle.mls_filterview.specs.View.{low, rows}
@@ -41,13 +41,13 @@ other_part relation r b e h = sym (ap (λ x. x && b) (nat_eq_equiv.refl relation
 
 -- ---- over a base
 
-module _ {B : Type 0} (policy : Policy) (is_clean : B → Type 0) (state : B → State) where
+module _ {B : Type 0} (policy : Policy) (seen : B → Seen) where
   abbrev ls : Labels
   ls = labels_of policy
 
   -- after a call that left the database
-  pub kept_same : (a c : B) (es : Kept) → (is_clean c → is_clean a) → (is_clean c → (state c).now.db ≡ (state a).now.db) → AreViews policy is_clean state a es
-      → AreViews policy is_clean state c es
+  pub kept_same : (a c : B) (es : Kept) → ((seen c).is_clean → (seen a).is_clean) → ((seen c).is_clean → (seen c).state.now.db ≡ (seen a).state.now.db) → AreViews policy seen a es
+      → AreViews policy seen c es
   kept_same a c es clean same h = record {
     most = h.most;
     declared = h.declared;
@@ -55,38 +55,38 @@ module _ {B : Type 0} (policy : Policy) (is_clean : B → Type 0) (state : B →
   }
 
   -- after the view of a relation at a label was taken out
-  pub kept_taken : (a : B) (relation label : ℕ) (es new : Kept) → new ≡ remove_entry (is_view relation label) es → AreViews policy is_clean state a es → AreViews policy is_clean state a new
-  kept_taken a relation label es new is h = subst (AreViews policy is_clean state a) (sym is) (record {
+  pub kept_taken : (a : B) (relation label : ℕ) (es new : Kept) → new ≡ remove_entry (is_view relation label) es → AreViews policy seen a es → AreViews policy seen a new
+  kept_taken a relation label es new is h = subst (AreViews policy seen a) (sym is) (record {
     most = removed_most relation label es h.most;
     declared = removed_declared (length policy.labels) relation label es h.declared;
-    rows = λ k. removed_rows ls (state a).now.db relation label es (h.rows k);
+    rows = λ k. removed_rows ls (seen a).state.now.db relation label es (h.rows k);
   })
 
   -- with one view more
-  pub kept_put : (a : B) (relation label : ℕ) (tuples : List Tuple) (es : Kept) → label < length policy.labels → (is_clean a → tuples ≡ rows ls label ((state a).now.db relation))
-      → AreViews policy is_clean state a es → AreViews policy is_clean state a (put_view relation label tuples es)
+  pub kept_put : (a : B) (relation label : ℕ) (tuples : List Tuple) (es : Kept) → label < length policy.labels → ((seen a).is_clean → tuples ≡ rows ls label ((seen a).state.now.db relation))
+      → AreViews policy seen a es → AreViews policy seen a (put_view relation label tuples es)
   kept_put a relation label tuples es within is h = record {
     most = put_most relation label tuples es h.most;
     declared = put_declared (length policy.labels) relation label tuples es within h.declared;
-    rows = λ k. put_rows ls (state a).now.db relation label tuples es (is k) (h.rows k);
+    rows = λ k. put_rows ls (seen a).state.now.db relation label tuples es (is k) (h.rows k);
   }
 
   -- after a write
-  module _ (scheme : Scheme) (n relation w : ℕ) (wr : Write) (a c : B) (o : Outcome) (es left : Kept) (clean : is_clean c → is_clean a)
-      (stored : is_clean c → IsStored ls n ((state a).now.db relation)) (is : is_clean c → IsWritten ls scheme relation w wr (state a) (state c) o)
-      (within : (named w wr).key_class < length policy.labels) (h : AreViews policy is_clean state a es) where
+  module _ (scheme : Scheme) (n relation w : ℕ) (wr : Write) (a c : B) (o : Outcome) (es left : Kept) (clean : (seen c).is_clean → (seen a).is_clean)
+      (stored : (seen c).is_clean → IsStored ls n ((seen a).state.now.db relation)) (is : (seen c).is_clean → IsWritten ls scheme relation w wr (seen a).state (seen c).state o)
+      (within : (named w wr).key_class < length policy.labels) (h : AreViews policy seen a es) where
     abbrev db : Database
-    db = (state a).now.db
+    db = (seen a).state.now.db
 
     -- the relation's table after the write
     abbrev new : Table
     new = (write ls scheme w wr (db relation)).table
 
-    written_db : is_clean c → (state c).now.db ≡ with_table db relation new
+    written_db : (seen c).is_clean → (seen c).state.now.db ≡ with_table db relation new
     written_db k = ap (λ (s : State). s.now.db) (is k).state
 
     -- a label sees another table only of the relation, where it dominates that of the write
-    unseen : is_clean c → (d r : ℕ) → (nat_eq relation r && below ls w d) ≡ false → low ls d (db r) ≡ low ls d (with_table db relation new r)
+    unseen : (seen c).is_clean → (d r : ℕ) → (nat_eq relation r && below ls w d) ≡ false → low ls d (db r) ≡ low ls d (with_table db relation new r)
     unseen k d r out = by_test (nat_eq r relation) refl
       where
         by_test : (b : Bool) → nat_eq r relation ≡ b → low ls d (db r) ≡ low ls d (cond b new (db r))
@@ -96,32 +96,32 @@ module _ {B : Type 0} (policy : Policy) (is_clean : B → Type 0) (state : B →
         by_test false e = refl
 
     -- all other entities are as they were
-    agree : is_clean c → (r : ℕ) → AgreeOutside (named w wr) (db r) ((state c).now.db r)
+    agree : (seen c).is_clean → (r : ℕ) → AgreeOutside (named w wr) (db r) ((seen c).state.now.db r)
     agree k r q out = by_test (nat_eq r relation) refl ∙ ap (λ (s : Database). get (s r) q) (sym (written_db k))
       where
         by_test : (b : Bool) → nat_eq r relation ≡ b → get (db r) q ≡ get (cond b new (db r)) q
         by_test true e = ap (λ x. get (db x) q) (eqb-true r relation e) ∙ change_one_entity ls scheme w (db relation) wr q out
         by_test false e = refl
 
-    by_outcome : (b : Bool) → is_done o ≡ b → AreLeftBy ls relation w (named w wr) o es left → AreViews policy is_clean state c left
+    by_outcome : (b : Bool) → is_done o ≡ b → AreLeftBy ls relation w (named w wr) o es left → AreViews policy seen c left
     by_outcome true done f =
         let followed = f.done done in
         record {
           most = followed_most ls relation w (named w wr) es left followed h.most;
           declared = followed_declared (length policy.labels) ls relation w (named w wr) es left within followed h.declared;
-          rows = λ k. followed_rows ls relation w (named w wr) db (state c).now.db
+          rows = λ k. followed_rows ls relation w (named w wr) db (seen c).state.now.db
               (λ d r out. unseen k d r out ∙ ap (λ (s : Database). low ls d (s r)) (sym (written_db k))) (agree k) es left followed (h.rows (clean k));
         }
-    by_outcome false refused f = subst (AreViews policy is_clean state c) (sym (f.refused refused)) (
+    by_outcome false refused f = subst (AreViews policy seen c) (sym (f.refused refused)) (
         kept_same a c es clean
         (λ k. (let same = same_relation db relation new (table_left ls scheme w (db relation) wr (ap is_done (sym (is k).outcome) ∙ refused)) in written_db k ∙ (λ i r. same r i))) h)
 
-    written_by : AreLeftBy ls relation w (named w wr) o es left → AreViews policy is_clean state c left
+    written_by : AreLeftBy ls relation w (named w wr) o es left → AreViews policy seen c left
     written_by = by_outcome (is_done o) refl
 
-  pub kept_written : (scheme : Scheme) (n relation w : ℕ) (wr : Write) (a c : B) (o : Outcome) (es left : Kept) → (is_clean c → is_clean a)
-      → (is_clean c → IsStored (labels_of policy) n ((state a).now.db relation))
-      → (is_clean c → IsWritten (labels_of policy) scheme relation w wr (state a) (state c) o)
+  pub kept_written : (scheme : Scheme) (n relation w : ℕ) (wr : Write) (a c : B) (o : Outcome) (es left : Kept) → ((seen c).is_clean → (seen a).is_clean)
+      → ((seen c).is_clean → IsStored (labels_of policy) n ((seen a).state.now.db relation))
+      → ((seen c).is_clean → IsWritten (labels_of policy) scheme relation w wr (seen a).state (seen c).state o)
       → (named w wr).key_class < length policy.labels
-      → AreViews policy is_clean state a es → AreLeftBy (labels_of policy) relation w (named w wr) o es left → AreViews policy is_clean state c left
+      → AreViews policy seen a es → AreLeftBy (labels_of policy) relation w (named w wr) o es left → AreViews policy seen c left
   kept_written scheme n relation w wr a c o es left clean stored is within h = written_by scheme n relation w wr a c o es left clean stored is within h

@@ -31,12 +31,12 @@ fn find_in_view<B: Base>(
     label: LabelNo,
     query: &Query,
 ) -> Result<Selection, BaseFault>
-    requires see { CanSee B.is_clean B.state base.old relation policy.now label }
-    requires views { AreViews policy.now B.is_clean B.state base.old views.old }
-    ensures read { IsRead B.is_clean B.failures B.state base.old base.new result }
-    ensures rows { B.is_clean base.new → IfOk result (λ ts. ts ≡ found (labels_of policy.now) query.now
-        (rows (labels_of policy.now) label ((B.state base.old).now.db relation))) }
-    ensures views { OnOk result (AreViews policy.now B.is_clean B.state base.new views.new) }
+    requires see { CanSee B.seen base.old relation policy.now label }
+    requires views { AreViews policy.now B.seen base.old views.old }
+    ensures read { IsRead B.seen base.old base.new result }
+    ensures rows { (B.seen base.new).is_clean → IfOk result (λ ts. ts ≡ found (labels_of policy.now) query.now
+        (rows (labels_of policy.now) label ((B.seen base.old).state.now.db relation))) }
+    ensures views { OnOk result (AreViews policy.now B.seen base.new views.new) }
 {
     let view = views.view(alloc, base, policy, relation, label)?;
     let found = settle(base, select(alloc, policy, view, query))?;
@@ -56,11 +56,11 @@ fn find_by_key<B: Base>(
 ) -> Result<Selection, BaseFault>
     requires label { label < length policy.now.labels }
     requires demanded { IsDemanded (length scheme.now.keys) query.now.test key }
-    requires content { B.is_clean base.old → IsContent (labels_of policy.now) scheme.now
-        ((B.state base.old).now.db relation) }
-    ensures read { IsRead B.is_clean B.failures B.state base.old base.new result }
-    ensures rows { B.is_clean base.new → IfOk result (λ ts. ts ≡ found (labels_of policy.now) query.now
-        (rows (labels_of policy.now) label ((B.state base.old).now.db relation))) }
+    requires content { (B.seen base.old).is_clean → IsContent (labels_of policy.now) scheme.now
+        ((B.seen base.old).state.now.db relation) }
+    ensures read { IsRead B.seen base.old base.new result }
+    ensures rows { (B.seen base.new).is_clean → IfOk result (λ ts. ts ≡ found (labels_of policy.now) query.now
+        (rows (labels_of policy.now) label ((B.seen base.old).state.now.db relation))) }
 {
     let tuples = look_up(alloc, base, policy, relation, label, key)?;
     let view = settle(base, SharedView::new(alloc, tuples))?;
@@ -79,11 +79,11 @@ fn find_now<B: Base>(
     label: LabelNo,
     query: &Query,
 ) -> Result<Selection, BaseFault>
-    requires { CanFind B.is_clean B.state base.old policy.now scheme.now relation label views.old }
-    ensures read { IsRead B.is_clean B.failures B.state base.old base.new result }
-    ensures rows { B.is_clean base.new → IfOk result (λ ts. ts ≡ found (labels_of policy.now) query.now
-        (rows (labels_of policy.now) label ((B.state base.old).now.db relation))) }
-    ensures views { OnOk result (AreViews policy.now B.is_clean B.state base.new views.new) }
+    requires { CanFind B.seen base.old policy.now scheme.now relation label views.old }
+    ensures read { IsRead B.seen base.old base.new result }
+    ensures rows { (B.seen base.new).is_clean → IfOk result (λ ts. ts ≡ found (labels_of policy.now) query.now
+        (rows (labels_of policy.now) label ((B.seen base.old).state.now.db relation))) }
+    ensures views { OnOk result (AreViews policy.now B.seen base.new views.new) }
 {
     let key = settle(base, demanded_key(alloc, scheme, query))?;
     match key {
@@ -108,11 +108,11 @@ pub fn find<B: Base>(
     query: &Query,
 ) -> Result<Selection, BaseFault>
     requires relation { relation < length schemes.now }
-    requires can { CanFind B.is_clean B.state base.old policy.now (scheme_of schemes.now relation) relation label views.old }
-    ensures read { IsRead B.is_clean B.failures B.state base.old base.new result }
-    ensures rows { B.is_clean base.new → IfOk result (λ ts. ts ≡ found (labels_of policy.now) query.now
-        (rows (labels_of policy.now) label ((B.state base.old).now.db relation))) }
-    ensures views { AreViews policy.now B.is_clean B.state base.new views.new }
+    requires can { CanFind B.seen base.old policy.now (scheme_of schemes.now relation) relation label views.old }
+    ensures read { IsRead B.seen base.old base.new result }
+    ensures rows { (B.seen base.new).is_clean → IfOk result (λ ts. ts ≡ found (labels_of policy.now) query.now
+        (rows (labels_of policy.now) label ((B.seen base.old).state.now.db relation))) }
+    ensures views { AreViews policy.now B.seen base.new views.new }
 {
     let scheme = schemes.scheme(relation);
     match find_now(alloc, base, views, policy, scheme, relation, label, query) {

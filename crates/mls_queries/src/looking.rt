@@ -81,11 +81,11 @@ pub(crate) fn look_up<B: Base>(
     label: LabelNo,
     key: Items<Value>,
 ) -> Result<Vec<Tuple>, BaseFault>
-    requires see { CanSee B.is_clean B.state base.old relation policy.now label }
+    requires see { CanSee B.seen base.old relation policy.now label }
     requires key { IsSpelledKey key }
-    ensures read { IsRead B.is_clean B.failures B.state base.old base.new result }
-    ensures rows { B.is_clean base.new → IfOk result (λ v. v.items ≡ rows (labels_of policy.now) label
-        (of_key key ((B.state base.old).now.db relation))) }
+    ensures read { IsRead B.seen base.old base.new result }
+    ensures rows { (B.seen base.new).is_clean → IfOk result (λ v. v.items ≡ rows (labels_of policy.now) label
+        (of_key key ((B.seen base.old).state.now.db relation))) }
 {
     let parts = key_parts(alloc, base, policy, relation, label, key)?;
     let tuples = settle(base, seen(alloc, policy, parts, label))?;

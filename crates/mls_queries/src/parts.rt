@@ -20,11 +20,11 @@ pub(crate) fn key_parts<B: Base>(
     label: LabelNo,
     key: Items<Value>,
 ) -> Result<Fragment, BaseFault>
-    requires see { CanSee B.is_clean B.state base.old relation policy.now label }
+    requires see { CanSee B.seen base.old relation policy.now label }
     requires key { IsSpelledKey key }
-    ensures read { IsRead B.is_clean B.failures B.state base.old base.new result }
-    ensures parts { B.is_clean base.new → IfOk result (λ f. AreLow (labels_of policy.now)
-        (of_key key ((B.state base.old).now.db relation)) label (length (labels_of policy.now)) f.nodes f.cells) }
+    ensures read { IsRead B.seen base.old base.new result }
+    ensures parts { (B.seen base.new).is_clean → IfOk result (λ f. AreLow (labels_of policy.now)
+        (of_key key ((B.seen base.old).state.now.db relation)) label (length (labels_of policy.now)) f.nodes f.cells) }
 {
     let mut nodes = Vec::new(alloc);
     let mut cells = Vec::new(alloc);

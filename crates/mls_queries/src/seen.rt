@@ -18,25 +18,25 @@ const MOST_WRITTEN: usize = 16;
 
 /// A view as it was resolved, and places of the entities that were written since.
 #[derive(Drop)]
-pub(crate) struct Seen {
+pub(crate) struct KeptView {
     tuples: SharedView,
     written: Vec<Place>,
 }
 
-impl Model for Seen {
-    ghost use Rattle.mls_queries.specs.Views.{Seen as SpecSeen};
+impl Model for KeptView {
+    ghost use Rattle.mls_queries.specs.Views.{KeptView as SpecSeen};
 
     ghost Value = { SpecSeen };
 
     ghost view = { λ v. record { tuples = v.tuples; written = v.written.items } };
 }
 
-impl Seen {
+impl KeptView {
     /// A view that was resolved now.
-    pub(crate) fn new(alloc: Global, tuples: SharedView) -> Seen
+    pub(crate) fn new(alloc: Global, tuples: SharedView) -> KeptView
         ensures { result ≡ fresh tuples }
     {
-        Seen {
+        KeptView {
             tuples,
             written: Vec::new(alloc),
         }
@@ -51,7 +51,7 @@ impl Seen {
 
     /// The view, with the entity of a place among those that were written; nothing where there are most of them, or no
     /// memory for one more.
-    pub(crate) fn noting(mut self, place: &Place) -> Option<Seen>
+    pub(crate) fn noting(mut self, place: &Place) -> Option<KeptView>
         ensures { IfSome result (λ v. v ≡ noted place.now self) }
     {
         if self.has(place) {
@@ -89,14 +89,14 @@ fn mend_each<B: Base>(
     tuples: Vec<Tuple>,
     written: Vec<Place>,
 ) -> Result<Vec<Tuple>, BaseFault>
-    requires see { CanSee B.is_clean B.state base.old relation policy.now label }
+    requires see { CanSee B.seen base.old relation policy.now label }
     requires named { AllByRecursion (IsNamed (length policy.now.labels)) written.items }
-    requires agrees { B.is_clean base.old → AgreesWith
-        (rows (labels_of policy.now) label ((B.state base.old).now.db relation))
+    requires agrees { (B.seen base.old).is_clean → AgreesWith
+        (rows (labels_of policy.now) label ((B.seen base.old).state.now.db relation))
         (record { tuples = tuples.items; written = written.items }) }
-    ensures read { IsRead B.is_clean B.failures B.state base.old base.new result }
-    ensures rows { B.is_clean base.new → IfOk result (λ v. v.items ≡ rows (labels_of policy.now) label
-        ((B.state base.old).now.db relation)) }
+    ensures read { IsRead B.seen base.old base.new result }
+    ensures rows { (B.seen base.new).is_clean → IfOk result (λ v. v.items ≡ rows (labels_of policy.now) label
+        ((B.seen base.old).state.now.db relation)) }
 {
     let mut tuples = tuples;
     for place in written {
@@ -112,17 +112,17 @@ fn mended<B: Base>(
     policy: &Policy,
     relation: RelNo,
     label: LabelNo,
-    seen: Seen,
+    seen: KeptView,
 ) -> Result<SharedView, BaseFault>
-    requires see { CanSee B.is_clean B.state base.old relation policy.now label }
+    requires see { CanSee B.seen base.old relation policy.now label }
     requires named { AllByRecursion (IsNamed (length policy.now.labels)) seen.written }
-    requires agrees { B.is_clean base.old → AgreesWith
-        (rows (labels_of policy.now) label ((B.state base.old).now.db relation)) seen }
-    ensures read { IsRead B.is_clean B.failures B.state base.old base.new result }
-    ensures rows { B.is_clean base.new → IfOk result (λ ts. ts ≡ rows (labels_of policy.now) label
-        ((B.state base.old).now.db relation)) }
+    requires agrees { (B.seen base.old).is_clean → AgreesWith
+        (rows (labels_of policy.now) label ((B.seen base.old).state.now.db relation)) seen }
+    ensures read { IsRead B.seen base.old base.new result }
+    ensures rows { (B.seen base.new).is_clean → IfOk result (λ ts. ts ≡ rows (labels_of policy.now) label
+        ((B.seen base.old).state.now.db relation)) }
 {
-    let Seen { tuples, written } = seen;
+    let KeptView { tuples, written } = seen;
     if written.is_empty() {
         return Ok(tuples);
     }
@@ -140,10 +140,10 @@ fn resolved<B: Base>(
     relation: RelNo,
     label: LabelNo,
 ) -> Result<SharedView, BaseFault>
-    requires see { CanSee B.is_clean B.state base.old relation policy.now label }
-    ensures read { IsRead B.is_clean B.failures B.state base.old base.new result }
-    ensures rows { B.is_clean base.new → IfOk result (λ ts. ts ≡ rows (labels_of policy.now) label
-        ((B.state base.old).now.db relation)) }
+    requires see { CanSee B.seen base.old relation policy.now label }
+    ensures read { IsRead B.seen base.old base.new result }
+    ensures rows { (B.seen base.new).is_clean → IfOk result (λ ts. ts ≡ rows (labels_of policy.now) label
+        ((B.seen base.old).state.now.db relation)) }
 {
     let tuples = view(alloc, base, policy, relation, label)?;
     let shared = settle(base, SharedView::new(alloc, tuples))?;
@@ -158,15 +158,15 @@ pub(crate) fn look<B: Base>(
     policy: &Policy,
     relation: RelNo,
     label: LabelNo,
-    seen: Option<Seen>,
+    seen: Option<KeptView>,
 ) -> Result<SharedView, BaseFault>
-    requires see { CanSee B.is_clean B.state base.old relation policy.now label }
+    requires see { CanSee B.seen base.old relation policy.now label }
     requires named { IfSome seen (λ v. AllByRecursion (IsNamed (length policy.now.labels)) v.written) }
-    requires agrees { B.is_clean base.old → IfSome seen (AgreesWith
-        (rows (labels_of policy.now) label ((B.state base.old).now.db relation))) }
-    ensures read { IsRead B.is_clean B.failures B.state base.old base.new result }
-    ensures rows { B.is_clean base.new → IfOk result (λ ts. ts ≡ rows (labels_of policy.now) label
-        ((B.state base.old).now.db relation)) }
+    requires agrees { (B.seen base.old).is_clean → IfSome seen (AgreesWith
+        (rows (labels_of policy.now) label ((B.seen base.old).state.now.db relation))) }
+    ensures read { IsRead B.seen base.old base.new result }
+    ensures rows { (B.seen base.new).is_clean → IfOk result (λ ts. ts ≡ rows (labels_of policy.now) label
+        ((B.seen base.old).state.now.db relation)) }
 {
     match seen {
         Some(seen) => mended(alloc, base, policy, relation, label, seen),

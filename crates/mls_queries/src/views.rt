@@ -11,11 +11,11 @@ ghost use Rattle.mls_filterview.specs.Calls.{IsRead, CanSee};
 ghost use Rattle.lru.specs.LruCache.{lru_cache, put_entries};
 ghost use Rattle.mls_queries.specs.declared.views.ViewKey.{ViewKey as SpecKey};
 ghost use Rattle.mls_updates.specs.Writes.{named};
-ghost use Rattle.mls_queries.specs.Views.{Kept, Seen as SpecSeen, AreDeclared, AreViews, AreFollowed, AreLeftBy};
+ghost use Rattle.mls_queries.specs.Views.{Kept, KeptView as SpecSeen, AreDeclared, AreViews, AreFollowed, AreLeftBy};
 ghost use Rattle.mls_queries.specs.Views.{IsFollowedBy, key_of, is_view, same_key, put_view, noted, no_place};
 
 use crate::naming::place_named;
-use crate::seen::{Seen, look};
+use crate::seen::{KeptView, look};
 use lru::LruCache;
 use mls_filterview::{Base, BaseFault, SharedView};
 use mls_lattice::{LabelNo, Policy};
@@ -36,7 +36,7 @@ pub(crate) struct ViewKey {
 }
 
 /// A cache of views.
-type ViewCache = LruCache<ViewKey, Seen>;
+type ViewCache = LruCache<ViewKey, KeptView>;
 
 /// Views that were resolved, by relation and label: those that were asked for last.
 #[derive(Drop)]
@@ -116,12 +116,12 @@ impl Views {
         relation: RelNo,
         label: LabelNo,
     ) -> Result<SharedView, BaseFault>
-        requires see { CanSee B.is_clean B.state base.old relation policy.now label }
-        requires views { AreViews policy.now B.is_clean B.state base.old self.old }
-        ensures read { IsRead B.is_clean B.failures B.state base.old base.new result }
-        ensures rows { B.is_clean base.new → IfOk result (λ ts. ts ≡ rows (labels_of policy.now) label
-            ((B.state base.old).now.db relation)) }
-        ensures views { AreViews policy.now B.is_clean B.state base.new self.new }
+        requires see { CanSee B.seen base.old relation policy.now label }
+        requires views { AreViews policy.now B.seen base.old self.old }
+        ensures read { IsRead B.seen base.old base.new result }
+        ensures rows { (B.seen base.new).is_clean → IfOk result (λ ts. ts ≡ rows (labels_of policy.now) label
+            ((B.seen base.old).state.now.db relation)) }
+        ensures views { AreViews policy.now B.seen base.new self.new }
     {
         let tuples = self.resolved(alloc, base, policy, relation, label)?;
         self.keep(alloc, relation, label, &tuples);
@@ -162,12 +162,12 @@ impl Views {
         relation: RelNo,
         label: LabelNo,
     ) -> Result<SharedView, BaseFault>
-        requires see { CanSee B.is_clean B.state base.old relation policy.now label }
-        requires views { AreViews policy.now B.is_clean B.state base.old self.old }
-        ensures read { IsRead B.is_clean B.failures B.state base.old base.new result }
-        ensures rows { B.is_clean base.new → IfOk result (λ ts. ts ≡ rows (labels_of policy.now) label
-            ((B.state base.old).now.db relation)) }
-        ensures views { AreViews policy.now B.is_clean B.state base.new self.new }
+        requires see { CanSee B.seen base.old relation policy.now label }
+        requires views { AreViews policy.now B.seen base.old self.old }
+        ensures read { IsRead B.seen base.old base.new result }
+        ensures rows { (B.seen base.new).is_clean → IfOk result (λ ts. ts ≡ rows (labels_of policy.now) label
+            ((B.seen base.old).state.now.db relation)) }
+        ensures views { AreViews policy.now B.seen base.new self.new }
     {
         let kept = self.take(relation, label);
         match look(alloc, base, policy, relation, label, kept) {
@@ -180,7 +180,7 @@ impl Views {
     }
 
     /// Takes out the view of a relation at a label, where it is kept.
-    fn take(&mut self, relation: RelNo, label: LabelNo) -> Option<Seen>
+    fn take(&mut self, relation: RelNo, label: LabelNo) -> Option<KeptView>
         ensures found { result ≡ lookup (is_view relation label) self.old }
         ensures others { self.new ≡ remove_entry (is_view relation label) self.old }
     {
@@ -205,7 +205,7 @@ impl Views {
             put(
                 cache,
                 ViewKey::new(relation, label),
-                Seen::new(alloc, tuples),
+                KeptView::new(alloc, tuples),
             );
         }
     }
@@ -223,7 +223,7 @@ impl Views {
 }
 
 /// Puts a view into a cache. Where there is no memory for it, the cache is as it was.
-fn put(cache: &mut ViewCache, key: ViewKey, seen: Seen)
+fn put(cache: &mut ViewCache, key: ViewKey, seen: KeptView)
     ensures { (cache.new ≡ cache.old) ⊎ (cache.new ≡ lru_cache
         (put_entries same_key cache.old key seen) cache.old.cap) }
 {
@@ -298,7 +298,7 @@ fn renew(cache: &mut ViewCache, written: &Option<Place>)
 }
 
 /// Notes a write in a view, where it names an entity. Nothing is left of the view where it can't be noted.
-fn noting(seen: Seen, written: &Option<Place>) -> Option<Seen>
+fn noting(seen: KeptView, written: &Option<Place>) -> Option<KeptView>
     requires spelled { IfSome written.now (λ p. IsSpelledKey p.key) }
     ensures noted { IfSome result (λ v. v ≡ noted (unwrap_or written.now no_place) seen) }
     ensures spelled { IfSome result (λ _. IsSpelledKey (unwrap_or written.now no_place).key) }

@@ -7,7 +7,7 @@ use Rattle.std.proofs.Math.Seq.{take-append-add}
 use Rattle.mls_lattice.specs.Policy.{Policy}
 use Rattle.mls_lattice.proofs.EachLemmas.{all_append}
 use Rattle.mls_scheme.specs.Scheme.{Schemes}
-use Rattle.mls_filterview.specs.Content.{State}
+use Rattle.mls_filterview.specs.Content.{Seen}
 use Rattle.mls_script.specs.declared.event.Event.{Event}
 use Rattle.mls_certcheck.specs.Site.{Site}
 use Rattle.mls_machine.specs.Machine.{World, end_of}
@@ -61,26 +61,26 @@ lines-snoc echo policy schemes a b c (x ∷ ts) t h l n =
 
 -- ---- the lines up to here
 
-module _ {B : Type 0} (state : B → State) (is_clean : B → Type 0) (echo : List ℕ → List ℕ) (first : Engine B) (given was : Option (List ℕ)) where
+module _ {B : Type 0} (seen : B → Seen) (echo : List ℕ → List ℕ) (first : Engine B) (given was : Option (List ℕ)) where
   abbrev at : Site
   at = site first
 
   abbrev w : World
-  w = world_of state first
+  w = world_of seen first
 
   -- the lines that were read and answered; of the last it is said whether it is one behind which no other is read
   pub record SoFar (now : Engine B) (left is : Option (List ℕ)) (last : Bool) : Type 0 where
     pub turns : List Turn
-    pub clean : is_clean now.base → is_clean first.base
-    pub kept : IsKept state is_clean first now
+    pub clean : (seen now.base).is_clean → (seen first.base).is_clean
+    pub kept : IsKept seen first now
     pub none_lost : list_any (λ (t : Turn). is_lost t.fate) turns ≡ false
     pub last_is : list_any (λ (t : Turn). is_last t.fate) turns ≡ last
     pub fits : EventsFit at (events_in turns)
     pub lines : AreLines echo at.policy at.schemes given left turns
-    pub world : is_clean now.base → world_of state now ≡ end_of at w (events_in turns)
-    pub written : is_clean now.base → Appends was is (desk at w turns)
+    pub world : (seen now.base).is_clean → world_of seen now ≡ end_of at w (events_in turns)
+    pub written : (seen now.base).is_clean → Appends was is (desk at w turns)
 
-  pub so_far_start : IsEngineReady state is_clean first → SoFar first given was false
+  pub so_far_start : IsEngineReady seen first → SoFar first given was false
   unfolding desk AreLines end_of
   so_far_start ready = record {
     turns = [];
@@ -119,19 +119,19 @@ module _ {B : Type 0} (state : B → State) (is_clean : B → Type 0) (echo : Li
       broken_now : list_any (λ (t : Turn). is_failed t.fate) turns ≡ true → Broken
       broken_now h = l.read.broken (sym l.read.same ∙ failed_there s.turns turn s.last_is h)
 
-      module _ (new : Engine B) (after : Option (List ℕ)) (clean : is_clean new.base → is_clean now.base) (kept : IsKept state is_clean now new) where
-        kept_now : IsKept state is_clean first new
+      module _ (new : Engine B) (after : Option (List ℕ)) (clean : (seen new.base).is_clean → (seen now.base).is_clean) (kept : IsKept seen now new) where
+        kept_now : IsKept seen first new
         kept_now = record { site = kept.site ∙ s.kept.site; ready = kept.ready }
 
         -- what becomes of the line, from the world up to here
-        moved : {r : Result (Unit {0}) RunFault} → (c : is_clean new.base) → IsFollowed (site now) (world_of state now) fate shown after (world_of state new) r
-            → IsFollowed at (end_of at w (events_in s.turns)) turn.fate shown after (world_of state new) r
+        moved : {r : Result (Unit {0}) RunFault} → (c : (seen new.base).is_clean) → IsFollowed (site now) (world_of seen now) fate shown after (world_of seen new) r
+            → IsFollowed at (end_of at w (events_in s.turns)) turn.fate shown after (world_of seen new) r
         moved {r} c h =
-            subst (λ (x : Fate). IsFollowed at (end_of at w (events_in s.turns)) x shown after (world_of state new) r) (sym l.read.same)
-            (subst (λ (u : World). IsFollowed at u fate shown after (world_of state new) r) (s.world (clean c))
-            (subst (λ (p : Site). IsFollowed p (world_of state now) fate shown after (world_of state new) r) same_site h))
+            subst (λ (x : Fate). IsFollowed at (end_of at w (events_in s.turns)) x shown after (world_of seen new) r) (sym l.read.same)
+            (subst (λ (u : World). IsFollowed at u fate shown after (world_of seen new) r) (s.world (clean c))
+            (subst (λ (p : Site). IsFollowed p (world_of seen now) fate shown after (world_of seen new) r) same_site h))
 
-        pub so_far_more : is_lost fate ≡ false → (is_clean new.base → IsFollowed (site now) (world_of state now) fate shown after (world_of state new) (Ok tt))
+        pub so_far_more : is_lost fate ≡ false → ((seen new.base).is_clean → IsFollowed (site now) (world_of seen now) fate shown after (world_of seen new) (Ok tt))
             → SoFar new over after (is_last fate)
         so_far_more found h = record {
           turns = turns;
@@ -184,8 +184,8 @@ module _ {B : Type 0} (state : B → State) (is_clean : B → Type 0) (echo : Li
         later_world (Ok u) is v h = h ∙ sym (end_of-append at w (events_in s.turns) (events_of turn.fate))
         later_world (Err f) is v h = left_by f is v f.done h
 
-        pub broken : (fault : RunFault) (c : is_clean new.base) → IsFollowed (site now) (world_of state now) fate shown after (world_of state new) (Err fault)
-            → IsService echo at given over Broken (Appends was after) (Err fault) w (world_of state new)
+        pub broken : (fault : RunFault) (c : (seen new.base).is_clean) → IsFollowed (site now) (world_of seen now) fate shown after (world_of seen new) (Err fault)
+            → IsService echo at given over Broken (Appends was after) (Err fault) w (world_of seen new)
         broken fault c h =
             let k = moved c h in
             let front = desk at w s.turns in
@@ -208,13 +208,13 @@ module _ {B : Type 0} (state : B → State) (is_clean : B → Type 0) (echo : Li
                 };
               };
               fits = fits_now;
-              world = subst (λ (es : List Event). world_of state new ≡ end_of at w (standing es (later k.end))) told (later_world k.end k.fault (world_of state new) k.world);
+              world = subst (λ (es : List Event). world_of seen new ≡ end_of at w (standing es (later k.end))) told (later_world k.end k.fault (world_of seen new) k.world);
             }
 
         -- ---- it ends well at a line behind which no other is read
 
-        pub over_last : is_lost fate ≡ false → (is_clean new.base → IsFollowed (site now) (world_of state now) fate shown after (world_of state new) (Ok tt)) → is_last fate ≡ true → is_clean new.base
-            → IsService echo at given over Broken (Appends was after) (Ok (ending_if (is_failed fate))) w (world_of state new)
+        pub over_last : is_lost fate ≡ false → ((seen new.base).is_clean → IsFollowed (site now) (world_of seen now) fate shown after (world_of seen new) (Ok tt)) → is_last fate ≡ true → (seen new.base).is_clean
+            → IsService echo at given over Broken (Appends was after) (Ok (ending_if (is_failed fate))) w (world_of seen new)
         unfolding so_far_more
         over_last found h last c =
             let all = so_far_more found h in
@@ -241,7 +241,7 @@ module _ {B : Type 0} (state : B → State) (is_clean : B → Type 0) (echo : Li
 
     -- ---- it is given up between two lines
 
-    pub worn_out : (Broken : Type 0) (fault : RunFault) → fault.cause ≡ Memory → is_clean now.base → IsService echo at given left Broken (Appends was is) (Err fault) w (world_of state now)
+    pub worn_out : (Broken : Type 0) (fault : RunFault) → fault.cause ≡ Memory → (seen now.base).is_clean → IsService echo at given left Broken (Appends was is) (Err fault) w (world_of seen now)
     worn_out Broken fault memory c = record {
       service = record {
         turns = s.turns;

@@ -4,7 +4,7 @@ use Rattle.std.specs.List.{list_any}
 use Rattle.std.specs.Io.KnownBytes.{Appends, IsAtEnd}
 use Rattle.std.proofs.KnownBytes.{Appends-trans}
 use Rattle.mls_lattice.proofs.EachLemmas.{all_append}
-use Rattle.mls_filterview.specs.Content.{State}
+use Rattle.mls_filterview.specs.Content.{Seen}
 use Rattle.mls_script.specs.declared.event.Event.{Event}
 use Rattle.mls_machine.specs.declared.form.Audience.{Audience}
 use Rattle.mls_certcheck.specs.Site.{Site}
@@ -121,13 +121,13 @@ failed_last ts t left (inr h) = inr (any-snoc (λ (t : Turn). is_failed t.fate) 
 
 -- ---- the lines up to here
 
-module _ {B E : Type 0} (state : B → State) (is_clean : B → Type 0) (contents : E → Option (List ℕ)) (echo : List ℕ → List ℕ) (session : ShellSession)
+module _ {B E : Type 0} (seen : B → Seen) (contents : E → Option (List ℕ)) (echo : List ℕ → List ℕ) (session : ShellSession)
     (first : Engine B) (quiet : Errors E) (given was : Option (List ℕ)) where
   abbrev at : Site
   at = site first
 
   abbrev w : World
-  w = world_of state first
+  w = world_of seen first
 
   -- what is told of these lines, perhaps behind more
   pub record AreSoFarTold (turns : List Turn) (err : Errors E) : Type 0 where
@@ -147,32 +147,32 @@ module _ {B E : Type 0} (state : B → State) (is_clean : B → Type 0) (content
   pub record SoFar (count : ℕ) (now : Engine B) (err : Errors E) (left is : Option (List ℕ)) (was_opened : Bool) (tally : Tally) (last : Bool) : Type 0 where
     pub turns : List Turn
     pub count_is : length turns ≡ count
-    pub clean : is_clean now.base → is_clean first.base
-    pub kept : IsKept state is_clean first now
+    pub clean : (seen now.base).is_clean → (seen first.base).is_clean
+    pub kept : IsKept seen first now
     pub none_lost : list_any (λ (t : Turn). is_lost t.fate) turns ≡ false
     pub last_is : list_any (λ (t : Turn). is_last t.fate) turns ≡ last
     pub told : AreSoFarTold turns err
     pub fits : EventsFit at (events_in turns)
-    pub lines : is_clean now.base → AreTurns echo at session (after_opening at session w) given left turns
-    pub world : is_clean now.base → world_of state now ≡ end_of at w (opening session ∷ events_in turns)
-    pub written : is_clean now.base → Appends was is (transcript at session w turns)
+    pub lines : (seen now.base).is_clean → AreTurns echo at session (after_opening at session w) given left turns
+    pub world : (seen now.base).is_clean → world_of seen now ≡ end_of at w (opening session ∷ events_in turns)
+    pub written : (seen now.base).is_clean → Appends was is (transcript at session w turns)
     pub few : AreFew tally count
-    pub opened_is : is_clean now.base → was_opened ≡ is_open session (after_opening at session w)
-    pub tally_is : is_clean now.base → tally ≡ tally_of at session w turns
+    pub opened_is : (seen now.base).is_clean → was_opened ≡ is_open session (after_opening at session w)
+    pub tally_is : (seen now.base).is_clean → tally ≡ tally_of at session w turns
 
   -- what is said of the session is said of the world
   pub record Opened (now : Engine B) (is : Option (List ℕ)) (was_opened : Bool) : Type 0 where
-    pub clean : is_clean now.base → is_clean first.base
-    pub kept : IsKept state is_clean first now
-    pub followed : is_clean now.base → IsFollowed at (audience_at session) w (opening session ∷ []) was is (world_of state now) 0 (Ok tt)
-    pub opened_is : was_opened ≡ is_open session (world_of state now)
+    pub clean : (seen now.base).is_clean → (seen first.base).is_clean
+    pub kept : IsKept seen first now
+    pub followed : (seen now.base).is_clean → IsFollowed at (audience_at session) w (opening session ∷ []) was is (world_of seen now) 0 (Ok tt)
+    pub opened_is : was_opened ≡ is_open session (world_of seen now)
 
   pub so_far_start : (now : Engine B) (is : Option (List ℕ)) (was_opened : Bool) → Opened now is was_opened → (err : Errors E) → IsMore session.is_watched (IsTold contents quiet err)
       → SoFar 0 now err given is was_opened (record { lines = 0; refused = 0; misunderstood = 0 }) false
   unfolding AreTold Rattle.mls_runs.specs.Shell.dialogue AreTurns verdicts_in
   so_far_start now is was_opened h err m =
-      let done : is_clean now.base → IsWhole at (audience_at session) w (opening session ∷ []) was is (world_of state now) =
-      λ c. followed_whole at (audience_at session) w (opening session ∷ []) was is (world_of state now) 0 (h.followed c) in
+      let done : (seen now.base).is_clean → IsWhole at (audience_at session) w (opening session ∷ []) was is (world_of seen now) =
+      λ c. followed_whole at (audience_at session) w (opening session ∷ []) was is (world_of seen now) 0 (h.followed c) in
       record {
         turns = [];
         count_is = refl;
@@ -196,7 +196,7 @@ module _ {B E : Type 0} (state : B → State) (is_clean : B → Type 0) (content
 
     -- the prompt is shown, a line is read, something becomes of it, and that is told
     pub record Line (fate : Fate) (asked said : Errors E) (over shown : Option (List ℕ)) (Broken : Type 0) : Type 0 where
-      pub was_open : is_open session (world_of state now) ≡ true
+      pub was_open : is_open session (world_of seen now) ≡ true
       pub asked_is : IsTold contents err asked (prompt_of session)
       pub read : IsRead echo (IsFate at.policy at.schemes session) left over is shown Broken fate
       pub fits : FateFits at.policy at.schemes fate
@@ -231,7 +231,7 @@ module _ {B E : Type 0} (state : B → State) (is_clean : B → Type 0) (content
       fits_now : EventsFit at (events_in turns)
       fits_now = subst (EventsFit at) (sym (events-snoc s.turns turn)) (all_append _ (events_in s.turns) (events_of turn.fate) s.fits (subst (λ (x : Fate). EventsFit at (events_of x)) (sym l.read.same) (fate_fits at fate l.fits)))
 
-      lines_now : is_clean now.base → AreTurns echo at session (after_opening at session w) given over turns
+      lines_now : (seen now.base).is_clean → AreTurns echo at session (after_opening at session w) given over turns
       lines_now c = turns-snoc at session w echo given left over s.turns turn (s.lines c) s.last_is (subst (λ u. is_open session u ≡ true) (s.world c) l.was_open) l.read.is_turn
 
       pub broken_now : list_any (λ (t : Turn). is_failed t.fate) turns ≡ true → Broken
@@ -240,31 +240,31 @@ module _ {B E : Type 0} (state : B → State) (is_clean : B → Type 0) (content
       count_now : length turns ≡ count + 1
       count_now = length-snoc s.turns turn ∙ ap (λ n. n + 1) s.count_is
 
-      module _ (new : Engine B) (after : Option (List ℕ)) (clean : is_clean new.base → is_clean now.base) (kept : IsKept state is_clean now new) where
-        kept_now : IsKept state is_clean first new
+      module _ (new : Engine B) (after : Option (List ℕ)) (clean : (seen new.base).is_clean → (seen now.base).is_clean) (kept : IsKept seen now new) where
+        kept_now : IsKept seen first new
         kept_now = record { site = kept.site ∙ s.kept.site; ready = kept.ready }
 
         -- the events of the line, from the world up to here
-        moved : {r : Result (Unit {0}) RunFault} → (c : is_clean new.base) → IsFollowed (site now) (audience_at session) (world_of state now) (events_of fate) shown after (world_of state new) (count + 1) r
-            → IsFollowed at (audience_at session) (end_of at w (opening session ∷ events_in s.turns)) (events_of turn.fate) shown after (world_of state new) (count + 1) r
+        moved : {r : Result (Unit {0}) RunFault} → (c : (seen new.base).is_clean) → IsFollowed (site now) (audience_at session) (world_of seen now) (events_of fate) shown after (world_of seen new) (count + 1) r
+            → IsFollowed at (audience_at session) (end_of at w (opening session ∷ events_in s.turns)) (events_of turn.fate) shown after (world_of seen new) (count + 1) r
         moved {r} c h =
-            subst (λ (x : Fate). IsFollowed at (audience_at session) (end_of at w (opening session ∷ events_in s.turns)) (events_of x) shown after (world_of state new) (count + 1) r) (sym l.read.same)
-            (subst (λ (u : World). IsFollowed at (audience_at session) u (events_of fate) shown after (world_of state new) (count + 1) r) (s.world (clean c))
-            (subst (λ (p : Site). IsFollowed p (audience_at session) (world_of state now) (events_of fate) shown after (world_of state new) (count + 1) r) same_site h))
+            subst (λ (x : Fate). IsFollowed at (audience_at session) (end_of at w (opening session ∷ events_in s.turns)) (events_of x) shown after (world_of seen new) (count + 1) r) (sym l.read.same)
+            (subst (λ (u : World). IsFollowed at (audience_at session) u (events_of fate) shown after (world_of seen new) (count + 1) r) (s.world (clean c))
+            (subst (λ (p : Site). IsFollowed p (audience_at session) (world_of seen now) (events_of fate) shown after (world_of seen new) (count + 1) r) same_site h))
 
-        moved_verdict : (done : Bool) → is_clean new.base → verdict_of done fate ≡ verdict_of (are_done (site now) (world_of state now) (events_of fate)) fate
+        moved_verdict : (done : Bool) → (seen new.base).is_clean → verdict_of done fate ≡ verdict_of (are_done (site now) (world_of seen now) (events_of fate)) fate
             → verdict_of done fate ≡ verdict_of (are_done at (end_of at w (opening session ∷ events_in s.turns)) (events_of turn.fate)) turn.fate
         moved_verdict done c h =
-            h ∙ ap (λ (p : Site). verdict_of (are_done p (world_of state now) (events_of fate)) fate) same_site
+            h ∙ ap (λ (p : Site). verdict_of (are_done p (world_of seen now) (events_of fate)) fate) same_site
             ∙ ap (λ (u : World). verdict_of (are_done at u (events_of fate)) fate) (s.world (clean c))
             ∙ ap (λ (x : Fate). verdict_of (are_done at (end_of at w (opening session ∷ events_in s.turns)) (events_of x)) x) (sym l.read.same)
 
-        pub so_far_more : is_lost fate ≡ false → (is_clean new.base → IsFollowed (site now) (audience_at session) (world_of state now) (events_of fate) shown after (world_of state new) (count + 1) (Ok tt))
-            → (done : Bool) → (is_clean new.base → verdict_of done fate ≡ verdict_of (are_done (site now) (world_of state now) (events_of fate)) fate)
+        pub so_far_more : is_lost fate ≡ false → ((seen new.base).is_clean → IsFollowed (site now) (audience_at session) (world_of seen now) (events_of fate) shown after (world_of seen new) (count + 1) (Ok tt))
+            → (done : Bool) → ((seen new.base).is_clean → verdict_of done fate ≡ verdict_of (are_done (site now) (world_of seen now) (events_of fate)) fate)
             → SoFar (count + 1) new said over after was_opened (tally_with tally (verdict_of done fate)) (is_last fate)
         so_far_more found h all counts =
-            let done : is_clean new.base → IsWhole at (audience_at session) (end_of at w (opening session ∷ events_in s.turns)) (events_of turn.fate) shown after (world_of state new) =
-            λ c. followed_whole at (audience_at session) (end_of at w (opening session ∷ events_in s.turns)) (events_of turn.fate) shown after (world_of state new) (count + 1) (moved c (h c)) in
+            let done : (seen new.base).is_clean → IsWhole at (audience_at session) (end_of at w (opening session ∷ events_in s.turns)) (events_of turn.fate) shown after (world_of seen new) =
+            λ c. followed_whole at (audience_at session) (end_of at w (opening session ∷ events_in s.turns)) (events_of turn.fate) shown after (world_of seen new) (count + 1) (moved c (h c)) in
             record {
               turns = turns;
               count_is = count_now;
@@ -284,13 +284,13 @@ module _ {B E : Type 0} (state : B → State) (is_clean : B → Type 0) (content
             }
 
         -- a shell that is given up at the line
-        pub broken : EventsFit at (opening session ∷ []) → (fault : RunFault) → (c : is_clean new.base)
-            → IsFollowed (site now) (audience_at session) (world_of state now) (events_of fate) shown after (world_of state new) (count + 1) (Err fault)
-            → IsConversation echo at session given over was after Broken (IsTold contents quiet said) (Err fault) w (world_of state new)
+        pub broken : EventsFit at (opening session ∷ []) → (fault : RunFault) → (c : (seen new.base).is_clean)
+            → IsFollowed (site now) (audience_at session) (world_of seen now) (events_of fate) shown after (world_of seen new) (count + 1) (Err fault)
+            → IsConversation echo at session given over was after Broken (IsTold contents quiet said) (Err fault) w (world_of seen new)
         broken opens fault c h =
             let k = moved c h in
             let world = end_of at w (opening session ∷ events_in s.turns) in
-            let (part, rest, bytes, both) = first_part at (audience_at session) world (events_of turn.fate) shown after (world_of state new) k.end k.answered in
+            let (part, rest, bytes, both) = first_part at (audience_at session) world (events_of turn.fate) shown after (world_of seen new) k.end k.answered in
             let es = (opening session ∷ events_in s.turns) ++ events_of turn.fate in
             let same : es ≡ opening session ∷ events_in turns = ap (λ (l : List Event). opening session ∷ l) (sym (events-snoc s.turns turn)) in
             let silent : IsSilent echo → IsWhole at (audience_at session) w (opening session ∷ events_in s.turns) was shown world =
@@ -323,7 +323,7 @@ module _ {B E : Type 0} (state : B → State) (is_clean : B → Type 0) (content
                 };
               };
               fits = (opens.0, fits_now);
-              run = λ q. subst (λ (es : List Event). IsAnswered at (audience_at session) w es was after (world_of state new) (later k.end)) same (later_answered k.end (silent q) k.answered);
+              run = λ q. subst (λ (es : List Event). IsAnswered at (audience_at session) w es was after (world_of seen new) (later k.end)) same (later_answered k.end (silent q) k.answered);
             }
           where
             later : Result (Unit {0}) RunFault → Result (Unit {0}) RunFault
@@ -335,28 +335,28 @@ module _ {B E : Type 0} (state : B → State) (is_clean : B → Type 0) (content
             later_cause (Err f) fault h = h
 
             later_answered : (end : Result (Unit {0}) RunFault) → IsWhole at (audience_at session) w (opening session ∷ events_in s.turns) was shown (end_of at w (opening session ∷ events_in s.turns))
-                → IsAnswered at (audience_at session) (end_of at w (opening session ∷ events_in s.turns)) (events_of turn.fate) shown after (world_of state new) end
-                → IsAnswered at (audience_at session) w ((opening session ∷ events_in s.turns) ++ events_of turn.fate) was after (world_of state new) (later end)
+                → IsAnswered at (audience_at session) (end_of at w (opening session ∷ events_in s.turns)) (events_of turn.fate) shown after (world_of seen new) end
+                → IsAnswered at (audience_at session) w ((opening session ∷ events_in s.turns) ++ events_of turn.fate) was after (world_of seen new) (later end)
             later_answered (Ok u) first h = record {
-              whole = whole_more at (audience_at session) w (opening session ∷ events_in s.turns) (events_of turn.fate) was shown after first.bytes (world_of state new) h.whole;
+              whole = whole_more at (audience_at session) w (opening session ∷ events_in s.turns) (events_of turn.fate) was shown after first.bytes (world_of seen new) h.whole;
               stopped = tt;
               fault = tt;
             }
             later_answered (Err f) first h = record {
               whole = tt;
-              stopped = stopped_more at (audience_at session) w (opening session ∷ events_in s.turns) (events_of turn.fate) was shown after first.bytes (world_of state new) f h.fault h.stopped;
-              fault = fault_more at (audience_at session) w (opening session ∷ events_in s.turns) (events_of turn.fate) was shown after first.bytes (world_of state new) f h.fault;
+              stopped = stopped_more at (audience_at session) w (opening session ∷ events_in s.turns) (events_of turn.fate) was shown after first.bytes (world_of seen new) f h.fault h.stopped;
+              fault = fault_more at (audience_at session) w (opening session ∷ events_in s.turns) (events_of turn.fate) was shown after first.bytes (world_of seen new) f h.fault;
             }
 
   -- ---- how a shell ends
 
   module _ (opens : EventsFit at (opening session ∷ [])) (Broken : Type 0) where
     -- it is given up at the opening
-    pub broken_first : (new : Engine B) (after : Option (List ℕ)) (fault : RunFault) → IsFollowed at (audience_at session) w (opening session ∷ []) was after (world_of state new) 0 (Err fault)
-        → IsConversation echo at session given given was after Broken (IsTold contents quiet quiet) (Err fault) w (world_of state new)
+    pub broken_first : (new : Engine B) (after : Option (List ℕ)) (fault : RunFault) → IsFollowed at (audience_at session) w (opening session ∷ []) was after (world_of seen new) 0 (Err fault)
+        → IsConversation echo at session given given was after Broken (IsTold contents quiet quiet) (Err fault) w (world_of seen new)
     unfolding AreTold Rattle.mls_runs.specs.Shell.dialogue AreTurns
     broken_first new after fault h =
-        let (part, rest, bytes, both) = first_part at (audience_at session) w (opening session ∷ []) was after (world_of state new) h.end h.answered in
+        let (part, rest, bytes, both) = first_part at (audience_at session) w (opening session ∷ []) was after (world_of seen new) h.end h.answered in
         record {
           talk = record {
             turns = [];
@@ -377,8 +377,8 @@ module _ {B E : Type 0} (state : B → State) (is_clean : B → Type 0) (content
           run = λ q. h.answered;
         }
 
-    module _ (count : ℕ) (now : Engine B) (err : Errors E) (left is : Option (List ℕ)) (was_opened : Bool) (tally : Tally) (last : Bool) (s : SoFar count now err left is was_opened tally last) (c : is_clean now.base) where
-      all_answered : IsSilent echo → IsAnswered at (audience_at session) w (opening session ∷ events_in s.turns) was is (world_of state now) (Ok tt)
+    module _ (count : ℕ) (now : Engine B) (err : Errors E) (left is : Option (List ℕ)) (was_opened : Bool) (tally : Tally) (last : Bool) (s : SoFar count now err left is was_opened tally last) (c : (seen now.base).is_clean) where
+      all_answered : IsSilent echo → IsAnswered at (audience_at session) w (opening session ∷ events_in s.turns) was is (world_of seen now) (Ok tt)
       all_answered q = record {
         whole = record { bytes = subst (Appends was is) (silent_lines at session echo w given left s.turns q (s.lines c)) (s.written c); world = s.world c };
         stopped = tt;
@@ -386,10 +386,10 @@ module _ {B E : Type 0} (state : B → State) (is_clean : B → Type 0) (content
       }
 
       -- it ends well
-      pub over : (is_open session (world_of state now) ≡ true → IsAtEnd left ⊎ (list_any (λ (t : Turn). is_failed t.fate) s.turns ≡ true))
+      pub over : (is_open session (world_of seen now) ≡ true → IsAtEnd left ⊎ (list_any (λ (t : Turn). is_failed t.fate) s.turns ≡ true))
           → (list_any (λ (t : Turn). is_failed t.fate) s.turns ≡ true → Broken)
           → (final : Errors E) → IsTold contents err final (end_told session tally)
-          → IsConversation echo at session given left was is Broken (IsTold contents quiet final) (Ok (ending_if (not was_opened || is_short tally))) w (world_of state now)
+          → IsConversation echo at session given left was is Broken (IsTold contents quiet final) (Ok (ending_if (not was_opened || is_short tally))) w (world_of seen now)
       over all breaks final end = record {
         talk = record {
           turns = s.turns;
@@ -411,17 +411,17 @@ module _ {B E : Type 0} (state : B → State) (is_clean : B → Type 0) (content
         run = all_answered;
       }
 
-    module _ (count : ℕ) (now : Engine B) (err : Errors E) (left is : Option (List ℕ)) (was_opened : Bool) (tally : Tally) (s : SoFar count now err left is was_opened tally false) (c : is_clean now.base) where
+    module _ (count : ℕ) (now : Engine B) (err : Errors E) (left is : Option (List ℕ)) (was_opened : Bool) (tally : Tally) (s : SoFar count now err left is was_opened tally false) (c : (seen now.base).is_clean) where
       none_broken : list_any (λ (t : Turn). is_failed t.fate) s.turns ≡ true → Broken
       none_broken f = absurd (true≢false (sym f ∙ none_failed s.turns s.last_is))
 
       -- it ends well where the session is closed
-      pub over_closed : is_open session (world_of state now) ≡ false → (final : Errors E) → IsTold contents err final (end_told session tally)
-          → IsConversation echo at session given left was is Broken (IsTold contents quiet final) (Ok (ending_if (not was_opened || is_short tally))) w (world_of state now)
+      pub over_closed : is_open session (world_of seen now) ≡ false → (final : Errors E) → IsTold contents err final (end_told session tally)
+          → IsConversation echo at session given left was is Broken (IsTold contents quiet final) (Ok (ending_if (not was_opened || is_short tally))) w (world_of seen now)
       over_closed closed = over count now err left is was_opened tally false s c (λ o. absurd (true≢false (sym o ∙ closed))) none_broken
 
       -- it is given up between two lines
-      pub worn_out : (fault : RunFault) → fault.event ≡ count → IsConversation echo at session given left was is Broken (IsTold contents quiet err) (Err fault) w (world_of state now)
+      pub worn_out : (fault : RunFault) → fault.event ≡ count → IsConversation echo at session given left was is Broken (IsTold contents quiet err) (Err fault) w (world_of seen now)
       worn_out fault e =
           let line : fault.event ≡ length s.turns = e ∙ sym s.count_is in
           let rest = shown_from at session w s.turns fault.event in
@@ -448,11 +448,11 @@ module _ {B E : Type 0} (state : B → State) (is_clean : B → Type 0) (content
     -- it ends well at a line behind which no other is read
     pub over_last : (count : ℕ) (now : Engine B) (err : Errors E) (left is : Option (List ℕ)) (was_opened : Bool) (tally : Tally) (s : SoFar count now err left is was_opened tally false)
         (fate : Fate) (asked said : Errors E) (past shown : Option (List ℕ)) (l : Line count now err left is was_opened tally s fate asked said past shown Broken)
-        (new : Engine B) (after : Option (List ℕ)) (clean : is_clean new.base → is_clean now.base) (kept : IsKept state is_clean now new)
-        → is_lost fate ≡ false → (is_clean new.base → IsFollowed (site now) (audience_at session) (world_of state now) (events_of fate) shown after (world_of state new) (count + 1) (Ok tt))
-        → (done : Bool) → (is_clean new.base → verdict_of done fate ≡ verdict_of (are_done (site now) (world_of state now) (events_of fate)) fate)
-        → is_last fate ≡ true → is_clean new.base → (final : Errors E) → IsTold contents said final (end_told session (tally_with tally (verdict_of done fate)))
-        → IsConversation echo at session given past was after Broken (IsTold contents quiet final) (Ok (ending_if (not was_opened || is_short (tally_with tally (verdict_of done fate))))) w (world_of state new)
+        (new : Engine B) (after : Option (List ℕ)) (clean : (seen new.base).is_clean → (seen now.base).is_clean) (kept : IsKept seen now new)
+        → is_lost fate ≡ false → ((seen new.base).is_clean → IsFollowed (site now) (audience_at session) (world_of seen now) (events_of fate) shown after (world_of seen new) (count + 1) (Ok tt))
+        → (done : Bool) → ((seen new.base).is_clean → verdict_of done fate ≡ verdict_of (are_done (site now) (world_of seen now) (events_of fate)) fate)
+        → is_last fate ≡ true → (seen new.base).is_clean → (final : Errors E) → IsTold contents said final (end_told session (tally_with tally (verdict_of done fate)))
+        → IsConversation echo at session given past was after Broken (IsTold contents quiet final) (Ok (ending_if (not was_opened || is_short (tally_with tally (verdict_of done fate))))) w (world_of seen new)
     unfolding so_far_more
     over_last count now err left is was_opened tally s fate asked said past shown l new after clean kept found h done counts last c =
         over (count + 1) new said past after was_opened (tally_with tally (verdict_of done fate)) (is_last fate)

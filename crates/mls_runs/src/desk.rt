@@ -29,12 +29,12 @@ fn answer<B: Base, W: Write>(
     events: &[Event],
     out: &mut W,
 ) -> Result<(), RunFault>
-    requires ready { IsEngineReady B.state B.is_clean engine.old }
+    requires ready { IsEngineReady B.seen engine.old }
     requires fits { EventsFit (site engine.old) events.now }
     requires one { length events.now ≤ 1 }
-    ensures continues { Continues B.state B.is_clean B.failures engine.old engine.new result }
-    ensures done { B.is_clean engine.new.base → IsDone (site engine.old) (world_of B.state engine.old) events.now
-        (W.contents out.old) (W.contents out.new) (world_of B.state engine.new) result }
+    ensures continues { Continues B.seen engine.old engine.new result }
+    ensures done { (B.seen engine.new.base).is_clean → IsDone (site engine.old) (world_of B.seen engine.old) events.now
+        (W.contents out.old) (W.contents out.new) (world_of B.seen engine.new) result }
 {
     match events {
         [] => Ok(()),
@@ -54,11 +54,11 @@ fn perform<B: Base, W: Write>(
     fate: &Fate,
     out: &mut W,
 ) -> Result<(), RunFault>
-    requires ready { IsEngineReady B.state B.is_clean engine.old }
+    requires ready { IsEngineReady B.seen engine.old }
     requires line { TellsOne (site engine.old).policy (site engine.old).schemes fate.now }
-    ensures continues { Continues B.state B.is_clean B.failures engine.old engine.new result }
-    ensures done { B.is_clean engine.new.base → IsDone (site engine.old) (world_of B.state engine.old)
-        (events_of fate.now) (W.contents out.old) (W.contents out.new) (world_of B.state engine.new) result }
+    ensures continues { Continues B.seen engine.old engine.new result }
+    ensures done { (B.seen engine.new.base).is_clean → IsDone (site engine.old) (world_of B.seen engine.old)
+        (events_of fate.now) (W.contents out.old) (W.contents out.new) (world_of B.seen engine.new) result }
     ensures found { OnOk result (is_lost fate.now ≡ false) }
 {
     match fate {
@@ -79,11 +79,12 @@ fn follow<B: Base, W: Write>(
     fate: &Fate,
     out: &mut W,
 ) -> Result<(), RunFault>
-    requires ready { IsEngineReady B.state B.is_clean engine.old }
+    requires ready { IsEngineReady B.seen engine.old }
     requires line { TellsOne (site engine.old).policy (site engine.old).schemes fate.now }
-    ensures continues { Continues B.state B.is_clean B.failures engine.old engine.new result }
-    ensures followed { B.is_clean engine.new.base → IsFollowed (site engine.old) (world_of B.state engine.old) fate.now
-        (W.contents out.old) (W.contents out.new) (world_of B.state engine.new) result }
+    ensures continues { Continues B.seen engine.old engine.new result }
+    ensures followed { (B.seen engine.new.base).is_clean → IsFollowed (site engine.old)
+        (world_of B.seen engine.old) fate.now
+        (W.contents out.old) (W.contents out.new) (world_of B.seen engine.new) result }
     ensures found { OnOk result (is_lost fate.now ≡ false) }
 {
     perform(engine, fate, out)?;
@@ -115,13 +116,13 @@ fn serve<B: Base, L: TypedLines, W: Write>(
     lines: &mut L,
     out: &mut W,
 ) -> Result<Ending, RunFault>
-    requires ready { IsEngineReady B.state B.is_clean engine.old }
+    requires ready { IsEngineReady B.seen engine.old }
     requires policy { (site engine.old).policy ≡ policy.now }
     requires schemes { (site engine.old).schemes ≡ schemes.now }
-    ensures continues { Continues B.state B.is_clean B.failures engine.old engine.new result }
-    ensures service { B.is_clean engine.new.base → IsService L.echo (site engine.old) (L.remaining lines.old)
+    ensures continues { Continues B.seen engine.old engine.new result }
+    ensures service { (B.seen engine.new.base).is_clean → IsService L.echo (site engine.old) (L.remaining lines.old)
         (L.remaining lines.new) (L.breaks lines.new) (IsAppended W.contents out.old out.new) result
-        (world_of B.state engine.old) (world_of B.state engine.new) }
+        (world_of B.seen engine.old) (world_of B.seen engine.new) }
 {
     for _ in 0..u64::MAX {
         let fate = next_fate(alloc, policy, schemes, lines, out);
@@ -152,11 +153,12 @@ pub fn desk_over_base<B: Base, L: TypedLines, W: Write>(
     out: &mut W,
 ) -> (Result<Ending, RunFault>, B)
     requires may { MayServe (site_of policy.now schemes.now stored) }
-    requires rest { IsAtRest B.state B.is_clean policy.now schemes.now base }
-    ensures leaves { Leaves B.state B.is_clean B.failures base result.1 result.0 }
-    ensures desk { B.is_clean result.1 → IsDesk L.echo (site_of policy.now schemes.now stored) (L.remaining lines.old)
+    requires rest { IsAtRest B.seen policy.now schemes.now base }
+    ensures leaves { Leaves B.seen base result.1 result.0 }
+    ensures desk { (B.seen result.1).is_clean → IsDesk L.echo (site_of policy.now schemes.now stored)
+        (L.remaining lines.old)
         (L.remaining lines.new) (L.breaks lines.new) (IsAppended W.contents out.old out.new) result.0
-        (B.state base).now (B.state result.1).now }
+        (B.seen base).state.now (B.seen result.1).state.now }
 {
     let mut engine = Engine::new(alloc, base, policy, schemes, stored);
     let outcome = serve(alloc, &mut engine, policy, schemes, lines, out);

@@ -35,10 +35,10 @@ pub fn run_over_base<B: Base, W: Write>(
     out: &mut W,
 ) -> (Result<(), RunFault>, B)
     requires may { MayRun (site_of policy.now schemes.now stored) audience events.now }
-    requires rest { IsAtRest B.state B.is_clean policy.now schemes.now base }
-    ensures leaves { Leaves B.state B.is_clean B.failures base result.1 result.0 }
-    ensures run { B.is_clean result.1 → IsRun (site_of policy.now schemes.now stored) audience events.now
-        (IsAppended W.contents out.old out.new) result.0 (B.state base).now (B.state result.1).now }
+    requires rest { IsAtRest B.seen policy.now schemes.now base }
+    ensures leaves { Leaves B.seen base result.1 result.0 }
+    ensures run { (B.seen result.1).is_clean → IsRun (site_of policy.now schemes.now stored) audience events.now
+        (IsAppended W.contents out.old out.new) result.0 (B.seen base).state.now (B.seen result.1).state.now }
 {
     let mut engine = Engine::new(alloc, base, policy, schemes, stored);
     let outcome = run_to(&mut engine, events, audience, out);

@@ -44,15 +44,15 @@ fn answer<B: Base, W: Write>(
     events: &[Event],
     out: &mut W,
 ) -> Result<(), RunFault>
-    requires ready { IsEngineReady B.state B.is_clean engine.old }
+    requires ready { IsEngineReady B.seen engine.old }
     requires fits { EventsFit (site engine.old) events.now }
     requires level { session.now.level < length (site engine.old).policy.labels }
-    ensures continues { Continues B.state B.is_clean B.failures engine.old engine.new result }
-    ensures followed { B.is_clean engine.new.base → IsFollowed (site engine.old) (audience_at session.now)
-        (world_of B.state engine.old) events.now (W.contents out.old) (W.contents out.new)
-        (world_of B.state engine.new) line result }
-    ensures noticed { B.is_clean engine.new.base → OnOk result (is_some engine.new.notice
-        ≡ not (are_done (site engine.old) (world_of B.state engine.old) events.now)) }
+    ensures continues { Continues B.seen engine.old engine.new result }
+    ensures followed { (B.seen engine.new.base).is_clean → IsFollowed (site engine.old) (audience_at session.now)
+        (world_of B.seen engine.old) events.now (W.contents out.old) (W.contents out.new)
+        (world_of B.seen engine.new) line result }
+    ensures noticed { (B.seen engine.new.base).is_clean → OnOk result (is_some engine.new.notice
+        ≡ not (are_done (site engine.old) (world_of B.seen engine.old) events.now)) }
 {
     match run_to(engine, events, audience_at(session), out) {
         Ok(()) => Ok(()),
@@ -72,16 +72,17 @@ fn follow<B: Base, W: Write>(
     fate: &Fate,
     out: &mut W,
 ) -> Result<(), RunFault>
-    requires ready { IsEngineReady B.state B.is_clean engine.old }
+    requires ready { IsEngineReady B.seen engine.old }
     requires fits { FateFits (site engine.old).policy (site engine.old).schemes fate.now }
     requires level { session.now.level < length (site engine.old).policy.labels }
-    ensures continues { Continues B.state B.is_clean B.failures engine.old engine.new result }
-    ensures followed { B.is_clean engine.new.base → IsFollowed (site engine.old) (audience_at session.now)
-        (world_of B.state engine.old) (events_of fate.now) (W.contents out.old) (W.contents out.new)
-        (world_of B.state engine.new) line result }
+    ensures continues { Continues B.seen engine.old engine.new result }
+    ensures followed { (B.seen engine.new.base).is_clean → IsFollowed (site engine.old) (audience_at session.now)
+        (world_of B.seen engine.old) (events_of fate.now) (W.contents out.old) (W.contents out.new)
+        (world_of B.seen engine.new) line result }
     ensures found { OnOk result (is_lost fate.now ≡ false) }
-    ensures noticed { B.is_clean engine.new.base → OnOk result (verdict_of (not (is_some engine.new.notice)) fate.now
-        ≡ verdict_of (are_done (site engine.old) (world_of B.state engine.old) (events_of fate.now)) fate.now) }
+    ensures noticed { (B.seen engine.new.base).is_clean → OnOk result (verdict_of (not
+        (is_some engine.new.notice)) fate.now
+        ≡ verdict_of (are_done (site engine.old) (world_of B.seen engine.old) (events_of fate.now)) fate.now) }
 {
     match fate {
         Fate::Said(events) => answer(engine, session, line, events, out),
@@ -131,16 +132,16 @@ fn converse<B: Base, L: TypedLines, W: Write, E: Write>(
     out: &mut W,
     err: &mut Errors<E>,
 ) -> Result<Ending, RunFault>
-    requires ready { IsEngineReady B.state B.is_clean engine.old }
+    requires ready { IsEngineReady B.seen engine.old }
     requires policy { (site engine.old).policy ≡ policy.now }
     requires schemes { (site engine.old).schemes ≡ schemes.now }
     requires first { first.now ≡ opening session.now ∷ [] }
     requires fits { EventsFit (site engine.old) (opening session.now ∷ []) }
     requires level { session.now.level < length policy.now.labels }
-    ensures continues { Continues B.state B.is_clean B.failures engine.old engine.new result }
-    ensures conversation { B.is_clean engine.new.base → IsConversation L.echo (site engine.old) session.now
+    ensures continues { Continues B.seen engine.old engine.new result }
+    ensures conversation { (B.seen engine.new.base).is_clean → IsConversation L.echo (site engine.old) session.now
         (L.remaining lines.old) (L.remaining lines.new) (W.contents out.old) (W.contents out.new) (L.breaks lines.new)
-        (IsTold E.contents err.old err.new) result (world_of B.state engine.old) (world_of B.state engine.new) }
+        (IsTold E.contents err.old err.new) result (world_of B.seen engine.old) (world_of B.seen engine.new) }
 {
     let listener = Listener {
         alloc,
@@ -197,11 +198,11 @@ pub fn shell_over_base<B: Base, L: TypedLines, W: Write, E: Write>(
     err: &mut Errors<E>,
 ) -> (Result<Ending, RunFault>, B)
     requires may { MayTalk (site_of policy.now schemes.now stored) session.now first.now }
-    requires rest { IsAtRest B.state B.is_clean policy.now schemes.now base }
-    ensures leaves { Leaves B.state B.is_clean B.failures base result.1 result.0 }
-    ensures shell { B.is_clean result.1 → IsShell L.echo (site_of policy.now schemes.now stored) session.now
+    requires rest { IsAtRest B.seen policy.now schemes.now base }
+    ensures leaves { Leaves B.seen base result.1 result.0 }
+    ensures shell { (B.seen result.1).is_clean → IsShell L.echo (site_of policy.now schemes.now stored) session.now
         (L.remaining lines.old) (L.remaining lines.new) (L.breaks lines.new) (IsAppended W.contents out.old out.new)
-        (IsTold E.contents err.old err.new) result.0 (B.state base).now (B.state result.1).now }
+        (IsTold E.contents err.old err.new) result.0 (B.seen base).state.now (B.seen result.1).state.now }
 {
     let mut engine = Engine::new(alloc, base, policy, schemes, stored);
     let outcome = converse(

@@ -43,11 +43,12 @@ pub(crate) trait Work {
         base: B,
     ) -> (Result<Self::End, RunFault>, B)
         requires may { may self.old (site_of policy.now schemes.now stored) }
-        requires rest { IsAtRest B.state B.is_clean policy.now schemes.now base }
+        requires rest { IsAtRest B.seen policy.now schemes.now base }
         ensures same { is_same self.old self.new }
-        ensures leaves { Leaves B.state B.is_clean B.failures base result.1 result.0 }
-        ensures led { B.is_clean result.1 → leads self.old self.new (site_of policy.now schemes.now stored) result.0
-            (B.state base).now (B.state result.1).now };
+        ensures leaves { Leaves B.seen base result.1 result.0 }
+        ensures led { (B.seen result.1).is_clean → leads self.old self.new
+            (site_of policy.now schemes.now stored) result.0
+            (B.seen base).state.now (B.seen result.1).state.now };
 
     ghost keeps_streams: { (w : Self) → is_same w w };
 }

@@ -6,7 +6,7 @@ use Rattle.std.proofs.lemmas.List.{take_more}
 use Rattle.mls_filterview.specs.declared.base.BaseFault.{BaseFault}
 use Rattle.mls_filterview.specs.declared.base.BaseFault.TheVariants as faults
 use Rattle.mls_filterview.specs.Calls.{IsServed}
-use Rattle.mls_filterview.specs.Content.{State}
+use Rattle.mls_filterview.specs.Content.{Seen}
 use Rattle.mls_script.specs.declared.event.Event.{Event}
 use Rattle.mls_script.specs.Event.{EventFits}
 use Rattle.mls_machine.specs.declared.form.Audience.{Audience}
@@ -30,19 +30,19 @@ use Rattle.mls_sessions.proofs.StepLemmas.{entries_known}
 
 -- ---- one event
 
-module _ {B : Type 0} (state : B → State) (old new : Engine B) (audience : Audience) (event : Event) (a b : Option (List ℕ)) where
+module _ {B : Type 0} (seen : B → Seen) (old new : Engine B) (audience : Audience) (event : Event) (a b : Option (List ℕ)) where
   abbrev first : World
-  first = world_of state old
+  first = world_of seen old
 
-  pub halted_before : (cause : RunCause) → world_of state new ≡ first → IsHalted (site old) audience first event a a (world_of state new) cause false
+  pub halted_before : (cause : RunCause) → world_of seen new ≡ first → IsHalted (site old) audience first event a a (world_of seen new) cause false
   halted_before cause h = record {
     reply = record { part = []; rest = answer_text (site old) audience first event a a first; appends = Appends-nil a; whole = refl };
     none = λ x. refl;
     world = h;
   }
 
-  module _ (r : Reply) (h : IsEngineStep state old (step (site old) first event) new r) where
-    pub halted_unprinted : (cause : RunCause) → IsHalted (site old) audience first event a a (world_of state new) cause true
+  module _ (r : Reply) (h : IsEngineStep seen old (step (site old) first event) new r) where
+    pub halted_unprinted : (cause : RunCause) → IsHalted (site old) audience first event a a (world_of seen new) cause true
     halted_unprinted cause = record {
       reply = record { part = []; rest = answer_text (site old) audience first event a a first; appends = Appends-nil a; whole = refl };
       none = λ x. refl;
@@ -53,15 +53,15 @@ module _ {B : Type 0} (state : B → State) (old new : Engine B) (audience : Aud
       text_is : bytes ≡ answer_text (site old) audience first event a b first
       text_is = is ∙ (λ i. reply_shows (site_of (kept i)) audience event (h.reply i))
 
-      pub answered : Appends a b bytes → IsAnswered (site old) audience first event a b (world_of state new)
+      pub answered : Appends a b bytes → IsAnswered (site old) audience first event a b (world_of seen new)
       answered p = record { bytes = subst (Appends a b) text_is p; world = h.world }
 
-pub stored_at : {B : Type 0} (state : B → State) (is_clean : B → Type 0) (e : Engine B) → IsEngineReady state is_clean e → is_clean e.base → AreStored (site e) (world_of state e).db
-stored_at state is_clean e ready c relation = ((ready.rest.sound c).content relation).stored
+pub stored_at : {B : Type 0} (seen : B → Seen) (e : Engine B) → IsEngineReady seen e → (seen e.base).is_clean → AreStored (site e) (world_of seen e).db
+stored_at seen e ready c relation = ((ready.rest.sound c).content relation).stored
 
 -- a notice is noted
-module _ {B : Type 0} (state : B → State) (is_clean : B → Type 0) where
-  ready_noted : (e : Engine B) (notice : Option Notice) → IsEngineReady state is_clean e → IsEngineReady state is_clean (record e { notice = notice })
+module _ {B : Type 0} (seen : B → Seen) where
+  ready_noted : (e : Engine B) (notice : Option Notice) → IsEngineReady seen e → IsEngineReady seen (record e { notice = notice })
   ready_noted e notice ready = record {
     serves = ready.serves;
     distinct = ready.distinct;
@@ -70,18 +70,18 @@ module _ {B : Type 0} (state : B → State) (is_clean : B → Type 0) where
     views = ready.views;
   }
 
-  pub noted : (old new : Engine B) (notice : Option Notice) → IsKept state is_clean old new → IsKept state is_clean old (record new { notice = notice })
+  pub noted : (old new : Engine B) (notice : Option Notice) → IsKept seen old new → IsKept seen old (record new { notice = notice })
   noted old new notice kept = record { site = kept.site; ready = ready_noted new notice kept.ready }
 
 -- over a sound base the reply can be printed
-module _ {B : Type 0} (state : B → State) (is_clean : B → Type 0) (old new : Engine B) (event : Event) (r : Reply) where
-  pub reply_known : IsEngineStep state old (step (site old) (world_of state old) event) new r → new.site ≡ old.site → IsEngineReady state is_clean old → is_clean old.base → EventFits (site old).policy (site old).schemes event
+module _ {B : Type 0} (seen : B → Seen) (old new : Engine B) (event : Event) (r : Reply) where
+  pub reply_known : IsEngineStep seen old (step (site old) (world_of seen old) event) new r → new.site ≡ old.site → IsEngineReady seen old → (seen old.base).is_clean → EventFits (site old).policy (site old).schemes event
       → ReplyIsKnown (site new).policy r
   reply_known h kept ready c fits =
       subst (λ at. ReplyIsKnown (site_of at).policy r) (sym kept)
       (subst (ReplyIsKnown (site old).policy) (sym h.reply)
-      (step_known (site old) ready.distinct ready.serves.read (world_of state old) (stored_at state is_clean old ready c)
-      (entries_known (length (site old).policy.labels) (state old.base).now.audit) event fits.level).reply)
+      (step_known (site old) ready.distinct ready.serves.read (world_of seen old) (stored_at seen old ready c)
+      (entries_known (length (site old).policy.labels) (seen old.base).state.now.audit) event fits.level).reply)
 
 -- ---- the cause of the store
 
@@ -123,31 +123,31 @@ not_both false b = refl
 -- ---- a run up to an event
 
 -- the first i events are answered
-pub record Running {B : Type 0} (state : B → State) (is_clean : B → Type 0) (failures : B → ℕ) (audience : Audience) (es : List Event) (first : Engine B) (start : Option (List ℕ)) (i : ℕ) (now : Engine B) (held : Option (List ℕ)) : Type 0 where
-  pub clean : is_clean now.base → is_clean first.base
-  pub count : failures first.base ≤ failures now.base
-  pub kept : IsKept state is_clean first now
-  pub bytes : is_clean now.base → Appends start held (printed_to (site first) audience (world_of state first) es i)
-  pub world : is_clean now.base → world_of state now ≡ world_after (site first) (world_of state first) es i
-  pub noticed : is_clean now.base → is_some now.notice ≡ not (are_done (site first) (world_of state first) (take i es))
+pub record Running {B : Type 0} (seen : B → Seen) (audience : Audience) (es : List Event) (first : Engine B) (start : Option (List ℕ)) (i : ℕ) (now : Engine B) (held : Option (List ℕ)) : Type 0 where
+  pub clean : (seen now.base).is_clean → (seen first.base).is_clean
+  pub count : (seen first.base).failures ≤ (seen now.base).failures
+  pub kept : IsKept seen first now
+  pub bytes : (seen now.base).is_clean → Appends start held (printed_to (site first) audience (world_of seen first) es i)
+  pub world : (seen now.base).is_clean → world_of seen now ≡ world_after (site first) (world_of seen first) es i
+  pub noticed : (seen now.base).is_clean → is_some now.notice ≡ not (are_done (site first) (world_of seen first) (take i es))
 
 moved : (P : Site → World → Type 0) (p q : Site) (v w : World) → p ≡ q → v ≡ w → P p v → P q w
 moved P p q v w a b h = subst (λ x. P x w) a (subst (P p) b h)
 
-module _ {B : Type 0} (state : B → State) (is_clean : B → Type 0) (failures : B → ℕ) (audience : Audience) (es : List Event) (first : Engine B) (start : Option (List ℕ)) where
-  pub running_start : IsEngineReady state is_clean first → Running state is_clean failures audience es first start 0 (record first { notice = None }) start
+module _ {B : Type 0} (seen : B → Seen) (audience : Audience) (es : List Event) (first : Engine B) (start : Option (List ℕ)) where
+  pub running_start : IsEngineReady seen first → Running seen audience es first start 0 (record first { notice = None }) start
   unfolding end_of run_lines are_done
   running_start ready = record {
     clean = λ c. c;
     count = omega arith;
-    kept = record { site = refl; ready = ready_noted state is_clean first None ready };
+    kept = record { site = refl; ready = ready_noted seen first None ready };
     noticed = λ c. refl;
     bytes = λ c. subst (Appends start start) (sym (nothing_heard (site_labels (site first)) audience.reader)) (Appends-nil start);
     world = λ c. refl;
   }
 
   abbrev w : World
-  w = world_of state first
+  w = world_of seen first
 
   abbrev to : ℕ → List ℕ
   to = printed_to (site first) audience w es
@@ -155,18 +155,18 @@ module _ {B : Type 0} (state : B → State) (is_clean : B → Type 0) (failures 
   abbrev at : ℕ → World
   at = world_after (site first) w es
 
-  module _ (i : ℕ) (now : Engine B) (held : Option (List ℕ)) (r : Running state is_clean failures audience es first start i now held)
-      (e : Event) (within : i < length es) (is : get_or es i e ≡ e) (new : Engine B) (after : Option (List ℕ)) (clean : is_clean new.base → is_clean now.base) where
+  module _ (i : ℕ) (now : Engine B) (held : Option (List ℕ)) (r : Running seen audience es first start i now held)
+      (e : Event) (within : i < length es) (is : get_or es i e ≡ e) (new : Engine B) (after : Option (List ℕ)) (clean : (seen new.base).is_clean → (seen now.base).is_clean) where
     same_site : site now ≡ site first
     same_site = ap site_of r.kept.site
 
-    pub running_more : failures now.base ≤ failures new.base → IsKept state is_clean now new
-        → (is_clean new.base → IsAnswered (site now) audience (world_of state now) e held after (world_of state new))
-        → (is_clean new.base → is_some new.notice ≡ (is_some now.notice || not (is_done (step (site now) (world_of state now) e).reply)))
-        → Running state is_clean failures audience es first start (i + 1) new after
+    pub running_more : (seen now.base).failures ≤ (seen new.base).failures → IsKept seen now new
+        → ((seen new.base).is_clean → IsAnswered (site now) audience (world_of seen now) e held after (world_of seen new))
+        → ((seen new.base).is_clean → is_some new.notice ≡ (is_some now.notice || not (is_done (step (site now) (world_of seen now) e).reply)))
+        → Running seen audience es first start (i + 1) new after
     running_more count kept answer notice =
-        let h : is_clean new.base → IsAnswered (site first) audience (at i) e held after (world_of state new) =
-        λ c. moved (λ p v. IsAnswered p audience v e held after (world_of state new)) (site now) (site first) (world_of state now) (at i) same_site (r.world (clean c)) (answer c) in
+        let h : (seen new.base).is_clean → IsAnswered (site first) audience (at i) e held after (world_of seen new) =
+        λ c. moved (λ p v. IsAnswered p audience v e held after (world_of seen new)) (site now) (site first) (world_of seen now) (at i) same_site (r.world (clean c)) (answer c) in
         record {
           clean = λ c. r.clean (clean c);
           count = least r.count count;
@@ -174,7 +174,7 @@ module _ {B : Type 0} (state : B → State) (is_clean : B → Type 0) (failures 
           bytes = λ c. subst (Appends start after) (sym (printed_more (site first) w es i e within is audience)) (Appends-trans start held after (to i) _ (r.bytes (clean c)) (h c).bytes);
           world = λ c. (h c).world ∙ sym (end_more (site first) w es i e within is);
           noticed = λ c.
-              moved (λ p v. is_some new.notice ≡ (is_some now.notice || not (is_done (step p v e).reply))) (site now) (site first) (world_of state now) (at i) same_site (r.world (clean c)) (notice c)
+              moved (λ p v. is_some new.notice ≡ (is_some now.notice || not (is_done (step p v e).reply))) (site now) (site first) (world_of seen now) (at i) same_site (r.world (clean c)) (notice c)
               ∙ ap (λ b. b || not (is_done (step (site first) (at i) e).reply)) (r.noticed (clean c))
               ∙ not_both (are_done (site first) w (take i es)) (is_done (step (site first) (at i) e).reply)
               ∙ ap not (sym (done_more (site first) w es i e within is));
@@ -183,18 +183,18 @@ module _ {B : Type 0} (state : B → State) (is_clean : B → Type 0) (failures 
         least : {a b c : ℕ} → a ≤ b → b ≤ c → a ≤ c
         least h k = omega arith
 
-    left : (done : Bool) → world_of state new ≡ cond done (step (site first) (at i) e).world (at i) → world_of state new ≡ at (cond done (i + 1) (i + 1 - 1))
+    left : (done : Bool) → world_of seen new ≡ cond done (step (site first) (at i) e).world (at i) → world_of seen new ≡ at (cond done (i + 1) (i + 1 - 1))
     left true h = h ∙ sym (end_more (site first) w es i e within is)
     left false h = h ∙ ap at same
       where
         same : i ≡ i + 1 - 1
         same = omega arith
 
-    stopped_at : (cause : RunCause) (done : Bool) → (is_clean new.base → IsHalted (site now) audience (world_of state now) e held after (world_of state new) cause done) → is_clean new.base
-        → IsStopped (site first) audience w es start after (world_of state new) (record { event = i + 1; cause = cause; done = done })
+    stopped_at : (cause : RunCause) (done : Bool) → ((seen new.base).is_clean → IsHalted (site now) audience (world_of seen now) e held after (world_of seen new) cause done) → (seen new.base).is_clean
+        → IsStopped (site first) audience w es start after (world_of seen new) (record { event = i + 1; cause = cause; done = done })
     stopped_at cause done halt c =
-        let h : IsHalted (site first) audience (at i) e held after (world_of state new) cause done =
-        moved (λ p v. IsHalted p audience v e held after (world_of state new) cause done) (site now) (site first) (world_of state now) (at i) same_site (r.world (clean c)) (halt c) in
+        let h : IsHalted (site first) audience (at i) e held after (world_of seen new) cause done =
+        moved (λ p v. IsHalted p audience v e held after (world_of seen new) cause done) (site now) (site first) (world_of seen now) (at i) same_site (r.world (clean c)) (halt c) in
         record {
           part = h.reply.part;
           rest = h.reply.rest;
@@ -208,8 +208,8 @@ module _ {B : Type 0} (state : B → State) (is_clean : B → Type 0) (failures 
         same : i ≡ i + 1 - 1
         same = omega arith
 
-    pub running_stopped : (f : RunFault) → f.event ≡ i + 1 → (is_clean new.base → IsHalted (site now) audience (world_of state now) e held after (world_of state new) f.cause f.done) → is_clean new.base
-        → IsStopped (site first) audience w es start after (world_of state new) f
+    pub running_stopped : (f : RunFault) → f.event ≡ i + 1 → ((seen new.base).is_clean → IsHalted (site now) audience (world_of seen now) e held after (world_of seen new) f.cause f.done) → (seen new.base).is_clean
+        → IsStopped (site first) audience w es start after (world_of seen new) f
     running_stopped f number halt c =
-        subst (IsStopped (site first) audience w es start after (world_of state new)) (λ j. record { event = sym number j; cause = f.cause; done = f.done })
+        subst (IsStopped (site first) audience w es start after (world_of seen new)) (λ j. record { event = sym number j; cause = f.cause; done = f.done })
         (stopped_at f.cause f.done halt c)

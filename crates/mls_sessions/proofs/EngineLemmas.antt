@@ -3,7 +3,7 @@ use Rattle.std.proofs.Common.{◌≡◌, ℕ, Bool, false, List, length, Option,
 use Rattle.mls_filterview.specs.declared.base.BaseFault.{BaseFault}
 use Rattle.mls_filterview.specs.declared.base.BaseFault.TheVariants as faults
 use Rattle.mls_filterview.specs.Calls.{IsServed}
-use Rattle.mls_filterview.specs.Content.{State, Content}
+use Rattle.mls_filterview.specs.Content.{Seen, Content}
 use Rattle.mls_filterview.specs.Stored.{AreContent}
 use Rattle.mls_lattice.specs.Policy.{Name, Policy}
 use Rattle.mls_scheme.specs.declared.value.Value.{Value}
@@ -107,19 +107,19 @@ not_served e h k = absurd (let both : faults.Memory ≡ faults.Store = sym h ∙
 memory_served : (e : BaseFault) → e ≡ faults.Memory → IsServed e
 memory_served e h = (λ k. (let both : faults.Memory ≡ faults.NotBegun = sym h ∙ k in cc), λ k. (let both : faults.Memory ≡ faults.Begun = sym h ∙ k in cc))
 
-module _ {B : Type 0} (state : B → State) (is_clean : B → Type 0) (failures : B → ℕ) (old : Engine B) (ready : IsEngineReady state is_clean old)
+module _ {B : Type 0} (seen : B → Seen) (old : Engine B) (ready : IsEngineReady seen old)
     (event : Event) (fits : EventFits (site old).policy (site old).schemes event) where
   abbrev w : World
-  w = world_of state old
+  w = world_of seen old
 
   abbrev s : Step
   s = step (site old) w event
 
   abbrev now : B → Content
-  now b = (state b).now
+  now b = (seen b).state.now
 
   abbrev Answered : Engine B → Result Reply BaseFault → Type 0
-  Answered = Answers state is_clean failures old event
+  Answered = Answers seen old event
 
   -- ---- over a base that a call left
 
@@ -130,7 +130,7 @@ module _ {B : Type 0} (state : B → State) (is_clean : B → Type 0) (failures 
     abbrev Over : Result Reply BaseFault → Type 0
     Over r = IfOk r (IsStepOver (site old) X (now old.base) (now b))
 
-    over_turn : (r : Result Reply BaseFault) → IsTurn is_clean failures now old.base b r → IsEngineTurn state is_clean failures old new r
+    over_turn : (r : Result Reply BaseFault) → IsTurn seen now old.base b r → IsEngineTurn seen old new r
     over_turn (Ok r) t = record { clean = t.clean; count = t.count; fault = tt }
     over_turn (Err e) t = record {
       clean = t.clean;
@@ -138,14 +138,14 @@ module _ {B : Type 0} (state : B → State) (is_clean : B → Type 0) (failures 
       fault = record { served = t.fault.served; store = t.fault.store; same = λ c. ap (world_at (site old) (sessions_of old.sessions.items)) (t.fault.same c) };
     }
 
-    over_world : (r : Reply) → IsStepOver (site old) X (now old.base) (now b) r → world_of state new ≡ s.world
+    over_world : (r : Reply) → IsStepOver (site old) X (now old.base) (now b) r → world_of seen new ≡ s.world
     over_world r h = h.world (sessions_of old.sessions.items) ∙ ap (λ (t : Step). t.world) (sym is)
 
-    over_done : (r : Result Reply BaseFault) → Over r → IfOk r (IsEngineStep state old s new)
+    over_done : (r : Result Reply BaseFault) → Over r → IfOk r (IsEngineStep seen old s new)
     over_done (Ok r) h = record { reply = h.reply (sessions_of old.sessions.items) ∙ ap (λ (t : Step). t.reply) (sym is); world = over_world r h }
     over_done (Err e) h = tt
 
-    over_sound : (r : Result Reply BaseFault) → IsTurn is_clean failures now old.base b r → is_clean b → Over r → IsSoundContent (site old).policy (site old).schemes (now b)
+    over_sound : (r : Result Reply BaseFault) → IsTurn seen now old.base b r → (seen b).is_clean → Over r → IsSoundContent (site old).policy (site old).schemes (now b)
     over_sound (Ok r) t c h = record {
       content = subst (AreContent (site_labels (site old)) (site old).schemes) (sym (ap (λ (x : World). x.db) (over_world r h)))
           (step_content (site old) ready.distinct ready.serves.read w event (ready.rest.sound (t.clean c)).content fits);
@@ -155,14 +155,14 @@ module _ {B : Type 0} (state : B → State) (is_clean : B → Type 0) (failures 
 
     -- views of the content that the event leaves
     abbrev Are : Kept → Type 0
-    Are = AreViews (site old).policy is_clean state b
+    Are = AreViews (site old).policy seen b
 
     -- where it leaves the database
-    db_stays : (r : Result Reply BaseFault) → IsTurn is_clean failures now old.base b r → (is_clean b → Over r) → (X w).world.db ≡ w.db → is_clean b → (now b).db ≡ w.db
+    db_stays : (r : Result Reply BaseFault) → IsTurn seen now old.base b r → ((seen b).is_clean → Over r) → (X w).world.db ≡ w.db → (seen b).is_clean → (now b).db ≡ w.db
     db_stays (Ok r) t h same c = ap (λ (x : World). x.db) (over_world r (h c)) ∙ ap (λ (x : Step). x.world.db) is ∙ same
     db_stays (Err e) t h same c = ap (λ (x : Content). x.db) (t.fault.same c)
 
-    pub answers_over : (r : Result Reply BaseFault) → IsTurn is_clean failures now old.base b r → (state b).begun ≡ false → (is_clean b → Over r) → Are views → Answered new r
+    pub answers_over : (r : Result Reply BaseFault) → IsTurn seen now old.base b r → (seen b).state.begun ≡ false → ((seen b).is_clean → Over r) → Are views → Answered new r
     answers_over r t idle h are = record {
       turn = over_turn r t;
       kept = record {
@@ -178,10 +178,10 @@ module _ {B : Type 0} (state : B → State) (is_clean : B → Type 0) (failures 
       done = λ c. over_done r (h c);
     }
 
-    pub answers_stay : (r : Result Reply BaseFault) → IsTurn is_clean failures now old.base b r → (state b).begun ≡ false → (is_clean b → Over r) → (X w).world.db ≡ w.db → views ≡ old.views → Answered new r
+    pub answers_stay : (r : Result Reply BaseFault) → IsTurn seen now old.base b r → (seen b).state.begun ≡ false → ((seen b).is_clean → Over r) → (X w).world.db ≡ w.db → views ≡ old.views → Answered new r
     answers_stay r t idle h same kept =
         answers_over r t idle h
-        (subst Are (sym kept) (kept_same (site old).policy is_clean state old.base b old.views t.clean (db_stays r t h same) ready.views))
+        (subst Are (sym kept) (kept_same (site old).policy seen old.base b old.views t.clean (db_stays r t h same) ready.views))
 
   -- ---- with other sessions
 
@@ -189,7 +189,7 @@ module _ {B : Type 0} (state : B → State) (is_clean : B → Type 0) (failures 
     abbrev with_them : Engine B
     with_them = record old { sessions = sessions }
 
-    them_kept : IsKept state is_clean old with_them
+    them_kept : IsKept seen old with_them
     them_kept = record { site = refl; ready = record { serves = ready.serves; distinct = ready.distinct; users = users; rest = ready.rest; views = ready.views } }
 
     pub answers_closed : sessions_of sessions.items ≡ with_session (sessions_of old.sessions.items) event.level event.session None → s ≡ closed w event → Answered with_them (Ok Closed)
@@ -205,7 +205,7 @@ module _ {B : Type 0} (state : B → State) (is_clean : B → Type 0) (failures 
     abbrev Opens : Result Reply BaseFault → Type 0
     Opens r = IfOk r (IsSessionStep (λ v. step_outside (site old) v event event.command) old.sessions.items sessions.items)
 
-    opened_turn : (r : Result Reply BaseFault) → IfErr r (λ e. e ≡ faults.Memory) → OnErr r (sessions.items ≡ old.sessions.items) → IsEngineTurn state is_clean failures old with_them r
+    opened_turn : (r : Result Reply BaseFault) → IfErr r (λ e. e ≡ faults.Memory) → OnErr r (sessions.items ≡ old.sessions.items) → IsEngineTurn seen old with_them r
     opened_turn (Ok r) memory same = record { clean = λ c. c; count = omega arith; fault = tt }
     opened_turn (Err e) memory same = record {
       clean = λ c. c;
@@ -217,7 +217,7 @@ module _ {B : Type 0} (state : B → State) (is_clean : B → Type 0) (failures 
       };
     }
 
-    opened_done : (r : Result Reply BaseFault) → s ≡ step_outside (site old) w event event.command → Opens r → IfOk r (IsEngineStep state old s with_them)
+    opened_done : (r : Result Reply BaseFault) → s ≡ step_outside (site old) w event event.command → Opens r → IfOk r (IsEngineStep seen old s with_them)
     opened_done (Ok r) is h = record {
       reply = h.reply w.db w.audit ∙ ap (λ (t : Step). t.reply) (sym is);
       world = h.world w.db w.audit ∙ ap (λ (t : Step). t.world) (sym is);

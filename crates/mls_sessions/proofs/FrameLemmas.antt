@@ -1,6 +1,6 @@
 -- What runs leave of an engine and of its base, put together.
 use Rattle.std.proofs.Common.{◌≡◌, ℕ, ◌<◌, ◌≤◌, Result, Ok, Err, IfErr, refl, sym, ap, ◌∙◌, subst, arith, IsErrAnd}
-use Rattle.mls_filterview.specs.Content.{State}
+use Rattle.mls_filterview.specs.Content.{Seen}
 use Rattle.mls_certcheck.specs.Site.{Site}
 use Rattle.mls_script.specs.declared.run_fault.RunCause.TheVariants.{Store, Memory}
 use Rattle.mls_script.specs.declared.run_fault.RunFault.{RunFault}
@@ -20,16 +20,16 @@ least h k = omega arith
 less : {a b c : ℕ} → a ≤ b → b < c → a < c
 less h k = omega arith
 
-module _ {B : Type 0} (state : B → State) (is_clean : B → Type 0) (failures : B → ℕ) where
+module _ {B : Type 0} (seen : B → Seen) where
   abbrev Goes : {A : Type 0} → Engine B → Engine B → Result A RunFault → Type 0
-  Goes = Continues state is_clean failures
+  Goes = Continues seen
 
   -- up to here all went well
   abbrev pub WentWell : Engine B → Engine B → Type 0
   WentWell old now = let all : Result (Unit {0}) RunFault = Ok tt in Goes old now all
 
   -- nothing was done
-  pub goes_nowhere : {A : Type 0} (e : Engine B) → IsEngineReady state is_clean e → (r : Result A RunFault) → IfErr r (λ f. f.cause ≡ Store → ⊥) → Goes e e r
+  pub goes_nowhere : {A : Type 0} (e : Engine B) → IsEngineReady seen e → (r : Result A RunFault) → IfErr r (λ f. f.cause ≡ Store → ⊥) → Goes e e r
   goes_nowhere e ready (Ok a) h = record { clean = λ c. c; count = omega arith; kept = record { site = refl; ready = ready }; store = λ c. tt }
   goes_nowhere e ready (Err f) h = record { clean = λ c. c; count = omega arith; kept = record { site = refl; ready = ready }; store = λ c is. absurd (h is) }
 
@@ -64,20 +64,20 @@ module _ {B : Type 0} (state : B → State) (is_clean : B → Type 0) (failures 
     }
 
   -- a base is given back
-  pub left_behind : {A : Type 0} (base : B) (old new : Engine B) (left : B) (r : Result A RunFault) → old.base ≡ base → left ≡ new.base → Goes old new r → Leaves state is_clean failures base left r
+  pub left_behind : {A : Type 0} (base : B) (old new : Engine B) (left : B) (r : Result A RunFault) → old.base ≡ base → left ≡ new.base → Goes old new r → Leaves seen base left r
   left_behind base old new left r from to h =
-      subst (λ b. Leaves state is_clean failures base b r) (sym to) (subst (λ b. Leaves state is_clean failures b new.base r) from
+      subst (λ b. Leaves seen base b r) (sym to) (subst (λ b. Leaves seen b new.base r) from
       (record { clean = h.clean; idle = h.kept.ready.rest.idle; count = h.count; store = h.store }))
 
   -- at the site that it kept to, the base is at rest, and the world is the one that the engine held
   pub record GivesBack (at : Site) (new : Engine B) (left : B) : Type 0 where
-    pub rest : IsAtRest state is_clean at.policy at.schemes left
-    pub world : world_of state new ≡ world_at at (sessions_of new.sessions.items) (state left).now
+    pub rest : IsAtRest seen at.policy at.schemes left
+    pub world : world_of seen new ≡ world_at at (sessions_of new.sessions.items) (seen left).state.now
 
-  pub given_back : (at : Site) (first new : Engine B) (left : B) → site first ≡ at → IsKept state is_clean first new → left ≡ new.base → GivesBack at new left
+  pub given_back : (at : Site) (first new : Engine B) (left : B) → site first ≡ at → IsKept seen first new → left ≡ new.base → GivesBack at new left
   given_back at first new left from kept to =
       let same : site new ≡ at = ap site_of kept.site ∙ from in
       record {
-        rest = subst (IsAtRest state is_clean at.policy at.schemes) (sym to) (subst (λ (x : Site). IsAtRest state is_clean x.policy x.schemes new.base) same kept.ready.rest);
-        world = λ i. world_at (same i) (sessions_of new.sessions.items) (state (sym to i)).now;
+        rest = subst (IsAtRest seen at.policy at.schemes) (sym to) (subst (λ (x : Site). IsAtRest seen x.policy x.schemes new.base) same kept.ready.rest);
+        world = λ i. world_at (same i) (sessions_of new.sessions.items) (seen (sym to i)).state.now;
       }

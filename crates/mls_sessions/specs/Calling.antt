@@ -6,7 +6,7 @@ use Rattle.mls_lattice.specs.Policy.{Policy, labels_of}
 use Rattle.mls_scheme.specs.declared.value.Value.{Value}
 use Rattle.mls_scheme.specs.Scheme.{Schemes}
 use Rattle.mls_filterview.specs.declared.base.BaseFault.{BaseFault}
-use Rattle.mls_filterview.specs.Content.{State}
+use Rattle.mls_filterview.specs.Content.{Seen, State}
 use Rattle.mls_audit.specs.declared.entry.Entry.{Entry}
 use Rattle.mls_audit.specs.Spelling.{HasSpelling, entry_spelling}
 use Rattle.mls_translang.specs.Tx.{Tx}
@@ -21,17 +21,17 @@ use Rattle.mls_trusted.specs.Runs.{with_database, IsEvaluated, HasItems}
 abbrev pub with_entries : State → List Entry → State
 with_entries s es = record s { now = record { db = s.now.db; audit = s.now.audit ++ map entry_spelling es } }
 
-module _ {Self : Type 0} (state : Self → State) where
+module _ {Self : Type 0} (seen : Self → Seen) where
   -- a change is begun, and an entry can spell the user and the session of an event
   pub record MayEnter (policy : Policy) (event : Event) (user : ℕ) (base : Self) : Type 0 where
-    pub begun : (state base).begun ≡ true
+    pub begun : (seen base).state.begun ≡ true
     pub declared : user < length policy.users
     pub named : is_name event.session ≡ true
 
   -- entries are at the end of the audit list, each as it is spelled
-  pub record HasEntered (is_clean : Self → Type 0) (entries : List Entry) (old new : Self) {A : Type 0}
+  pub record HasEntered (entries : List Entry) (old new : Self) {A : Type 0}
       (result : Result A BaseFault) : Type 0 where
-    pub done : is_clean new → OnOk result (state new ≡ with_entries (state old) entries)
+    pub done : (seen new).is_clean → OnOk result ((seen new).state ≡ with_entries (seen old).state entries)
     pub spelled : OnOk result (AllByRecursion HasSpelling entries)
 
 -- a transaction was read under the policy and the schemes, and has as many arguments as parameters
@@ -44,9 +44,9 @@ abbrev pub run_on : Policy → Schemes → Tx → List (Option Value) → State 
 run_on policy schemes tx args s = run_tx (labels_of policy) schemes tx (fitted tx.params args) s.now.db
 
 -- it is run: what it gave has declared labels and kinds, and is what it means, as the database is that it left
-module _ {Self : Type 0} (is_clean : Self → Type 0) (state : Self → State)
+module _ {Self : Type 0} (seen : Self → Seen)
     (policy : Policy) (schemes : Schemes) (tx : Tx) (args : List (Option Value)) where
   pub record HasRun (old new : Self) (result : Result Run BaseFault) : Type 0 where
     pub items : IfOk result (HasItems policy)
-    pub done : is_clean new → let run = run_on policy schemes tx args (state old) in
-        IfOk result (IsEvaluated run (with_database (state old) run.db) (state new))
+    pub done : (seen new).is_clean → let run = run_on policy schemes tx args (seen old).state in
+        IfOk result (IsEvaluated run (with_database (seen old).state run.db) (seen new).state)

@@ -2,7 +2,7 @@
 use Rattle.std.specs.Prelude.{◌≡◌, ◌≢◌, ℕ, ◌<◌, ◌≤◌, ◌⊎◌, true, false, IfErr, OnOk, OnErr, List, [], ◌++◌, length}
 use Rattle.std.specs.Prelude.{Option, Result, Ok, Err}
 use Rattle.mls_lattice.specs.Policy.{Policy, labels_of}
-use Rattle.mls_filterview.specs.Content.{Content, State, begun_change}
+use Rattle.mls_filterview.specs.Content.{Seen, Content, begun_change}
 use Rattle.mls_filterview.specs.declared.base.BaseFault.{BaseFault}
 use Rattle.mls_audit.specs.declared.entry.Entry.{Entry}
 use Rattle.mls_machine.specs.Output.{printed}
@@ -37,26 +37,27 @@ module _ (policy : Policy) (reader : Option ℕ) (Wrote : List ℕ → Type 0) (
   IsTurned (Ok _) = Wrote (list_text policy reader first) × (left ≡ record { db = first.db; audit = [] })
   IsTurned (Err fault) = KeepsEntries fault.cause
 
-module _ {Self : Type 0} (is_clean : Self → Type 0) (failures : Self → ℕ) (state : Self → State) where
+module _ {Self : Type 0} (seen : Self → Seen) where
   -- a change is begun, and nothing is changed; or it is over
   pub record IsListed {A : Type 0} (old new : Self) (result : Result A BaseFault) : Type 0 where
-    pub turn : IsTurn is_clean failures (λ b. (state b).now) old new result
-    pub over : OnErr result ((state new).begun ≡ false)
-    pub same : is_clean new → OnOk result (state new ≡ begun_change (state old))
-    pub mode : OnOk result ((state new).begun ≡ true)
+    pub turn : IsTurn seen (λ b. (seen b).state.now) old new result
+    pub over : OnErr result ((seen new).state.begun ≡ false)
+    pub same : (seen new).is_clean → OnOk result ((seen new).state ≡ begun_change (seen old).state)
+    pub mode : OnOk result ((seen new).state.begun ≡ true)
 
   -- the list is empty, and the change kept; or the content is that of the last commit
   pub record IsEmptied (old new : Self) (result : Result (Unit {0}) BaseFault) : Type 0 where
-    pub turn : IsTurn is_clean failures (λ b. (state b).kept) old new result
-    pub idle : (state new).begun ≡ false
-    pub done : is_clean new → OnOk result ((state new).now ≡ record { db = (state old).now.db; audit = [] })
-    pub back : is_clean new → OnErr result ((state new).now ≡ (state old).kept)
+    pub turn : IsTurn seen (λ b. (seen b).state.kept) old new result
+    pub idle : (seen new).state.begun ≡ false
+    pub done : (seen new).is_clean → OnOk result ((seen new).state.now
+        ≡ record { db = (seen old).state.now.db; audit = [] })
+    pub back : (seen new).is_clean → OnErr result ((seen new).state.now ≡ (seen old).state.kept)
 
   -- what a turning does to a base; a store that is clean behind it was clean before it
   pub record HasTurned (policy : Policy) (reader : Option ℕ) (Wrote : List ℕ → Type 0) (old new : Self)
       (result : Result (Unit {0}) RunFault) : Type 0 where
-    pub clean : is_clean new → is_clean old
-    pub count : failures old ≤ failures new
-    pub idle : (state new).begun ≡ false
-    pub store : IfErr result (λ f. f.cause ≡ Store → failures old < failures new)
-    pub turned : is_clean new → IsTurned policy reader Wrote (state old).now (state new).now result
+    pub clean : (seen new).is_clean → (seen old).is_clean
+    pub count : (seen old).failures ≤ (seen new).failures
+    pub idle : (seen new).state.begun ≡ false
+    pub store : IfErr result (λ f. f.cause ≡ Store → (seen old).failures < (seen new).failures)
+    pub turned : (seen new).is_clean → IsTurned policy reader Wrote (seen old).state.now (seen new).state.now result

@@ -5,7 +5,7 @@ use Rattle.mls_scheme.specs.Scheme.{AreUnder}
 use Rattle.mls_filterview.specs.declared.base.BaseFault.{BaseFault}
 use Rattle.mls_filterview.specs.declared.base.BaseFault.TheVariants as faults
 use Rattle.mls_filterview.specs.Calls.{IsCall, IsServed}
-use Rattle.mls_filterview.specs.Content.{Content, State}
+use Rattle.mls_filterview.specs.Content.{Seen, Content}
 use Rattle.mls_queries.specs.Views.{Kept, AreViews}
 use Rattle.mls_script.specs.declared.event.Event.{Event}
 use Rattle.mls_script.specs.declared.event.Command.{Command}
@@ -25,17 +25,17 @@ use Rattle.mls_sessions.specs.World.{world_at}
 -- ---- faults
 
 -- of a thing over a store: whether the store is clean, how many calls of it have failed, and what the thing holds
-module _ {Self : Type 0} {Held : Type 0} (is_clean : Self → Type 0) (failures : Self → ℕ) (held : Self → Held) where
+module _ {Self : Type 0} {Held : Type 0} (seen : Self → Seen) (held : Self → Held) where
   -- a fault of the store or of memory, which leaves what is held
   pub record IsUndone (e : BaseFault) (old new : Self) : Type 0 where
     pub served : IsServed e
-    pub store : e ≡ faults.Store → failures old < failures new
-    pub same : is_clean new → held new ≡ held old
+    pub store : e ≡ faults.Store → (seen old).failures < (seen new).failures
+    pub same : (seen new).is_clean → held new ≡ held old
 
   -- a store that is clean after the event was clean before it
   pub record IsTurn {A : Type 0} (old new : Self) (result : Result A BaseFault) : Type 0 where
-    pub clean : is_clean new → is_clean old
-    pub count : failures old ≤ failures new
+    pub clean : (seen new).is_clean → (seen old).is_clean
+    pub count : (seen old).failures ≤ (seen new).failures
     pub fault : IfErr result (λ e. IsUndone e old new)
 
 -- ---- answers
@@ -81,38 +81,38 @@ pub record MayDo (site : Site) (event : Event) (effect : Effect) : Type 0 where
   pub read : AreRead site
   pub asked : IsEffectOf site event effect
 
-module _ {Self : Type 0} (is_clean : Self → Type 0) (failures : Self → ℕ) (state : Self → State) where
+module _ {Self : Type 0} (seen : Self → Seen) where
   -- a step inside a change: it goes on, over what was committed before it; or a fault has ended it
   pub record GoesOn {A : Type 0} (old new : Self) (result : Result A BaseFault) : Type 0 where
-    pub call : IsCall is_clean failures state old new result
+    pub call : IsCall seen old new result
     pub served : IfErr result IsServed
-    pub mode : OnOk result ((state new).begun ≡ true)
-    pub kept : is_clean new → OnOk result ((state new).kept ≡ (state old).kept)
+    pub mode : OnOk result ((seen new).state.begun ≡ true)
+    pub kept : (seen new).is_clean → OnOk result ((seen new).state.kept ≡ (seen old).state.kept)
 
   -- a whole change, or none: it is over
   pub record IsOver {A : Type 0} (old new : Self) (result : Result A BaseFault) : Type 0 where
-    pub turn : IsTurn is_clean failures (λ b. (state b).now) old new result
-    pub idle : (state new).begun ≡ false
+    pub turn : IsTurn seen (λ b. (seen b).state.now) old new result
+    pub idle : (seen new).state.begun ≡ false
 
 -- what an event finds: whether a change is begun, sound content, and views of it
-module _ {Self : Type 0} (is_clean : Self → Type 0) (state : Self → State) where
+module _ {Self : Type 0} (seen : Self → Seen) where
   pub record Finds (site : Site) (begun : Bool) (base : Self) (kept : Kept) : Type 0 where
     pub under : AreUnder (length site.policy.labels) site.schemes
-    pub mode : (state base).begun ≡ begun
-    pub sound : is_clean base → IsSoundContent site.policy site.schemes (state base).now
-    pub views : AreViews site.policy is_clean state base kept
+    pub mode : (seen base).state.begun ≡ begun
+    pub sound : (seen base).is_clean → IsSoundContent site.policy site.schemes (seen base).state.now
+    pub views : AreViews site.policy seen base kept
 
 -- an event that looks: no change is begun, and it is answered as by a step of the machine, by numbers of the policy
-module _ {Self : Type 0} (is_clean : Self → Type 0) (failures : Self → ℕ) (state : Self → State)
+module _ {Self : Type 0} (seen : Self → Seen)
     (site : Site) (step : World → Step) where
   pub record HasLooked (old new : Self) (result : Result Reply BaseFault) : Type 0 where
-    pub over : IsOver is_clean failures state old new result
-    pub done : is_clean new → IfOk result (IsStepOver site step (state old).now (state new).now)
+    pub over : IsOver seen old new result
+    pub done : (seen new).is_clean → IfOk result (IsStepOver site step (seen old).state.now (seen new).state.now)
     pub known : IfOk result (HasKnownNumbers site.policy)
 
 -- a effect is done, and answered by numbers of the policy
-module _ {Self : Type 0} (is_clean : Self → Type 0) (state : Self → State)
+module _ {Self : Type 0} (seen : Self → Seen)
     (site : Site) (event : Event) (effect : Effect) where
   pub record HasDone (old new : Self) (result : Result Reply BaseFault) : Type 0 where
-    pub done : is_clean new → IfOk result (IsDoneOf site event effect (state old).now (state new).now)
+    pub done : (seen new).is_clean → IfOk result (IsDoneOf site event effect (seen old).state.now (seen new).state.now)
     pub known : IfOk result (HasKnownNumbers site.policy)

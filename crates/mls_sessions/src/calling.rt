@@ -87,10 +87,10 @@ fn enter_call<B: Base>(
     user: UserNo,
     name: &str,
 ) -> Result<(), BaseFault>
-    requires may { MayEnter B.state site.now.policy.now event.now user base.old }
+    requires may { MayEnter B.seen site.now.policy.now event.now user base.old }
     requires name { is_name name.now ≡ true }
-    ensures step { GoesOn B.is_clean B.failures B.state base.old base.new result }
-    ensures entered { HasEntered B.state B.is_clean (Called event.now.level
+    ensures step { GoesOn B.seen base.old base.new result }
+    ensures entered { HasEntered B.seen (Called event.now.level
         (user_name site.now.policy.now.users user) event.now.session name.now ∷ []) base.old base.new result }
 {
     let bytes = settle(base, called_bytes(site, event, user, name))?;
@@ -105,10 +105,10 @@ fn enter_release<B: Base>(
     user: UserNo,
     item: &(LabelNo, Option<Value>),
 ) -> Result<(), BaseFault>
-    requires may { MayEnter B.state site.now.policy.now event.now user base.old }
+    requires may { MayEnter B.seen site.now.policy.now event.now user base.old }
     requires item { IsItem site.now.policy.now item.now }
-    ensures step { GoesOn B.is_clean B.failures B.state base.old base.new result }
-    ensures entered { HasEntered B.state B.is_clean
+    ensures step { GoesOn B.seen base.old base.new result }
+    ensures entered { HasEntered B.seen
         (release_entry (site_of site.now) event.now user item.now ∷ []) base.old base.new result }
 {
     let bytes = settle(base, released_bytes(site, event, user, item))?;
@@ -123,10 +123,10 @@ fn enter_releases<B: Base>(
     user: UserNo,
     released: &[(LabelNo, Option<Value>)],
 ) -> Result<(), BaseFault>
-    requires may { MayEnter B.state site.now.policy.now event.now user base.old }
+    requires may { MayEnter B.seen site.now.policy.now event.now user base.old }
     requires items { AllByRecursion (IsItem site.now.policy.now) released.now }
-    ensures step { GoesOn B.is_clean B.failures B.state base.old base.new result }
-    ensures entered { HasEntered B.state B.is_clean
+    ensures step { GoesOn B.seen base.old base.new result }
+    ensures entered { HasEntered B.seen
         (map (release_entry (site_of site.now) event.now user) released.now) base.old base.new result }
 {
     for item in released {
@@ -144,11 +144,11 @@ fn enter_run<B: Base>(
     name: &str,
     released: &[(LabelNo, Option<Value>)],
 ) -> Result<(), BaseFault>
-    requires may { MayEnter B.state site.now.policy.now event.now user base.old }
+    requires may { MayEnter B.seen site.now.policy.now event.now user base.old }
     requires name { is_name name.now ≡ true }
     requires items { AllByRecursion (IsItem site.now.policy.now) released.now }
-    ensures step { GoesOn B.is_clean B.failures B.state base.old base.new result }
-    ensures entered { HasEntered B.state B.is_clean
+    ensures step { GoesOn B.seen base.old base.new result }
+    ensures entered { HasEntered B.seen
         (call_entries (site_of site.now) event.now user name.now released.now) base.old base.new result }
 {
     enter_call(site, base, event, user, name)?;
@@ -163,12 +163,12 @@ fn run_certified<B: Base>(
     certified: &Certified,
     args: &[Option<Value>],
 ) -> Result<Run, BaseFault>
-    requires found { Finds B.is_clean B.state (site_of site.now) true base.old views.old }
+    requires found { Finds B.seen (site_of site.now) true base.old views.old }
     requires may { MayRun site.now.policy.now site.now.schemes.now certified.now.tx args.now }
-    ensures step { GoesOn B.is_clean B.failures B.state base.old base.new result }
-    ensures run { HasRun B.is_clean B.state site.now.policy.now site.now.schemes.now certified.now.tx args.now
+    ensures step { GoesOn B.seen base.old base.new result }
+    ensures run { HasRun B.seen site.now.policy.now site.now.schemes.now certified.now.tx args.now
         base.old base.new result }
-    ensures views { OnOk result (AreViews site.now.policy.now B.is_clean B.state base.new views.new) }
+    ensures views { OnOk result (AreViews site.now.policy.now B.seen base.new views.new) }
 {
     let args = settle(base, fitted(site.alloc, certified.tx(), args))?;
     evaluate_in(
@@ -190,12 +190,12 @@ pub(crate) fn call<B: Base>(
     event: &Event,
     user: UserNo,
 ) -> Result<Reply, BaseFault>
-    requires found { Finds B.is_clean B.state (site_of site.now) true base.old views.old }
+    requires found { Finds B.seen (site_of site.now) true base.old views.old }
     requires may { MayDo (site_of site.now) event.now (Effect.Call user) }
-    ensures step { GoesOn B.is_clean B.failures B.state base.old base.new result }
-    ensures done { HasDone B.is_clean B.state (site_of site.now) event.now (Effect.Call user) base.old base.new
+    ensures step { GoesOn B.seen base.old base.new result }
+    ensures done { HasDone B.seen (site_of site.now) event.now (Effect.Call user) base.old base.new
         result }
-    ensures views { OnOk result (AreViews site.now.policy.now B.is_clean B.state base.new views.new) }
+    ensures views { OnOk result (AreViews site.now.policy.now B.seen base.new views.new) }
 {
     let Command::Call { tx, args } = &event.command else {
         unreachable!()

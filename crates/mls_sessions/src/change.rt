@@ -60,10 +60,10 @@ fn enter<B: Base>(
     user: UserNo,
     denial: Denial,
 ) -> Result<Reply, BaseFault>
-    requires begun { (B.state base.old).begun ≡ true }
+    requires begun { (B.seen base.old).state.begun ≡ true }
     requires may { MayDo (site_of site.now) event.now (Effect.Deny user denial) }
-    ensures step { GoesOn B.is_clean B.failures B.state base.old base.new result }
-    ensures done { HasDone B.is_clean B.state (site_of site.now) event.now (Effect.Deny user denial) base.old base.new
+    ensures step { GoesOn B.seen base.old base.new result }
+    ensures done { HasDone B.seen (site_of site.now) event.now (Effect.Deny user denial) base.old base.new
         result }
 {
     let bytes = settle(base, denial_bytes(site, event, user, denial))?;
@@ -78,11 +78,11 @@ fn write<B: Base>(
     views: &mut Views,
     event: &Event,
 ) -> Result<Reply, BaseFault>
-    requires found { Finds B.is_clean B.state (site_of site.now) true base.old views.old }
+    requires found { Finds B.seen (site_of site.now) true base.old views.old }
     requires may { MayDo (site_of site.now) event.now Effect.Write }
-    ensures step { GoesOn B.is_clean B.failures B.state base.old base.new result }
-    ensures done { HasDone B.is_clean B.state (site_of site.now) event.now Effect.Write base.old base.new result }
-    ensures views { OnOk result (AreViews site.now.policy.now B.is_clean B.state base.new views.new) }
+    ensures step { GoesOn B.seen base.old base.new result }
+    ensures done { HasDone B.seen (site_of site.now) event.now Effect.Write base.old base.new result }
+    ensures views { OnOk result (AreViews site.now.policy.now B.seen base.new views.new) }
 {
     let Command::Write { relation, write } = &event.command else {
         unreachable!()
@@ -107,11 +107,11 @@ fn act<B: Base>(
     event: &Event,
     effect: Effect,
 ) -> Result<Reply, BaseFault>
-    requires found { Finds B.is_clean B.state (site_of site.now) true base.old views.old }
+    requires found { Finds B.seen (site_of site.now) true base.old views.old }
     requires may { MayDo (site_of site.now) event.now effect }
-    ensures step { GoesOn B.is_clean B.failures B.state base.old base.new result }
-    ensures done { HasDone B.is_clean B.state (site_of site.now) event.now effect base.old base.new result }
-    ensures views { OnOk result (AreViews site.now.policy.now B.is_clean B.state base.new views.new) }
+    ensures step { GoesOn B.seen base.old base.new result }
+    ensures done { HasDone B.seen (site_of site.now) event.now effect base.old base.new result }
+    ensures views { OnOk result (AreViews site.now.policy.now B.seen base.new views.new) }
 {
     match effect {
         Effect::Deny { user, denial } => enter(site, base, event, user, denial),
@@ -128,11 +128,11 @@ fn carry_out<B: Base>(
     event: &Event,
     effect: Effect,
 ) -> Result<Reply, BaseFault>
-    requires found { Finds B.is_clean B.state (site_of site.now) false base.old views.old }
+    requires found { Finds B.seen (site_of site.now) false base.old views.old }
     requires may { MayDo (site_of site.now) event.now effect }
-    ensures over { IsOver B.is_clean B.failures B.state base.old base.new result }
-    ensures done { HasDone B.is_clean B.state (site_of site.now) event.now effect base.old base.new result }
-    ensures views { OnOk result (AreViews site.now.policy.now B.is_clean B.state base.new views.new) }
+    ensures over { IsOver B.seen base.old base.new result }
+    ensures done { HasDone B.seen (site_of site.now) event.now effect base.old base.new result }
+    ensures views { OnOk result (AreViews site.now.policy.now B.seen base.new views.new) }
 {
     base.begin()?;
     let reply = act(site, base, views, event, effect)?;
@@ -148,11 +148,11 @@ pub(crate) fn change<B: Base>(
     event: &Event,
     effect: Effect,
 ) -> Result<Reply, BaseFault>
-    requires found { Finds B.is_clean B.state (site_of site.now) false base.old views.old }
+    requires found { Finds B.seen (site_of site.now) false base.old views.old }
     requires may { MayDo (site_of site.now) event.now effect }
-    ensures over { IsOver B.is_clean B.failures B.state base.old base.new result }
-    ensures done { HasDone B.is_clean B.state (site_of site.now) event.now effect base.old base.new result }
-    ensures views { AreViews site.now.policy.now B.is_clean B.state base.new views.new }
+    ensures over { IsOver B.seen base.old base.new result }
+    ensures done { HasDone B.seen (site_of site.now) event.now effect base.old base.new result }
+    ensures views { AreViews site.now.policy.now B.seen base.new views.new }
 {
     let result = carry_out(site, base, views, event, effect);
     if result.is_err() {

@@ -42,12 +42,12 @@ impl<'a, B: Base> Engine<'a, B> {
         stored: Items<Stored>,
     ) -> Engine<'a, B>
         requires serves { MayServe (site_of policy.now schemes.now stored) }
-        requires rest { IsAtRest B.state B.is_clean policy.now schemes.now base }
+        requires rest { IsAtRest B.seen policy.now schemes.now base }
         ensures base { result.base ≡ base }
         ensures site { site result ≡ site_of policy.now schemes.now stored }
-        ensures world { world_of B.state result
-            ≡ world_at (site_of policy.now schemes.now stored) no_sessions (B.state base).now }
-        ensures ready { IsEngineReady B.state B.is_clean result }
+        ensures world { world_of B.seen result
+            ≡ world_at (site_of policy.now schemes.now stored) no_sessions (B.seen base).state.now }
+        ensures ready { IsEngineReady B.seen result }
     {
         policy.use_invariant();
         let site = RunSite {
@@ -81,7 +81,7 @@ impl<'a, B: Base> Engine<'a, B> {
 
     /// Whether the session of a level and a name is open.
     pub fn is_open(&self, level: LabelNo, name: &str) -> bool
-        ensures { result ≡ is_some ((world_of B.state self.now).sessions level name.now) }
+        ensures { result ≡ is_some ((world_of B.seen self.now).sessions level name.now) }
     {
         user_of(&self.sessions, level, name).is_some()
     }
@@ -95,10 +95,10 @@ impl<'a, B: Base> Engine<'a, B> {
 
     /// Answers an event whose session is not open. It asks nothing of the base.
     fn outside(&mut self, event: &Event) -> Result<Reply, BaseFault>
-        requires ready { IsEngineReady B.state B.is_clean self.old }
+        requires ready { IsEngineReady B.seen self.old }
         requires fits { EventFits (site self.old).policy (site self.old).schemes event.now }
         requires closed { sessions_of self.old.sessions.items event.now.level event.now.session ≡ None }
-        ensures answers { Answers B.state B.is_clean B.failures self.old event.now self.new result }
+        ensures answers { Answers B.seen self.old event.now self.new result }
         ensures known { IfOk result (HasKnownNumbers (site self.old).policy) }
     {
         open(&self.site, &mut self.sessions, event)
@@ -106,10 +106,10 @@ impl<'a, B: Base> Engine<'a, B> {
 
     /// Answers an event of the open session of a user.
     fn inside(&mut self, event: &Event, user: UserNo) -> Result<Reply, BaseFault>
-        requires ready { IsEngineReady B.state B.is_clean self.old }
+        requires ready { IsEngineReady B.seen self.old }
         requires fits { EventFits (site self.old).policy (site self.old).schemes event.now }
         requires held { sessions_of self.old.sessions.items event.now.level event.now.session ≡ Some user }
-        ensures answers { Answers B.state B.is_clean B.failures self.old event.now self.new result }
+        ensures answers { Answers B.seen self.old event.now self.new result }
         ensures known { IfOk result (HasKnownNumbers (site self.old).policy) }
     {
         if let Some(denial) = denial_of(&self.site, event.level, user, &event.command) {
@@ -153,9 +153,9 @@ impl<'a, B: Base> Engine<'a, B> {
     /// `Store` comes where the store fails, `Memory` where a growth is refused; content, sessions and the audit list are
     /// then as they were before the event.
     pub fn step(&mut self, event: &Event) -> Result<Reply, BaseFault>
-        requires ready { IsEngineReady B.state B.is_clean self.old }
+        requires ready { IsEngineReady B.seen self.old }
         requires fits { EventFits (site self.old).policy (site self.old).schemes event.now }
-        ensures answers { Answers B.state B.is_clean B.failures self.old event.now self.new result }
+        ensures answers { Answers B.seen self.old event.now self.new result }
         ensures known { IfOk result (HasKnownNumbers (site self.old).policy) }
     {
         match user_of(&self.sessions, event.level, &event.session) {

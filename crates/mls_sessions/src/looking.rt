@@ -30,12 +30,12 @@ pub(crate) fn look<B: Base>(
     label: LabelNo,
     query: &Query,
 ) -> Result<Reply, BaseFault>
-    requires found { Finds B.is_clean B.state (site_of site.now) false base.old views.old }
+    requires found { Finds B.seen (site_of site.now) false base.old views.old }
     requires relation { relation < length site.now.schemes.now }
     requires label { label < length site.now.policy.now.labels }
-    ensures looked { HasLooked B.is_clean B.failures B.state (site_of site.now)
+    ensures looked { HasLooked B.seen (site_of site.now)
         (λ w. viewed (site_of site.now) w relation label query.now) base.old base.new result }
-    ensures views { AreViews site.now.policy.now B.is_clean B.state base.new views.new }
+    ensures views { AreViews site.now.policy.now B.seen base.new views.new }
 {
     let found = find(
         site.alloc,
@@ -57,10 +57,11 @@ pub(crate) fn dump<B: Base>(
     relation: RelNo,
     level: LabelNo,
 ) -> Result<Reply, BaseFault>
-    requires idle { (B.state base.old).begun ≡ false }
+    requires idle { (B.seen base.old).state.begun ≡ false }
     requires level { level < length site.now.policy.now.labels }
-    requires sound { B.is_clean base.old → IsSoundContent site.now.policy.now site.now.schemes.now (B.state base.old).now }
-    ensures { HasLooked B.is_clean B.failures B.state (site_of site.now)
+    requires sound { (B.seen base.old).is_clean → IsSoundContent site.now.policy.now site.now.schemes.now
+        (B.seen base.old).state.now }
+    ensures { HasLooked B.seen (site_of site.now)
         (λ w. dumped (site_of site.now) w relation level) base.old base.new result }
 {
     let tuples = low_tuples(site.alloc, base, site.policy, relation, level)?;
@@ -126,9 +127,9 @@ pub(crate) fn audit<B: Base>(
     base: &mut B,
     level: LabelNo,
 ) -> Result<Reply, BaseFault>
-    requires idle { (B.state base.old).begun ≡ false }
+    requires idle { (B.seen base.old).state.begun ≡ false }
     requires level { level < length site.now.policy.now.labels }
-    ensures { HasLooked B.is_clean B.failures B.state (site_of site.now)
+    ensures { HasLooked B.seen (site_of site.now)
         (λ w. listed (site_of site.now) w level) base.old base.new result }
 {
     let strings = base.audit_all()?;

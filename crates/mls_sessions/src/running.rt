@@ -61,20 +61,20 @@ fn answer<B: Base, W: Write>(
     audience: &Audience,
     out: &mut W,
 ) -> Result<(), RunFault>
-    requires ready { IsEngineReady B.state B.is_clean engine.old }
+    requires ready { IsEngineReady B.seen engine.old }
     requires fits { EventFits (site engine.old).policy (site engine.old).schemes event.now }
     requires reader { IfSome audience.now.reader (λ c. c < length (site engine.old).policy.labels) }
-    ensures continues { Continues B.state B.is_clean B.failures engine.old engine.new result }
-    ensures done { B.is_clean engine.new.base → OnOk result (IsAnswered (site engine.old) audience.now
-        (world_of B.state engine.old) event.now
-        (W.contents out.old) (W.contents out.new) (world_of B.state engine.new)) }
-    ensures stopped { B.is_clean engine.new.base → IfErr result
-        (λ f. IsHalted (site engine.old) audience.now (world_of B.state engine.old) event.now
-        (W.contents out.old) (W.contents out.new) (world_of B.state engine.new) f.cause f.done) }
+    ensures continues { Continues B.seen engine.old engine.new result }
+    ensures done { (B.seen engine.new.base).is_clean → OnOk result (IsAnswered (site engine.old) audience.now
+        (world_of B.seen engine.old) event.now
+        (W.contents out.old) (W.contents out.new) (world_of B.seen engine.new)) }
+    ensures stopped { (B.seen engine.new.base).is_clean → IfErr result
+        (λ f. IsHalted (site engine.old) audience.now (world_of B.seen engine.old) event.now
+        (W.contents out.old) (W.contents out.new) (world_of B.seen engine.new) f.cause f.done) }
     ensures fault { IfErr result (λ f. (f.event ≡ number) × (f.cause ≡ RunCause.Write → f.done ≡ true)) }
-    ensures noticed { B.is_clean engine.new.base → OnOk result (is_some engine.new.notice
+    ensures noticed { (B.seen engine.new.base).is_clean → OnOk result (is_some engine.new.notice
         ≡ (is_some engine.old.notice || not (is_done
-        (step (site engine.old) (world_of B.state engine.old) event.now).reply))) }
+        (step (site engine.old) (world_of B.seen engine.old) event.now).reply))) }
 {
     let earlier = engine.notice;
     let reply = match engine.step(event) {
@@ -107,26 +107,26 @@ pub fn run_to<B: Base, W: Write>(
     audience: Audience,
     out: &mut W,
 ) -> Result<(), RunFault>
-    requires ready { IsEngineReady B.state B.is_clean engine.old }
+    requires ready { IsEngineReady B.seen engine.old }
     requires fits { EventsFit (site engine.old) events.now }
     requires reader { IfSome audience.reader (λ c. c < length (site engine.old).policy.labels) }
-    ensures continues { Continues B.state B.is_clean B.failures engine.old engine.new result }
-    ensures ok { B.is_clean engine.new.base → OnOk result (IsWhole (site engine.old) audience
-        (world_of B.state engine.old) events.now
-        (W.contents out.old) (W.contents out.new) (world_of B.state engine.new)) }
-    ensures err { B.is_clean engine.new.base → IfErr result (IsStopped (site engine.old) audience
-        (world_of B.state engine.old) events.now
-        (W.contents out.old) (W.contents out.new) (world_of B.state engine.new)) }
+    ensures continues { Continues B.seen engine.old engine.new result }
+    ensures ok { (B.seen engine.new.base).is_clean → OnOk result (IsWhole (site engine.old) audience
+        (world_of B.seen engine.old) events.now
+        (W.contents out.old) (W.contents out.new) (world_of B.seen engine.new)) }
+    ensures err { (B.seen engine.new.base).is_clean → IfErr result (IsStopped (site engine.old) audience
+        (world_of B.seen engine.old) events.now
+        (W.contents out.old) (W.contents out.new) (world_of B.seen engine.new)) }
     ensures fault { IfErr result (IsFaultOf events.now) }
     // Each database on the way has the four integrity properties.
-    ensures integrity { B.is_clean engine.new.base → KeepsIntegrity (site engine.old)
-        (world_of B.state engine.old) events.now }
+    ensures integrity { (B.seen engine.new.base).is_clean → KeepsIntegrity (site engine.old)
+        (world_of B.seen engine.old) events.now }
     // No information flows down but what is released: over all events, and over the first n of them.
-    ensures secret { B.is_clean engine.new.base → (n : ℕ) → PassesOnlyReleasesDown (site engine.old)
-        (world_of B.state engine.old) (take n events.now) }
+    ensures secret { (B.seen engine.new.base).is_clean → (n : ℕ) → PassesOnlyReleasesDown (site engine.old)
+        (world_of B.seen engine.old) (take n events.now) }
     // There is a notice afterwards where an event was not done.
-    ensures noticed { B.is_clean engine.new.base → OnOk result (is_some engine.new.notice
-        ≡ not (are_done (site engine.old) (world_of B.state engine.old) events.now)) }
+    ensures noticed { (B.seen engine.new.base).is_clean → OnOk result (is_some engine.new.notice
+        ≡ not (are_done (site engine.old) (world_of B.seen engine.old) events.now)) }
 {
     engine.notice = None;
     let audience = &audience;
@@ -142,20 +142,20 @@ pub fn run<B: Base, W: Write>(
     events: &[Event],
     out: &mut W,
 ) -> Result<(), RunFault>
-    requires ready { IsEngineReady B.state B.is_clean engine.old }
+    requires ready { IsEngineReady B.seen engine.old }
     requires fits { EventsFit (site engine.old) events.now }
-    ensures continues { Continues B.state B.is_clean B.failures engine.old engine.new result }
-    ensures ok { B.is_clean engine.new.base → OnOk result (IsWhole (site engine.old) everyone
-        (world_of B.state engine.old) events.now
-        (W.contents out.old) (W.contents out.new) (world_of B.state engine.new)) }
-    ensures err { B.is_clean engine.new.base → IfErr result (IsStopped (site engine.old) everyone
-        (world_of B.state engine.old) events.now
-        (W.contents out.old) (W.contents out.new) (world_of B.state engine.new)) }
+    ensures continues { Continues B.seen engine.old engine.new result }
+    ensures ok { (B.seen engine.new.base).is_clean → OnOk result (IsWhole (site engine.old) everyone
+        (world_of B.seen engine.old) events.now
+        (W.contents out.old) (W.contents out.new) (world_of B.seen engine.new)) }
+    ensures err { (B.seen engine.new.base).is_clean → IfErr result (IsStopped (site engine.old) everyone
+        (world_of B.seen engine.old) events.now
+        (W.contents out.old) (W.contents out.new) (world_of B.seen engine.new)) }
     ensures fault { IfErr result (IsFaultOf events.now) }
-    ensures integrity { B.is_clean engine.new.base → KeepsIntegrity (site engine.old)
-        (world_of B.state engine.old) events.now }
-    ensures secret { B.is_clean engine.new.base → (n : ℕ) → PassesOnlyReleasesDown (site engine.old)
-        (world_of B.state engine.old) (take n events.now) }
+    ensures integrity { (B.seen engine.new.base).is_clean → KeepsIntegrity (site engine.old)
+        (world_of B.seen engine.old) events.now }
+    ensures secret { (B.seen engine.new.base).is_clean → (n : ℕ) → PassesOnlyReleasesDown (site engine.old)
+        (world_of B.seen engine.old) (take n events.now) }
 {
     let everyone = Audience {
         reader: None,

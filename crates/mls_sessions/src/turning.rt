@@ -44,11 +44,11 @@ fn begin<B: Base>(
     base: &mut B,
     reader: Option<LabelNo>,
 ) -> Result<Vec<u8>, BaseFault>
-    requires idle { (B.state base.old).begun ≡ false }
+    requires idle { (B.seen base.old).state.begun ≡ false }
     requires reader { IfSome reader (λ c. c < length policy.now.labels) }
-    ensures listed { IsListed B.is_clean B.failures B.state base.old base.new result }
-    ensures text { B.is_clean base.new → IfOk result
-        (λ v. v.items ≡ list_text policy.now reader (B.state base.old).now) }
+    ensures listed { IsListed B.seen base.old base.new result }
+    ensures text { (B.seen base.new).is_clean → IfOk result
+        (λ v. v.items ≡ list_text policy.now reader (B.seen base.old).state.now) }
 {
     base.begin()?;
     let strings = base.audit_all()?;
@@ -57,8 +57,8 @@ fn begin<B: Base>(
 
 /// Empties the list, and keeps the change.
 fn empty<B: Base>(base: &mut B) -> Result<(), BaseFault>
-    requires begun { (B.state base.old).begun ≡ true }
-    ensures { IsEmptied B.is_clean B.failures B.state base.old base.new result }
+    requires begun { (B.seen base.old).state.begun ≡ true }
+    ensures { IsEmptied B.seen base.old base.new result }
 {
     base.audit_clear()?;
     base.commit()
@@ -73,9 +73,9 @@ pub fn turn<B: Base, W: Write>(
     reader: Option<LabelNo>,
     out: &mut W,
 ) -> Result<(), RunFault>
-    requires idle { (B.state base.old).begun ≡ false }
+    requires idle { (B.seen base.old).state.begun ≡ false }
     requires reader { IfSome reader (λ c. c < length policy.now.labels) }
-    ensures { HasTurned B.is_clean B.failures B.state policy.now reader (Appends (W.contents out.old) (W.contents out.new))
+    ensures { HasTurned B.seen policy.now reader (Appends (W.contents out.old) (W.contents out.new))
         base.old base.new result }
 {
     let text = match begin(alloc, policy, base, reader) {

@@ -8,7 +8,7 @@ use Rattle.mls_scheme.specs.declared.value.Value.{Value}
 use Rattle.mls_scheme.specs.declared.tuple.Tuple.{Tuple}
 use Rattle.mls_scheme.specs.Table.{Database}
 use Rattle.mls_scheme.specs.Scheme.{Schemes, scheme_of}
-use Rattle.mls_filterview.specs.Content.{State, begun_change, committed}
+use Rattle.mls_filterview.specs.Content.{Seen, State, begun_change, committed}
 use Rattle.mls_translang.specs.Tx.{Tx, IsTx}
 use Rattle.mls_translang.specs.Fits.{IsReadUnder}
 use Rattle.mls_certcheck.specs.declared.run.Run.{Run}
@@ -47,17 +47,17 @@ module _ (call : Call) where
     released = subst (AllByRecursion (IsItem call.policy.now)) (sym q) (all_items call.policy.now call.tx.now.hi g.released.items i.released);
   }
 
-  module _ {B : Type 0} (is_clean : B → Type 0) (state : B → State) where
+  module _ {B : Type 0} (seen : B → Seen) where
     pub gives_run : (a c : B) (f g : Frame) (r : Run) → ((db : Database) → progress_of db f ≡ start db) → f.rows.items ≡ []
-        → IsRun call is_clean state (run_of call call.tx.now.body (around_of f)) a c f g → r.emitted ≡ g.emitted.items → r.released ≡ g.released.items → is_clean c
-        → (let run = run_tx (labels_of call.policy.now) call.schemes.now call.tx.now call.args.now (state a).now.db in IsEvaluated run (with_database (state a) run.db) (state c) r)
+        → IsRun call seen (run_of call call.tx.now.body (around_of f)) a c f g → r.emitted ≡ g.emitted.items → r.released ≡ g.released.items → (seen c).is_clean
+        → (let run = run_tx (labels_of call.policy.now) call.schemes.now call.tx.now call.args.now (seen a).state.now.db in IsEvaluated run (with_database (seen a).state run.db) (seen c).state r)
     gives_run a c f g r first none ran e q k =
-        let run = run_tx (labels_of call.policy.now) call.schemes.now call.tx.now call.args.now (state a).now.db in
-        let p : progress_of (state c).now.db g ≡ run = ran.progress k ∙ (λ i. run_of call call.tx.now.body (sym (outside f none) i) (first (state a).now.db i)) in
+        let run = run_tx (labels_of call.policy.now) call.schemes.now call.tx.now call.args.now (seen a).state.now.db in
+        let p : progress_of (seen c).state.now.db g ≡ run = ran.progress k ∙ (λ i. run_of call call.tx.now.body (sym (outside f none) i) (first (seen a).state.now.db i)) in
         record {
           emitted = e ∙ ap (λ s. s.emitted) p;
           released = q ∙ ap (λ s. s.released) p;
-          state = ran.rest k ∙ ap (λ s. with_database (state a) s.db) p;
+          state = ran.rest k ∙ ap (λ s. with_database (seen a).state s.db) p;
         }
 
 -- ---- a change of its own

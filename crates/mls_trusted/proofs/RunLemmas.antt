@@ -10,7 +10,7 @@ use Rattle.mls_scheme.specs.declared.tuple.Tuple.{Tuple}
 use Rattle.mls_scheme.specs.Table.{Database}
 use Rattle.mls_scheme.specs.Scheme.{Schemes, scheme_of}
 use Rattle.mls_filterview.specs.declared.base.BaseFault.{BaseFault}
-use Rattle.mls_filterview.specs.Content.{State}
+use Rattle.mls_filterview.specs.Content.{Seen}
 use Rattle.mls_filterview.specs.View.{rows}
 use Rattle.mls_filterview.specs.Stored.{AreContent}
 use Rattle.mls_translang.specs.declared.block.Stmt.{Stmt}
@@ -96,38 +96,38 @@ loop_same call name relation label body around s = refl
 
 -- ---- what is run
 
-module _ (call : Call) {B : Type 0} (is_clean : B → Type 0) (state : B → State) where
+module _ (call : Call) {B : Type 0} (seen : B → Seen) where
   abbrev Ran : (Progress → Progress) → B → B → Frame → Frame → Type 0
-  Ran = IsRun call is_clean state
+  Ran = IsRun call seen
 
   -- nothing
-  pub run_start : (run : Progress → Progress) (base : B) (f : Frame) → ((s : Progress) → s ≡ run s) → IsCallReady call is_clean state base f → Ran run base base f f
-  run_start run base f e h = record { ready = h; rows = refl; rest = λ k. refl; progress = λ k. e (progress_of (state base).now.db f) }
+  pub run_start : (run : Progress → Progress) (base : B) (f : Frame) → ((s : Progress) → s ≡ run s) → IsCallReady call seen base f → Ran run base base f f
+  run_start run base f e h = record { ready = h; rows = refl; rest = λ k. refl; progress = λ k. e (progress_of (seen base).state.now.db f) }
 
   -- one part after another
-  run_then : (first second run : Progress → Progress) (a b c : B) (f g h : Frame) → ((s : Progress) → run s ≡ second (first s)) → (is_clean c → is_clean b) → Ran first a b f g → Ran second b c g h → Ran run a c f h
+  run_then : (first second run : Progress → Progress) (a b c : B) (f g h : Frame) → ((s : Progress) → run s ≡ second (first s)) → ((seen c).is_clean → (seen b).is_clean) → Ran first a b f g → Ran second b c g h → Ran run a c f h
   run_then first second run a b c f g h e back p q = record {
     ready = q.ready;
     rows = q.rows ∙ p.rows;
-    rest = λ k. q.rest k ∙ ap (λ s. with_database s (state c).now.db) (p.rest (back k));
-    progress = λ k. q.progress k ∙ ap second (p.progress (back k)) ∙ sym (e (progress_of (state a).now.db f));
+    rest = λ k. q.rest k ∙ ap (λ s. with_database s (seen c).state.now.db) (p.rest (back k));
+    progress = λ k. q.progress k ∙ ap second (p.progress (back k)) ∙ sym (e (progress_of (seen a).state.now.db f));
   }
 
   -- the same part, said otherwise
   run_same : (one other : Progress → Progress) (a b : B) (f g : Frame) → ((db : Database) → one (progress_of db f) ≡ other (progress_of db f)) → Ran one a b f g → Ran other a b f g
-  run_same one other a b f g e p = record { ready = p.ready; rows = p.rows; rest = p.rest; progress = λ k. p.progress k ∙ e (state a).now.db }
+  run_same one other a b f g e p = record { ready = p.ready; rows = p.rows; rest = p.rest; progress = λ k. p.progress k ∙ e (seen a).state.now.db }
 
   -- a part that leaves the base
-  run_step : (run : Progress → Progress) (a b : B) (f g : Frame) → b ≡ a → IsCallReady call is_clean state a f → IsStep call run f g → Ran run a b f g
+  run_step : (run : Progress → Progress) (a b : B) (f g : Frame) → b ≡ a → IsCallReady call seen a f → IsStep call run f g → Ran run a b f g
   run_step run a b f g same h p = subst (λ (x : B). Ran run a x f g) (sym same) (record {
-    ready = record { under = h.under; begun = h.begun; content = h.content; frame = p.frame; views = subst (AreViews call.policy.now is_clean state a) (sym p.views) h.views };
+    ready = record { under = h.under; begun = h.begun; content = h.content; frame = p.frame; views = subst (AreViews call.policy.now seen a) (sym p.views) h.views };
     rows = p.rows;
     rest = λ k. refl;
-    progress = λ k. p.progress (state a).now.db;
+    progress = λ k. p.progress (seen a).state.now.db;
   })
 
   -- one more statement of a block
-  pub run_stmts : (xs : List Stmt) (i : ℕ) (x : Stmt) → x ≡ get_or xs i x → i < length xs → (a b c : B) (f g h : Frame) → (is_clean c → is_clean b)
+  pub run_stmts : (xs : List Stmt) (i : ℕ) (x : Stmt) → x ≡ get_or xs i x → i < length xs → (a b c : B) (f g h : Frame) → ((seen c).is_clean → (seen b).is_clean)
       → Ran (run_of call (block_of (take i xs)) (around_of f)) a b f g → Ran (run_of call (block_of (x ∷ [])) (around_of g)) b c g h → Ran (run_of call (block_of (take (i + 1) xs)) (around_of f)) a c f h
   run_stmts xs i x is within a b c f g h back p q =
       let more : take (i + 1) xs ≡ take i xs ++ x ∷ [] = take_more xs i x within ∙ ap (λ y. take i xs ++ y ∷ []) (sym is) in
@@ -136,15 +136,15 @@ module _ (call : Call) {B : Type 0} (is_clean : B → Type 0) (state : B → Sta
       back p (subst (λ (around : List Tuple). Ran (run_of call (block_of (x ∷ [])) around) b c g h) (ap reverse p.rows) q)
 
   -- one more row of a loop
-  pub run_rows_more : (body : Block) (rows : List Tuple) (row : Tuple) (a b c : B) (f g h : Frame) → (is_clean c → is_clean b)
+  pub run_rows_more : (body : Block) (rows : List Tuple) (row : Tuple) (a b c : B) (f g h : Frame) → ((seen c).is_clean → (seen b).is_clean)
       → Ran (rows_of call body (around_of f) rows) a b f g → Ran (run_of call body (row ∷ around_of g)) b c g h → Ran (rows_of call body (around_of f) (rows ++ row ∷ [])) a c f h
   run_rows_more body rows row a b c f g h back p q =
       run_then _ _ _ a b c f g h (λ s. for_each_last (λ r t. run_of call body (r ∷ around_of f) t) rows row s) back p
       (subst (λ (around : List Tuple). Ran (run_of call body (row ∷ around)) b c g h) (ap reverse p.rows) q)
 
   -- the base may have been read
-  pub ready_read : (a b : B) (f : Frame) (kept : Kept) → (is_clean b → is_clean a) → (state b).begun ≡ true → (is_clean b → state b ≡ state a)
-      → AreViews call.policy.now is_clean state b kept → IsCallReady call is_clean state a f → IsCallReady call is_clean state b (record f { views = kept })
+  pub ready_read : (a b : B) (f : Frame) (kept : Kept) → ((seen b).is_clean → (seen a).is_clean) → (seen b).state.begun ≡ true → ((seen b).is_clean → (seen b).state ≡ (seen a).state)
+      → AreViews call.policy.now seen b kept → IsCallReady call seen a f → IsCallReady call seen b (record f { views = kept })
   ready_read a b f kept back begun same views h = record {
     under = h.under;
     begun = begun;
@@ -156,13 +156,13 @@ module _ (call : Call) {B : Type 0} (is_clean : B → Type 0) (state : B → Sta
   -- ---- inside a loop
 
   -- entering one
-  pub entered : (base : B) (f g : Frame) → g ≡ record f { rows = g.rows } → IsCallReady call is_clean state base f → IsCallReady call is_clean state base g
+  pub entered : (base : B) (f g : Frame) → g ≡ record f { rows = g.rows } → IsCallReady call seen base f → IsCallReady call seen base g
   entered base f g e h = record {
     under = h.under;
     begun = h.begun;
     content = h.content;
     frame = subst (IsFrame call) (sym e) (record { count = h.frame.count; vars = h.frame.vars; emitted = h.frame.emitted; released = h.frame.released });
-    views = subst (λ (x : Frame). AreViews call.policy.now is_clean state base x.views) (sym e) h.views;
+    views = subst (λ (x : Frame). AreViews call.policy.now seen base x.views) (sym e) h.views;
   }
 
   pub entered_around : (f g : Frame) (row : Tuple) → g.rows.items ≡ f.rows.items ++ row ∷ [] → row ∷ around_of f ≡ around_of g
@@ -175,7 +175,7 @@ module _ (call : Call) {B : Type 0} (is_clean : B → Type 0) (state : B → Sta
   ok_same (Err e) one other a b f g h p = p
 
   -- a part that only takes memory
-  pub ok_step : {A E : Type 0} (r : Result A BaseFault) (growth : Result A E) (run : Progress → Progress) (a b : B) (f g : Frame) → IsCallReady call is_clean state a f
+  pub ok_step : {A E : Type 0} (r : Result A BaseFault) (growth : Result A E) (run : Progress → Progress) (a b : B) (f g : Frame) → IsCallReady call seen a f
       → IfOk r (λ x. growth ≡ Ok x) → OnOk r (b ≡ a) → OnOk growth (IsStep call run f g) → OnOk r (Ran run a b f g)
   ok_step (Ok x) growth run a b f g h is same p = run_step run a b f g same h (subst (λ q. OnOk q (IsStep call run f g)) is p)
   ok_step (Err e) growth run a b f g h is same p = is

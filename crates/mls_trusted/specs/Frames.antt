@@ -7,7 +7,7 @@ use Rattle.mls_scheme.specs.declared.value.Value.{Value}
 use Rattle.mls_scheme.specs.declared.tuple.Tuple.{Tuple}
 use Rattle.mls_scheme.specs.Table.{Database}
 use Rattle.mls_scheme.specs.Scheme.{scheme_of, AreUnder}
-use Rattle.mls_filterview.specs.Content.{State}
+use Rattle.mls_filterview.specs.Content.{Seen}
 use Rattle.mls_filterview.specs.View.{rows}
 use Rattle.mls_filterview.specs.Stored.{AreContent}
 use Rattle.mls_translang.specs.declared.row.LoopRow.{LoopRow}
@@ -101,25 +101,26 @@ module _ (call : Call) where
     pub views : g.views ≡ f.views
     pub progress : (db : Database) → progress_of db g ≡ run (progress_of db f)
 
-  module _ {B : Type 0} (is_clean : B → Type 0) (state : B → State) where
+  module _ {B : Type 0} (seen : B → Seen) where
     -- inside a change over content of the stored form, with views of it
     pub record IsCallReady (base : B) (f : Frame) : Type 0 where
       pub under : AreUnder (length call.policy.now.labels) call.schemes.now
-      pub begun : (state base).begun ≡ true
-      pub content : is_clean base → AreContent labels call.schemes.now (state base).now.db
+      pub begun : (seen base).state.begun ≡ true
+      pub content : (seen base).is_clean → AreContent labels call.schemes.now (seen base).state.now.db
       pub frame : IsFrame f
-      pub views : AreViews call.policy.now is_clean state base f.views
+      pub views : AreViews call.policy.now seen base f.views
 
     -- a declared label looks at a relation, with views that are kept
     pub record MayLook (relation c : ℕ) (kept : Kept) (base : B) : Type 0 where
       pub label : c < length call.policy.now.labels
       pub declared : relation < length call.schemes.now
-      pub content : is_clean base → AreContent labels call.schemes.now (state base).now.db
-      pub views : AreViews call.policy.now is_clean state base kept
+      pub content : (seen base).is_clean → AreContent labels call.schemes.now (seen base).state.now.db
+      pub views : AreViews call.policy.now seen base kept
 
     -- a part of a run: all but the database stays
     pub record IsRun (run : Progress → Progress) (old new : B) (f g : Frame) : Type 0 where
       pub ready : IsCallReady new g
       pub rows : g.rows.items ≡ f.rows.items
-      pub rest : is_clean new → state new ≡ with_database (state old) (state new).now.db
-      pub progress : is_clean new → progress_of (state new).now.db g ≡ run (progress_of (state old).now.db f)
+      pub rest : (seen new).is_clean → (seen new).state ≡ with_database (seen old).state (seen new).state.now.db
+      pub progress : (seen new).is_clean → progress_of (seen new).state.now.db g
+          ≡ run (progress_of (seen old).state.now.db f)

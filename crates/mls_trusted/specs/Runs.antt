@@ -6,7 +6,7 @@ use Rattle.mls_scheme.specs.declared.value.Value.{Value}
 use Rattle.mls_scheme.specs.Scheme.{Schemes, AreUnder}
 use Rattle.mls_scheme.specs.Table.{Database}
 use Rattle.mls_filterview.specs.declared.base.BaseFault.{BaseFault}
-use Rattle.mls_filterview.specs.Content.{State}
+use Rattle.mls_filterview.specs.Content.{Seen, State}
 use Rattle.mls_filterview.specs.Stored.{AreContent}
 use Rattle.mls_translang.specs.Tx.{Tx}
 use Rattle.mls_translang.specs.Fits.{IsReadUnder}
@@ -32,22 +32,25 @@ pub record HasItems (policy : Policy) (r : Run) : Type 0 where
 
 -- ---- calls of a transaction with these arguments
 
-module _ {Self : Type 0} (is_clean : Self → Type 0) (state : Self → State) (policy : Policy) (schemes : Schemes) (tx : Tx) (given : List (Option Value)) where
+module _ {Self : Type 0} (seen : Self → Seen) (policy : Policy) (schemes : Schemes) (tx : Tx) (given : List
+    (Option Value)) where
   -- what may be called: a transaction that was read for these schemes, an argument for each parameter, content of the stored form
   pub record MayCall (base : Self) : Type 0 where
     pub under : AreUnder (length policy.labels) schemes
     pub read : IsReadUnder policy schemes tx
     pub args : ArgsFit tx given
-    pub content : is_clean base → AreContent (labels_of policy) schemes (state base).now.db
+    pub content : (seen base).is_clean → AreContent (labels_of policy) schemes (seen base).state.now.db
 
   -- inside a change, with views that are kept
   pub record MayCallInside (kept : Kept) (base : Self) : Type 0 where
     pub call : MayCall base
-    pub begun : (state base).begun ≡ true
-    pub views : AreViews policy is_clean state base kept
+    pub begun : (seen base).state.begun ≡ true
+    pub views : AreViews policy seen base kept
 
   -- what a call does, and then finish: what is emitted, released and left is what the transaction means
   pub record IsCalled (finish : State → State) (old new : Self) (result : Result Run BaseFault) : Type 0 where
     pub items : IfOk result (HasItems policy)
-    pub done : is_clean new → let run = run_tx (labels_of policy) schemes tx given (state old).now.db in IfOk result (IsEvaluated run (finish (with_database (state old) run.db)) (state new))
-    pub content : is_clean new → OnOk result (AreContent (labels_of policy) schemes (state new).now.db)
+    pub done : (seen new).is_clean → let run = run_tx (labels_of policy) schemes tx given
+        (seen old).state.now.db in IfOk result (IsEvaluated run (finish (with_database (seen old).state run.db))
+        (seen new).state)
+    pub content : (seen new).is_clean → OnOk result (AreContent (labels_of policy) schemes (seen new).state.now.db)

@@ -24,11 +24,11 @@ pub(crate) fn run_block<B: Base>(
     frame: &mut Frame,
     block: &Block,
 ) -> Result<(), BaseFault>
-    requires ready { IsCallReady call.now B.is_clean B.state base.old frame.old }
+    requires ready { IsCallReady call.now B.seen base.old frame.old }
     requires may { MayRun call.now (around_of frame.old) block.now }
-    ensures call { IsCall B.is_clean B.failures B.state base.old base.new result }
+    ensures call { IsCall B.seen base.old base.new result }
     ensures served { IfErr result IsServed }
-    ensures ran { OnOk result (IsRun call.now B.is_clean B.state
+    ensures ran { OnOk result (IsRun call.now B.seen
         (run_of call.now block.now (around_of frame.old)) base.old base.new frame.old frame.new) }
 {
     for stmt in &block.stmts {
@@ -47,11 +47,11 @@ fn run_branch<B: Base>(
     one: &Block,
     other: &Block,
 ) -> Result<(), BaseFault>
-    requires ready { IsCallReady call.now B.is_clean B.state base.old frame.old }
+    requires ready { IsCallReady call.now B.seen base.old frame.old }
     requires may { MayRun call.now (around_of frame.old) (If guard.now one.now other.now End) }
-    ensures call { IsCall B.is_clean B.failures B.state base.old base.new result }
+    ensures call { IsCall B.seen base.old base.new result }
     ensures served { IfErr result IsServed }
-    ensures ran { OnOk result (IsRun call.now B.is_clean B.state
+    ensures ran { OnOk result (IsRun call.now B.seen
         (run_of call.now (If guard.now one.now other.now End) (around_of frame.old)) base.old base.new frame.old
         frame.new) }
 {
@@ -71,11 +71,11 @@ fn run_row<B: Base>(
     row: SharedTuple,
     body: &Block,
 ) -> Result<(), BaseFault>
-    requires ready { IsCallReady call.now B.is_clean B.state base.old frame.old }
+    requires ready { IsCallReady call.now B.seen base.old frame.old }
     requires may { MayRun call.now (row ∷ around_of frame.old) body.now }
-    ensures call { IsCall B.is_clean B.failures B.state base.old base.new result }
+    ensures call { IsCall B.seen base.old base.new result }
     ensures served { IfErr result IsServed }
-    ensures ran { OnOk result (IsRun call.now B.is_clean B.state
+    ensures ran { OnOk result (IsRun call.now B.seen
         (run_of call.now body.now (row ∷ around_of frame.old)) base.old base.new frame.old frame.new) }
 {
     settle(base, frame.enter(row))?;
@@ -93,11 +93,11 @@ fn run_rows<B: Base>(
     rows: &SharedView,
     body: &Block,
 ) -> Result<(), BaseFault>
-    requires ready { IsCallReady call.now B.is_clean B.state base.old frame.old }
+    requires ready { IsCallReady call.now B.seen base.old frame.old }
     requires may { AllByRecursion (λ row. MayRun call.now (row ∷ around_of frame.old) body.now) rows.now }
-    ensures call { IsCall B.is_clean B.failures B.state base.old base.new result }
+    ensures call { IsCall B.seen base.old base.new result }
     ensures served { IfErr result IsServed }
-    ensures ran { OnOk result (IsRun call.now B.is_clean B.state
+    ensures ran { OnOk result (IsRun call.now B.seen
         (rows_of call.now body.now (around_of frame.old) rows.now) base.old base.new frame.old frame.new) }
 {
     for place in 0..rows.as_slice().len() {
@@ -117,11 +117,11 @@ fn run_loop<B: Base>(
     label: LabelNo,
     body: &Block,
 ) -> Result<(), BaseFault>
-    requires ready { IsCallReady call.now B.is_clean B.state base.old frame.old }
+    requires ready { IsCallReady call.now B.seen base.old frame.old }
     requires may { MayLoop call.now relation label (around_of frame.old) body.now }
-    ensures call { IsCall B.is_clean B.failures B.state base.old base.new result }
+    ensures call { IsCall B.seen base.old base.new result }
     ensures served { IfErr result IsServed }
-    ensures ran { OnOk result (IsRun call.now B.is_clean B.state
+    ensures ran { OnOk result (IsRun call.now B.seen
         (loop_of call.now relation label body.now (around_of frame.old)) base.old base.new frame.old frame.new) }
 {
     let rows = rows_at(call, base, &mut frame.views, relation, label)?;
@@ -136,11 +136,11 @@ fn run_stmt<B: Base>(
     frame: &mut Frame,
     stmt: &Stmt,
 ) -> Result<(), BaseFault>
-    requires ready { IsCallReady call.now B.is_clean B.state base.old frame.old }
+    requires ready { IsCallReady call.now B.seen base.old frame.old }
     requires may { MayRun call.now (around_of frame.old) (block_of (stmt.now ∷ [])) }
-    ensures call { IsCall B.is_clean B.failures B.state base.old base.new result }
+    ensures call { IsCall B.seen base.old base.new result }
     ensures served { IfErr result IsServed }
-    ensures ran { OnOk result (IsRun call.now B.is_clean B.state
+    ensures ran { OnOk result (IsRun call.now B.seen
         (run_of call.now (block_of (stmt.now ∷ [])) (around_of frame.old)) base.old base.new frame.old frame.new) }
 {
     match stmt {

@@ -28,11 +28,11 @@ pub fn evaluate_in<B: Base>(
     certified: &Certified,
     args: &[Option<Value>],
 ) -> Result<Run, BaseFault>
-    requires { MayCallInside B.is_clean B.state policy.now schemes.now certified.now.tx args.now views.old base.old }
-    ensures step { IsStep B.is_clean B.failures B.state base.old base.new result }
-    ensures called { IsCalled B.is_clean B.state policy.now schemes.now certified.now.tx args.now (λ s. s) base.old
+    requires { MayCallInside B.seen policy.now schemes.now certified.now.tx args.now views.old base.old }
+    ensures step { IsStep B.seen base.old base.new result }
+    ensures called { IsCalled B.seen policy.now schemes.now certified.now.tx args.now (λ s. s) base.old
         base.new result }
-    ensures views { AreViews policy.now B.is_clean B.state base.new views.new }
+    ensures views { AreViews policy.now B.seen base.new views.new }
 {
     let call = Call {
         alloc,
@@ -59,9 +59,9 @@ pub fn evaluate<B: Base>(
     certified: &Certified,
     args: &[Option<Value>],
 ) -> Result<Run, BaseFault>
-    requires { MayCall B.is_clean B.state policy.now schemes.now certified.now.tx args.now base.old }
-    ensures outside { IsOutside B.is_clean B.failures B.state false base.old base.new result }
-    ensures called { IsCalled B.is_clean B.state policy.now schemes.now certified.now.tx args.now committed base.old
+    requires { MayCall B.seen policy.now schemes.now certified.now.tx args.now base.old }
+    ensures outside { IsOutside B.seen false base.old base.new result }
+    ensures called { IsCalled B.seen policy.now schemes.now certified.now.tx args.now committed base.old
         base.new result }
 {
     let mut views = Views::new();

@@ -73,12 +73,12 @@ pub(crate) fn rows_at<B: Base>(
     relation: RelNo,
     label: LabelNo,
 ) -> Result<SharedView, BaseFault>
-    requires { MayLook call.now B.is_clean B.state relation label views.old base.old }
-    ensures read { IsRead B.is_clean B.failures B.state base.old base.new result }
+    requires { MayLook call.now B.seen relation label views.old base.old }
+    ensures read { IsRead B.seen base.old base.new result }
     ensures kinds { IfOk result (λ v. AllByRecursion (RowKinds (scheme_of call.now.schemes.now relation)) v) }
-    ensures rows { B.is_clean base.new → IfOk result (λ v. v ≡ rows (labels_of call.now.policy.now) label
-        ((B.state base.old).now.db relation)) }
-    ensures views { AreViews call.now.policy.now B.is_clean B.state base.new views.new }
+    ensures rows { (B.seen base.new).is_clean → IfOk result (λ v. v ≡ rows (labels_of call.now.policy.now) label
+        ((B.seen base.old).state.now.db relation)) }
+    ensures views { AreViews call.now.policy.now B.seen base.new views.new }
 {
     call.policy.use_invariant();
     let rows = views.view(call.alloc, base, call.policy, relation, label)?;

@@ -35,11 +35,11 @@ pub(crate) fn write_at<B: Base>(
     write: &Write<Expr>,
     outcome: Option<u8>,
 ) -> Result<(), BaseFault>
-    requires ready { IsCallReady call.now B.is_clean B.state base.old frame.old }
+    requires ready { IsCallReady call.now B.seen base.old frame.old }
     requires may { MayRun call.now (around_of frame.old) (Do (Write_at relation at write.now outcome) End) }
-    ensures call { IsCall B.is_clean B.failures B.state base.old base.new result }
+    ensures call { IsCall B.seen base.old base.new result }
     ensures served { IfErr result IsServed }
-    ensures ran { OnOk result (IsRun call.now B.is_clean B.state
+    ensures ran { OnOk result (IsRun call.now B.seen
         (run_of call.now (Do (Write_at relation at write.now outcome) End) (around_of frame.old))
         base.old base.new frame.old frame.new) }
 {

@@ -13,7 +13,7 @@ use Rattle.mls_scheme.specs.Writes.{key_of}
 use Rattle.mls_filterview.specs.declared.base.BaseFault.{BaseFault}
 use Rattle.mls_filterview.specs.declared.base.BaseFault.TheVariants.{NotBegun, Begun}
 use Rattle.mls_filterview.specs.Calls.{begun_after, IsCall, IsChange, IsFault, IsServed, IsStep}
-use Rattle.mls_filterview.specs.Content.{State, after}
+use Rattle.mls_filterview.specs.Content.{Seen, State, after}
 use Rattle.mls_filterview.specs.Stored.{IsContent}
 use Rattle.mls_filterview.specs.declared.fragment.Node.{Node}
 use Rattle.mls_filterview.specs.declared.fragment.Cell.{Cell}
@@ -76,9 +76,9 @@ served_from (Ok x) n o = tt
 served_from (Err e) n o = (λ h. n (ap Err h), λ h. o (ap Err h))
 
 -- where a change is begun
-module _ {Self : Type 0} (is_clean : Self → Type 0) (failures : Self → ℕ) (state : Self → State) {A : Type 0} (old new : Self) (r : Result A BaseFault) (begun : (state old).begun ≡ true) where
+module _ {Self : Type 0} (seen : Self → Seen) {A : Type 0} (old new : Self) (r : Result A BaseFault) (begun : (seen old).state.begun ≡ true) where
   -- a call that belongs into it is a step of it
-  pub change_step : IsChange is_clean failures state (state old).begun old new r → IsStep is_clean failures state old new r
+  pub change_step : IsChange seen (seen old).state.begun old new r → IsStep seen old new r
   change_step c = record {
     call = c.call;
     served = served_from r (λ e. true≢false (sym begun ∙ c.not_begun.0 e)) c.no_other;
@@ -86,7 +86,7 @@ module _ {Self : Type 0} (is_clean : Self → Type 0) (failures : Self → ℕ) 
   }
 
   -- and a step is such a call
-  step_change : IsStep is_clean failures state old new r → IsChange is_clean failures state true old new r
+  step_change : IsStep seen old new r → IsChange seen true old new r
   step_change c = record {
     call = c.call;
     not_begun = (λ e. absurd (served_not_begun r c.served e), λ b. absurd (true≢false (sym begun ∙ b)));
@@ -96,8 +96,8 @@ module _ {Self : Type 0} (is_clean : Self → Type 0) (failures : Self → ℕ) 
 
 -- ---- a whole write, inside a change
 
-module _ {B : Type 0} (is_clean : B → Type 0) (failures : B → ℕ) (state : B → State) (policy : Policy) (schemes : Schemes) (relation w : ℕ) (wr : Write) (a : B) (begun : (state a).begun ≡ true)
-    (stored : is_clean a → IsContent (labels_of policy) (scheme_of schemes relation) ((state a).now.db relation)) where
+module _ {B : Type 0} (seen : B → Seen) (policy : Policy) (schemes : Schemes) (relation w : ℕ) (wr : Write) (a : B) (begun : (seen a).state.begun ≡ true)
+    (stored : (seen a).is_clean → IsContent (labels_of policy) (scheme_of schemes relation) ((seen a).state.now.db relation)) where
   abbrev ls : Labels
   ls = labels_of policy
 
@@ -105,29 +105,29 @@ module _ {B : Type 0} (is_clean : B → Type 0) (failures : B → ℕ) (state : 
   scheme = scheme_of schemes relation
 
   -- of a key with a null
-  pub null_written : has_null (key_of wr) ≡ true → HasWritten is_clean failures state policy schemes relation w wr a a (Ok KeyNull)
+  pub null_written : has_null (key_of wr) ≡ true → HasWritten seen policy schemes relation w wr a a (Ok KeyNull)
   null_written h = record {
-    change = step_change is_clean failures state a a (Ok KeyNull) begun (record { call = record { clean = λ k. k; count = omega arith; fault = tt }; served = tt; mode = begun });
-    done = λ k. write_null ls scheme relation w (state a) wr h;
+    change = step_change seen a a (Ok KeyNull) begun (record { call = record { clean = λ k. k; count = omega arith; fault = tt }; served = tt; mode = begun });
+    done = λ k. write_null ls scheme relation w (seen a).state wr h;
     kept = stored;
   }
 
   -- by a step over a base that was lent before
-  pub step_written : AreDistinct ls → WriteFits ls (length scheme.others) w wr → WriteKinds scheme wr → (b c : B) (r : Result Outcome BaseFault) → b ≡ a → IsStep is_clean failures state b c r
-      → (is_clean c → IfOk r (IsWritten ls scheme relation w wr (state a) (state c))) → HasWritten is_clean failures state policy schemes relation w wr a c r
+  pub step_written : AreDistinct ls → WriteFits ls (length scheme.others) w wr → WriteKinds scheme wr → (b c : B) (r : Result Outcome BaseFault) → b ≡ a → IsStep seen b c r
+      → ((seen c).is_clean → IfOk r (IsWritten ls scheme relation w wr (seen a).state (seen c).state)) → HasWritten seen policy schemes relation w wr a c r
   step_written distinct fits kinds b c r same step done =
-      let over = subst (λ x. IsStep is_clean failures state x c r) same step in
+      let over = subst (λ x. IsStep seen x c r) same step in
       record {
-        change = step_change is_clean failures state a c r begun over;
+        change = step_change seen a c r begun over;
         done = done;
-        kept = λ k. IfOk-weaker r (IsWritten ls scheme relation w wr (state a) (state c)) _
-            (λ o. written_content ls distinct scheme relation w wr (state a) (state c) o fits kinds (stored (over.call.clean k))) (done k);
+        kept = λ k. IfOk-weaker r (IsWritten ls scheme relation w wr (seen a).state (seen c).state) _
+            (λ o. written_content ls distinct scheme relation w wr (seen a).state (seen c).state o fits kinds (stored (over.call.clean k))) (done k);
       }
 
 -- a call after one that left the state as it was
-module _ {Self : Type 0} (is_clean : Self → Type 0) (failures : Self → ℕ) (state : Self → State) {A : Type 0} (old mid new : Self) (mode : (state mid).begun ≡ (state old).begun) (same : is_clean mid → state mid ≡ state old) where
-  later_fault : (count : failures old ≤ failures mid) (clean : is_clean new → is_clean mid) (r : Result A BaseFault) → IfErr r IsServed → IfErr r (λ e. IsFault is_clean failures state e mid new)
-      → IfErr r (λ e. IsFault is_clean failures state e old new)
+module _ {Self : Type 0} (seen : Self → Seen) {A : Type 0} (old mid new : Self) (mode : (seen mid).state.begun ≡ (seen old).state.begun) (same : (seen mid).is_clean → (seen mid).state ≡ (seen old).state) where
+  later_fault : (count : (seen old).failures ≤ (seen mid).failures) (clean : (seen new).is_clean → (seen mid).is_clean) (r : Result A BaseFault) → IfErr r IsServed → IfErr r (λ e. IsFault seen e mid new)
+      → IfErr r (λ e. IsFault seen e old new)
   later_fault count clean (Ok x) s f = tt
   later_fault count clean (Err e) s f = record {
     store = λ h. (let less = f.store h in omega (arith, count, less));
@@ -137,7 +137,7 @@ module _ {Self : Type 0} (is_clean : Self → Type 0) (failures : Self → ℕ) 
     content = λ h. f.content h ∙ ap (after e) (same (clean h));
   }
 
-  pub later_call : {B : Type 0} (q : Result B BaseFault) (r : Result A BaseFault) → IsCall is_clean failures state old mid q → IfErr r IsServed → IsCall is_clean failures state mid new r → IsCall is_clean failures state old new r
+  pub later_call : {B : Type 0} (q : Result B BaseFault) (r : Result A BaseFault) → IsCall seen old mid q → IfErr r IsServed → IsCall seen mid new r → IsCall seen old new r
   later_call q r first served second = record {
     clean = λ h. first.clean (second.clean h);
     count = (let n = first.count in let m = second.count in omega (arith, n, m));

@@ -12,7 +12,7 @@ use Rattle.mls_scheme.specs.Fits.{HaveKinds}
 use Rattle.mls_scheme.specs.Table.{change}
 use Rattle.mls_filterview.specs.declared.base.BaseFault.{BaseFault}
 use Rattle.mls_filterview.specs.Calls.{IsChange}
-use Rattle.mls_filterview.specs.Content.{State, with_relation}
+use Rattle.mls_filterview.specs.Content.{Seen, State, with_relation}
 use Rattle.mls_updates.specs.declared.outcome.Outcome.{Outcome}
 use Rattle.mls_filterview.specs.Stored.{with_class, IsContent}
 use Rattle.mls_filterview.specs.Fragment.{classes}
@@ -57,13 +57,14 @@ classes_below ls relation p from s =
 
 -- ---- what a write at w of a relation may be asked of: declared labels, attributes of their kinds, and stored content
 
-module _ {Self : Type 0} (is_clean : Self → Type 0) (state : Self → State) (base : Self) (policy : Policy) (schemes : Schemes) (relation w : ℕ) where
+module _ {Self : Type 0} (seen : Self → Seen) (base : Self) (policy : Policy) (schemes : Schemes) (relation w : ℕ) where
   pub record CanInsert (key : Key) (values : List (Option Value)) : Type 0 where
     pub label : w < length policy.labels
     pub declared : relation < length schemes
     pub under : AreUnder (length policy.labels) schemes
     pub kinds : WriteKinds (scheme_of schemes relation) (Insert key values)
-    pub stored : is_clean base → IsContent (labels_of policy) (scheme_of schemes relation) ((state base).now.db relation)
+    pub stored : (seen base).is_clean → IsContent (labels_of policy) (scheme_of schemes relation)
+        ((seen base).state.now.db relation)
 
   pub record CanUpdate (k : Key) (kc m : ℕ) (sets : Sets) : Type 0 where
     pub label : w < length policy.labels
@@ -75,14 +76,16 @@ module _ {Self : Type 0} (is_clean : Self → Type 0) (state : Self → State) (
     pub fits : AllByRecursion (λ s. s.0 < length (scheme_of schemes relation).others) sets
     pub key : HaveKinds (scheme_of schemes relation).keys k
     pub kinds : WriteKinds (scheme_of schemes relation) (Update k kc m sets)
-    pub stored : is_clean base → IsContent (labels_of policy) (scheme_of schemes relation) ((state base).now.db relation)
+    pub stored : (seen base).is_clean → IsContent (labels_of policy) (scheme_of schemes relation)
+        ((seen base).state.now.db relation)
 
   pub record CanDelete (k : Key) (kc : ℕ) : Type 0 where
     pub label : w < length policy.labels
     pub key_class : kc < length policy.labels
     pub declared : relation < length schemes
     pub key : HaveKinds (scheme_of schemes relation).keys k
-    pub stored : is_clean base → IsContent (labels_of policy) (scheme_of schemes relation) ((state base).now.db relation)
+    pub stored : (seen base).is_clean → IsContent (labels_of policy) (scheme_of schemes relation)
+        ((seen base).state.now.db relation)
 
   abbrev pub CanWrite : Write → Type 0
   CanWrite (Insert key values) = CanInsert key values
@@ -91,12 +94,13 @@ module _ {Self : Type 0} (is_clean : Self → Type 0) (state : Self → State) (
 
 -- ---- what it then has done
 
-module _ {Self : Type 0} (is_clean : Self → Type 0) (failures : Self → ℕ) (state : Self → State)
+module _ {Self : Type 0} (seen : Self → Seen)
     (policy : Policy) (schemes : Schemes) (relation w : ℕ) (wr : Write) where
   -- outcome and table are those of its definition, and the content is of the stored form
   pub record HasWritten (old new : Self) (result : Result Outcome BaseFault) : Type 0 where
-    pub change : IsChange is_clean failures state true old new result
-    pub done : is_clean new
-        → IfOk result (IsWritten (labels_of policy) (scheme_of schemes relation) relation w wr (state old) (state new))
-    pub kept : is_clean new
-        → OnOk result (IsContent (labels_of policy) (scheme_of schemes relation) ((state new).now.db relation))
+    pub change : IsChange seen true old new result
+    pub done : (seen new).is_clean
+        → IfOk result (IsWritten (labels_of policy) (scheme_of schemes relation) relation w wr (seen old).state
+        (seen new).state)
+    pub kept : (seen new).is_clean
+        → OnOk result (IsContent (labels_of policy) (scheme_of schemes relation) ((seen new).state.now.db relation))

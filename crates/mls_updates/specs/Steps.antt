@@ -9,7 +9,7 @@ use Rattle.mls_scheme.specs.Scheme.{Scheme, IsUnder}
 use Rattle.mls_scheme.specs.Spelling.{HasSpelling, IsSpelledKey}
 use Rattle.mls_scheme.specs.Table.{Table, change}
 use Rattle.mls_scheme.specs.declared.place.Place.{Place}
-use Rattle.mls_filterview.specs.Content.{State}
+use Rattle.mls_filterview.specs.Content.{Seen}
 use Rattle.mls_filterview.specs.Fragment.{set_in, HasCell, IsAlone, IsMadeOf, node_of, cells_of}
 use Rattle.mls_filterview.specs.Stored.{with_class, IsStored}
 use Rattle.mls_filterview.specs.View.{IsAmong}
@@ -51,35 +51,37 @@ pub record AreAbove (ls : Labels) (w : ℕ) (ms : List ℕ) : Type 0 where
 -- ---- what a step may be asked of a base
 
 -- a change is begun, and a place is of declared labels, so many, and has a key with a spelling
-pub record IsBegunAt {Self : Type 0} (state : Self → State) (base : Self) (count : ℕ) (p : Place) : Type 0 where
-  pub begun : (state base).begun ≡ true
+pub record IsBegunAt {Self : Type 0} (seen : Self → Seen) (base : Self) (count : ℕ) (p : Place) : Type 0 where
+  pub begun : (seen base).state.begun ≡ true
   pub class : p.class < count
   pub key_class : p.key_class < count
   pub key : IsSpelledKey p.key
 
-module _ {Self : Type 0} (is_clean : Self → Type 0) (state : Self → State) (base : Self) where
+module _ {Self : Type 0} (seen : Self → Seen) (base : Self) where
   -- a row is added where none is, its elements of other classes in the tuples there
   pub record CanAddRow (r : Row) : Type 0 where
-    pub begun : (state base).begun ≡ true
+    pub begun : (seen base).state.begun ≡ true
     pub key : IsSpelledKey r.place.key
     pub values : AllByRecursion (λ e. IfSome e.value HasSpelling) r.elements
-    pub absent : is_clean base → get ((state base).now.db r.relation) r.place ≡ None
-    pub made : is_clean base → (es : List Element) × IsMadeOf ((state base).now.db r.relation) (node_of (entry_of r)) (cells_of (entry_of r)) es
+    pub absent : (seen base).is_clean → get ((seen base).state.now.db r.relation) r.place ≡ None
+    pub made : (seen base).is_clean → (es : List Element) × IsMadeOf ((seen base).state.now.db r.relation) (node_of
+        (entry_of r)) (cells_of (entry_of r)) es
 
   module _ (relation : ℕ) (p : Place) where
     -- cells are set that a tuple has
     pub record CanSetEach (ss : Sets) : Type 0 where
-      pub begun : (state base).begun ≡ true
+      pub begun : (seen base).state.begun ≡ true
       pub key : IsSpelledKey p.key
       pub sets : AllByRecursion (λ s. (s.0 < 15) × IfSome s.1 HasSpelling) ss
-      pub there : is_clean base → AllByRecursion (λ s. HasCell ((state base).now.db relation) p s.0) ss
+      pub there : (seen base).is_clean → AllByRecursion (λ s. HasCell ((seen base).state.now.db relation) p s.0) ss
 
     -- a tuple is made from that of class m, in a relation of the stored form
     pub record CanDerive (policy : Policy) (scheme : Scheme) (m : ℕ) (sets : Sets) : Type 0 where
-      pub at : IsBegunAt state base (length policy.labels) p
+      pub at : IsBegunAt seen base (length policy.labels) p
       pub from : m < length policy.labels
       pub other : m ≢ p.class
       pub under : IsUnder (length policy.labels) scheme
       pub fits : AllByRecursion (λ s. s.0 < length scheme.others) sets
       pub values : AllByRecursion (λ s. IfSome s.1 HasSpelling) sets
-      pub stored : is_clean base → IsStored (labels_of policy) (length scheme.others) ((state base).now.db relation)
+      pub stored : (seen base).is_clean → IsStored (labels_of policy) (length scheme.others)
+          ((seen base).state.now.db relation)

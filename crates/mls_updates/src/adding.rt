@@ -32,14 +32,14 @@ fn parts_of(alloc: Global, row: &Row) -> Result<Parts, AllocError>
 
 /// Adds a tuple; its elements of other classes are those that the entity's tuples of these classes have.
 pub(crate) fn add_row<B: Base>(alloc: Global, base: &mut B, row: &Row) -> Result<(), BaseFault>
-    requires { CanAddRow B.is_clean B.state base.old row.now }
-    ensures step { IsStep B.is_clean B.failures B.state base.old base.new result }
-    ensures done { B.is_clean base.new → (es : List SpecElement)
-        → IsMadeOf ((B.state base.old).now.db row.now.relation) (node_of (entry_of row.now))
+    requires { CanAddRow B.seen base.old row.now }
+    ensures step { IsStep B.seen base.old base.new result }
+    ensures done { (B.seen base.new).is_clean → (es : List SpecElement)
+        → IsMadeOf ((B.seen base.old).state.now.db row.now.relation) (node_of (entry_of row.now))
         (cells_of (entry_of row.now)) es
-        → OnOk result (B.state base.new
-        ≡ with_relation (B.state base.old) row.now.relation
-        (insert ((B.state base.old).now.db row.now.relation) row.now.place es)) }
+        → OnOk result ((B.seen base.new).state
+        ≡ with_relation (B.seen base.old).state row.now.relation
+        (insert ((B.seen base.old).state.now.db row.now.relation) row.now.place es)) }
 {
     let parts = settle(base, parts_of(alloc, row))?;
     base.add(row.relation, parts.node, &parts.cells)

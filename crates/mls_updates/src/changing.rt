@@ -25,13 +25,15 @@ pub(crate) fn update_own<B: Base>(
     place: &Place,
     sets: &[(usize, Option<Value>)],
 ) -> Result<Outcome, BaseFault>
-    requires at { IsBegunAt B.state base.old (length policy.now.labels) place.now }
+    requires at { IsBegunAt B.seen base.old (length policy.now.labels) place.now }
     requires sets { AllByRecursion (λ s. (s.0 < 15) × IfSome s.1 HasSpelling) sets.now }
-    requires fits { B.is_clean base.old → (es : List SpecElement)
-        → get ((B.state base.old).now.db relation) place.now ≡ Some es → AllByRecursion (λ s. s.0 < length es) sets.now }
-    ensures step { IsStep B.is_clean B.failures B.state base.old base.new result }
-    ensures done { B.is_clean base.new → IfOk result (λ o. (scheme : Scheme)
-        → IsChanged (labels_of policy.now) scheme relation place.now sets.now (B.state base.old) (B.state base.new) o) }
+    requires fits { (B.seen base.old).is_clean → (es : List SpecElement)
+        → get ((B.seen base.old).state.now.db relation) place.now ≡ Some es
+        → AllByRecursion (λ s. s.0 < length es) sets.now }
+    ensures step { IsStep B.seen base.old base.new result }
+    ensures done { (B.seen base.new).is_clean → IfOk result (λ o. (scheme : Scheme)
+        → IsChanged (labels_of policy.now) scheme relation place.now sets.now (B.seen base.old).state
+        (B.seen base.new).state o) }
 {
     let found = base.pattern(relation, place)?;
     let outcome = own_outcome(policy, place, sets, &found);

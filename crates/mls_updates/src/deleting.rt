@@ -29,13 +29,13 @@ fn drop_above<B: Base>(
     relation: RelNo,
     place: Place,
 ) -> Result<(), BaseFault>
-    requires at { IsBegunAt B.state base.old (length policy.now.labels) place }
-    requires stored { B.is_clean base.old → (n : ℕ)
-        × IsStored (labels_of policy.now) n ((B.state base.old).now.db relation) }
-    ensures step { IsStep B.is_clean B.failures B.state base.old base.new result }
-    ensures done { B.is_clean base.new → OnOk result (B.state base.new
-        ≡ with_relation (B.state base.old) relation
-        (retain_keys ((B.state base.old).now.db relation) (λ q. not (is_above (labels_of policy.now) place q)))) }
+    requires at { IsBegunAt B.seen base.old (length policy.now.labels) place }
+    requires stored { (B.seen base.old).is_clean → (n : ℕ)
+        × IsStored (labels_of policy.now) n ((B.seen base.old).state.now.db relation) }
+    ensures step { IsStep B.seen base.old base.new result }
+    ensures done { (B.seen base.new).is_clean → OnOk result ((B.seen base.new).state
+        ≡ with_relation (B.seen base.old).state relation
+        (retain_keys ((B.seen base.old).state.now.db relation) (λ q. not (is_above (labels_of policy.now) place q)))) }
 {
     let order = settle(base, downwards(alloc, policy, place.class))?;
     drop_each(base, relation, place, &order)
@@ -49,12 +49,12 @@ fn delete_at<B: Base>(
     relation: RelNo,
     place: Place,
 ) -> Result<Outcome, BaseFault>
-    requires at { IsBegunAt B.state base.old (length policy.now.labels) place }
-    requires stored { B.is_clean base.old → (n : ℕ)
-        × IsStored (labels_of policy.now) n ((B.state base.old).now.db relation) }
-    ensures step { IsStep B.is_clean B.failures B.state base.old base.new result }
-    ensures done { B.is_clean base.new → IfOk result (λ o. (scheme : SpecScheme)
-        → IsDeleted (labels_of policy.now) scheme relation place (B.state base.old) (B.state base.new) o) }
+    requires at { IsBegunAt B.seen base.old (length policy.now.labels) place }
+    requires stored { (B.seen base.old).is_clean → (n : ℕ)
+        × IsStored (labels_of policy.now) n ((B.seen base.old).state.now.db relation) }
+    ensures step { IsStep B.seen base.old base.new result }
+    ensures done { (B.seen base.new).is_clean → IfOk result (λ o. (scheme : SpecScheme)
+        → IsDeleted (labels_of policy.now) scheme relation place (B.seen base.old).state (B.seen base.new).state o) }
 {
     let found = has_tuple(base, relation, &place)?;
     let outcome = drop_outcome(policy, &place, found);
@@ -79,8 +79,8 @@ pub fn delete<B: Base>(
     key: &[Option<Value>],
     key_class: LabelNo,
 ) -> Result<Outcome, BaseFault>
-    requires { CanDelete B.is_clean B.state base.old policy.now schemes.now relation w key.now key_class }
-    ensures { HasWritten B.is_clean B.failures B.state policy.now schemes.now relation w (Delete key.now key_class)
+    requires { CanDelete B.seen base.old policy.now schemes.now relation w key.now key_class }
+    ensures { HasWritten B.seen policy.now schemes.now relation w (Delete key.now key_class)
         base.old base.new result }
 {
     if !base.is_begun() {

@@ -14,12 +14,12 @@ use mls_scheme::{Place, RelNo};
 
 /// Removes the tuple at a place, if there is one.
 fn drop_one<B: Base>(base: &mut B, relation: RelNo, place: &Place) -> Result<(), BaseFault>
-    requires begun { (B.state base.old).begun ≡ true }
+    requires begun { (B.seen base.old).state.begun ≡ true }
     requires key { IsSpelledKey place.now.key }
-    requires alone { B.is_clean base.old → IsAlone ((B.state base.old).now.db relation) place.now }
-    ensures step { IsStep B.is_clean B.failures B.state base.old base.new result }
-    ensures done { B.is_clean base.new → OnOk result (B.state base.new
-        ≡ with_relation (B.state base.old) relation (remove ((B.state base.old).now.db relation) place.now)) }
+    requires alone { (B.seen base.old).is_clean → IsAlone ((B.seen base.old).state.now.db relation) place.now }
+    ensures step { IsStep B.seen base.old base.new result }
+    ensures done { (B.seen base.new).is_clean → OnOk result ((B.seen base.new).state
+        ≡ with_relation (B.seen base.old).state relation (remove ((B.seen base.old).state.now.db relation) place.now)) }
 {
     if has_tuple(base, relation, place)? {
         base.drop_at(relation, place)?;
@@ -34,12 +34,13 @@ pub(crate) fn drop_each<B: Base>(
     place: Place,
     classes: &[LabelNo],
 ) -> Result<(), BaseFault>
-    requires begun { (B.state base.old).begun ≡ true }
+    requires begun { (B.seen base.old).state.begun ≡ true }
     requires key { IsSpelledKey place.key }
-    requires alone { B.is_clean base.old → AreAlone place classes.now ((B.state base.old).now.db relation) }
-    ensures step { IsStep B.is_clean B.failures B.state base.old base.new result }
-    ensures done { B.is_clean base.new → OnOk result (B.state base.new
-        ≡ with_relation (B.state base.old) relation (drop_each place classes.now ((B.state base.old).now.db relation))) }
+    requires alone { (B.seen base.old).is_clean → AreAlone place classes.now ((B.seen base.old).state.now.db relation) }
+    ensures step { IsStep B.seen base.old base.new result }
+    ensures done { (B.seen base.new).is_clean → OnOk result ((B.seen base.new).state
+        ≡ with_relation (B.seen base.old).state relation (drop_each place classes.now
+        ((B.seen base.old).state.now.db relation))) }
 {
     let mut place = place;
     for class in classes {

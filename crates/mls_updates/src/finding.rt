@@ -16,9 +16,9 @@ pub(crate) fn has_tuple<B: Base>(
     place: &Place,
 ) -> Result<bool, BaseFault>
     requires key { IsSpelledKey place.now.key }
-    ensures read { IsRead B.is_clean B.failures B.state base.old base.new result }
-    ensures found { B.is_clean base.new → IfOk result (λ has. has
-        ≡ is_some (get ((B.state base.old).now.db relation) place.now)) }
+    ensures read { IsRead B.seen base.old base.new result }
+    ensures found { (B.seen base.new).is_clean → IfOk result (λ has. has
+        ≡ is_some (get ((B.seen base.old).state.now.db relation) place.now)) }
 {
     let pattern = base.pattern(relation, place)?;
     Ok(pattern.is_some())

@@ -29,12 +29,13 @@ fn insert_at<B: Base>(
     place: Place,
     values: &[Option<Value>],
 ) -> Result<Outcome, BaseFault>
-    requires at { IsBegunAt B.state base.old (length policy.now.labels) place }
+    requires at { IsBegunAt B.seen base.old (length policy.now.labels) place }
     requires under { IsUnder (length policy.now.labels) scheme.now }
     requires values { AllByRecursion (λ v. IfSome v HasSpelling) values.now }
-    ensures step { IsStep B.is_clean B.failures B.state base.old base.new result }
-    ensures done { B.is_clean base.new → IfOk result
-        (IsInserted (labels_of policy.now) scheme.now relation place values.now (B.state base.old) (B.state base.new)) }
+    ensures step { IsStep B.seen base.old base.new result }
+    ensures done { (B.seen base.new).is_clean → IfOk result
+        (IsInserted (labels_of policy.now) scheme.now relation place values.now (B.seen base.old).state
+        (B.seen base.new).state) }
 {
     let found = has_tuple(base, relation, &place)?;
     let outcome = root_outcome(policy, scheme, place.class, found);
@@ -58,8 +59,8 @@ pub fn insert<B: Base>(
     key: &[Option<Value>],
     values: &[Option<Value>],
 ) -> Result<Outcome, BaseFault>
-    requires { CanInsert B.is_clean B.state base.old policy.now schemes.now relation w key.now values.now }
-    ensures { HasWritten B.is_clean B.failures B.state policy.now schemes.now relation w (Insert key.now values.now)
+    requires { CanInsert B.seen base.old policy.now schemes.now relation w key.now values.now }
+    ensures { HasWritten B.seen policy.now schemes.now relation w (Insert key.now values.now)
         base.old base.new result }
 {
     if !base.is_begun() {

@@ -24,7 +24,7 @@ pub struct ListBase {
 impl ListBase {
     /// An empty base, with no change begun.
     pub fn new(alloc: Global) -> ListBase
-        ensures { ⟦<ListBase as Base>⟧.state result ≡ record { now = no_content; kept = no_content; begun = false } }
+        ensures { (⟦<ListBase as Base>⟧.seen result).state ≡ record { now = no_content; kept = no_content; begun = false } }
     {
         ListBase {
             alloc,
@@ -47,11 +47,7 @@ impl ListBase {
 }
 
 impl Base for ListBase {
-    ghost state = { λ b. state_of b.held b.saved };
-
-    ghost failures = { λ _. 0 };
-
-    ghost is_clean = { λ _. Unit {0} };
+    ghost seen = { λ b. record { state = state_of b.held b.saved; failures = 0; is_clean = Unit {0} } };
 
     ghost settled = { λ b clean. state-settled b.held b.saved };
 

@@ -81,13 +81,14 @@ pub(crate) fn add_outline<B: Base>(
     sets: &[(usize, Option<Value>)],
     pattern: &[LabelNo],
 ) -> Result<(), BaseFault>
-    requires { CanAddRow B.is_clean B.state base.old (record { relation = relation; place = place; elements = outline place.class sets.now 0 pattern.now }) }
-    ensures step { IsStep B.is_clean B.failures B.state base.old base.new result }
-    ensures done { B.is_clean base.new → (es : List SpecElement)
-        → IsMadeOf ((B.state base.old).now.db relation) (node_of (place, outline place.class sets.now 0 pattern.now))
+    requires { CanAddRow B.seen base.old (record { relation = relation; place = place; elements = outline place.class sets.now 0 pattern.now }) }
+    ensures step { IsStep B.seen base.old base.new result }
+    ensures done { (B.seen base.new).is_clean → (es : List SpecElement)
+        → IsMadeOf ((B.seen base.old).state.now.db relation) (node_of
+        (place, outline place.class sets.now 0 pattern.now))
         (cells_of (place, outline place.class sets.now 0 pattern.now)) es
-        → OnOk result (B.state base.new
-        ≡ with_relation (B.state base.old) relation (insert ((B.state base.old).now.db relation) place es)) }
+        → OnOk result ((B.seen base.new).state
+        ≡ with_relation (B.seen base.old).state relation (insert ((B.seen base.old).state.now.db relation) place es)) }
 {
     let row = settle(base, outline_tuple(alloc, relation, place, sets, pattern))?;
     add_row(alloc, base, &row)

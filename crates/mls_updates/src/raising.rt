@@ -25,10 +25,11 @@ fn pattern_below<B: Base>(
     w: LabelNo,
 ) -> Result<Option<Items<LabelNo>>, BaseFault>
     requires label { w < length policy.now.labels }
-    requires at { IsBegunAt B.state base.old (length policy.now.labels) place.now }
-    ensures read { IsRead B.is_clean B.failures B.state base.old base.new result }
-    ensures found { B.is_clean base.new → IfOk result (λ pattern. pattern
-        ≡ classes_below (labels_of policy.now) relation (with_class place.now w) place.now.class (B.state base.old)) }
+    requires at { IsBegunAt B.seen base.old (length policy.now.labels) place.now }
+    ensures read { IsRead B.seen base.old base.new result }
+    ensures found { (B.seen base.new).is_clean → IfOk result (λ pattern. pattern
+        ≡ classes_below (labels_of policy.now) relation (with_class place.now w) place.now.class
+        (B.seen base.old).state) }
 {
     if !policy.dominates(place.class, place.key_class) {
         return Ok(None);
@@ -51,12 +52,13 @@ fn derive<B: Base>(
     sets: &[(usize, Option<Value>)],
     pattern: Option<Items<LabelNo>>,
 ) -> Result<Outcome, BaseFault>
-    requires can { CanDerive B.is_clean B.state base.old relation place policy.now scheme.now from sets.now }
-    requires found { B.is_clean base.old → pattern
-        ≡ classes_below (labels_of policy.now) relation place from (B.state base.old) }
-    ensures step { IsStep B.is_clean B.failures B.state base.old base.new result }
-    ensures done { B.is_clean base.new → IfOk result
-        (IsDerived (labels_of policy.now) scheme.now relation place from sets.now (B.state base.old) (B.state base.new)) }
+    requires can { CanDerive B.seen base.old relation place policy.now scheme.now from sets.now }
+    requires found { (B.seen base.old).is_clean → pattern
+        ≡ classes_below (labels_of policy.now) relation place from (B.seen base.old).state }
+    ensures step { IsStep B.seen base.old base.new result }
+    ensures done { (B.seen base.new).is_clean → IfOk result
+        (IsDerived (labels_of policy.now) scheme.now relation place from sets.now (B.seen base.old).state
+        (B.seen base.new).state) }
 {
     policy.use_invariant();
     let is_there = has_tuple(base, relation, &place)?;
@@ -89,11 +91,12 @@ pub(crate) fn update_below<B: Base>(
     place: Place,
     sets: &[(usize, Option<Value>)],
 ) -> Result<Outcome, BaseFault>
-    requires { CanDerive B.is_clean B.state base.old relation (with_class place w) policy.now scheme.now place.class sets.now }
-    ensures step { IsStep B.is_clean B.failures B.state base.old base.new result }
-    ensures done { B.is_clean base.new → IfOk result
-        (IsDerived (labels_of policy.now) scheme.now relation (with_class place w) place.class sets.now (B.state base.old)
-        (B.state base.new)) }
+    requires { CanDerive B.seen base.old relation (with_class place w) policy.now scheme.now place.class sets.now }
+    ensures step { IsStep B.seen base.old base.new result }
+    ensures done { (B.seen base.new).is_clean → IfOk result
+        (IsDerived (labels_of policy.now) scheme.now relation (with_class place w) place.class sets.now
+        (B.seen base.old).state
+        (B.seen base.new).state) }
 {
     let pattern = pattern_below(base, policy, relation, &place, w)?;
     let from = place.class;

@@ -57,11 +57,11 @@ pub(crate) fn add_root<B: Base>(
     place: Place,
     values: &[Option<Value>],
 ) -> Result<(), BaseFault>
-    requires { CanAddRow B.is_clean B.state base.old (record { relation = relation; place = place; elements = root place.class values.now }) }
-    ensures step { IsStep B.is_clean B.failures B.state base.old base.new result }
-    ensures done { B.is_clean base.new → OnOk result (B.state base.new
-        ≡ with_relation (B.state base.old) relation
-        (insert ((B.state base.old).now.db relation) place (root place.class values.now))) }
+    requires { CanAddRow B.seen base.old (record { relation = relation; place = place; elements = root place.class values.now }) }
+    ensures step { IsStep B.seen base.old base.new result }
+    ensures done { (B.seen base.new).is_clean → OnOk result ((B.seen base.new).state
+        ≡ with_relation (B.seen base.old).state relation
+        (insert ((B.seen base.old).state.now.db relation) place (root place.class values.now))) }
 {
     let row = settle(base, root_at(alloc, relation, place, values))?;
     add_row(alloc, base, &row)

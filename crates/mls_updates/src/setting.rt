@@ -18,12 +18,12 @@ fn set_one<B: Base>(
     attr: usize,
     value: &Option<Value>,
 ) -> Result<(), BaseFault>
-    requires begun { (B.state base.old).begun ≡ true }
-    requires can { CanSet B.is_clean B.state base.old relation place.now attr value.now }
-    ensures step { IsStep B.is_clean B.failures B.state base.old base.new result }
-    ensures done { B.is_clean base.new → OnOk result (B.state base.new
-        ≡ with_relation (B.state base.old) relation
-        (change (set_in place.now attr value.now) ((B.state base.old).now.db relation))) }
+    requires begun { (B.seen base.old).state.begun ≡ true }
+    requires can { CanSet B.seen base.old relation place.now attr value.now }
+    ensures step { IsStep B.seen base.old base.new result }
+    ensures done { (B.seen base.new).is_clean → OnOk result ((B.seen base.new).state
+        ≡ with_relation (B.seen base.old).state relation
+        (change (set_in place.now attr value.now) ((B.seen base.old).state.now.db relation))) }
 {
     let value = settle(base, copy_value(value))?;
     base.set(relation, place, attr, value)
@@ -36,10 +36,11 @@ pub(crate) fn set_each<B: Base>(
     place: &Place,
     sets: &[(usize, Option<Value>)],
 ) -> Result<(), BaseFault>
-    requires { CanSetEach B.is_clean B.state base.old relation place.now sets.now }
-    ensures step { IsStep B.is_clean B.failures B.state base.old base.new result }
-    ensures done { B.is_clean base.new → OnOk result (B.state base.new
-        ≡ with_relation (B.state base.old) relation (set_each place.now sets.now ((B.state base.old).now.db relation))) }
+    requires { CanSetEach B.seen base.old relation place.now sets.now }
+    ensures step { IsStep B.seen base.old base.new result }
+    ensures done { (B.seen base.new).is_clean → OnOk result ((B.seen base.new).state
+        ≡ with_relation (B.seen base.old).state relation (set_each place.now sets.now
+        ((B.seen base.old).state.now.db relation))) }
 {
     for left in (0..sets.len()).rev() {
         let (attr, value) = &sets[left];

@@ -28,8 +28,8 @@ pub fn update<B: Base>(
     from: LabelNo,
     sets: &[(usize, Option<Value>)],
 ) -> Result<Outcome, BaseFault>
-    requires { CanUpdate B.is_clean B.state base.old policy.now schemes.now relation w key.now key_class from sets.now }
-    ensures { HasWritten B.is_clean B.failures B.state policy.now schemes.now relation w (Update key.now key_class from sets.now)
+    requires { CanUpdate B.seen base.old policy.now schemes.now relation w key.now key_class from sets.now }
+    ensures { HasWritten B.seen policy.now schemes.now relation w (Update key.now key_class from sets.now)
         base.old base.new result }
 {
     if !base.is_begun() {

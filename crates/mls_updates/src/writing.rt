@@ -20,8 +20,8 @@ pub fn write<B: Base>(
     w: LabelNo,
     write: &Write<Option<Value>>,
 ) -> Result<Outcome, BaseFault>
-    requires { CanWrite B.is_clean B.state base.old policy.now schemes.now relation w write.now }
-    ensures { HasWritten B.is_clean B.failures B.state policy.now schemes.now relation w write.now base.old base.new result }
+    requires { CanWrite B.seen base.old policy.now schemes.now relation w write.now }
+    ensures { HasWritten B.seen policy.now schemes.now relation w write.now base.old base.new result }
 {
     match write {
         Write::Insert { key, values } => {

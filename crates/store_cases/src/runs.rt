@@ -105,8 +105,8 @@ fn run_over<B: Base>(
     out: &mut Narrow,
 ) -> (End, B)
     requires prepared { IsPrepared site.now.policy site.now.file.schemes run }
-    requires rest { IsAtRest B.state B.is_clean site.now.policy site.now.file.schemes base }
-    ensures { (B.state result.1).begun ≡ false }
+    requires rest { IsAtRest B.seen site.now.policy site.now.file.schemes base }
+    ensures { (B.seen result.1).state.begun ≡ false }
 {
     let Run { stored, events } = run;
     let policy = &site.policy;
@@ -130,7 +130,8 @@ fn evaluate_alone<B: Base>(
 ) -> End
     requires read { IsReadUnder site.now.policy site.now.file.schemes certified.now.tx }
     requires args { ArgsFit certified.now.tx [] }
-    requires content { B.is_clean base.old → AreContent (labels_of site.now.policy) site.now.file.schemes (B.state base.old).now.db }
+    requires content { (B.seen base.old).is_clean → AreContent (labels_of site.now.policy) site.now.file.schemes
+        (B.seen base.old).state.now.db }
 {
     let (policy, schemes) = (&site.policy, &site.file.schemes);
     match evaluate(alloc, base, policy, schemes, certified, &[]) {
@@ -142,7 +143,8 @@ fn evaluate_alone<B: Base>(
 /// Evaluates the first of these transactions, which takes no arguments.
 fn evaluate_first<B: Base>(alloc: Global, site: &Site<'_>, stored: &[Stored], base: &mut B) -> End
     requires read { AreRead (site_of site.now.policy site.now.file.schemes stored.now) }
-    requires content { B.is_clean base.old → AreContent (labels_of site.now.policy) site.now.file.schemes (B.state base.old).now.db }
+    requires content { (B.seen base.old).is_clean → AreContent (labels_of site.now.policy) site.now.file.schemes
+        (B.seen base.old).state.now.db }
 {
     let [Stored::Certified(certified), ..] = stored else {
         return End::Failed;
@@ -156,8 +158,9 @@ fn evaluate_first<B: Base>(alloc: Global, site: &Site<'_>, stored: &[Stored], ba
 /// Evaluates the first transaction that a run stores over a base.
 fn evaluate_over<B: Base>(alloc: Global, site: &Site<'_>, run: &Run, base: B) -> (End, B)
     requires prepared { IsPrepared site.now.policy site.now.file.schemes run.now }
-    requires sound { B.is_clean base → IsSoundContent site.now.policy site.now.file.schemes (B.state base).now }
-    ensures { (B.state result.1).begun ≡ false }
+    requires sound { (B.seen base).is_clean → IsSoundContent site.now.policy site.now.file.schemes
+        (B.seen base).state.now }
+    ensures { (B.seen result.1).state.begun ≡ false }
 {
     let mut base = base;
     let end = evaluate_first(alloc, site, &run.stored, &mut base);
@@ -167,8 +170,8 @@ fn evaluate_over<B: Base>(alloc: Global, site: &Site<'_>, run: &Run, base: B) ->
 
 /// Turns the audit list over a base.
 fn turn_over<B: Base>(alloc: Global, site: &Site<'_>, base: B, out: &mut Narrow) -> (End, B)
-    requires idle { (B.state base).begun ≡ false }
-    ensures { (B.state result.1).begun ≡ false }
+    requires idle { (B.seen base).state.begun ≡ false }
+    ensures { (B.seen result.1).state.begun ≡ false }
 {
     let mut base = base;
     let end = match turn(alloc, &site.policy, &mut base, None, out) {
@@ -186,8 +189,8 @@ pub fn do_task<B: Base>(
     base: B,
     out: &mut Narrow,
 ) -> (End, B)
-    requires { IsAtRest B.state B.is_clean site.now.policy site.now.file.schemes base }
-    ensures { (B.state result.1).begun ≡ false }
+    requires { IsAtRest B.seen site.now.policy site.now.file.schemes base }
+    ensures { (B.seen result.1).state.begun ≡ false }
 {
     let Some(run) = run_of(alloc, site, script_of(task)) else {
         return (End::Failed, base);

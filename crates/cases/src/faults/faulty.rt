@@ -94,7 +94,7 @@ impl<B: Base> Faulty<B> {
     /// Fails, as a store does: the change is ended.
     fn fail(&mut self) -> BaseFault
         requires { self.old.fuse.failed < 1000000 }
-        ensures clean { B.is_clean self.new.base → B.is_clean self.old.base }
+        ensures clean { (B.seen self.new.base).is_clean → (B.seen self.old.base).is_clean }
         ensures count { ⟦<Faulty<B> as Base>⟧.failures self.old ≤ ⟦<Faulty<B> as Base>⟧.failures self.new }
         ensures fault { IsFault ⟦<Faulty<B> as Base>⟧.is_clean ⟦<Faulty<B> as Base>⟧.failures ⟦<Faulty<B> as Base>⟧.state result self.old self.new }
         ensures served { IsServed result }
@@ -110,11 +110,11 @@ impl<B: Base> Faulty<B> {
 }
 
 impl<B: Base> Base for Faulty<B> {
-    ghost state = { λ b. B.state b.base };
-
-    ghost failures = { λ b. B.failures b.base + b.fuse.failed };
-
-    ghost is_clean = { λ b. B.is_clean b.base };
+    ghost seen = { λ b. record {
+      state = (B.seen b.base).state;
+      failures = (B.seen b.base).failures + b.fuse.failed;
+      is_clean = (B.seen b.base).is_clean;
+    } };
 
     ghost settled = { λ b clean. B.settled b.base clean };
 

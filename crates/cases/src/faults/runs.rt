@@ -58,7 +58,8 @@ impl Failure {
 
     /// An empty base of which calls fail, or none where a write does.
     pub fn base(self, alloc: Global) -> Faulty<ListBase>
-        ensures { ⟦<ListBase as Base>⟧.state result.base ≡ record { now = no_content; kept = no_content; begun = false } }
+        ensures { (⟦<ListBase as Base>⟧.seen result.base).state
+            ≡ record { now = no_content; kept = no_content; begun = false } }
     {
         Faulty::new(ListBase::new(alloc), self.fault())
     }
@@ -98,8 +99,8 @@ fn run_over<B: Base>(
 ) -> (Result<(), RunFault>, B)
     requires serves { MayServe (site_of sample.now.policy.now sample.now.schemes.now stored) }
     requires fits { AllByRecursion (EventFits sample.now.policy.now sample.now.schemes.now) events.now }
-    requires rest { IsAtRest B.state B.is_clean sample.now.policy.now sample.now.schemes.now base }
-    ensures { IsAtRest B.state B.is_clean sample.now.policy.now sample.now.schemes.now result.1 }
+    requires rest { IsAtRest B.seen sample.now.policy.now sample.now.schemes.now base }
+    ensures { IsAtRest B.seen sample.now.policy.now sample.now.schemes.now result.1 }
 {
     let mut engine = Engine::new(alloc, base, sample.policy, sample.schemes, stored);
     let end = run(&mut engine, events, out);
@@ -127,8 +128,9 @@ fn push_answers(
     out: &mut Told,
 )
     requires fits { AllByRecursion (EventFits sample.now.policy.now sample.now.schemes.now) questions.now }
-    requires idle { (⟦<ListBase as Base>⟧.state base).begun ≡ false }
-    requires sound { IsSoundContent sample.now.policy.now sample.now.schemes.now (⟦<ListBase as Base>⟧.state base).now }
+    requires idle { (⟦<ListBase as Base>⟧.seen base).state.begun ≡ false }
+    requires sound { IsSoundContent sample.now.policy.now sample.now.schemes.now
+        (⟦<ListBase as Base>⟧.seen base).state.now }
 {
     let none = none_stored(alloc);
     let mut answers = Narrow::new(alloc, u64::MAX, usize::MAX);

@@ -19,9 +19,9 @@ use std::alloc::Global;
 
 /// Answers events in order, up to the first that fails: its number, from 1, and why.
 fn step_to_fault<B: Base>(engine: &mut Engine<B>, events: &[Event]) -> Option<(usize, BaseFault)>
-    requires ready { IsEngineReady B.state B.is_clean engine.old }
+    requires ready { IsEngineReady B.seen engine.old }
     requires fits { EventsFit (site engine.old) events.now }
-    ensures kept { IsKept B.state B.is_clean engine.old engine.new }
+    ensures kept { IsKept B.seen engine.old engine.new }
     ensures number { IfSome result (λ r. (0 < r.0) × (r.0 ≤ length events.now)) }
 {
     for (place, event) in events.iter().enumerate() {
@@ -45,7 +45,7 @@ fn step_over<B: Base>(
     requires serves { MayServe (site_of sample.now.policy.now sample.now.schemes.now stored) }
     requires events { AllByRecursion (EventFits sample.now.policy.now sample.now.schemes.now) scripts.events.now }
     requires questions { AllByRecursion (EventFits sample.now.policy.now sample.now.schemes.now) scripts.questions.now }
-    requires rest { IsAtRest B.state B.is_clean sample.now.policy.now sample.now.schemes.now base }
+    requires rest { IsAtRest B.seen sample.now.policy.now sample.now.schemes.now base }
 {
     let mut engine = Engine::new(alloc, base, sample.policy, sample.schemes, stored);
     let stop = step_to_fault(&mut engine, scripts.events);

@@ -78,10 +78,11 @@ fn tell_certified<B: Base>(
     out: &mut Told,
 ) -> Result<(), BaseFault>
     requires read { IsReadUnder sample.now.policy.now sample.now.schemes.now certified.now.tx }
-    requires content { B.is_clean base.old
-        → AreContent (labels_of sample.now.policy.now) sample.now.schemes.now (B.state base.old).now.db }
-    ensures { B.is_clean base.new
-        → OnOk result (AreContent (labels_of sample.now.policy.now) sample.now.schemes.now (B.state base.new).now.db) }
+    requires content { (B.seen base.old).is_clean
+        → AreContent (labels_of sample.now.policy.now) sample.now.schemes.now (B.seen base.old).state.now.db }
+    ensures { (B.seen base.new).is_clean
+        → OnOk result (AreContent (labels_of sample.now.policy.now) sample.now.schemes.now
+        (B.seen base.new).state.now.db) }
 {
     out.push_line(certified.tx().name());
     if !certified.tx().params().is_empty() {
@@ -100,10 +101,11 @@ fn tell_case<B: Base>(
     base: &mut B,
     out: &mut Told,
 ) -> Result<(), BaseFault>
-    requires { B.is_clean base.old
-        → AreContent (labels_of sample.now.policy.now) sample.now.schemes.now (B.state base.old).now.db }
-    ensures { B.is_clean base.new
-        → OnOk result (AreContent (labels_of sample.now.policy.now) sample.now.schemes.now (B.state base.new).now.db) }
+    requires { (B.seen base.old).is_clean
+        → AreContent (labels_of sample.now.policy.now) sample.now.schemes.now (B.seen base.old).state.now.db }
+    ensures { (B.seen base.new).is_clean
+        → OnOk result (AreContent (labels_of sample.now.policy.now) sample.now.schemes.now
+        (B.seen base.new).state.now.db) }
 {
     match certified_in(alloc, sample, case) {
         Some(certified) => tell_certified(alloc, sample, &certified, base, out),
@@ -122,8 +124,8 @@ fn tell_over<B: Base>(
     base: &mut B,
     out: &mut Told,
 ) -> Result<(), BaseFault>
-    requires { B.is_clean base.old
-        → AreContent (labels_of sample.now.policy.now) sample.now.schemes.now (B.state base.old).now.db }
+    requires { (B.seen base.old).is_clean
+        → AreContent (labels_of sample.now.policy.now) sample.now.schemes.now (B.seen base.old).state.now.db }
 {
     for at in 0..lines.len() {
         if let Some(case) = case_at(&lines[at..]) {

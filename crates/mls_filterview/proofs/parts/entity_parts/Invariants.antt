@@ -8,11 +8,11 @@ abbrev pub invariant-loop-number : goal.invariant-loop-number
 invariant-loop-number g l =
     let B = g.B.Base in
     record {
-      clean : B.is_clean l.base → B.is_clean l.fn.base;
-      count : B.failures l.fn.base ≤ B.failures l.base;
-      mode : (B.state l.base).begun ≡ (B.state l.fn.base).begun;
-      same : B.is_clean l.base → B.state l.base ≡ B.state l.fn.base;
+      clean : (B.seen l.base).is_clean → (B.seen l.fn.base).is_clean;
+      count : (B.seen l.fn.base).failures ≤ (B.seen l.base).failures;
+      mode : (B.seen l.base).state.begun ≡ (B.seen l.fn.base).state.begun;
+      same : (B.seen l.base).is_clean → (B.seen l.base).state ≡ (B.seen l.fn.base).state;
       key : l.place.key ≡ l.fn.place.key;
       key_class : l.place.key_class ≡ l.key_class;
-      parts : B.is_clean l.base → AreOf (IsOfEntity (labels_of l.policy) ((B.state l.fn.base).now.db l.relation) l.label l.fn.place.key l.key_class l.number) l.nodes.items l.cells.items;
+      parts : (B.seen l.base).is_clean → AreOf (IsOfEntity (labels_of l.policy) ((B.seen l.fn.base).state.now.db l.relation) l.label l.fn.place.key l.key_class l.number) l.nodes.items l.cells.items;
     }

@@ -9,7 +9,7 @@ use Rattle.mls_filterview.proofs.viewing.low_tuples.Goals as goal
 pub returns-clause-tuples : goal.returns-clause-tuples
 returns-clause-tuples g c = λ clean.
     let ls = labels_of c.args.policy.now in
-    let T = (g.B.Base.state c.args.base.now).now.db c.args.relation in
+    let T = (g.B.Base.seen c.args.base.now).state.now.db c.args.relation in
     let before = c.in_ok-tuples.ensures.call.clean clean in
     let stored = c.requires.stored (c.in_ok-low.ensures.read.call.clean before) in
     let low = subst (λ k. AreLow ls T c.args.label k c.in_ok-low.low.nodes c.in_ok-low.low.cells) (sym (length-map c.args.policy.now.labels (λ l. l.value))) (c.in_ok-low.ensures.low before) in

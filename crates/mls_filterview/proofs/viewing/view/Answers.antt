@@ -10,7 +10,7 @@ use Rattle.mls_filterview.proofs.viewing.view.Goals as goal
 pub returns-clause-rows : goal.returns-clause-rows
 returns-clause-rows g c = λ clean.
     let ls = labels_of c.args.policy.now in
-    let T = (g.B.Base.state c.args.base.now).now.db c.args.relation in
+    let T = (g.B.Base.seen c.args.base.now).state.now.db c.args.relation in
     let before = c.in_ok-tuples.ensures.call.clean clean in
     let stored = c.requires.stored (c.in_ok-low.ensures.read.call.clean before) in
     let low = subst (λ k. AreLow ls T c.args.label k c.in_ok-low.low.nodes c.in_ok-low.low.cells) (sym (length-map c.args.policy.now.labels (λ l. l.value))) (c.in_ok-low.ensures.low before) in
@@ -20,9 +20,9 @@ returns-clause-rows g c = λ clean.
 pub returns-clause-seen : goal.returns-clause-seen
 returns-clause-seen g c = λ clean.
     let stored = c.requires.stored (c.in_ok-low.ensures.read.call.clean (c.in_ok-tuples.ensures.call.clean clean)) in
-    listed_view (labels_of c.args.policy.now) c.in_ok-low.ensures.distinct stored.0 ((g.B.Base.state c.args.base.now).now.db c.args.relation) stored.1 c.args.label c.in_ok-tuples.tuples.items (returns-clause-rows g c clean)
+    listed_view (labels_of c.args.policy.now) c.in_ok-low.ensures.distinct stored.0 ((g.B.Base.seen c.args.base.now).state.now.db c.args.relation) stored.1 c.args.label c.in_ok-tuples.tuples.items (returns-clause-rows g c clean)
 
 pub returns-clause-ordered : goal.returns-clause-ordered
 returns-clause-ordered g c = λ clean.
     let stored = c.requires.stored (c.in_ok-low.ensures.read.call.clean (c.in_ok-tuples.ensures.call.clean clean)) in
-    listed_order (labels_of c.args.policy.now) c.in_ok-low.ensures.distinct stored.0 ((g.B.Base.state c.args.base.now).now.db c.args.relation) stored.1 c.args.label c.in_ok-tuples.tuples.items (returns-clause-rows g c clean)
+    listed_order (labels_of c.args.policy.now) c.in_ok-low.ensures.distinct stored.0 ((g.B.Base.seen c.args.base.now).state.now.db c.args.relation) stored.1 c.args.label c.in_ok-tuples.tuples.items (returns-clause-rows g c clean)

@@ -13,7 +13,7 @@ look_up-requires-clause-see g c = record { label = c.requires.label; stored = λ
 pub returns-clause-rows : goal.returns-clause-rows
 returns-clause-rows g c = λ clean.
     let ls = labels_of c.args.policy.now in
-    let T = (g.B.Base.state c.args.base.now).now.db c.args.relation in
+    let T = (g.B.Base.seen c.args.base.now).state.now.db c.args.relation in
     let view = c.in_ok-view.view in
     let middle = c.in_ok-found.ensures.call.clean clean in
     let before = c.in_ok-view.ensures.call.clean middle in

@@ -9,7 +9,7 @@ use Rattle.mls_queries.proofs.looking.look_up.Goals as goal
 pub returns-clause-rows : goal.returns-clause-rows
 returns-clause-rows g c = λ clean.
     let ls = labels_of c.args.policy.now in
-    let T = (g.B.Base.state c.args.base.now).now.db c.args.relation in
+    let T = (g.B.Base.seen c.args.base.now).state.now.db c.args.relation in
     let key = c.args.key in
     let before = c.in_ok-tuples.ensures.call.clean clean in
     let stored = c.requires.see.stored (c.in_ok-parts.ensures.read.call.clean before) in

@@ -32,7 +32,7 @@ loop-number-preserved-then-not-dominates g c =
       key = inv.key;
       parts = λ clean.
           let stored = c.requires.see.stored (inv.clean clean) in
-          key_skipped ls ((g.B.Base.state c.args.base.now).now.db c.args.relation) c.args.label c.args.key stored.0 stored.1 c.loop-number.number c.loop-number.nodes.items c.loop-number.cells.items
+          key_skipped ls ((g.B.Base.seen c.args.base.now).state.now.db c.args.relation) c.args.label c.args.key stored.0 stored.1 c.loop-number.number c.loop-number.nodes.items c.loop-number.cells.items
           (ap (λ m. below ls m c.args.label) (sym c.new-key_class.ensures) ∙ sym c.if-not-dominates.ensures.order) (inv.parts clean);
     }
 
@@ -41,7 +41,7 @@ loop-number-preserved g c =
     let B = g.B.Base in
     let inv = c.loop-number.invariant in
     let f = c.in_ok-parts in
-    let here = ap B.state c.in_ok-settle.ensures.same in
+    let here = ap B.seen c.in_ok-settle.ensures.same in
     let put = c.in_ok-settle.ensures.value in
     let ls = labels_of c.args.policy.now in
     record {
@@ -54,19 +54,19 @@ loop-number-preserved g c =
           let before = c.in_ok-settle.ensures.call.clean clean in
           let start = f.ensures.read.call.clean before in
           let stored = c.requires.see.stored (inv.clean start) in
-          let T = (B.state c.args.base.now).now.db c.args.relation in
+          let T = (B.seen c.args.base.now).state.now.db c.args.relation in
           rw (subst (λ r. OnOk r (c.gather.new.nodes.items ≡ c.loop-number.nodes.items ++ f.parts.nodes)) put c.gather.ensures.nodes, subst (λ r. OnOk r (c.gather.new.cells.items ≡ c.loop-number.cells.items ++ f.parts.cells)) put c.gather.ensures.cells)
           (key_more ls T c.args.label c.args.key stored.0 stored.1 c.loop-number.number c.loop-number.nodes.items f.parts.nodes c.loop-number.cells.items f.parts.cells
           (subst (λ (s : State). AreOf (IsOfEntity ls (s.now.db c.args.relation) c.args.label c.args.key c.loop-number.number (length ls)) f.parts.nodes f.parts.cells) (inv.same start)
-          (subst (λ k. AreOf (IsOfEntity ls ((B.state c.loop-number.base).now.db c.args.relation) c.args.label k c.loop-number.number (length ls)) f.parts.nodes f.parts.cells) inv.key
-          (subst (λ m. AreOf (IsOfEntity ls ((B.state c.loop-number.base).now.db c.args.relation) c.args.label c.loop-number.place.key m (length ls)) f.parts.nodes f.parts.cells) c.new-key_class.ensures
+          (subst (λ k. AreOf (IsOfEntity ls ((B.seen c.loop-number.base).state.now.db c.args.relation) c.args.label k c.loop-number.number (length ls)) f.parts.nodes f.parts.cells) inv.key
+          (subst (λ m. AreOf (IsOfEntity ls ((B.seen c.loop-number.base).state.now.db c.args.relation) c.args.label c.loop-number.place.key m (length ls)) f.parts.nodes f.parts.cells) c.new-key_class.ensures
           (f.ensures.parts before)))) (inv.parts start));
     }
 
 pub returns-clause-parts : goal.returns-clause-parts
 returns-clause-parts g c = λ clean.
     let ls = labels_of c.args.policy.now in
-    let T = (g.B.Base.state c.args.base.now).now.db c.args.relation in
+    let T = (g.B.Base.seen c.args.base.now).state.now.db c.args.relation in
     let stored = c.requires.see.stored (c.loop-number.invariant.clean clean) in
     rw (c.from.ensures, c.from-2.ensures)
     (key_parts_low ls T c.args.label c.args.key stored.0 stored.1 c.loop-number.nodes.items c.loop-number.cells.items
@@ -77,7 +77,7 @@ pub returns-in_err-parts-clause-read : goal.returns-in_err-parts-clause-read
 returns-in_err-parts-clause-read g c =
     let B = g.B.Base in
     let inv = c.loop-number.invariant in
-    fault_read B.is_clean B.failures B.state c.args.base.now c.loop-number.base c.entity_parts.new.base c.in_err-parts.field-0.0 c.from_residual.result
+    fault_read B.seen c.args.base.now c.loop-number.base c.entity_parts.new.base c.in_err-parts.field-0.0 c.from_residual.result
     inv.clean inv.count inv.mode inv.same c.in_err-parts.ensures.read.call c.in_err-parts.ensures.read.served (search rules)
 
 pub returns-in_err-settle-clause-read : goal.returns-in_err-settle-clause-read
@@ -86,5 +86,5 @@ returns-in_err-settle-clause-read g c =
     let inv = c.loop-number.invariant in
     let f = c.in_ok-parts.ensures.read in
     let first = inv.count in let second = f.call.count in
-    fault_read B.is_clean B.failures B.state c.args.base.now c.entity_parts.new.base c.settle.new.base c.in_err-settle.field-0.0 c.from_residual-in_err-settle.result
+    fault_read B.seen c.args.base.now c.entity_parts.new.base c.settle.new.base c.in_err-settle.field-0.0 c.from_residual-in_err-settle.result
     (λ h. inv.clean (f.call.clean h)) (omega (arith, first, second)) (f.mode ∙ inv.mode) (λ h. f.same h ∙ inv.same (f.call.clean h)) c.in_err-settle.ensures.call c.in_err-settle.ensures.served (search rules)

@@ -26,7 +26,7 @@ loop-place-preserved g c =
     let m = c.in_ok-tuples.ensures in
     let ls = labels_of c.args.policy.now in
     let label = c.args.label in
-    let T = (B.state c.args.base.now).now.db c.args.relation in
+    let T = (B.seen c.args.base.now).state.now.db c.args.relation in
     let ts = c.loop-place.tuples.items in
     let p = c.in-Some.place in
     let rest = c.next.new.self.rest.items in
@@ -46,7 +46,7 @@ loop-place-preserved g c =
 
 pub returns-clause-rows : goal.returns-clause-rows
 returns-clause-rows g c = λ clean.
-    let now = rows (labels_of c.args.policy.now) c.args.label ((g.B.Base.state c.args.base.now).now.db c.args.relation) in
+    let now = rows (labels_of c.args.policy.now) c.args.label ((g.B.Base.seen c.args.base.now).state.now.db c.args.relation) in
     let ts = c.loop-place.tuples.items in
     let none : length c.loop-place.place-iterator.rest.items ≡ 0 = search rules in
     let nil : c.loop-place.place-iterator.rest.items ≡ [] = nil_from_length c.loop-place.place-iterator.rest.items none in

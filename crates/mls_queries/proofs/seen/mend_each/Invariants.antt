@@ -9,10 +9,10 @@ abbrev pub invariant-loop-place : goal.invariant-loop-place
 invariant-loop-place g l =
     let B = g.B.Base in
     record {
-      clean : B.is_clean l.base → B.is_clean l.fn.base;
-      count : B.failures l.fn.base ≤ B.failures l.base;
-      mode : (B.state l.base).begun ≡ (B.state l.fn.base).begun;
-      same : B.is_clean l.base → B.state l.base ≡ B.state l.fn.base;
+      clean : (B.seen l.base).is_clean → (B.seen l.fn.base).is_clean;
+      count : (B.seen l.fn.base).failures ≤ (B.seen l.base).failures;
+      mode : (B.seen l.base).state.begun ≡ (B.seen l.fn.base).state.begun;
+      same : (B.seen l.base).is_clean → (B.seen l.base).state ≡ (B.seen l.fn.base).state;
       named : AllByRecursion (IsNamed (length l.policy.labels)) l.place-iterator.rest.items;
-      agrees : B.is_clean l.base → AgreesWith (rows (labels_of l.policy) l.label ((B.state l.fn.base).now.db l.relation)) (record { tuples = l.tuples.items; written = l.place-iterator.rest.items });
+      agrees : (B.seen l.base).is_clean → AgreesWith (rows (labels_of l.policy) l.label ((B.seen l.fn.base).state.now.db l.relation)) (record { tuples = l.tuples.items; written = l.place-iterator.rest.items });
     }

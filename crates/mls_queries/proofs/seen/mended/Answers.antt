@@ -10,7 +10,7 @@ use Rattle.mls_queries.proofs.seen.mended.Goals as goal
 
 pub returns-then-is_empty-clause-rows : goal.returns-then-is_empty-clause-rows
 returns-then-is_empty-clause-rows g c = λ clean.
-    let now = rows (labels_of c.args.policy.now) c.args.label ((g.B.Base.state c.args.base.now).now.db c.args.relation) in
+    let now = rows (labels_of c.args.policy.now) c.args.label ((g.B.Base.seen c.args.base.now).state.now.db c.args.relation) in
     let ts = c.seen.inside.tuples in
     let none : length c.seen.inside.written.items ≡ 0 = search rules in
     let nil : c.seen.inside.written.items ≡ [] = nil_from_length c.seen.inside.written.items none in
@@ -21,5 +21,5 @@ mend_each-requires-clause-see g c = record {
   label = c.requires.see.label;
   stored = λ clean.
       let stored = c.requires.see.stored (c.in_ok-tuples.ensures.call.clean clean) in
-      (stored.0, subst (λ (s : State). IsStored (labels_of c.args.policy.now) stored.0 (s.now.db c.args.relation)) (sym (ap g.B.Base.state c.in_ok-tuples.ensures.same)) stored.1);
+      (stored.0, subst (λ (s : State). IsStored (labels_of c.args.policy.now) stored.0 (s.now.db c.args.relation)) (sym (ap g.B.Base.seen c.in_ok-tuples.ensures.same)) stored.1);
 }

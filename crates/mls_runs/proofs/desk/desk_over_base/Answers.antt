@@ -18,20 +18,20 @@ serve-outcome-requires-clause-schemes g c = ap (λ (s : Site). s.schemes) c.new-
 
 pub returns-clause-leaves : goal.returns-clause-leaves
 returns-clause-leaves g c =
-    left_behind g.B.Base.state g.B.Base.is_clean g.B.Base.failures c.args.base c.new-engine.result c.serve-outcome.new.engine c.finish.result c.serve-outcome.result
+    left_behind g.B.Base.seen c.args.base c.new-engine.result c.serve-outcome.new.engine c.finish.result c.serve-outcome.result
     c.new-engine.ensures.base c.finish.ensures c.serve-outcome.ensures.continues
 
 pub returns-clause-desk : goal.returns-clause-desk
 returns-clause-desk g c = λ clean.
     let at : Site = site_for c.args.policy.now c.args.schemes.now c.args.stored in
-    let was = subst g.B.Base.is_clean c.finish.ensures clean in
+    let was = subst (λ b. (g.B.Base.seen b).is_clean) c.finish.ensures clean in
     let new = c.serve-outcome.new.engine in
-    let first = (g.B.Base.state c.args.base).now in
-    let left = (g.B.Base.state c.finish.result).now in
+    let first = (g.B.Base.seen c.args.base).state.now in
+    let left = (g.B.Base.seen c.finish.result).state.now in
     let sessions = sessions_of new.sessions.items in
-    let back = given_back g.B.Base.state g.B.Base.is_clean g.B.Base.failures at c.new-engine.result new c.finish.result c.new-engine.ensures.site c.serve-outcome.ensures.continues.kept c.finish.ensures in
+    let back = given_back g.B.Base.seen at c.new-engine.result new c.finish.result c.new-engine.ensures.site c.serve-outcome.ensures.continues.kept c.finish.ensures in
     let distinct : AreDistinct (site_labels at) = subst (λ (s : Site). AreDistinct (site_labels s)) c.new-engine.ensures.site c.new-engine.ensures.ready.distinct in
-    let start = c.requires.rest.sound (subst g.B.Base.is_clean c.new-engine.ensures.base (c.serve-outcome.ensures.continues.clean was)) in
+    let start = c.requires.rest.sound (subst (λ b. (g.B.Base.seen b).is_clean) c.new-engine.ensures.base (c.serve-outcome.ensures.continues.clean was)) in
     let before = g.L.TypedLines.remaining c.args.lines.now in
     let after = g.L.TypedLines.remaining c.serve-outcome.new.lines in
     let Broken = g.L.TypedLines.breaks c.serve-outcome.new.lines in

@@ -9,16 +9,16 @@ use Rattle.mls_runs.proofs.shell.follow.Goals as goal
 
 pub returns-in-Lost-clause-followed : goal.returns-in-Lost-clause-followed
 returns-in-Lost-clause-followed g c = λ clean.
-    followed_lost (site c.args.engine.now) (audience_at c.args.session.now) (world_of g.B.Base.state c.args.engine.now) c.args.fate.now (g.W.Write.contents c.args.out.now) c.args.line c.in-Lost.cause c.in-Lost.is
+    followed_lost (site c.args.engine.now) (audience_at c.args.session.now) (world_of g.B.Base.seen c.args.engine.now) c.args.fate.now (g.W.Write.contents c.args.out.now) c.args.line c.in-Lost.cause c.in-Lost.is
 
 pub returns-in-Lost-clause-continues : goal.returns-in-Lost-clause-continues
 returns-in-Lost-clause-continues g c =
     let at = site c.args.engine.now in
-    goes_nowhere g.B.Base.state g.B.Base.is_clean g.B.Base.failures c.args.engine.now c.requires.ready _ (λ is. subst (FateFits at.policy at.schemes) c.in-Lost.is c.requires.fits is)
+    goes_nowhere g.B.Base.seen c.args.engine.now c.requires.ready _ (λ is. subst (FateFits at.policy at.schemes) c.in-Lost.is c.requires.fits is)
 
 pub returns-in_default-clause-followed : goal.returns-in_default-clause-followed
 returns-in_default-clause-followed g c = λ clean.
-    followed_none (site c.args.engine.now) (audience_at c.args.session.now) (world_of g.B.Base.state c.args.engine.now) c.args.fate.now (g.W.Write.contents c.args.out.now) c.args.line c.in_default.not-Said
+    followed_none (site c.args.engine.now) (audience_at c.args.session.now) (world_of g.B.Base.seen c.args.engine.now) c.args.fate.now (g.W.Write.contents c.args.out.now) c.args.line c.in_default.not-Said
 
 pub returns-in_default-clause-found : goal.returns-in_default-clause-found
 returns-in_default-clause-found g c = none_is_lost c.args.fate.now c.in_default.not-Lost
@@ -26,11 +26,11 @@ returns-in_default-clause-found g c = none_is_lost c.args.fate.now c.in_default.
 pub returns-in-Said-clause-noticed : goal.returns-in-Said-clause-noticed
 returns-in-Said-clause-noticed g c = λ clean.
     let at = site c.args.engine.now in
-    let w = world_of g.B.Base.state c.args.engine.now in
+    let w = world_of g.B.Base.seen c.args.engine.now in
     on_ok_weaker c.answer.result (verdict_noticed at w c.args.fate.now c.in-Said.events _ (is_some c.answer.new.engine.notice) c.in-Said.is c.deref.ensures) (c.answer.ensures.noticed clean)
 
 pub returns-in_default-clause-noticed : goal.returns-in_default-clause-noticed
 returns-in_default-clause-noticed g c = λ clean.
     let at = site c.args.engine.now in
-    let w = world_of g.B.Base.state c.args.engine.now in
+    let w = world_of g.B.Base.seen c.args.engine.now in
     verdict_same c.args.fate.now (not (is_some c.args.engine.now.notice)) (are_done at w (events_of c.args.fate.now)) c.in_default.not-Said

@@ -23,20 +23,20 @@ converse-outcome-requires-clause-fits g c = subst (λ (at : Site). EventsFit at 
 
 pub returns-clause-leaves : goal.returns-clause-leaves
 returns-clause-leaves g c =
-    left_behind g.B.Base.state g.B.Base.is_clean g.B.Base.failures c.args.base c.new-engine.result c.converse-outcome.new.engine c.finish.result c.converse-outcome.result
+    left_behind g.B.Base.seen c.args.base c.new-engine.result c.converse-outcome.new.engine c.finish.result c.converse-outcome.result
     c.new-engine.ensures.base c.finish.ensures c.converse-outcome.ensures.continues
 
 pub returns-clause-shell : goal.returns-clause-shell
 returns-clause-shell g c = λ clean.
     let at : Site = site_for c.args.policy.now c.args.schemes.now c.args.stored in
-    let was = subst g.B.Base.is_clean c.finish.ensures clean in
+    let was = subst (λ b. (g.B.Base.seen b).is_clean) c.finish.ensures clean in
     let new = c.converse-outcome.new.engine in
-    let first = (g.B.Base.state c.args.base).now in
-    let left = (g.B.Base.state c.finish.result).now in
+    let first = (g.B.Base.seen c.args.base).state.now in
+    let left = (g.B.Base.seen c.finish.result).state.now in
     let sessions = sessions_of new.sessions.items in
-    let back = given_back g.B.Base.state g.B.Base.is_clean g.B.Base.failures at c.new-engine.result new c.finish.result c.new-engine.ensures.site c.converse-outcome.ensures.continues.kept c.finish.ensures in
+    let back = given_back g.B.Base.seen at c.new-engine.result new c.finish.result c.new-engine.ensures.site c.converse-outcome.ensures.continues.kept c.finish.ensures in
     let distinct : AreDistinct (site_labels at) = subst (λ (s : Site). AreDistinct (site_labels s)) c.new-engine.ensures.site c.new-engine.ensures.ready.distinct in
-    let start = c.requires.rest.sound (subst g.B.Base.is_clean c.new-engine.ensures.base (c.converse-outcome.ensures.continues.clean was)) in
+    let start = c.requires.rest.sound (subst (λ b. (g.B.Base.seen b).is_clean) c.new-engine.ensures.base (c.converse-outcome.ensures.continues.clean was)) in
     shell_at g.L.TypedLines.echo at c.args.session.now sessions first left (g.L.TypedLines.remaining c.args.lines.now) (g.L.TypedLines.remaining c.converse-outcome.new.lines) (g.W.Write.contents c.args.out.now) (g.W.Write.contents c.converse-outcome.new.out) (g.L.TypedLines.breaks c.converse-outcome.new.lines)
     (IsTold g.E.Write.contents c.args.err.now c.converse-outcome.new.err) c.converse-outcome.result distinct c.requires.may.serves.read c.requires.may.serves.certified start (back.rest.sound clean)
     (conversation_at g.L.TypedLines.echo c.args.session.now (g.L.TypedLines.remaining c.args.lines.now) (g.L.TypedLines.remaining c.converse-outcome.new.lines) (g.W.Write.contents c.args.out.now) (g.W.Write.contents c.converse-outcome.new.out) (g.L.TypedLines.breaks c.converse-outcome.new.lines)

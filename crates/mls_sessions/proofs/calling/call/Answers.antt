@@ -39,9 +39,9 @@ returns-clause-done g c = record {
       let site = site_of c.args.site.now in
       let e = c.args.event.now in
       let k = c.certified_named-certified.result.now in
-      let s = g.B.Base.state c.args.base.now in
-      let m = g.B.Base.state c.run_certified.new.base in
-      let t = g.B.Base.state c.enter_run.new.base in
+      let s = (g.B.Base.seen c.args.base.now).state in
+      let m = (g.B.Base.seen c.run_certified.new.base).state in
+      let t = (g.B.Base.seen c.enter_run.new.base).state in
       let run = c.in_ok-run.run' in
       let ran : (args : List (Option Value)) → _ = λ args. run_tx (site_labels site) site.schemes k.tx (fitted k.tx.params args) s.now.db in
       call_over site e c.args.user c.in-Call.tx c.in-Call.args c.in-Call.is c.requires.may.asked.2 k

@@ -10,7 +10,7 @@ loop-item-init g c = record {
   clean = λ h. h;
   count = omega arith;
   begun = c.requires.may.begun;
-  way = λ h. none_entered (g.B.Base.state c.args.base.now);
+  way = λ h. none_entered (g.B.Base.seen c.args.base.now).state;
   spelled = tt;
 }
 
@@ -24,7 +24,7 @@ loop-item-preserved g c =
       count = (let a = inv.count in let b = one.step.call.count in omega (arith, a, b));
       begun = one.step.mode;
       way = λ h. entered_more f c.args.released.now c.loop-item.item-index c.item-item.result c.loop-item-test.true c.item-item.is
-          (g.B.Base.state c.args.base.now) (g.B.Base.state c.loop-item.base) (g.B.Base.state c.enter_release.new.base) (inv.way (one.step.call.clean h)) (one.entered.done h);
+          (g.B.Base.seen c.args.base.now).state (g.B.Base.seen c.loop-item.base).state (g.B.Base.seen c.enter_release.new.base).state (inv.way (one.step.call.clean h)) (one.entered.done h);
       spelled = each_more f c.args.released.now c.loop-item.item-index c.item-item.result c.loop-item-test.true c.item-item.is HasSpelling inv.spelled one.entered.spelled.0;
     }
 
@@ -32,6 +32,6 @@ pub returns-clause-entered : goal.returns-clause-entered
 returns-clause-entered g c =
     let f = release_entry (site_of c.args.site.now) c.args.event.now c.args.user in
     record {
-      done = λ clean. entered_all f c.args.released.now c.loop-item.item-index c.loop-item-test.false (g.B.Base.state c.args.base.now) (g.B.Base.state c.loop-item.base) (c.loop-item.invariant.way clean);
+      done = λ clean. entered_all f c.args.released.now c.loop-item.item-index c.loop-item-test.false (g.B.Base.seen c.args.base.now).state (g.B.Base.seen c.loop-item.base).state (c.loop-item.invariant.way clean);
       spelled = each_all f c.args.released.now c.loop-item.item-index c.loop-item-test.false HasSpelling c.loop-item.invariant.spelled;
     }

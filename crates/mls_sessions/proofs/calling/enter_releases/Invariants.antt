@@ -8,13 +8,13 @@ use Rattle.mls_sessions.proofs.calling.enter_releases.Given as goal
 
 abbrev pub invariant-loop-item : goal.invariant-loop-item
 invariant-loop-item g l =
-    let s = g.B.Base.state l.fn.base in
-    let t = g.B.Base.state l.base in
+    let s = (g.B.Base.seen l.fn.base).state in
+    let t = (g.B.Base.seen l.base).state in
     let es = map (release_entry (site_of l.site) l.event l.user) (take l.item-index l.released) in
     record {
-      clean : g.B.Base.is_clean l.base → g.B.Base.is_clean l.fn.base;
-      count : g.B.Base.failures l.fn.base ≤ g.B.Base.failures l.base;
+      clean : (g.B.Base.seen l.base).is_clean → (g.B.Base.seen l.fn.base).is_clean;
+      count : (g.B.Base.seen l.fn.base).failures ≤ (g.B.Base.seen l.base).failures;
       begun : t.begun ≡ true;
-      way : g.B.Base.is_clean l.base → t ≡ with_entries s es;
+      way : (g.B.Base.seen l.base).is_clean → t ≡ with_entries s es;
       spelled : AllByRecursion HasSpelling es;
     }

@@ -10,7 +10,7 @@ pub evaluate_in-requires : goal.evaluate_in-requires
 evaluate_in-requires g c =
     let made : c.in_ok-args.args.items ≡ fitted c.tx.result.now.params c.args.args.now =
     subst (λ r. IfOk r (λ v. v.items ≡ fitted c.tx.result.now.params c.args.args.now)) c.in_ok-args.ensures.value c.fitted.ensures in
-    subst (λ b. MayCallInside g.B.Base.is_clean g.B.Base.state c.args.site.now.policy.now c.args.site.now.schemes.now c.args.certified.now.tx c.deref.result.now c.args.views.now b)
+    subst (λ b. MayCallInside g.B.Base.seen c.args.site.now.policy.now c.args.site.now.schemes.now c.args.certified.now.tx c.deref.result.now c.args.views.now b)
     (sym c.in_ok-args.ensures.same) (record {
       call = record {
         under = c.requires.found.under;

@@ -18,8 +18,8 @@ returns-in-Err-clause-continues g c =
 pub returns-in-Err-clause-stopped : goal.returns-in-Err-clause-stopped
 returns-in-Err-clause-stopped g c = λ h.
     let before = g.W.Write.contents c.args.out.now in
-    subst (λ (f : RunFault). IsHalted (site c.args.engine.now) c.args.audience.now (world_of g.B.Base.state c.args.engine.now) c.args.event.now before before (world_of g.B.Base.state c.step.new.self) f.cause f.done) (sym c.fault_at.ensures)
-    (halted_before g.B.Base.state c.args.engine.now c.step.new.self c.args.audience.now c.args.event.now before before c.cause_of.result (c.in-Err.ensures.answers.turn.fault.same h))
+    subst (λ (f : RunFault). IsHalted (site c.args.engine.now) c.args.audience.now (world_of g.B.Base.seen c.args.engine.now) c.args.event.now before before (world_of g.B.Base.seen c.step.new.self) f.cause f.done) (sym c.fault_at.ensures)
+    (halted_before g.B.Base.seen c.args.engine.now c.step.new.self c.args.audience.now c.args.event.now before before c.cause_of.result (c.in-Err.ensures.answers.turn.fault.same h))
 
 pub returns-in-Err-text_of-clause-continues : goal.returns-in-Err-text_of-clause-continues
 returns-in-Err-text_of-clause-continues g c =
@@ -27,18 +27,18 @@ returns-in-Err-text_of-clause-continues g c =
     record {
       clean = step.turn.clean;
       count = step.turn.count;
-      kept = noted g.B.Base.state g.B.Base.is_clean c.args.engine.now c.step.new.self c.next_notice-engine.result step.kept;
+      kept = noted g.B.Base.seen c.args.engine.now c.step.new.self c.next_notice-engine.result step.kept;
       store = λ h k.
           absurd (not_store c.in-Err-text_of.cause (c.in-Err-text_of.ensures.failed
-          (reply_known g.B.Base.state g.B.Base.is_clean c.args.engine.now c.step.new.self c.args.event.now c.in-Ok.reply (c.in-Ok.ensures.answers.done h) step.kept.site
+          (reply_known g.B.Base.seen c.args.engine.now c.step.new.self c.args.event.now c.in-Ok.reply (c.in-Ok.ensures.answers.done h) step.kept.site
           c.requires.ready (step.turn.clean h) c.requires.fits)) (ap (λ (f : RunFault). f.cause) (sym c.fault_at-in-Err-text_of.ensures) ∙ k));
     }
 
 pub returns-in-Err-text_of-clause-stopped : goal.returns-in-Err-text_of-clause-stopped
 returns-in-Err-text_of-clause-stopped g c = λ h.
     let before = g.W.Write.contents c.args.out.now in
-    subst (λ (f : RunFault). IsHalted (site c.args.engine.now) c.args.audience.now (world_of g.B.Base.state c.args.engine.now) c.args.event.now before before (world_of g.B.Base.state c.step.new.self) f.cause f.done) (sym c.fault_at-in-Err-text_of.ensures)
-    (halted_unprinted g.B.Base.state c.args.engine.now c.step.new.self c.args.audience.now c.args.event.now before before c.in-Ok.reply (c.in-Ok.ensures.answers.done h) c.in-Err-text_of.cause)
+    subst (λ (f : RunFault). IsHalted (site c.args.engine.now) c.args.audience.now (world_of g.B.Base.seen c.args.engine.now) c.args.event.now before before (world_of g.B.Base.seen c.step.new.self) f.cause f.done) (sym c.fault_at-in-Err-text_of.ensures)
+    (halted_unprinted g.B.Base.seen c.args.engine.now c.step.new.self c.args.audience.now c.args.event.now before before c.in-Ok.reply (c.in-Ok.ensures.answers.done h) c.in-Err-text_of.cause)
 
 pub returns-in-Ok-write_whole-clause-continues : goal.returns-in-Ok-write_whole-clause-continues
 returns-in-Ok-write_whole-clause-continues g c =
@@ -46,7 +46,7 @@ returns-in-Ok-write_whole-clause-continues g c =
     record {
       clean = step.turn.clean;
       count = step.turn.count;
-      kept = noted g.B.Base.state g.B.Base.is_clean c.args.engine.now c.step.new.self c.next_notice-engine.result step.kept;
+      kept = noted g.B.Base.seen c.args.engine.now c.step.new.self c.next_notice-engine.result step.kept;
       store = λ h. tt;
     }
 

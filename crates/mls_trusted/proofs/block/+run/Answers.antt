@@ -21,7 +21,7 @@ run_block-loop-stmt-init g t c =
     record {
       clean = λ h. h;
       count = omega arith;
-      ran = run_start call g.B.Base.is_clean g.B.Base.state (run_of call End around) c.args.base.now c.args.frame.now
+      ran = run_start call g.B.Base.seen (run_of call End around) c.args.base.now c.args.frame.now
           (run_none (labels_of call.policy.now) call.schemes.now call.args.now around) c.requires.ready;
       may = subst (MayRun call around) (sym (ap block_of c.deref-stmt-items.ensures.value ∙ c.block.view_is)) c.requires.may;
       size = omega arith;
@@ -38,7 +38,7 @@ run_block-loop-stmt-preserved g t c =
     record {
       clean = λ h. inv.clean (one.call.clean h);
       count = (let a = inv.count in let b = one.call.count in omega (arith, a, b));
-      ran = run_stmts call g.B.Base.is_clean g.B.Base.state xs i x c.stmt-item.is c.loop-stmt-test.true
+      ran = run_stmts call g.B.Base.seen xs i x c.stmt-item.is c.loop-stmt-test.true
           c.args.base.now c.loop-stmt.base c.run_stmt.new.base c.args.frame.now c.loop-stmt.frame c.run_stmt.new.frame one.call.clean inv.ran one.ran;
       may = (may_here call (around_of c.args.frame.now) xs i x c.stmt-item.is c.loop-stmt-test.true inv.may).1;
       size = (size_step xs i x c.stmt-item.is c.loop-stmt-test.true (block_of xs) inv.size).1;
@@ -52,7 +52,7 @@ run_branch-returns-then-is_true-clause-ran g t c =
     let one = c.args.one.now in
     let other = c.args.other.now in
     let holds = sym (c.is_true.ensures ∙ ap is_true c.eval.ensures ∙ ap (λ env. is_true (eval env guard)) c.environment.ensures) ∙ c.if-is_true.true in
-    ok_same call g.B.Base.is_clean g.B.Base.state c.run_block.result (run_of call one (around_of f)) (run_of call (If guard one other End) (around_of f))
+    ok_same call g.B.Base.seen c.run_block.result (run_of call one (around_of f)) (run_of call (If guard one other End) (around_of f))
     c.args.base.now c.run_block.new.base f c.run_block.new.frame (λ db. branch_one call f guard one other db holds) c.run_block.ensures.ran
 
 pub run_branch-returns-else-is_true-clause-ran : goal.run_branch-returns-else-is_true-clause-ran
@@ -64,7 +64,7 @@ run_branch-returns-else-is_true-clause-ran g t c =
     let other = c.args.other.now in
     let run = c.run_block-else-is_true in
     let fails = sym (c.is_true.ensures ∙ ap is_true c.eval.ensures ∙ ap (λ env. is_true (eval env guard)) c.environment.ensures) ∙ c.if-is_true.false in
-    ok_same call g.B.Base.is_clean g.B.Base.state run.result (run_of call other (around_of f)) (run_of call (If guard one other End) (around_of f))
+    ok_same call g.B.Base.seen run.result (run_of call other (around_of f)) (run_of call (If guard one other End) (around_of f))
     c.args.base.now run.new.base f run.new.frame (λ db. branch_other call f guard one other db fails) run.ensures.ran
 
 pub run_loop-run_rows-requires : goal.run_loop-run_rows-requires
@@ -72,7 +72,7 @@ run_loop-run_rows-requires g t c κs within =
     let call = c.args.call.now in
     let f = c.args.frame.now in
     let read = c.in_ok-rows.ensures in
-    let ready = ready_read call g.B.Base.is_clean g.B.Base.state c.args.base.now c.rows_at.new.base f c.rows_at.new.views read.read.call.clean (read.read.mode ∙ c.requires.ready.begun) read.read.same c.rows_at.ensures.views c.requires.ready in
+    let ready = ready_read call g.B.Base.seen c.args.base.now c.rows_at.new.base f c.rows_at.new.views read.read.call.clean (read.read.mode ∙ c.requires.ready.begun) read.read.same c.rows_at.ensures.views c.requires.ready in
     let may = may_each call (around_of f) c.args.relation c.args.label c.args.body.now c.requires.may c.in_ok-rows.rows read.kinds in
     (omega arith, (within, (ready, may)))
 
@@ -85,8 +85,8 @@ run_row-run_block-requires g t c κs within =
     let is = c.in_ok-settle.ensures.value in
     let rest = subst (λ r. OnOk r (into ≡ record f { rows = into.rows })) is c.enter.ensures.rest in
     let rows = subst (λ r. OnOk r (into.rows.items ≡ f.rows.items ++ c.args.row ∷ [])) is c.enter.ensures.rows in
-    let ready = subst (λ b. IsCallReady call g.B.Base.is_clean g.B.Base.state b into) (sym c.in_ok-settle.ensures.same) (entered call g.B.Base.is_clean g.B.Base.state c.args.base.now f into rest c.requires.ready) in
-    let may = subst (λ around. MayRun call around body) (entered_around call g.B.Base.is_clean g.B.Base.state f into c.args.row rows) c.requires.may in
+    let ready = subst (λ b. IsCallReady call g.B.Base.seen b into) (sym c.in_ok-settle.ensures.same) (entered call g.B.Base.seen c.args.base.now f into rest c.requires.ready) in
+    let may = subst (λ around. MayRun call around body) (entered_around call g.B.Base.seen f into c.args.row rows) c.requires.may in
     (omega arith, (within, (ready, may)))
 
 pub run_rows-run_row-requires : goal.run_rows-run_row-requires
@@ -97,7 +97,7 @@ run_rows-run_row-requires g t c κs within =
     let i = c.loop-place.place in
     let body = c.args.body.now in
     let inv = c.loop-place.invariant in
-    let ready = subst (λ b. IsCallReady call g.B.Base.is_clean g.B.Base.state b c.loop-place.frame) (sym c.in_ok-row.ensures.same) inv.ran.ready in
+    let ready = subst (λ b. IsCallReady call g.B.Base.seen b c.loop-place.frame) (sym c.in_ok-row.ensures.same) inv.ran.ready in
     let is = subst (λ r. IfOk r (λ x. x ≡ get_or xs i no_tuple)) c.in_ok-row.ensures.value c.tuple.ensures in
     let lt = subst (λ (l : List Tuple). i < length l) c.as_slice-place-end.ensures c.loop-place-test.true in
     let here = all_at (λ r. MayRun call (r ∷ around_of f) body) xs i no_tuple lt c.requires.may in
@@ -118,12 +118,12 @@ run_rows-loop-place-preserved g t c =
     let lt = subst (λ (l : List Tuple). i < length l) c.as_slice-place-end.ensures c.loop-place-test.true in
     let more : take (i + 1) xs ≡ take i xs ++ c.in_ok-row.row ∷ [] = take_more xs i no_tuple lt ∙ ap (λ y. take i xs ++ y ∷ []) (sym is) in
     record {
-      clean = λ h. inv.clean (subst g.B.Base.is_clean same (one.call.clean h));
-      count = (let a = inv.count in let b = one.call.count in let d = ap g.B.Base.failures same in omega (arith, a, b, d));
-      ran = subst (λ rows. IsRun call g.B.Base.is_clean g.B.Base.state (rows_of call body (around_of f) rows) c.args.base.now c.run_row.new.base f c.run_row.new.frame) (sym more)
-          (run_rows_more call g.B.Base.is_clean g.B.Base.state body (take i xs) c.in_ok-row.row
+      clean = λ h. inv.clean (subst (λ b. (g.B.Base.seen b).is_clean) same (one.call.clean h));
+      count = (let a = inv.count in let b = one.call.count in let d = ap (λ b. (g.B.Base.seen b).failures) same in omega (arith, a, b, d));
+      ran = subst (λ rows. IsRun call g.B.Base.seen (rows_of call body (around_of f) rows) c.args.base.now c.run_row.new.base f c.run_row.new.frame) (sym more)
+          (run_rows_more call g.B.Base.seen body (take i xs) c.in_ok-row.row
           c.args.base.now c.settle.new.base c.run_row.new.base f c.loop-place.frame c.run_row.new.frame one.call.clean
-          (subst (λ b. IsRun call g.B.Base.is_clean g.B.Base.state (rows_of call body (around_of f) (take i xs)) c.args.base.now b f c.loop-place.frame) (sym same) inv.ran) one.ran);
+          (subst (λ b. IsRun call g.B.Base.seen (rows_of call body (around_of f) (take i xs)) c.args.base.now b f c.loop-place.frame) (sym same) inv.ran) one.ran);
     }
 
 pub run_stmt-returns-in-For-clause-ran : goal.run_stmt-returns-in-For-clause-ran
@@ -131,8 +131,8 @@ run_stmt-returns-in-For-clause-ran g t c =
     let call = c.args.call.now in
     let f = c.args.frame.now in
     let x = c.in-For in
-    subst (λ (s : Stmt). OnOk c.run_loop.result (IsRun call g.B.Base.is_clean g.B.Base.state (run_of call (block_of (s ∷ [])) (around_of f)) c.args.base.now c.run_loop.new.base f c.run_loop.new.frame)) (sym x.is)
-    (ok_same call g.B.Base.is_clean g.B.Base.state c.run_loop.result (loop_of call x.relation x.label x.body (around_of f)) (run_of call (For x.row x.relation x.label x.body End) (around_of f))
+    subst (λ (s : Stmt). OnOk c.run_loop.result (IsRun call g.B.Base.seen (run_of call (block_of (s ∷ [])) (around_of f)) c.args.base.now c.run_loop.new.base f c.run_loop.new.frame)) (sym x.is)
+    (ok_same call g.B.Base.seen c.run_loop.result (loop_of call x.relation x.label x.body (around_of f)) (run_of call (For x.row x.relation x.label x.body End) (around_of f))
     c.args.base.now c.run_loop.new.base f c.run_loop.new.frame (λ db. loop_same call x.row x.relation x.label x.body (around_of f) (progress_of db f)) c.run_loop.ensures.ran)
 
 pub run_stmt-returns-in-Assign-clause-ran : goal.run_stmt-returns-in-Assign-clause-ran
@@ -140,8 +140,8 @@ run_stmt-returns-in-Assign-clause-ran g t c =
     let call = c.args.call.now in
     let f = c.args.frame.now in
     let x = c.in-Assign in
-    subst (λ (s : Stmt). OnOk c.settle.result (IsRun call g.B.Base.is_clean g.B.Base.state (run_of call (block_of (s ∷ [])) (around_of f)) c.args.base.now c.settle.new.base f c.assign.new.frame)) (sym x.is)
-    (ok_step call g.B.Base.is_clean g.B.Base.state c.settle.result c.assign.result (run_of call (Do (Assign x.variable x.value) End) (around_of f)) c.args.base.now c.settle.new.base f c.assign.new.frame
+    subst (λ (s : Stmt). OnOk c.settle.result (IsRun call g.B.Base.seen (run_of call (block_of (s ∷ [])) (around_of f)) c.args.base.now c.settle.new.base f c.assign.new.frame)) (sym x.is)
+    (ok_step call g.B.Base.seen c.settle.result c.assign.result (run_of call (Do (Assign x.variable x.value) End) (around_of f)) c.args.base.now c.settle.new.base f c.assign.new.frame
     c.requires.ready c.settle.ensures.value c.settle.ensures.same c.assign.ensures)
 
 pub run_stmt-returns-in-Release-clause-ran : goal.run_stmt-returns-in-Release-clause-ran
@@ -150,8 +150,8 @@ run_stmt-returns-in-Release-clause-ran g t c =
     let f = c.args.frame.now in
     let x = c.in-Release in
     let m = c.settle-in-Release in
-    subst (λ (s : Stmt). OnOk m.result (IsRun call g.B.Base.is_clean g.B.Base.state (run_of call (block_of (s ∷ [])) (around_of f)) c.args.base.now m.new.base f c.release.new.frame)) (sym x.is)
-    (ok_step call g.B.Base.is_clean g.B.Base.state m.result c.release.result (run_of call (Do (Release x.value x.to x.into) End) (around_of f)) c.args.base.now m.new.base f c.release.new.frame
+    subst (λ (s : Stmt). OnOk m.result (IsRun call g.B.Base.seen (run_of call (block_of (s ∷ [])) (around_of f)) c.args.base.now m.new.base f c.release.new.frame)) (sym x.is)
+    (ok_step call g.B.Base.seen m.result c.release.result (run_of call (Do (Release x.value x.to x.into) End) (around_of f)) c.args.base.now m.new.base f c.release.new.frame
     c.requires.ready m.ensures.value m.ensures.same c.release.ensures)
 
 pub run_stmt-returns-in-Emit-clause-ran : goal.run_stmt-returns-in-Emit-clause-ran
@@ -160,6 +160,6 @@ run_stmt-returns-in-Emit-clause-ran g t c =
     let f = c.args.frame.now in
     let x = c.in-Emit in
     let m = c.settle-in-Emit in
-    subst (λ (s : Stmt). OnOk m.result (IsRun call g.B.Base.is_clean g.B.Base.state (run_of call (block_of (s ∷ [])) (around_of f)) c.args.base.now m.new.base f c.emit.new.frame)) (sym x.is)
-    (ok_step call g.B.Base.is_clean g.B.Base.state m.result c.emit.result (run_of call (Do (Emit x.value x.label) End) (around_of f)) c.args.base.now m.new.base f c.emit.new.frame
+    subst (λ (s : Stmt). OnOk m.result (IsRun call g.B.Base.seen (run_of call (block_of (s ∷ [])) (around_of f)) c.args.base.now m.new.base f c.emit.new.frame)) (sym x.is)
+    (ok_step call g.B.Base.seen m.result c.emit.result (run_of call (Do (Emit x.value x.label) End) (around_of f)) c.args.base.now m.new.base f c.emit.new.frame
     c.requires.ready m.ensures.value m.ensures.same c.emit.ensures)

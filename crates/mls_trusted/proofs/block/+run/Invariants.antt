@@ -7,9 +7,9 @@ use Rattle.mls_trusted.proofs.block.+run.Given as goal
 -- so far the statements up to here have run
 abbrev pub invariant-run_block-loop-stmt : goal.invariant-run_block-loop-stmt
 invariant-run_block-loop-stmt g l = record {
-  clean : g.B.Base.is_clean l.base → g.B.Base.is_clean l.fn.base;
-  count : g.B.Base.failures l.fn.base ≤ g.B.Base.failures l.base;
-  ran : IsRun l.call g.B.Base.is_clean g.B.Base.state (run_of l.call (block_of (take l.stmt-index l.stmt-items)) (around_of l.fn.frame)) l.fn.base l.base l.fn.frame l.frame;
+  clean : (g.B.Base.seen l.base).is_clean → (g.B.Base.seen l.fn.base).is_clean;
+  count : (g.B.Base.seen l.fn.base).failures ≤ (g.B.Base.seen l.base).failures;
+  ran : IsRun l.call g.B.Base.seen (run_of l.call (block_of (take l.stmt-index l.stmt-items)) (around_of l.fn.frame)) l.fn.base l.base l.fn.frame l.frame;
   may : MayRun l.call (around_of l.fn.frame) (block_of (drop l.stmt-index l.stmt-items));
   size : statements (block_of (drop l.stmt-index l.stmt-items)) ≤ statements (block_of l.stmt-items);
 }
@@ -17,9 +17,9 @@ invariant-run_block-loop-stmt g l = record {
 -- so far the body has run at the rows before this place
 abbrev pub invariant-run_rows-loop-place : goal.invariant-run_rows-loop-place
 invariant-run_rows-loop-place g l = record {
-  clean : g.B.Base.is_clean l.base → g.B.Base.is_clean l.fn.base;
-  count : g.B.Base.failures l.fn.base ≤ g.B.Base.failures l.base;
-  ran : IsRun l.call g.B.Base.is_clean g.B.Base.state (rows_of l.call l.body (around_of l.fn.frame) (take l.place l.rows)) l.fn.base l.base l.fn.frame l.frame;
+  clean : (g.B.Base.seen l.base).is_clean → (g.B.Base.seen l.fn.base).is_clean;
+  count : (g.B.Base.seen l.fn.base).failures ≤ (g.B.Base.seen l.base).failures;
+  ran : IsRun l.call g.B.Base.seen (rows_of l.call l.body (around_of l.fn.frame) (take l.place l.rows)) l.fn.base l.base l.fn.frame l.frame;
 }
 
 -- ---- how deep

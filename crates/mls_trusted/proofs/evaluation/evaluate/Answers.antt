@@ -19,13 +19,13 @@ evaluate_in-requires g c = record {
 
 pub returns-clause-called : goal.returns-clause-called
 returns-clause-called g c =
-    let state = g.B.Base.state in
+    let seen = g.B.Base.seen in
     let last = c.in_ok-commit.ensures in
     record {
       items = c.in_ok-run.ensures.called.items;
       done = λ clean.
           let before = last.change.call.clean clean in
-          commits_run (labels_of c.args.policy.now) c.args.schemes.now c.args.certified.now.tx c.args.args.now (state c.args.base.now) (state c.begin.new.self) (state c.evaluate_in.new.base)
-          (state c.commit.new.self) c.in_ok-run.run' (c.in_ok-begin.ensures.done (c.in_ok-run.ensures.step.call.clean before)) (c.in_ok-run.ensures.called.done before) (last.done clean);
+          commits_run (labels_of c.args.policy.now) c.args.schemes.now c.args.certified.now.tx c.args.args.now (seen c.args.base.now).state (seen c.begin.new.self).state (seen c.evaluate_in.new.base).state
+          (seen c.commit.new.self).state c.in_ok-run.run' (c.in_ok-begin.ensures.done (c.in_ok-run.ensures.step.call.clean before)) (c.in_ok-run.ensures.called.done before) (last.done clean);
       content = λ clean. subst (λ s. AreContent (labels_of c.args.policy.now) c.args.schemes.now s.now.db) (sym (last.done clean)) (c.in_ok-run.ensures.called.content (last.change.call.clean clean));
     }

@@ -20,12 +20,12 @@ pub run_block-requires-clause-ready : goal.run_block-requires-clause-ready
 run_block-requires-clause-ready g c =
     let call : Call = record { alloc = c.args.alloc; policy = c.args.policy; schemes = c.args.schemes; tx = c.tx.result; args = c.args.args } in
     let is = IfOk-at_ok (λ (x : Frame). x.views ≡ c.take_all.result) c.in_ok-frame.ensures.value c.new.ensures.views in
-    let views = subst (AreViews c.args.policy.now g.B.Base.is_clean g.B.Base.state c.settle.new.base) (sym (is ∙ c.take_all.ensures.all))
-    (subst (λ b. AreViews c.args.policy.now g.B.Base.is_clean g.B.Base.state b c.args.views.now) (sym c.in_ok-frame.ensures.same) c.requires.views) in
+    let views = subst (AreViews c.args.policy.now g.B.Base.seen c.settle.new.base) (sym (is ∙ c.take_all.ensures.all))
+    (subst (λ b. AreViews c.args.policy.now g.B.Base.seen b c.args.views.now) (sym c.in_ok-frame.ensures.same) c.requires.views) in
     record {
       under = c.requires.call.under;
-      begun = ap (λ b. (g.B.Base.state b).begun) c.in_ok-frame.ensures.same ∙ c.requires.begun;
-      content = λ k. subst (λ b. AreContent (labels_of c.args.policy.now) c.args.schemes.now (g.B.Base.state b).now.db) (sym c.in_ok-frame.ensures.same) (c.requires.call.content (c.in_ok-frame.ensures.call.clean k));
+      begun = ap (λ b. (g.B.Base.seen b).state.begun) c.in_ok-frame.ensures.same ∙ c.requires.begun;
+      content = λ k. subst (λ b. AreContent (labels_of c.args.policy.now) c.args.schemes.now (g.B.Base.seen b).state.now.db) (sym c.in_ok-frame.ensures.same) (c.requires.call.content (c.in_ok-frame.ensures.call.clean k));
       frame = IfOk-at_ok (IsFrame call) c.in_ok-frame.ensures.value c.new.ensures.frame;
       views = views;
     }
@@ -42,16 +42,16 @@ pub returns-clause-called : goal.returns-clause-called
 returns-clause-called g c =
     let call : Call = record { alloc = c.args.alloc; policy = c.args.policy; schemes = c.args.schemes; tx = c.tx.result; args = c.args.args } in
     let f = c.in_ok-frame.frame in
-    let state = g.B.Base.state in
+    let seen = g.B.Base.seen in
     let ls = labels_of c.args.policy.now in
     record {
       items = gives_items call c.run_block.new.frame c.into_parts-run.result.0 c.into_parts-run.ensures.emitted c.into_parts-run.ensures.released c.in_ok-run_block.ensures.ran.ready.frame;
       done = λ clean.
           let none = IfOk-at_ok (λ (x : Frame). x.rows.items ≡ []) c.in_ok-frame.ensures.value c.new.ensures.rows in
           let first = IfOk-at_ok (λ (x : Frame). (db : Database) → progress_of db x ≡ start db) c.in_ok-frame.ensures.value c.new.ensures.start in
-          let ran = subst (λ (x : Block). IsRun call g.B.Base.is_clean state (run_of call x (around_of f)) c.settle.new.base c.run_block.new.base f c.run_block.new.frame) c.body.ensures.body c.in_ok-run_block.ensures.ran in
-          let evaluated = gives_run call g.B.Base.is_clean state c.settle.new.base c.run_block.new.base f c.run_block.new.frame c.into_parts-run.result.0 first none ran c.into_parts-run.ensures.emitted c.into_parts-run.ensures.released clean in
-          subst (λ (x : Tx). let run = run_tx ls c.args.schemes.now x c.args.args.now (state c.args.base.now).now.db in IsEvaluated run (with_database (state c.args.base.now) run.db) (state c.run_block.new.base) c.into_parts-run.result.0) c.tx.ensures
-          (subst (λ b. let run = run_tx ls c.args.schemes.now c.tx.result.now c.args.args.now (state b).now.db in IsEvaluated run (with_database (state b) run.db) (state c.run_block.new.base) c.into_parts-run.result.0) c.in_ok-frame.ensures.same evaluated);
+          let ran = subst (λ (x : Block). IsRun call (λ b. (g.B.Base.seen b).is_clean) seen (run_of call x (around_of f)) c.settle.new.base c.run_block.new.base f c.run_block.new.frame) c.body.ensures.body c.in_ok-run_block.ensures.ran in
+          let evaluated = gives_run call (λ b. (g.B.Base.seen b).is_clean) seen c.settle.new.base c.run_block.new.base f c.run_block.new.frame c.into_parts-run.result.0 first none ran c.into_parts-run.ensures.emitted c.into_parts-run.ensures.released clean in
+          subst (λ (x : Tx). let run = run_tx ls c.args.schemes.now x c.args.args.now (seen c.args.base.now).state.now.db in IsEvaluated run (with_database (seen c.args.base.now).state run.db) (seen c.run_block.new.base).state c.into_parts-run.result.0) c.tx.ensures
+          (subst (λ b. let run = run_tx ls c.args.schemes.now c.tx.result.now c.args.args.now (seen b).state.now.db in IsEvaluated run (with_database (seen b).state run.db) (seen c.run_block.new.base).state c.into_parts-run.result.0) c.in_ok-frame.ensures.same evaluated);
       content = λ clean. c.in_ok-run_block.ensures.ran.ready.content clean;
     }

@@ -16,9 +16,9 @@ write-requires g c =
     let at = c.args.at in
     let writing = c.args.write.now in
     let is = IfOk-at_ok (λ x. x ≡ write_in (env_in call.args.now f) writing) c.in_ok-valued.ensures.value c.evaluated.ensures in
-    let stored = content_lent call f relation at writing c.args.outcome g.B.Base.is_clean g.B.Base.state c.args.base.now c.settle.new.base c.in_ok-valued.ensures.same c.requires.ready c.in_ok-valued.ensures.call.clean in
-    subst (CanWrite g.B.Base.is_clean g.B.Base.state c.settle.new.base call.policy.now call.schemes.now relation at) (sym is)
-    (can_write call f relation at c.args.outcome c.requires.ready.frame g.B.Base.is_clean g.B.Base.state c.settle.new.base c.requires.ready.under stored writing c.requires.may)
+    let stored = content_lent call f relation at writing c.args.outcome g.B.Base.seen c.args.base.now c.settle.new.base c.in_ok-valued.ensures.same c.requires.ready c.in_ok-valued.ensures.call.clean in
+    subst (CanWrite g.B.Base.seen c.settle.new.base call.policy.now call.schemes.now relation at) (sym is)
+    (can_write call f relation at c.args.outcome c.requires.ready.frame g.B.Base.seen c.settle.new.base c.requires.ready.under stored writing c.requires.may)
 
 pub returns-clause-ran : goal.returns-clause-ran
 returns-clause-ran g c =
@@ -29,5 +29,5 @@ returns-clause-ran g c =
     let writing = c.args.write.now in
     let is = IfOk-at_ok (λ x. x ≡ write_in (env_in call.args.now f) writing) c.in_ok-valued.ensures.value c.evaluated.ensures in
     let within = subst (λ (x : Write). key_class_of at x < length call.policy.now.labels) (sym is) (key_class_declared call f relation at c.args.outcome writing c.requires.may) in
-    run_written call f relation at writing c.args.outcome g.B.Base.is_clean g.B.Base.failures g.B.Base.state c.args.base.now c.settle.new.base c.write.new.base c.wrote.new.self c.in_ok-done.done
+    run_written call f relation at writing c.args.outcome g.B.Base.seen c.args.base.now c.settle.new.base c.write.new.base c.wrote.new.self c.in_ok-done.done
     c.in_ok-valued.valued c.in_ok-valued.ensures.same is c.requires.ready c.requires.may c.in_ok-done.ensures c.wrote.ensures.vars within c.wrote.ensures.views

@@ -13,13 +13,13 @@ pub returns-clause-done : goal.returns-clause-done
 returns-clause-done g c = λ clean es is.
     let relation = c.args.row.now.relation in
     let n = node_of (entry_of c.args.row.now) in
-    let T = (g.B.Base.state c.args.base.now).now.db relation in
+    let T = (g.B.Base.seen c.args.base.now).state.now.db relation in
     let node : c.in_ok-parts.parts.node ≡ n = subst (λ r. IfOk r (λ x. x.node ≡ n)) c.in_ok-parts.ensures.value c.parts_of.ensures.node in
     let own = subst (λ r. IfOk r (λ x. x.cells.items ≡ cells_of (entry_of c.args.row.now))) c.in_ok-parts.ensures.value c.parts_of.ensures.cells in
-    let same : g.B.Base.state c.settle.new.base ≡ g.B.Base.state c.args.base.now = ap g.B.Base.state c.in_ok-parts.ensures.same in
+    let same : (g.B.Base.seen c.settle.new.base).state ≡ (g.B.Base.seen c.args.base.now).state = ap g.B.Base.seen c.in_ok-parts.ensures.same in
     on_ok_weaker c.add.result (λ e. e ∙ (λ i. with_relation (same i) relation (insert ((same i).now.db relation) (place_of_node (node i)) es)))
     (c.add.ensures.done clean es
-    (made_same ((g.B.Base.state c.settle.new.base).now.db relation) T c.in_ok-parts.parts.node n c.deref.result.now _ es (ap (λ x. x.now.db relation) same) node (c.deref.ensures.value ∙ own) is))
+    (made_same ((g.B.Base.seen c.settle.new.base).state.now.db relation) T c.in_ok-parts.parts.node n c.deref.result.now _ es (ap (λ x. x.now.db relation) same) node (c.deref.ensures.value ∙ own) is))
 
 pub add-requires : goal.add-requires
 add-requires g c =
@@ -27,9 +27,9 @@ add-requires g c =
     let n = node_of (entry_of c.args.row.now) in
     let node : c.in_ok-parts.parts.node ≡ n = subst (λ r. IfOk r (λ x. x.node ≡ n)) c.in_ok-parts.ensures.value c.parts_of.ensures.node in
     let own = subst (λ r. IfOk r (λ x. x.cells.items ≡ cells_of (entry_of c.args.row.now))) c.in_ok-parts.ensures.value c.parts_of.ensures.cells in
-    subst (λ b. CanAdd g.B.Base.is_clean g.B.Base.state b relation c.in_ok-parts.parts.node c.deref.result.now) (sym c.in_ok-parts.ensures.same)
-    (subst (λ k. CanAdd g.B.Base.is_clean g.B.Base.state c.args.base.now relation k c.deref.result.now) (sym node)
-    (subst (CanAdd g.B.Base.is_clean g.B.Base.state c.args.base.now relation n) (sym (c.deref.ensures.value ∙ own)) (record {
+    subst (λ b. CanAdd g.B.Base.seen b relation c.in_ok-parts.parts.node c.deref.result.now) (sym c.in_ok-parts.ensures.same)
+    (subst (λ k. CanAdd g.B.Base.seen c.args.base.now relation k c.deref.result.now) (sym node)
+    (subst (CanAdd g.B.Base.seen c.args.base.now relation n) (sym (c.deref.ensures.value ∙ own)) (record {
       key = c.requires.key;
       cells = tuple_cells c.args.row.now.place c.args.row.now.elements c.requires.values;
       absent = c.requires.absent;
@@ -38,5 +38,5 @@ add-requires g c =
 
 pub returns-clause-step : goal.returns-clause-step
 returns-clause-step g c =
-    change_step g.B.Base.is_clean g.B.Base.failures g.B.Base.state c.args.base.now c.add.new.self c.add.result c.requires.begun
-    (subst (λ b. IsChange g.B.Base.is_clean g.B.Base.failures g.B.Base.state (g.B.Base.state b).begun b c.add.new.self c.add.result) c.in_ok-parts.ensures.same c.add.ensures.change)
+    change_step g.B.Base.seen c.args.base.now c.add.new.self c.add.result c.requires.begun
+    (subst (λ b. IsChange g.B.Base.seen (g.B.Base.seen b).state.begun b c.add.new.self c.add.result) c.in_ok-parts.ensures.same c.add.ensures.change)

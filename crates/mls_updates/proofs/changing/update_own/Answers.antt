@@ -15,8 +15,8 @@ use Rattle.mls_updates.proofs.changing.update_own.Goals as goal
 
 pub returns-then-not-is_done-clause-done : goal.returns-then-not-is_done-clause-done
 returns-then-not-is_done-clause-done g c = λ clean scheme.
-    let s = g.B.Base.state c.args.base.now in
-    left_same c.args.relation s (g.B.Base.state c.pattern.new.self) c.own_outcome-outcome.result _ _
+    let s = (g.B.Base.seen c.args.base.now).state in
+    left_same c.args.relation s (g.B.Base.seen c.pattern.new.self).state c.own_outcome-outcome.result _ _
     (c.own_outcome-outcome.ensures scheme (get (s.now.db c.args.relation) c.args.place.now) (c.in_ok-found.ensures.found clean)) (sym c.if-not-is_done.ensures) (c.in_ok-found.ensures.read.same clean)
 
 pub set_each-requires : goal.set_each-requires
@@ -24,7 +24,7 @@ set_each-requires g c =
     let ls = labels_of c.args.policy.now in
     let p = c.args.place.now in
     let sets = c.args.sets.now in
-    let s = g.B.Base.state c.args.base.now in
+    let s = (g.B.Base.seen c.args.base.now).state in
     let T = s.now.db c.args.relation in
     record {
       begun = c.in_ok-found.ensures.read.mode ∙ c.requires.at.begun;
@@ -41,11 +41,11 @@ set_each-requires g c =
 
 pub returns-clause-done : goal.returns-clause-done
 returns-clause-done g c = λ clean scheme.
-    let s = g.B.Base.state c.args.base.now in
+    let s = (g.B.Base.seen c.args.base.now).state in
     let p = c.args.place.now in
     let sets = c.args.sets.now in
     let before = c.in_ok-set_each.ensures.step.call.clean clean in
     let same = c.in_ok-found.ensures.read.same before in
-    left_done c.args.relation s (g.B.Base.state c.set_each.new.base) c.own_outcome-outcome.result _ _
+    left_done c.args.relation s (g.B.Base.seen c.set_each.new.base).state c.own_outcome-outcome.result _ _
     (c.own_outcome-outcome.ensures scheme (get (s.now.db c.args.relation) p) (c.in_ok-found.ensures.found before)) (sym c.if-not-is_done.ensures)
     (c.in_ok-set_each.ensures.done clean ∙ (λ i. with_relation (same i) c.args.relation (set_each p sets ((same i).now.db c.args.relation))) ∙ ap (with_relation s c.args.relation) (all_set p sets (s.now.db c.args.relation)))

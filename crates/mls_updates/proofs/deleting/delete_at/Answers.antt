@@ -9,8 +9,8 @@ use Rattle.mls_updates.proofs.deleting.delete_at.Goals as goal
 
 pub returns-then-not-is_done-clause-done : goal.returns-then-not-is_done-clause-done
 returns-then-not-is_done-clause-done g c = λ clean scheme.
-    let s = g.B.Base.state c.args.base.now in
-    left_same c.args.relation s (g.B.Base.state c.has_tuple.new.base) c.drop_outcome-outcome.result _ _
+    let s = (g.B.Base.seen c.args.base.now).state in
+    left_same c.args.relation s (g.B.Base.seen c.has_tuple.new.base).state c.drop_outcome-outcome.result _ _
     (c.drop_outcome-outcome.ensures scheme (get (s.now.db c.args.relation) c.args.place) (sym (c.in_ok-found.ensures.found clean))) (sym c.if-not-is_done.ensures) (c.in_ok-found.ensures.read.same clean)
 
 pub drop_above-requires-clause-stored : goal.drop_above-requires-clause-stored
@@ -20,9 +20,9 @@ drop_above-requires-clause-stored g c = λ clean.
 
 pub returns-clause-done : goal.returns-clause-done
 returns-clause-done g c = λ clean scheme.
-    let s = g.B.Base.state c.args.base.now in
+    let s = (g.B.Base.seen c.args.base.now).state in
     let before = c.in_ok-drop_above.ensures.step.call.clean clean in
     let same = c.in_ok-found.ensures.read.same before in
-    left_done c.args.relation s (g.B.Base.state c.drop_above.new.base) c.drop_outcome-outcome.result _ _
+    left_done c.args.relation s (g.B.Base.seen c.drop_above.new.base).state c.drop_outcome-outcome.result _ _
     (c.drop_outcome-outcome.ensures scheme (get (s.now.db c.args.relation) c.args.place) (sym (c.in_ok-found.ensures.found before))) (sym c.if-not-is_done.ensures)
     (c.in_ok-drop_above.ensures.done clean ∙ (λ i. with_relation (same i) c.args.relation (retain_keys ((same i).now.db c.args.relation) (λ q. not (is_above (labels_of c.args.policy.now) c.args.place q)))))

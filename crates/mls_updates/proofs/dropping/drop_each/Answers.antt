@@ -13,8 +13,8 @@ drop_one-requires-clause-alone g c = λ clean.
 
 pub loop-class-preserved : goal.loop-class-preserved
 loop-class-preserved g c =
-    let t = g.B.Base.state c.loop-class.base in
-    let u = g.B.Base.state c.drop_one.new.base in
+    let t = (g.B.Base.seen c.loop-class.base).state in
+    let u = (g.B.Base.seen c.drop_one.new.base).state in
     let T = t.now.db c.args.relation in
     let inv = c.loop-class.invariant in
     let q : Place = record { key = c.loop-class.place.key; key_class = c.loop-class.place.key_class; class = c.class-item.result } in
@@ -36,6 +36,6 @@ loop-class-preserved g c =
 
 pub returns-clause-done : goal.returns-clause-done
 returns-clause-done g c = λ clean.
-    let t = g.B.Base.state c.loop-class.base in
+    let t = (g.B.Base.seen c.loop-class.base).state in
     last_step c.args.relation t _ (drop_each c.args.place (drop c.loop-class.class-index c.args.classes.now)) (c.loop-class.invariant.way clean)
     (ap (λ ks. drop_each c.args.place ks (t.now.db c.args.relation)) (drop_end c.args.classes.now c.loop-class.class-index c.loop-class-test.false))

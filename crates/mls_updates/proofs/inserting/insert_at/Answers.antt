@@ -12,14 +12,14 @@ use Rattle.mls_updates.proofs.inserting.insert_at.Goals as goal
 
 pub returns-then-not-is_done-clause-done : goal.returns-then-not-is_done-clause-done
 returns-then-not-is_done-clause-done g c = λ clean.
-    let s = g.B.Base.state c.args.base.now in
-    left_same c.args.relation s (g.B.Base.state c.has_tuple.new.base) c.root_outcome-outcome.result _ _
+    let s = (g.B.Base.seen c.args.base.now).state in
+    left_same c.args.relation s (g.B.Base.seen c.has_tuple.new.base).state c.root_outcome-outcome.result _ _
     (c.root_outcome-outcome.ensures (get (s.now.db c.args.relation) c.args.place) (sym (c.in_ok-found.ensures.found clean))) (sym c.if-not-is_done.ensures) (c.in_ok-found.ensures.read.same clean)
 
 pub add_root-requires : goal.add_root-requires
 add_root-requires g c =
     let p = c.args.place in
-    let s = g.B.Base.state c.args.base.now in
+    let s = (g.B.Base.seen c.args.base.now).state in
     record {
       begun = c.in_ok-found.ensures.read.mode ∙ c.requires.at.begun;
       key = c.requires.at.key;
@@ -29,14 +29,14 @@ add_root-requires g c =
           let first = c.root_outcome-outcome.ensures o (sym (c.in_ok-found.ensures.found clean)) in
           ap (λ x. get (x.now.db c.args.relation) p) (c.in_ok-found.ensures.read.same clean)
           ∙ none_if o (all_passed (root_refusals (labels_of c.args.policy.now) c.args.scheme.now p.class o) refl (ap is_done (sym first) ∙ sym c.if-not-is_done.ensures)).0;
-      made = λ clean. (root p.class c.args.values.now, root_made ((g.B.Base.state c.has_tuple.new.base).now.db c.args.relation) p c.args.values.now);
+      made = λ clean. (root p.class c.args.values.now, root_made ((g.B.Base.seen c.has_tuple.new.base).state.now.db c.args.relation) p c.args.values.now);
     }
 
 pub returns-clause-done : goal.returns-clause-done
 returns-clause-done g c = λ clean.
-    let s = g.B.Base.state c.args.base.now in
+    let s = (g.B.Base.seen c.args.base.now).state in
     let before = c.in_ok-add_root.ensures.step.call.clean clean in
     let same = c.in_ok-found.ensures.read.same before in
-    left_done c.args.relation s (g.B.Base.state c.add_root.new.base) c.root_outcome-outcome.result _ _
+    left_done c.args.relation s (g.B.Base.seen c.add_root.new.base).state c.root_outcome-outcome.result _ _
     (c.root_outcome-outcome.ensures (get (s.now.db c.args.relation) c.args.place) (sym (c.in_ok-found.ensures.found before))) (sym c.if-not-is_done.ensures)
     (c.in_ok-add_root.ensures.done clean ∙ (λ i. with_relation (same i) c.args.relation (insert ((same i).now.db c.args.relation) c.args.place (root c.args.place.class c.args.values.now))))

@@ -19,12 +19,12 @@ returns-in_default-clause-done g c = λ clean.
     let p = c.args.place in
     let from = c.args.from in
     let sets = c.args.sets.now in
-    let s = g.B.Base.state c.args.base.now in
+    let s = (g.B.Base.seen c.args.base.now).state in
     let T = s.now.db c.args.relation in
     let start = c.in_ok-is_there.ensures.read.call.clean clean in
     let pattern = c.requires.found start in
     let first = c.below_outcome-outcome.ensures.first p.key_class from (get T (with_class p from)) (get T p) (below_found ls c.args.relation p from s c.args.pattern pattern ∙ sym c.is_some.ensures) (sym (c.in_ok-is_there.ensures.found clean)) in
-    left_same c.args.relation s (g.B.Base.state c.has_tuple.new.base) c.below_outcome-outcome.result _ _ first (c.below_outcome-outcome.ensures.missing (c.is_some.ensures ∙ ap is_some c.in_default.is)) (c.in_ok-is_there.ensures.read.same clean)
+    left_same c.args.relation s (g.B.Base.seen c.has_tuple.new.base).state c.below_outcome-outcome.result _ _ first (c.below_outcome-outcome.ensures.missing (c.is_some.ensures ∙ ap is_some c.in_default.is)) (c.in_ok-is_there.ensures.read.same clean)
 
 pub returns-then-not-is_done-clause-done : goal.returns-then-not-is_done-clause-done
 returns-then-not-is_done-clause-done g c = λ clean.
@@ -32,12 +32,12 @@ returns-then-not-is_done-clause-done g c = λ clean.
     let p = c.args.place in
     let from = c.args.from in
     let sets = c.args.sets.now in
-    let s = g.B.Base.state c.args.base.now in
+    let s = (g.B.Base.seen c.args.base.now).state in
     let T = s.now.db c.args.relation in
     let start = c.in_ok-is_there.ensures.read.call.clean clean in
     let pattern = c.requires.found start in
     let first = c.below_outcome-outcome.ensures.first p.key_class from (get T (with_class p from)) (get T p) (below_found ls c.args.relation p from s c.args.pattern pattern ∙ sym c.is_some.ensures) (sym (c.in_ok-is_there.ensures.found clean)) in
-    left_same c.args.relation s (g.B.Base.state c.has_tuple.new.base) c.below_outcome-outcome.result _ _ first (sym c.if-not-is_done.ensures) (c.in_ok-is_there.ensures.read.same clean)
+    left_same c.args.relation s (g.B.Base.seen c.has_tuple.new.base).state c.below_outcome-outcome.result _ _ first (sym c.if-not-is_done.ensures) (c.in_ok-is_there.ensures.read.same clean)
 
 pub add_outline-requires : goal.add_outline-requires
 add_outline-requires g c =
@@ -45,7 +45,7 @@ add_outline-requires g c =
     let p = c.args.place in
     let from = c.args.from in
     let sets = c.args.sets.now in
-    let s = g.B.Base.state c.args.base.now in
+    let s = (g.B.Base.seen c.args.base.now).state in
     let T = s.now.db c.args.relation in
     record {
       begun = c.in_ok-is_there.ensures.read.mode ∙ c.requires.can.at.begun;
@@ -61,7 +61,7 @@ add_outline-requires g c =
           let tuple = below_tuple ls c.args.relation p from s c.in-Some.pattern (sym c.in-Some.is ∙ c.requires.found start) in
           let declared = subst (λ n. p.class < n) (sym (length-map c.args.policy.now.labels (λ l. l.value))) c.requires.can.at.class in (
             derived p.class sets tuple.0,
-            made_alike ((g.B.Base.state c.has_tuple.new.base).now.db c.args.relation) T p p c.deref.result.now (classes tuple.0) sets (derived p.class sets tuple.0)
+            made_alike ((g.B.Base.seen c.has_tuple.new.base).state.now.db c.args.relation) T p p c.deref.result.now (classes tuple.0) sets (derived p.class sets tuple.0)
                 (ap (λ x. x.now.db c.args.relation) (c.in_ok-is_there.ensures.read.same clean)) refl (c.deref.ensures ∙ tuple.2)
                 (outline_made ls c.use_invariant.ensures.distinct (length c.args.scheme.now.others) T (c.requires.can.stored start) (with_class p from) tuple.0 tuple.1 p.class declared tuple.4 c.requires.can.other sets),
           );
@@ -73,7 +73,7 @@ returns-clause-done g c = λ clean.
     let p = c.args.place in
     let from = c.args.from in
     let sets = c.args.sets.now in
-    let s = g.B.Base.state c.args.base.now in
+    let s = (g.B.Base.seen c.args.base.now).state in
     let T = s.now.db c.args.relation in
     let before = c.in_ok-add_outline.ensures.step.call.clean clean in
     let start = c.in_ok-is_there.ensures.read.call.clean before in
@@ -82,9 +82,9 @@ returns-clause-done g c = λ clean.
     let same = c.in_ok-is_there.ensures.read.same before in
     let tuple = below_tuple ls c.args.relation p from s c.in-Some.pattern (sym c.in-Some.is ∙ pattern) in
     let declared = subst (λ n. p.class < n) (sym (length-map c.args.policy.now.labels (λ l. l.value))) c.requires.can.at.class in
-    let made = made_alike ((g.B.Base.state c.has_tuple.new.base).now.db c.args.relation) T p p c.deref.result.now (classes tuple.0) sets (derived p.class sets tuple.0)
+    let made = made_alike ((g.B.Base.seen c.has_tuple.new.base).state.now.db c.args.relation) T p p c.deref.result.now (classes tuple.0) sets (derived p.class sets tuple.0)
     (ap (λ x. x.now.db c.args.relation) same) refl (c.deref.ensures ∙ tuple.2)
     (outline_made ls c.use_invariant.ensures.distinct (length c.args.scheme.now.others) T (c.requires.can.stored start) (with_class p from) tuple.0 tuple.1 p.class declared tuple.4 c.requires.can.other sets) in
-    left_done c.args.relation s (g.B.Base.state c.add_outline.new.base) c.below_outcome-outcome.result _ _ first (sym c.if-not-is_done.ensures)
+    left_done c.args.relation s (g.B.Base.seen c.add_outline.new.base).state c.below_outcome-outcome.result _ _ first (sym c.if-not-is_done.ensures)
     (c.in_ok-add_outline.ensures.done clean (derived p.class sets tuple.0) made
     ∙ (λ i. with_relation (same i) c.args.relation (insert ((same i).now.db c.args.relation) p (derived p.class sets (unwrap_or (sym tuple.1 i) [])))))

@@ -10,7 +10,7 @@ pub returns-then-not-dominates-clause-found : goal.returns-then-not-dominates-cl
 returns-then-not-dominates-clause-found g c = λ clean.
     let ls = labels_of c.args.policy.now in
     let p = c.args.place.now in
-    let o = option_map classes (get ((g.B.Base.state c.args.base.now).now.db c.args.relation) p) in
+    let o = option_map classes (get ((g.B.Base.seen c.args.base.now).state.now.db c.args.relation) p) in
     let low = sym c.if-not-dominates.ensures.order in
     sym (ap (λ b. cond (b && below ls p.class c.args.w) o None) low)
 
@@ -18,7 +18,7 @@ pub returns-then-not-dominates-2-clause-found : goal.returns-then-not-dominates-
 returns-then-not-dominates-2-clause-found g c = λ clean.
     let ls = labels_of c.args.policy.now in
     let p = c.args.place.now in
-    let o = option_map classes (get ((g.B.Base.state c.args.base.now).now.db c.args.relation) p) in
+    let o = option_map classes (get ((g.B.Base.seen c.args.base.now).state.now.db c.args.relation) p) in
     let low = sym c.if-not-dominates.ensures.order in
     let up = sym c.if-not-dominates-2.ensures.order in
     sym (λ i. cond (low i && up i) o None)
@@ -27,7 +27,7 @@ pub returns-clause-found : goal.returns-clause-found
 returns-clause-found g c = λ clean.
     let ls = labels_of c.args.policy.now in
     let p = c.args.place.now in
-    let o = option_map classes (get ((g.B.Base.state c.args.base.now).now.db c.args.relation) p) in
+    let o = option_map classes (get ((g.B.Base.seen c.args.base.now).state.now.db c.args.relation) p) in
     let low = sym c.if-not-dominates.ensures.order in
     let up = sym c.if-not-dominates-2.ensures.order in
     IfOk-weaker c.pattern.result (λ pattern. pattern ≡ o) _ (λ pattern e. e ∙ sym (λ i. cond (low i && up i) o None)) (c.pattern.ensures.found clean)

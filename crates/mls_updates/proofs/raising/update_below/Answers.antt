@@ -26,7 +26,7 @@ derive-requires-clause-can g c = record {
 
 pub returns-clause-step : goal.returns-clause-step
 returns-clause-step g c = record {
-  call = later_call g.B.Base.is_clean g.B.Base.failures g.B.Base.state c.args.base.now c.pattern_below.new.base c.derive.new.base c.in_ok-pattern.ensures.read.mode c.in_ok-pattern.ensures.read.same
+  call = later_call g.B.Base.seen c.args.base.now c.pattern_below.new.base c.derive.new.base c.in_ok-pattern.ensures.read.mode c.in_ok-pattern.ensures.read.same
       _ c.derive.result c.in_ok-pattern.ensures.read.call c.derive.ensures.step.served c.derive.ensures.step.call;
   served = c.derive.ensures.step.served;
   mode = c.derive.ensures.step.mode;
@@ -34,6 +34,6 @@ returns-clause-step g c = record {
 
 pub returns-clause-done : goal.returns-clause-done
 returns-clause-done g c = λ clean.
-    let u = g.B.Base.state c.derive.new.base in
+    let u = (g.B.Base.seen c.derive.new.base).state in
     subst (λ x. IfOk c.derive.result (IsDerived (labels_of c.args.policy.now) c.args.scheme.now c.args.relation (with_class c.args.place c.args.w) c.args.place.class c.args.sets.now x u))
     (c.in_ok-pattern.ensures.read.same (c.derive.ensures.step.call.clean clean)) (c.derive.ensures.done clean)

@@ -14,8 +14,8 @@ pub returns-clause-done : goal.returns-clause-done
 returns-clause-done g c = λ clean.
     let it : Row = record { relation = c.args.relation; place = c.args.place; elements = root c.args.place.class c.args.values.now } in
     let row : c.in_ok-row.row ≡ it = subst (λ r. IfOk r (λ x. x ≡ it)) c.in_ok-row.ensures.value c.root_at.ensures in
-    let same : g.B.Base.state c.settle.new.base ≡ g.B.Base.state c.args.base.now = ap g.B.Base.state c.in_ok-row.ensures.same in
-    let t = g.B.Base.state c.settle.new.base in
+    let same : (g.B.Base.seen c.settle.new.base).state ≡ (g.B.Base.seen c.args.base.now).state = ap g.B.Base.seen c.in_ok-row.ensures.same in
+    let t = (g.B.Base.seen c.settle.new.base).state in
     let es = root c.args.place.class c.args.values.now in
     on_ok_weaker c.add_row.result (λ e. e ∙ (λ i. with_relation (same i) (row i).relation (insert ((same i).now.db (row i).relation) (row i).place es)))
     (c.add_row.ensures.done clean es (subst (λ (r : Row). IsMadeOf (t.now.db r.relation) (node_of (entry_of r)) (cells_of (entry_of r)) es) (sym row) (root_made (t.now.db c.args.relation) c.args.place c.args.values.now)))
@@ -24,4 +24,4 @@ pub add_row-requires : goal.add_row-requires
 add_row-requires g c =
     let it : Row = record { relation = c.args.relation; place = c.args.place; elements = root c.args.place.class c.args.values.now } in
     let row : c.in_ok-row.row ≡ it = subst (λ r. IfOk r (λ x. x ≡ it)) c.in_ok-row.ensures.value c.root_at.ensures in
-    subst (λ b. CanAddRow g.B.Base.is_clean g.B.Base.state b c.in_ok-row.row) (sym c.in_ok-row.ensures.same) (subst (CanAddRow g.B.Base.is_clean g.B.Base.state c.args.base.now) (sym row) c.requires)
+    subst (λ b. CanAddRow g.B.Base.seen b c.in_ok-row.row) (sym c.in_ok-row.ensures.same) (subst (CanAddRow g.B.Base.seen c.args.base.now) (sym row) c.requires)

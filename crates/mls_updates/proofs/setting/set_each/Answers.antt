@@ -18,7 +18,7 @@ holds_at P (s ∷ ss) (suc i) d l h = holds_at P ss i d (omega arith) h.1
 
 pub loop-left-init : goal.loop-left-init
 loop-left-init g c =
-    let s = g.B.Base.state c.args.base.now in
+    let s = (g.B.Base.seen c.args.base.now).state in
     let sets = c.args.sets.now in
     record {
       clean = λ clean. clean;
@@ -33,7 +33,7 @@ loop-left-preserved g c =
     let p = c.args.place.now in
     let sets = c.args.sets.now in
     let relation = c.args.relation in
-    let s = g.B.Base.state c.args.base.now in
+    let s = (g.B.Base.seen c.args.base.now).state in
     let T = s.now.db relation in
     let i = c.loop-left.left - 1 in
     let some = c.loop-left-test.true in
@@ -58,8 +58,8 @@ pub set_one-requires-clause-can : goal.set_one-requires-clause-can
 set_one-requires-clause-can g c =
     let p = c.args.place.now in
     let sets = c.args.sets.now in
-    let s = g.B.Base.state c.args.base.now in
-    let t = g.B.Base.state c.loop-left.base in
+    let s = (g.B.Base.seen c.args.base.now).state in
+    let t = (g.B.Base.seen c.loop-left.base).state in
     let T = s.now.db c.args.relation in
     let i = c.loop-left.left - 1 in
     let some = c.loop-left-test.true in

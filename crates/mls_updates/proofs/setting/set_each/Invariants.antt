@@ -5,11 +5,11 @@ use Rattle.mls_updates.proofs.setting.set_each.Given as goal
 
 abbrev pub invariant-loop-left : goal.invariant-loop-left
 invariant-loop-left g l =
-    let s = g.B.Base.state l.fn.base in
-    let t = g.B.Base.state l.base in
+    let s = (g.B.Base.seen l.fn.base).state in
+    let t = (g.B.Base.seen l.base).state in
     record {
-      clean : g.B.Base.is_clean l.base → g.B.Base.is_clean l.fn.base;
-      count : g.B.Base.failures l.fn.base ≤ g.B.Base.failures l.base;
+      clean : (g.B.Base.seen l.base).is_clean → (g.B.Base.seen l.fn.base).is_clean;
+      count : (g.B.Base.seen l.fn.base).failures ≤ (g.B.Base.seen l.base).failures;
       begun : t.begun ≡ true;
-      way : g.B.Base.is_clean l.base → t ≡ with_relation s l.relation (set_each l.place (drop l.left l.sets) (s.now.db l.relation));
+      way : (g.B.Base.seen l.base).is_clean → t ≡ with_relation s l.relation (set_each l.place (drop l.left l.sets) (s.now.db l.relation));
     }

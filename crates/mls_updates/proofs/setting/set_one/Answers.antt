@@ -11,16 +11,16 @@ pub returns-clause-done : goal.returns-clause-done
 returns-clause-done g c = λ clean.
     let relation = c.args.relation in
     let value : c.in_ok-value.value ≡ c.args.value.now = subst (λ r. IfOk r (λ v. v ≡ c.args.value.now)) c.in_ok-value.ensures.value c.copy_value.ensures in
-    let same : g.B.Base.state c.settle.new.base ≡ g.B.Base.state c.args.base.now = ap g.B.Base.state c.in_ok-value.ensures.same in
+    let same : (g.B.Base.seen c.settle.new.base).state ≡ (g.B.Base.seen c.args.base.now).state = ap g.B.Base.seen c.in_ok-value.ensures.same in
     on_ok_weaker c.set.result (λ e. e ∙ (λ i. with_relation (same i) relation (change (set_in c.args.place.now c.args.attr (value i)) ((same i).now.db relation)))) (c.set.ensures.done clean)
 
 pub returns-clause-step : goal.returns-clause-step
 returns-clause-step g c =
-    change_step g.B.Base.is_clean g.B.Base.failures g.B.Base.state c.args.base.now c.set.new.self c.set.result c.requires.begun
-    (subst (λ b. IsChange g.B.Base.is_clean g.B.Base.failures g.B.Base.state (g.B.Base.state b).begun b c.set.new.self c.set.result) c.in_ok-value.ensures.same c.set.ensures.change)
+    change_step g.B.Base.seen c.args.base.now c.set.new.self c.set.result c.requires.begun
+    (subst (λ b. IsChange g.B.Base.seen (g.B.Base.seen b).state.begun b c.set.new.self c.set.result) c.in_ok-value.ensures.same c.set.ensures.change)
 
 pub set-requires : goal.set-requires
 set-requires g c =
     let value : c.in_ok-value.value ≡ c.args.value.now = subst (λ r. IfOk r (λ v. v ≡ c.args.value.now)) c.in_ok-value.ensures.value c.copy_value.ensures in
-    subst (λ b. CanSet g.B.Base.is_clean g.B.Base.state b c.args.relation c.args.place.now c.args.attr c.in_ok-value.value) (sym c.in_ok-value.ensures.same)
-    (subst (CanSet g.B.Base.is_clean g.B.Base.state c.args.base.now c.args.relation c.args.place.now c.args.attr) (sym value) c.requires.can)
+    subst (λ b. CanSet g.B.Base.seen b c.args.relation c.args.place.now c.args.attr c.in_ok-value.value) (sym c.in_ok-value.ensures.same)
+    (subst (CanSet g.B.Base.seen c.args.base.now c.args.relation c.args.place.now c.args.attr) (sym value) c.requires.can)

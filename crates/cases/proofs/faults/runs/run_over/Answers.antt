@@ -4,5 +4,5 @@ use Rattle.cases.proofs.faults.runs.run_over.Goals as goal
 
 pub returns : goal.returns
 returns g c =
-    (given_back g.B.Base.state g.B.Base.is_clean g.B.Base.failures (site_of c.args.sample.now.policy.now c.args.sample.now.schemes.now c.args.stored) c.new-engine.result c.run-end.new.engine c.finish.result
+    (given_back g.B.Base.seen (site_of c.args.sample.now.policy.now c.args.sample.now.schemes.now c.args.stored) c.new-engine.result c.run-end.new.engine c.finish.result
     c.new-engine.ensures.site c.run-end.ensures.continues.kept c.finish.ensures).rest

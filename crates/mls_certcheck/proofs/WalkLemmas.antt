@@ -30,12 +30,6 @@ last_one : (before n : ℕ) (s : Stmt) → last before n (block_of (s ∷ [])) �
 last_one before n (stmt.Assign x e) = refl
 last_one before n _ = refl
 
-statements-then : (b d : Block) → statements (then b d) ≡ statements b + statements d
-statements-then End d = omega arith
-statements-then (Do s rest) d = omega (arith, statements-then rest d)
-statements-then (If guard one other rest) d = omega (arith, statements-then rest d)
-statements-then (For row relation label body rest) d = omega (arith, statements-then rest d)
-
 depth-then : (b d : Block) → (depth b ≤ depth (then b d)) × (depth d ≤ depth (then b d))
 depth-then End d = (omega arith, omega arith)
 depth-then (Do s rest) d = let h = depth-then rest d in (omega (arith, h.0, h.1), omega (arith, h.0, h.1))
@@ -79,9 +73,6 @@ places_first n around before rows s rest =
     ap (places n around before rows) (first_then s rest) ∙ places-then n around before rows (block_of (s ∷ [])) (block_of rest)
     ∙ ap (λ (k : ℕ). places n around before rows (block_of (s ∷ [])) ++ places (n + statements (block_of (s ∷ []))) around k rows (block_of rest)) (last_one before n s)
 
-pub statements_first : (s : Stmt) (rest : List Stmt) → statements (block_of (s ∷ rest)) ≡ statements (block_of (s ∷ [])) + statements (block_of rest)
-statements_first s rest = ap statements (first_then s rest) ∙ statements-then (block_of (s ∷ [])) (block_of rest)
-
 pub depth_first : (s : Stmt) (rest : List Stmt) → (depth (block_of (s ∷ [])) ≤ depth (block_of (s ∷ rest))) × (depth (block_of rest) ≤ depth (block_of (s ∷ rest)))
 depth_first s rest =
     let h = depth-then (block_of (s ∷ [])) (block_of rest) in
@@ -97,7 +88,7 @@ drop_here items i s within is =
 
 module _ (items : List Stmt) (i : ℕ) (s : Stmt) (within : i < length items) (is : s ≡ get_or items i s) where
   pub split_statements : statements (block_of (drop i items)) ≡ statements (block_of (s ∷ [])) + statements (block_of (drop (i + 1) items))
-  split_statements = ap (λ (ss : List Stmt). statements (block_of ss)) (drop_here items i s within is) ∙ statements_first s (drop (i + 1) items)
+  split_statements = ap (λ (ss : List Stmt). statements (block_of ss)) (drop_here items i s within is) ∙ statements_more s (drop (i + 1) items)
 
   pub split_depth : (depth (block_of (s ∷ [])) ≤ depth (block_of (drop i items))) × (depth (block_of (drop (i + 1) items)) ≤ depth (block_of (drop i items)))
   split_depth =

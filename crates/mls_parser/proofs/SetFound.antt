@@ -15,12 +15,12 @@ use Rattle.mls_parser.specs.ReadExpr.{whole_at}
 use Rattle.mls_parser.specs.ReadList.{fits_item, set_at, sets_at}
 use Rattle.mls_parser.proofs.FoundSteps.{Found}
 use Rattle.mls_parser.proofs.ListFound.{right_read, IsRightExpr, right_expr}
-use Rattle.mls_parser.proofs.ValueLemmas.{IsRightSet, AreSet}
+use Rattle.mls_parser.proofs.ValueLemmas.{IsRightSet, AreAssigned}
 use Rattle.mls_parser.proofs.ValueLemmas as values
 
 module _ (p : Place) (scheme : Scheme) where
-  abbrev IsRight : ℕ × Expr → Type 0
-  IsRight = IsRightSet (expr_tokens p) (IsRightExpr p) scheme
+  abbrev IsNewRight : ℕ × Expr → Type 0
+  IsNewRight = IsRightSet (expr_tokens p) (IsRightExpr p) scheme
 
   pub record AreNew (ts : List Token) (xs : List (ℕ × Expr)) : Type 0 where
     pub tokens : ts ≡ separated (set_tokens p scheme) xs
@@ -28,12 +28,12 @@ module _ (p : Place) (scheme : Scheme) where
     pub fits : SetsFit p.schemes p.scope scheme xs
     pub kinds : AllByRecursion (λ x. HasKind p.schemes p.scope (other_of scheme x.0).1.kind x.1) xs
 
-  are_new : (ts : List Token) (xs : List (ℕ × Expr)) → AreSet (expr_tokens p) (IsRightExpr p) scheme ts xs → AreNew ts xs
+  are_new : (ts : List Token) (xs : List (ℕ × Expr)) → AreAssigned (expr_tokens p) (IsRightExpr p) scheme ts xs → AreNew ts xs
   are_new ts xs r = record {
     tokens = r.tokens;
-    own = all_if IsRight _ (λ x h. h.1.own) xs r.each;
-    fits = record { some = r.some; each = all_if IsRight _ (λ x h. (h.0, h.1.fits)) xs r.each; apart = r.apart };
-    kinds = all_if IsRight _ (λ x h. h.1.kind (other_of scheme x.0) refl) xs r.each;
+    own = all_if IsNewRight _ (λ x h. h.1.own) xs r.each;
+    fits = record { some = r.some; each = all_if IsNewRight _ (λ x h. (h.0, h.1.fits)) xs r.each; apart = r.apart };
+    kinds = all_if IsNewRight _ (λ x h. h.1.kind (other_of scheme x.0) refl) xs r.each;
   }
 
   pub sets_read : (s : State) (x : List (ℕ × Expr) × State) → sets_at p scheme s ≡ Ok x → Found AreNew s x

@@ -35,10 +35,10 @@ other_within : (scheme : Scheme) (n : PlacedName) (i : ℕ) → other_named sche
 unfolding other_named
 other_within scheme n i e = (position-Some _ scheme.others i no_attribute e).0
 
-module _ {X : Type 0} (scheme : Scheme) where
-  abbrev numbers : List (ℕ × X) → List ℕ
-  numbers = map (λ x. x.0)
+abbrev numbers : {X : Type 0} → List (ℕ × X) → List ℕ
+numbers = map (λ x. x.0)
 
+module _ {X : Type 0} (scheme : Scheme) where
   -- of an attribute that had none
   record IsTarget (front : List (ℕ × X)) (ts : List Token) (o : Option ℕ) : Type 0 where
     number : ℕ
@@ -89,16 +89,16 @@ module _ {X : Type 0} (text : X → List Token) (Right : Option Attribute → X 
   IsRightSet x = (x.0 < length scheme.others) × Right (Some (other_of scheme x.0)) x.1
 
   -- behind those before
-  record IsSet (front : List (ℕ × X)) (x : ℕ × X) : Type 0 where
+  record IsAssigned (front : List (ℕ × X)) (x : ℕ × X) : Type 0 where
     right : IsRightSet x
-    apart : list_any (nat_eq x.0) (numbers scheme front) ≡ false
+    apart : list_any (nat_eq x.0) (numbers front) ≡ false
 
   -- all of them
-  pub record AreSet (ts : List Token) (xs : List (ℕ × X)) : Type 0 where
+  pub record AreAssigned (ts : List Token) (xs : List (ℕ × X)) : Type 0 where
     pub tokens : ts ≡ separated set_text xs
     pub some : 0 < length xs
     pub each : AllByRecursion IsRightSet xs
-    pub apart : IsDistinct nat_eq (numbers scheme xs)
+    pub apart : IsDistinct nat_eq (numbers xs)
 
 known : (scheme : Scheme) (i : ℕ) → i < length scheme.others → slice_get scheme.others i ≡ Some (other_of scheme i)
 known scheme i within = slice_get-get_or scheme.others i no_attribute within
@@ -125,7 +125,7 @@ module _ {V X : Type 0} (value_at : State → Read V) (item : V → X) (place : 
         fit : fits (numbered_in scheme.others o) value ≡ true
         of : Of ts value
 
-      made : (front : List (ℕ × X)) (o : Option ℕ) (new : List (ℕ × X)) (ts us : List Token) → IsTarget scheme front ts o → IsBehind front o us new → IsNext (set_text text Right scheme) (IsSet text Right scheme) front (ts ++ us) new
+      made : (front : List (ℕ × X)) (o : Option ℕ) (new : List (ℕ × X)) (ts us : List Token) → IsTarget scheme front ts o → IsBehind front o us new → IsNext (set_text text Right scheme) (IsAssigned text Right scheme) front (ts ++ us) new
       made front o new ts us t b =
           let fit = ap (λ a. fits a b.value) (sym (known scheme t.number t.within)) ∙ ap (λ n. fits (numbered_in scheme.others n) b.value) (sym t.is) ∙ b.fit in
           let of = right (Some (other_of scheme t.number)) b.value us fit b.of in
@@ -136,10 +136,10 @@ module _ {V X : Type 0} (value_at : State → Read V) (item : V → X) (place : 
             fits = record { right = (t.within, of.1); apart = t.apart };
           }
 
-      set_read : (front : List (ℕ × X)) (s : State) (x : List (ℕ × X) × State) → set_of value_at item place fits scheme front s ≡ Ok x → Found (IsNext (set_text text Right scheme) (IsSet text Right scheme) front) s x
+      set_read : (front : List (ℕ × X)) (s : State) (x : List (ℕ × X) × State) → set_of value_at item place fits scheme front s ≡ Ok x → Found (IsNext (set_text text Right scheme) (IsAssigned text Right scheme) front) s x
       set_read front s =
           let fit = λ (o : Option ℕ) (v : V). fits (numbered_in scheme.others o) v in
-          found_next (IsNext (set_text text Right scheme) (IsSet text Right scheme) front) (IsBehind front) s (target_at scheme front s)
+          found_next (IsNext (set_text text Right scheme) (IsAssigned text Right scheme) front) (IsBehind front) s (target_at scheme front s)
           (λ o. value_at o.1 >>= λ v. Ok (with_set front o.0 (item v.0), note (unless (fit o.0 v.0) (place v.0) cause.Kind) v.1)) (target_read scheme front s)
           (λ o.
           found_noted (IsBehind front o.0) o.1 (value_at o.1) (λ v. with_set front o.0 (item v)) (λ v. unless (fit o.0 v) (place v) cause.Kind) (read o.1)
@@ -152,25 +152,25 @@ module _ {V X : Type 0} (value_at : State → Read V) (item : V → X) (place : 
       unfolding IsDistinct
       none_apart = tt
 
-      apart : (front xs : List (ℕ × X)) → AllFit behind (IsSet text Right scheme) front xs → IsDistinct nat_eq (numbers scheme front) → IsDistinct nat_eq (numbers scheme (front ++ xs))
-      apart front [] h d = subst (λ l. IsDistinct nat_eq (numbers scheme l)) (sym (append-nil front)) d
+      apart : (front xs : List (ℕ × X)) → AllFit behind (IsAssigned text Right scheme) front xs → IsDistinct nat_eq (numbers front) → IsDistinct nat_eq (numbers (front ++ xs))
+      apart front [] h d = subst (λ l. IsDistinct nat_eq (numbers l)) (sym (append-nil front)) d
       apart front (x ∷ xs) h d =
-          let pushed = subst (IsDistinct nat_eq) (sym (map_push (λ y. y.0) front x)) (IsDistinct-push nat_eq_equiv (numbers scheme front) x.0 d h.0.apart) in
-          subst (λ l. IsDistinct nat_eq (numbers scheme l)) (append_assoc front (x ∷ []) xs) (apart (behind front x) xs h.1 pushed)
+          let pushed = subst (IsDistinct nat_eq) (sym (map_push (λ y. y.0) front x)) (IsDistinct-push nat_eq_equiv (numbers front) x.0 d h.0.apart) in
+          subst (λ l. IsDistinct nat_eq (numbers l)) (append_assoc front (x ∷ []) xs) (apart (behind front x) xs h.1 pushed)
 
-      each_right : (front xs : List (ℕ × X)) → AllFit behind (IsSet text Right scheme) front xs → AllByRecursion (IsRightSet text Right scheme) xs
+      each_right : (front xs : List (ℕ × X)) → AllFit behind (IsAssigned text Right scheme) front xs → AllByRecursion (IsRightSet text Right scheme) xs
       each_right front [] h = tt
       each_right front (x ∷ xs) h = (h.0.right, each_right (behind front x) xs h.1)
 
-      are_set : (ts : List Token) (xs : List (ℕ × X)) → AreBehind (set_text text Right scheme) (IsSet text Right scheme) [] ts xs → AreSet text Right scheme ts xs
-      are_set ts xs r =
+      are_assigned : (ts : List Token) (xs : List (ℕ × X)) → AreBehind (set_text text Right scheme) (IsAssigned text Right scheme) [] ts xs → AreAssigned text Right scheme ts xs
+      are_assigned ts xs r =
           let all = r.head ∷ r.tail in
-          subst (AreSet text Right scheme ts) (sym r.whole) (record { tokens = r.tokens; some = omega arith; each = each_right [] all r.fit; apart = apart [] all r.fit none_apart })
+          subst (AreAssigned text Right scheme ts) (sym r.whole) (record { tokens = r.tokens; some = omega arith; each = each_right [] all r.fit; apart = apart [] all r.fit none_apart })
 
-      pub sets_read : (s : State) (x : List (ℕ × X) × State) → items_at (set_of value_at item place fits scheme) [] s ≡ Ok x → Found (AreSet text Right scheme) s x
+      pub sets_read : (s : State) (x : List (ℕ × X) × State) → items_at (set_of value_at item place fits scheme) [] s ≡ Ok x → Found (AreAssigned text Right scheme) s x
       sets_read s x e =
-          let h = all_read (set_of value_at item place fits scheme) (set_text text Right scheme) (IsSet text Right scheme) set_read s x e in
-          record { tokens = h.tokens; passed = h.passed; right = λ none a. let r = h.right none a in (r.0, are_set h.tokens x.0 r.1) }
+          let h = all_read (set_of value_at item place fits scheme) (set_text text Right scheme) (IsAssigned text Right scheme) set_read s x e in
+          record { tokens = h.tokens; passed = h.passed; right = λ none a. let r = h.right none a in (r.0, are_assigned h.tokens x.0 r.1) }
 
   -- ---- what stands there is read
 
@@ -184,7 +184,7 @@ module _ {V X : Type 0} (value_at : State → Read V) (item : V → X) (place : 
         (λ v m r t. gets_noted (front ++ item v ∷ []) (unless (fit v) (place v) cause.Kind) s.0 m (Same (behind front x)) us (none (place v) cause.Kind r.1) (ap (behind front) r.0) t)
 
     module _ (scheme : Scheme) (valid : IsScheme scheme) where
-      set_again : (front : List (ℕ × X)) (x : ℕ × X) (us : List Token) (s : State) → IsSet text Right scheme front x → Ends us → without_places s.1.placed ≡ set_text text Right scheme x ++ us
+      set_again : (front : List (ℕ × X)) (x : ℕ × X) (us : List Token) (s : State) → IsAssigned text Right scheme front x → Ends us → without_places s.1.placed ≡ set_text text Right scheme x ++ us
           → Gets (set_of value_at item place fits scheme front s) s (Same (behind front x)) us
       set_again front x us s h ends k =
           let there = slice_get scheme.others x.0 in
@@ -195,15 +195,15 @@ module _ {V X : Type 0} (value_at : State → Read V) (item : V → X) (place : 
           (again there x.1 us (s.0, m) (subst (λ o. Right o x.1) (sym (known scheme x.0 h.right.0)) h.right.1) ends t)
           (λ v m2 r t2. gets_noted (front ++ (x.0, item v) ∷ []) (unless (fits there v) (place v) cause.Kind) s.0 m2 (Same (behind front x)) us (none (place v) cause.Kind r.1) (ap (λ y. front ++ (x.0, y) ∷ []) r.0) t2))
 
-      sets_fit : (front xs : List (ℕ × X)) → IsDistinct nat_eq (numbers scheme front ++ numbers scheme xs) → AllByRecursion (IsRightSet text Right scheme) xs → AllFit behind (IsSet text Right scheme) front xs
+      sets_fit : (front xs : List (ℕ × X)) → IsDistinct nat_eq (numbers front ++ numbers xs) → AllByRecursion (IsRightSet text Right scheme) xs → AllFit behind (IsAssigned text Right scheme) front xs
       sets_fit front [] d h = tt
       sets_fit front (x ∷ xs) d h =
-          let more : numbers scheme (front ++ x ∷ []) ++ numbers scheme xs ≡ numbers scheme front ++ numbers scheme (x ∷ xs) =
-          ap (λ l. l ++ numbers scheme xs) (map_push (λ y. y.0) front x) ∙ append_assoc (numbers scheme front) (x.0 ∷ []) (numbers scheme xs) in (
-            record { right = h.0; apart = new_behind nat_eq nat_eq_equiv (numbers scheme front) x.0 (numbers scheme xs) d },
+          let more : numbers (front ++ x ∷ []) ++ numbers xs ≡ numbers front ++ numbers (x ∷ xs) =
+          ap (λ l. l ++ numbers xs) (map_push (λ y. y.0) front x) ∙ append_assoc (numbers front) (x.0 ∷ []) (numbers xs) in (
+            record { right = h.0; apart = new_behind nat_eq nat_eq_equiv (numbers front) x.0 (numbers xs) d },
             sets_fit (front ++ x ∷ []) xs (subst (IsDistinct nat_eq) (sym more) d) h.1,
           )
 
-      pub sets_again : (x : ℕ × X) (xs : List (ℕ × X)) (us : List Token) (s : State) → IsDistinct nat_eq (numbers scheme (x ∷ xs)) → AllByRecursion (IsRightSet text Right scheme) (x ∷ xs) → Ends us
+      pub sets_again : (x : ℕ × X) (xs : List (ℕ × X)) (us : List Token) (s : State) → IsDistinct nat_eq (numbers (x ∷ xs)) → AllByRecursion (IsRightSet text Right scheme) (x ∷ xs) → Ends us
           → NotNext (is_sign sign.Comma) us → without_places s.1.placed ≡ separated (set_text text Right scheme) (x ∷ xs) ++ us → Gets (items_at (set_of value_at item place fits scheme) [] s) s (Same (x ∷ xs)) us
-      sets_again x xs us s apart each ends off k = items_are (set_of value_at item place fits scheme) (set_text text Right scheme) (IsSet text Right scheme) Ends comma set_again x xs us s (sets_fit [] (x ∷ xs) apart each) ends off k
+      sets_again x xs us s apart each ends off k = items_are (set_of value_at item place fits scheme) (set_text text Right scheme) (IsAssigned text Right scheme) Ends comma set_again x xs us s (sets_fit [] (x ∷ xs) apart each) ends off k

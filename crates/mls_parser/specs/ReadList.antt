@@ -78,23 +78,24 @@ module _ {X : Type 0} where
 
 -- ---- values
 
--- by what reads one, the value of it, its place, and whether it may stand for an attribute, or where there is none
-module _ {V X : Type 0} (value_at : State → Read V) (item : V → X) (place : V → ℕ) (fits : Option Attribute → V → Bool) where
-  abbrev pub fit_faults : Option Attribute → V → List PlacedFault
-  fit_faults attribute v = unless (fits attribute v) (place v) cause.Kind
+-- a value by its place, and whether it may stand for an attribute, or where there is none
+abbrev fit_faults : {V : Type 0} → (V → ℕ) → (Option Attribute → V → Bool) → Option Attribute → V → List PlacedFault
+fit_faults place fits attribute v = unless (fits attribute v) (place v) cause.Kind
 
+-- by what reads one, and the value of it
+module _ {V X : Type 0} (value_at : State → Read V) (item : V → X) (place : V → ℕ) (fits : Option Attribute → V → Bool) where
   -- one more, of the attributes in their order
   abbrev pub item_of : (ℕ → Option Attribute) → List X → State → Read (List X)
   item_of attribute front s = do
     v ← value_at s
-    Ok (front ++ item v.0 ∷ [], note (fit_faults (attribute (length front)) v.0) v.1)
+    Ok (front ++ item v.0 ∷ [], note (fit_faults place fits (attribute (length front)) v.0) v.1)
 
   -- ATTRIBUTE = VALUE, behind those before
   abbrev pub set_of : Scheme → List (ℕ × X) → State → Read (List (ℕ × X))
   set_of scheme front s = do
     o ← target_at scheme front s
     v ← value_at o.1
-    Ok (with_set front o.0 (item v.0), note (fit_faults (numbered_in scheme.others o.0) v.0) v.1)
+    Ok (with_set front o.0 (item v.0), note (fit_faults place fits (numbered_in scheme.others o.0) v.0) v.1)
 
 -- ---- expressions
 

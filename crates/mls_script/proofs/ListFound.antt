@@ -23,7 +23,7 @@ use Rattle.mls_parser.proofs.FoundSteps.{Found, found_next, word_read, any_read}
 use Rattle.mls_parser.proofs.OrderLemmas.{AllFit, behind}
 use Rattle.mls_parser.proofs.OrderLemmas as order
 use Rattle.mls_parser.proofs.ListFound.{same_number}
-use Rattle.mls_parser.proofs.ValueLemmas.{AreSet}
+use Rattle.mls_parser.proofs.ValueLemmas.{AreAssigned}
 use Rattle.mls_parser.proofs.ValueLemmas as values
 use Rattle.mls_parser.proofs.PassedLemmas.{IsSpelled}
 use Rattle.mls_script.specs.Event.{Sets, SetsFit, HasSomeKind}
@@ -125,7 +125,7 @@ module _ (scheme : Scheme) where
     pub tokens : ts ≡ Word (codes "set") ∷ separated (set_tokens scheme) xs
     pub fits : SetsFit scheme xs
 
-  are_new : (ts : List Token) (xs : Sets) → AreSet value_tokens IsRightValue scheme ts xs → AreNew (Word (codes "set") ∷ ts) xs
+  are_new : (ts : List Token) (xs : Sets) → AreAssigned value_tokens IsRightValue scheme ts xs → AreNew (Word (codes "set") ∷ ts) xs
   are_new ts xs r = record {
     tokens = λ i. Word (codes "set") ∷ r.tokens i;
     fits = record { some = r.some; known = all_if _ _ (λ x h. h.0) xs r.each; distinct = r.apart; kinds = all_if _ _ (λ x h. h.1.fits) xs r.each };
@@ -134,6 +134,6 @@ module _ (scheme : Scheme) where
   pub sets_read : (s : State) (x : Sets × State) → sets_at scheme s ≡ Ok x → Found AreNew s x
   unfolding set_at sets_at
   sets_read s =
-      found_next AreNew (λ at ts xs. AreSet value_tokens IsRightValue scheme ts xs) s (word_at (codes "set") s) (λ w. items_at (set_at scheme) [] w.1) (word_read (codes "set") s)
+      found_next AreNew (λ at ts xs. AreAssigned value_tokens IsRightValue scheme ts xs) s (word_at (codes "set") s) (λ w. items_at (set_at scheme) [] w.1) (word_read (codes "set") s)
       (λ w y e. values.sets_read value_at (λ v. v.0) (λ v. v.1) (λ a v. fits_attribute a v.0) value_tokens IsRightValue IsValue value_read right_value scheme w.1 y e)
       (λ at xs ts us word r. subst (λ l. AreNew (l ++ us) xs) (sym word) (are_new us xs r))

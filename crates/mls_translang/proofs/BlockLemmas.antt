@@ -59,7 +59,7 @@ pub record IsLeft (p : Place) (left : List Stmt) (out : Laid) (block : Block) (f
   pub fits : BlockFits p.policy p.schemes p.hi p.scope (block_of left)
   pub size : statements (block_of left) ≤ statements block
 
-statements_more : (x : Stmt) (rest : List Stmt) → statements (block_of (x ∷ rest)) ≡ statements (block_of (x ∷ [])) + statements (block_of rest)
+pub statements_more : (x : Stmt) (rest : List Stmt) → statements (block_of (x ∷ rest)) ≡ statements (block_of (x ∷ [])) + statements (block_of rest)
 statements_more (stmt.If guard one other) rest = omega arith
 statements_more (stmt.For row relation label body) rest = omega arith
 statements_more _ rest = refl

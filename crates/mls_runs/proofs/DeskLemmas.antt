@@ -24,14 +24,10 @@ use Rattle.mls_host.specs.Ending.{ending_if}
 use Rattle.mls_runs.specs.Running.{standing}
 use Rattle.mls_runs.specs.declared.shell_session.Fate.{Fate}
 use Rattle.mls_runs.specs.Shell.{Turn, IsShellTurn, events_of, events_in, is_last, is_failed, is_lost, FateFits, IsRead}
-use Rattle.mls_runs.proofs.ShellLemmas.{end_of-append, events-snoc, any-snoc, none_failed, failed_there}
-use Rattle.mls_runs.proofs.TalkLemmas.{fate_fits, last_line, failed_last}
+use Rattle.mls_runs.proofs.ShellLemmas.{or_none, end_of-append, events-snoc, any-snoc, none_failed, failed_there}
+use Rattle.mls_runs.proofs.TalkLemmas.{AreHeard, heard_more, fits_more, last_line, failed_last}
 use Rattle.mls_runs.specs.Marks.{mark_of}
 use Rattle.mls_runs.specs.Desk.{IsFate, AreLines, answer_of, desk, IsFollowed, IsService, at_line, between}
-
-or_none : (a b : Bool) → (a || b) ≡ false → (a ≡ false) × (b ≡ false)
-or_none true b h = absurd (true≢false h)
-or_none false b h = (refl, h)
 
 -- ---- a line more
 
@@ -71,11 +67,7 @@ module _ {B : Type 0} (seen : B → Seen) (echo : List ℕ → List ℕ) (first 
   -- the lines that were read and answered; of the last it is said whether it is one behind which no other is read
   pub record SoFar (now : Engine B) (left is : Option (List ℕ)) (last : Bool) : Type 0 where
     pub turns : List Turn
-    pub clean : (seen now.base).is_clean → (seen first.base).is_clean
-    pub kept : IsKept seen first now
-    pub none_lost : list_any (λ (t : Turn). is_lost t.fate) turns ≡ false
-    pub last_is : list_any (λ (t : Turn). is_last t.fate) turns ≡ last
-    pub fits : EventsFit at (events_in turns)
+    pub heard : AreHeard seen first now turns last
     pub lines : AreLines echo at.policy at.schemes given left turns
     pub world : (seen now.base).is_clean → world_of seen now ≡ end_of at w (events_in turns)
     pub written : (seen now.base).is_clean → Appends was is (desk at w turns)
@@ -84,11 +76,7 @@ module _ {B : Type 0} (seen : B → Seen) (echo : List ℕ → List ℕ) (first 
   unfolding desk AreLines end_of
   so_far_start ready = record {
     turns = [];
-    clean = λ c. c;
-    kept = record { site = refl; ready = ready };
-    none_lost = refl;
-    last_is = refl;
-    fits = tt;
+    heard = record { clean = λ c. c; kept = record { site = refl; ready = ready }; none_lost = refl; last_is = refl; fits = tt };
     lines = refl;
     world = λ c. refl;
     written = λ c. Appends-nil was;
@@ -96,7 +84,7 @@ module _ {B : Type 0} (seen : B → Seen) (echo : List ℕ → List ℕ) (first 
 
   module _ (now : Engine B) (left is : Option (List ℕ)) (s : SoFar now left is false) where
     same_site : site now ≡ at
-    same_site = ap site_of s.kept.site
+    same_site = ap site_of s.heard.kept.site
 
     -- a line is read, and something becomes of it
     pub record Heard (fate : Fate) (over shown : Option (List ℕ)) (Broken : Type 0) : Type 0 where
@@ -111,18 +99,15 @@ module _ {B : Type 0} (seen : B → Seen) (echo : List ℕ → List ℕ) (first 
       turns = s.turns ++ turn ∷ []
 
       fits_now : EventsFit at (events_in turns)
-      fits_now = subst (EventsFit at) (sym (events-snoc s.turns turn)) (all_append _ (events_in s.turns) (events_of turn.fate) s.fits (subst (λ (x : Fate). EventsFit at (events_of x)) (sym l.read.same) (fate_fits at fate l.fits)))
+      fits_now = fits_more at s.turns turn fate s.heard.fits l.read.same l.fits
 
       lines_now : AreLines echo at.policy at.schemes given over turns
-      lines_now = lines-snoc echo at.policy at.schemes given left over s.turns turn s.lines s.last_is l.read.is_turn
+      lines_now = lines-snoc echo at.policy at.schemes given left over s.turns turn s.lines s.heard.last_is l.read.is_turn
 
       broken_now : list_any (λ (t : Turn). is_failed t.fate) turns ≡ true → Broken
-      broken_now h = l.read.broken (sym l.read.same ∙ failed_there s.turns turn s.last_is h)
+      broken_now h = l.read.broken (sym l.read.same ∙ failed_there s.turns turn s.heard.last_is h)
 
       module _ (new : Engine B) (after : Option (List ℕ)) (clean : (seen new.base).is_clean → (seen now.base).is_clean) (kept : IsKept seen now new) where
-        kept_now : IsKept seen first new
-        kept_now = record { site = kept.site ∙ s.kept.site; ready = kept.ready }
-
         -- what becomes of the line, from the world up to here
         moved : {r : Result (Unit {0}) RunFault} → (c : (seen new.base).is_clean) → IsFollowed (site now) (world_of seen now) fate shown after (world_of seen new) r
             → IsFollowed at (end_of at w (events_in s.turns)) turn.fate shown after (world_of seen new) r
@@ -135,11 +120,7 @@ module _ {B : Type 0} (seen : B → Seen) (echo : List ℕ → List ℕ) (first 
             → SoFar new over after (is_last fate)
         so_far_more found h = record {
           turns = turns;
-          clean = λ c. s.clean (clean c);
-          kept = kept_now;
-          none_lost = any-snoc (λ (t : Turn). is_lost t.fate) s.turns turn ∙ ap (λ b. b || is_lost turn.fate) s.none_lost ∙ ap is_lost l.read.same ∙ found;
-          last_is = any-snoc (λ (t : Turn). is_last t.fate) s.turns turn ∙ ap (λ b. b || is_last turn.fate) s.last_is ∙ ap is_last l.read.same;
-          fits = fits_now;
+          heard = heard_more seen first now new s.turns turn fate s.heard l.read.same found fits_now clean kept;
           lines = lines_now;
           world = λ c. let k = moved c (h c) in k.world ∙ ap (λ (e : Result (Unit {0}) RunFault). end_of at (end_of at w (events_in s.turns)) (standing (events_of turn.fate) e)) k.ok ∙ world-snoc at w s.turns turn;
           written = λ c. let k = moved c (h c) in
@@ -219,7 +200,7 @@ module _ {B : Type 0} (seen : B → Seen) (echo : List ℕ → List ℕ) (first 
         over_last found h last c =
             let all = so_far_more found h in
             let fails : list_any (λ (t : Turn). is_failed t.fate) turns ≡ is_failed fate =
-            any-snoc (λ (t : Turn). is_failed t.fate) s.turns turn ∙ ap (λ b. b || is_failed turn.fate) (none_failed s.turns s.last_is) ∙ ap is_failed l.read.same in
+            any-snoc (λ (t : Turn). is_failed t.fate) s.turns turn ∙ ap (λ b. b || is_failed turn.fate) (none_failed s.turns s.heard.last_is) ∙ ap is_failed l.read.same in
             record {
               service = record {
                 turns = turns;
@@ -229,7 +210,7 @@ module _ {B : Type 0} (seen : B → Seen) (echo : List ℕ → List ℕ) (first 
                 written = record {
                   written = all.written c;
                   status = ap ending_if (sym fails);
-                  none_lost = all.none_lost;
+                  none_lost = all.heard.none_lost;
                   all = failed_last s.turns turn over
                       (last_line turn.fate over (ap is_last l.read.same ∙ last) (ap is_lost l.read.same ∙ found) (λ e. l.read.over (sym l.read.same ∙ e)));
                 };
@@ -247,11 +228,11 @@ module _ {B : Type 0} (seen : B → Seen) (echo : List ℕ → List ℕ) (first 
         turns = s.turns;
         run_end = Ok tt;
         lines = s.lines;
-        broken = λ f. absurd (true≢false (sym f ∙ none_failed s.turns s.last_is));
+        broken = λ f. absurd (true≢false (sym f ∙ none_failed s.turns s.heard.last_is));
         written = between memory (s.written c);
         ends = record { ok = tt; is = tt; cause = tt };
       };
-      fits = s.fits;
+      fits = s.heard.fits;
       world = s.world c;
     }
 

@@ -119,6 +119,31 @@ failed_last ts t left (inr h) = inr (any-snoc (λ (t : Turn). is_failed t.fate) 
     or_true true = refl
     or_true false = refl
 
+-- ---- lines that were heard, at a shell or a desk
+
+module _ {B : Type 0} (seen : B → Seen) (first : Engine B) where
+  -- the engine goes on from the first, no line got lost, and of the last it is said whether it is one behind which no other is read
+  pub record AreHeard (now : Engine B) (turns : List Turn) (last : Bool) : Type 0 where
+    pub clean : (seen now.base).is_clean → (seen first.base).is_clean
+    pub kept : IsKept seen first now
+    pub none_lost : list_any (λ (t : Turn). is_lost t.fate) turns ≡ false
+    pub last_is : list_any (λ (t : Turn). is_last t.fate) turns ≡ last
+    pub fits : EventsFit (site first) (events_in turns)
+
+  pub heard_more : (now new : Engine B) (ts : List Turn) (t : Turn) (fate : Fate) → AreHeard now ts false → t.fate ≡ fate → is_lost fate ≡ false → EventsFit (site first) (events_in (ts ++ t ∷ []))
+      → ((seen new.base).is_clean → (seen now.base).is_clean) → IsKept seen now new → AreHeard new (ts ++ t ∷ []) (is_last fate)
+  heard_more now new ts t fate h same found fits clean kept = record {
+    clean = λ c. h.clean (clean c);
+    kept = record { site = kept.site ∙ h.kept.site; ready = kept.ready };
+    none_lost = any-snoc (λ (t : Turn). is_lost t.fate) ts t ∙ ap (λ b. b || is_lost t.fate) h.none_lost ∙ ap is_lost same ∙ found;
+    last_is = any-snoc (λ (t : Turn). is_last t.fate) ts t ∙ ap (λ b. b || is_last t.fate) h.last_is ∙ ap is_last same;
+    fits = fits;
+  }
+
+pub fits_more : (at : Site) (ts : List Turn) (t : Turn) (fate : Fate) → EventsFit at (events_in ts) → t.fate ≡ fate → FateFits at.policy at.schemes fate → EventsFit at (events_in (ts ++ t ∷ []))
+fits_more at ts t fate h same fit =
+    subst (EventsFit at) (sym (events-snoc ts t)) (all_append _ (events_in ts) (events_of t.fate) h (subst (λ (x : Fate). EventsFit at (events_of x)) (sym same) (fate_fits at fate fit)))
+
 -- ---- the lines up to here
 
 module _ {B E : Type 0} (seen : B → Seen) (contents : E → Option (List ℕ)) (echo : List ℕ → List ℕ) (session : ShellSession)
@@ -147,12 +172,8 @@ module _ {B E : Type 0} (seen : B → Seen) (contents : E → Option (List ℕ))
   pub record SoFar (count : ℕ) (now : Engine B) (err : Errors E) (left is : Option (List ℕ)) (was_opened : Bool) (tally : Tally) (last : Bool) : Type 0 where
     pub turns : List Turn
     pub count_is : length turns ≡ count
-    pub clean : (seen now.base).is_clean → (seen first.base).is_clean
-    pub kept : IsKept seen first now
-    pub none_lost : list_any (λ (t : Turn). is_lost t.fate) turns ≡ false
-    pub last_is : list_any (λ (t : Turn). is_last t.fate) turns ≡ last
+    pub heard : AreHeard seen first now turns last
     pub told : AreSoFarTold turns err
-    pub fits : EventsFit at (events_in turns)
     pub lines : (seen now.base).is_clean → AreTurns echo at session (after_opening at session w) given left turns
     pub world : (seen now.base).is_clean → world_of seen now ≡ end_of at w (opening session ∷ events_in turns)
     pub written : (seen now.base).is_clean → Appends was is (transcript at session w turns)
@@ -176,12 +197,8 @@ module _ {B E : Type 0} (seen : B → Seen) (contents : E → Option (List ℕ))
       record {
         turns = [];
         count_is = refl;
-        clean = h.clean;
-        kept = h.kept;
-        none_lost = refl;
-        last_is = refl;
+        heard = record { clean = h.clean; kept = h.kept; none_lost = refl; last_is = refl; fits = tt };
         told = record { lines = []; are = refl; opening = record { more = m.more; none = m.none; leads = subst (IsTold contents quiet err) (sym (append-nil m.more)) m.leads } };
-        fits = tt;
         lines = λ c. refl;
         world = λ c. (done c).world;
         written = λ c. subst (Appends was is) (sym (append-nil (answers at session w (opening session ∷ [])))) (done c).bytes;
@@ -192,7 +209,7 @@ module _ {B E : Type 0} (seen : B → Seen) (contents : E → Option (List ℕ))
 
   module _ (count : ℕ) (now : Engine B) (err : Errors E) (left is : Option (List ℕ)) (was_opened : Bool) (tally : Tally) (s : SoFar count now err left is was_opened tally false) where
     same_site : site now ≡ at
-    same_site = ap site_of s.kept.site
+    same_site = ap site_of s.heard.kept.site
 
     -- the prompt is shown, a line is read, something becomes of it, and that is told
     pub record Line (fate : Fate) (asked said : Errors E) (over shown : Option (List ℕ)) (Broken : Type 0) : Type 0 where
@@ -229,21 +246,18 @@ module _ {B E : Type 0} (seen : B → Seen) (contents : E → Option (List ℕ))
           number = let e = s.count_is in omega arith
 
       fits_now : EventsFit at (events_in turns)
-      fits_now = subst (EventsFit at) (sym (events-snoc s.turns turn)) (all_append _ (events_in s.turns) (events_of turn.fate) s.fits (subst (λ (x : Fate). EventsFit at (events_of x)) (sym l.read.same) (fate_fits at fate l.fits)))
+      fits_now = fits_more at s.turns turn fate s.heard.fits l.read.same l.fits
 
       lines_now : (seen now.base).is_clean → AreTurns echo at session (after_opening at session w) given over turns
-      lines_now c = turns-snoc at session w echo given left over s.turns turn (s.lines c) s.last_is (subst (λ u. is_open session u ≡ true) (s.world c) l.was_open) l.read.is_turn
+      lines_now c = turns-snoc at session w echo given left over s.turns turn (s.lines c) s.heard.last_is (subst (λ u. is_open session u ≡ true) (s.world c) l.was_open) l.read.is_turn
 
       pub broken_now : list_any (λ (t : Turn). is_failed t.fate) turns ≡ true → Broken
-      broken_now h = l.read.broken (sym l.read.same ∙ failed_there s.turns turn s.last_is h)
+      broken_now h = l.read.broken (sym l.read.same ∙ failed_there s.turns turn s.heard.last_is h)
 
       count_now : length turns ≡ count + 1
       count_now = length-snoc s.turns turn ∙ ap (λ n. n + 1) s.count_is
 
       module _ (new : Engine B) (after : Option (List ℕ)) (clean : (seen new.base).is_clean → (seen now.base).is_clean) (kept : IsKept seen now new) where
-        kept_now : IsKept seen first new
-        kept_now = record { site = kept.site ∙ s.kept.site; ready = kept.ready }
-
         -- the events of the line, from the world up to here
         moved : {r : Result (Unit {0}) RunFault} → (c : (seen new.base).is_clean) → IsFollowed (site now) (audience_at session) (world_of seen now) (events_of fate) shown after (world_of seen new) (count + 1) r
             → IsFollowed at (audience_at session) (end_of at w (opening session ∷ events_in s.turns)) (events_of turn.fate) shown after (world_of seen new) (count + 1) r
@@ -268,12 +282,8 @@ module _ {B E : Type 0} (seen : B → Seen) (contents : E → Option (List ℕ))
             record {
               turns = turns;
               count_is = count_now;
-              clean = λ c. s.clean (clean c);
-              kept = kept_now;
-              none_lost = any-snoc (λ (t : Turn). is_lost t.fate) s.turns turn ∙ ap (λ b. b || is_lost turn.fate) s.none_lost ∙ ap is_lost l.read.same ∙ found;
-              last_is = any-snoc (λ (t : Turn). is_last t.fate) s.turns turn ∙ ap (λ b. b || is_last turn.fate) s.last_is ∙ ap is_last l.read.same;
+              heard = heard_more seen first now new s.turns turn fate s.heard l.read.same found fits_now clean kept;
               told = told_now;
-              fits = fits_now;
               lines = λ c. lines_now (clean c);
               world = λ c. (done c).world ∙ world-snoc at session w s.turns turn;
               written = λ c. subst (Appends was after) (sym (transcript-snoc at session w s.turns turn))
@@ -402,18 +412,18 @@ module _ {B E : Type 0} (seen : B → Seen) (contents : E → Option (List ℕ))
             record {
               written = s.written c;
               status = λ i. ending_if (not (s.opened_is c i) || is_short (s.tally_is c i));
-              none_lost = s.none_lost;
+              none_lost = s.heard.none_lost;
               all = λ o. all (subst (λ u. is_open session u ≡ true) (sym (s.world c)) o);
             },
           );
         };
-        fits = (opens.0, s.fits);
+        fits = (opens.0, s.heard.fits);
         run = all_answered;
       }
 
     module _ (count : ℕ) (now : Engine B) (err : Errors E) (left is : Option (List ℕ)) (was_opened : Bool) (tally : Tally) (s : SoFar count now err left is was_opened tally false) (c : (seen now.base).is_clean) where
       none_broken : list_any (λ (t : Turn). is_failed t.fate) s.turns ≡ true → Broken
-      none_broken f = absurd (true≢false (sym f ∙ none_failed s.turns s.last_is))
+      none_broken f = absurd (true≢false (sym f ∙ none_failed s.turns s.heard.last_is))
 
       -- it ends well where the session is closed
       pub over_closed : is_open session (world_of seen now) ≡ false → (final : Errors E) → IsTold contents err final (end_told session tally)
@@ -441,7 +451,7 @@ module _ {B E : Type 0} (seen : B → Seen) (contents : E → Option (List ℕ))
                 whole = append-nil (shown_to at session w s.turns fault.event ++ rest.0) ∙ rest.1 ∙ sym (shown_behind at session w s.turns fault.event line);
               };
             };
-            fits = (opens.0, s.fits);
+            fits = (opens.0, s.heard.fits);
             run = all_answered count now err left is was_opened tally false s c;
           }
 

@@ -17,11 +17,11 @@ loop-init g c = (
 )
 
 pub follow-requires-clause-ready : goal.follow-requires-clause-ready
-follow-requires-clause-ready g c = c.loop.invariant.1.kept.ready
+follow-requires-clause-ready g c = c.loop.invariant.1.heard.kept.ready
 
 pub follow-requires-clause-line : goal.follow-requires-clause-line
 follow-requires-clause-line g c = record {
-  fits = fits_at (site c.loop.engine) (site c.args.engine.now) c.args.policy.now c.args.schemes.now (ap site_of c.loop.invariant.1.kept.site) c.requires.policy c.requires.schemes _ c.next_fate-fate.ensures.fits;
+  fits = fits_at (site c.loop.engine) (site c.args.engine.now) c.args.policy.now c.args.schemes.now (ap site_of c.loop.invariant.1.heard.kept.site) c.requires.policy c.requires.schemes _ c.next_fate-fate.ensures.fits;
   one = one_event g.L.TypedLines.echo c.args.policy.now c.args.schemes.now _ _ _ _ _ _ c.next_fate-fate.ensures.read;
 }
 

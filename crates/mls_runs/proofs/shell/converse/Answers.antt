@@ -44,15 +44,15 @@ returns-then-not-is_open-clause-conversation g c = λ clean.
     (over_closed g.B.Base.seen g.E.Write.contents g.L.TypedLines.echo c.args.session.now c.args.engine.now c.args.err.now (g.L.TypedLines.remaining c.args.lines.now) (g.W.Write.contents c.args.out.now) c.requires.fits (g.L.TypedLines.breaks c.loop-before.lines) c.loop-before.before c.loop-before.engine c.loop-before.err (g.L.TypedLines.remaining c.loop-before.lines) (g.W.Write.contents c.loop-before.out) c.is_open-was_opened.result c.loop-before.tally c.loop-before.invariant.1 clean closed c.finish.new.err c.finish.ensures.told)
 
 pub follow-requires-clause-ready : goal.follow-requires-clause-ready
-follow-requires-clause-ready g c = c.loop-before.invariant.1.kept.ready
+follow-requires-clause-ready g c = c.loop-before.invariant.1.heard.kept.ready
 
 pub follow-requires-clause-fits : goal.follow-requires-clause-fits
 follow-requires-clause-fits g c =
-    fits_at (site c.loop-before.engine) (site c.args.engine.now) c.args.policy.now c.args.schemes.now (ap site_of c.loop-before.invariant.1.kept.site) c.requires.policy c.requires.schemes _ c.next_fate-fate.ensures.fits
+    fits_at (site c.loop-before.engine) (site c.args.engine.now) c.args.policy.now c.args.schemes.now (ap site_of c.loop-before.invariant.1.heard.kept.site) c.requires.policy c.requires.schemes _ c.next_fate-fate.ensures.fits
 
 pub follow-requires-clause-level : goal.follow-requires-clause-level
 follow-requires-clause-level g c =
-    level_at (site c.loop-before.engine) (site c.args.engine.now) c.args.policy.now (ap site_of c.loop-before.invariant.1.kept.site) c.requires.policy c.args.session.now.level c.requires.level
+    level_at (site c.loop-before.engine) (site c.args.engine.now) c.args.policy.now (ap site_of c.loop-before.invariant.1.heard.kept.site) c.requires.policy c.args.session.now.level c.requires.level
 
 pub returns-in_err-follow-clause-continues : goal.returns-in_err-follow-clause-continues
 returns-in_err-follow-clause-continues g c =

@@ -34,8 +34,7 @@ use Rattle.mls_runs.specs.Running.{IsRun}
 use Rattle.mls_runs.specs.declared.history.Run.{Run}
 use Rattle.mls_runs.specs.declared.history.HistoryCause.{HistoryCause}
 use Rattle.mls_runs.specs.declared.history.HistoryCause.TheVariants.{Unopened, Stopped, NotClosed}
-use Rattle.mls_runs.specs.InTurn.{run_to, IsHistory}
-use Rattle.mls_runs.specs.History.{run_of, cause_of, IsPrepared, world_of, IsHistoryRun, KeepContent, BeginsIn, AreRunsKept, AreRunsOver, IsRunAfter, IsBrokenOff, IsHistoryFault}
+use Rattle.mls_runs.specs.History.{run_to, IsHistory, run_of, cause_of, IsPrepared, world_of, IsHistoryRun, KeepContent, BeginsIn, AreRunsKept, AreRunsOver, IsRunAfter, IsBrokenOff, IsHistoryFault}
 
 -- ---- runs behind others
 

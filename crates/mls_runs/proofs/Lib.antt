@@ -1,6 +1,5 @@
 pub mod RunningLemmas
 pub mod ScriptRunLemmas
-pub mod InTurnLemmas
 pub mod MemoryLemmas
 pub mod HistoryLemmas
 pub mod AlikeLemmas

@@ -1,4 +1,4 @@
--- The store of a machine in memory keeps one content, and is not opened for the causes that its connection is handed back for.
+-- The store of a machine in memory is not opened for the causes that its connection is handed back for.
 use Rattle.std.proofs.Common.{◌≡◌, ◌↔◌, ◌⊎◌, inl, inr, ℕ, Bool, List, Option, Some, None, option_map, refl, sym, ◌∙◌, subst, MatchOption, IsTrue}
 use Rattle.sqlite.specs.Effect.{Database}
 use Rattle.sqlite.specs.Held.{state}
@@ -10,17 +10,7 @@ use Rattle.mls_fragments.specs.Holdings.{Holdings, HasHoldings}
 use Rattle.mls_fragments.specs.Opening.{IsOfOthers, IsBad, IsHandedBack}
 use Rattle.mls_fragments.specs.declared.open_fault.OpenFault.{OpenFault}
 use Rattle.mls_fragments.specs.declared.open_fault.OpenFault.TheVariants as stores
-use Rattle.mls_fragments.proofs.HoldingsLemmas.{has_once}
-use Rattle.mls_runs.specs.Memory.{in_memory_fault, IsUnopenedFor, hosted_in, RunsInMemoryAreInTurn}
-use Rattle.mls_runs.proofs.InTurnLemmas.{in_turn}
-
-one_of : {A : Type 0} (database : A → Database) (o : Option A) (h k : Holdings)
-    → MatchOption o ⊥ (λ a. HasHoldings (database a) h) → MatchOption o ⊥ (λ a. HasHoldings (database a) k) → h ≡ k
-one_of database None h k x y = absurd x
-one_of database (Some a) h k x y = has_once (database a) h k x y
-
-pub in_memory : (W V : List ℕ → Type 0) → RunsInMemoryAreInTurn W V
-in_memory W V old middle new path = in_turn (hosted_in old middle) W (hosted_in middle new) V path (one_of (λ conn. (state over_memory conn).now) middle.store)
+use Rattle.mls_runs.specs.Memory.{in_memory_fault, IsUnopenedFor}
 
 -- the store that a connection was, in which no transaction had begun, is not opened for the cause that it comes back with
 pub barred : {A : Type 0} (show : A → Bool × Database) (policy : Policy) (file : SchemesFile) (store : Option A) (conn : A) → Some conn ≡ store → (fault : OpenFault)

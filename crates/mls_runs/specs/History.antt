@@ -18,15 +18,16 @@ use Rattle.mls_machine.specs.declared.form.Audience.{Audience}
 use Rattle.mls_machine.specs.Machine.{World, no_sessions}
 use Rattle.mls_machine.specs.Observation.{EventsFit}
 use Rattle.mls_certcheck.specs.Site.{AreRead, AreCertified, site_of}
-use Rattle.mls_machine.specs.History.{RunAt, run_at, history_bytes, ShowsOnlyReleasesInHistory}
+use Rattle.mls_machine.specs.History.{RunAt, run_at, history_bytes, history_end, KeepsIntegrityInHistory}
+use Rattle.mls_machine.specs.History.{PassesOnlyReleasesDownInHistory, ShowsOnlyReleasesInHistory}
+use Rattle.mls_lattice.specs.Labels.{Labels}
 use Rattle.mls_sessions.specs.World.{entries_in}
 use Rattle.mls_script.specs.declared.run_fault.RunFault.{RunFault}
 use Rattle.mls_runs.specs.declared.history.Run.{Run}
 use Rattle.mls_runs.specs.declared.history.HistoryCause.{HistoryCause}
 use Rattle.mls_runs.specs.declared.history.HistoryCause.TheVariants.{Unopened, Stopped, NotClosed}
 use Rattle.mls_runs.specs.declared.history.HistoryFault.{HistoryFault}
-use Rattle.mls_runs.specs.InTurn.{run_to, IsHistory}
-use Rattle.mls_runs.specs.Running.{IsRun}
+use Rattle.mls_runs.specs.Running.{standing, IsRun}
 
 -- ---- runs of a history
 
@@ -48,6 +49,18 @@ cause_of (Err fault) = Err (Stopped fault)
 -- the tuples and the entries of a content, and no session
 abbrev pub world_of : Policy → Content → World
 world_of policy c = record { db = c.db; sessions = no_sessions; audit = entries_in (length policy.labels) c.audit }
+
+-- a run up to where it ended or stopped
+abbrev pub run_to : RunAt → Result (Unit {0}) RunFault → RunAt
+run_to r end = record r { events = standing r.events end }
+
+-- runs are a history from one world to another
+pub record IsHistory (ls : Labels) (schemes : Schemes) (rs : List RunAt) (first last : World) : Type 0 where
+  pub left_by : history_end first rs ≡ last
+  -- each database on the way has the four integrity properties
+  pub integrity : KeepsIntegrityInHistory first rs
+  -- no information flows down but what is released
+  pub secret : PassesOnlyReleasesDownInHistory ls schemes first rs
 
 -- ---- histories of whole runs
 

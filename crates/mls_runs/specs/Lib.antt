@@ -2,7 +2,6 @@
 -- and `History` what several leave.
 pub mod Running
 pub mod ScriptRun
-pub mod InTurn
 pub mod Memory
 pub mod History
 pub mod Alike

@@ -17,8 +17,7 @@ use Rattle.mls_host.specs.declared.host.StoreCause.{StoreCause}
 use Rattle.mls_host.specs.declared.host.StoreCause.TheVariants as causes
 use Rattle.mls_runs.specs.declared.memory.HeldFile.{HeldFile}
 use Rattle.mls_runs.specs.declared.memory.MemoryHost.{MemoryHost}
-use Rattle.mls_host.specs.Hosting.{Hosting, Hosted, hosted}
-use Rattle.mls_runs.specs.InTurn.{AreRunsInTurn}
+use Rattle.mls_host.specs.Hosting.{Hosting}
 
 -- the first file of a name
 abbrev pub file_named : List HeldFile → List ℕ → Option HeldFile
@@ -104,11 +103,3 @@ hosting h = record {
   has_failed = has_failed h;
   is_unclosed = ⊥;
 }
-
-abbrev pub hosted_in : MemoryHost → MemoryHost → Hosted
-hosted_in = hosted hosting (λ line. [])
-
--- two runs over its store are a history, with no more said of it
-abbrev pub RunsInMemoryAreInTurn : (List ℕ → Type 0) → (List ℕ → Type 0) → Type 0
-RunsInMemoryAreInTurn W V =
-    (old middle new : MemoryHost) (path : List ℕ) → AreRunsInTurn (hosted_in old middle) W (hosted_in middle new) V path

@@ -5,6 +5,7 @@
 ghost use Rattle.mls_runs.specs.Shell.{PipesAreToldNoMore};
 ghost use Rattle.mls_runs.specs.Laws.{ShellsAreDesks};
 
+mod alike;
 mod denials;
 mod describing;
 mod desk;
@@ -24,21 +25,20 @@ mod shells;
 mod tally;
 mod telling;
 mod turning;
-mod turns;
 mod typed;
 mod words;
 mod work;
 
 pub use crate::desk::desk_over_base;
+pub use crate::alike::runs_write_the_same;
 pub use crate::desks::run_desk;
 pub use crate::history::{HistoryCause, HistoryFault, Run, run_history};
-pub use crate::memory::{HeldFile, MemoryHost, runs_in_memory_are_in_turn};
+pub use crate::memory::{HeldFile, MemoryHost};
 pub use crate::running::{run_over_base, run_script};
 pub use crate::shell::{is_last, shell_over_base};
 pub use crate::shell_session::{Fate, ShellSession};
 pub use crate::shells::run_shell;
 pub use crate::turning::turn_store;
-pub use crate::turns::{runs_are_in_turn, runs_write_the_same};
 
 /// A shell is a desk of one session: where nobody types at a terminal, it answers to events of its session what a desk answers to them.
 pub fn shells_are_desks()

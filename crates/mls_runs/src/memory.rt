@@ -1,7 +1,7 @@
 //! A machine in memory, of which contracts know all: its files, its standard input, and one store.
 ghost use Rattle.std.specs.Prelude.{◌≡◌, IfOk, IfErr, option_map};
 ghost use Rattle.mls_host.specs.Hosting.{IsAppended};
-ghost use Rattle.mls_runs.specs.Memory.{IsUncopied, file_named, cause_of, in_memory_fault, RunsInMemoryAreInTurn};
+ghost use Rattle.mls_runs.specs.Memory.{IsUncopied, file_named, cause_of, in_memory_fault};
 
 use mls_fragments::{OpenFault, SqlBase};
 use mls_host::{CloseFault, Host, HostFault, StoreCause, StoreFiles};
@@ -160,10 +160,3 @@ impl<'a> Host for MemoryHost<'a> {
         Ok(())
     }
 }
-
-/// Two runs of `act` over the store of a machine in memory are a history: the second begins with what the first left. It is
-/// `runs_are_in_turn` at this machine, which needs no premise there.
-pub fn runs_in_memory_are_in_turn<W: Write, V: Write>()
-    ensures { (first written : W) (second over : V) → RunsInMemoryAreInTurn (IsAppended W.contents first written)
-        (IsAppended V.contents second over) }
-{}

@@ -1,6 +1,6 @@
 use Rattle.mls_host.specs.Hosting.{hosted, IsAppended}
 use Rattle.mls_runs.proofs.AlikeLemmas.{write_the_same}
-use Rattle.mls_runs.proofs.turns.runs_write_the_same.Goals as goal
+use Rattle.mls_runs.proofs.alike.runs_write_the_same.Goals as goal
 
 pub returns : goal.returns
 returns g c = λ old new before after first written second over.

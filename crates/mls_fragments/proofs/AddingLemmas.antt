@@ -40,9 +40,9 @@ no_entries = nil_from_length (entries (empty {R = place_cmp})) (sym (len-entries
 -- a new store holds no content
 pub holds_none : (version : ℕ) (lattice schemes : List ℕ) → Holds (described version lattice schemes) no_content
 holds_none version lattice schemes = record {
-  tables = λ rel. record {
-    nodes = IsPermutation-same _ _ (ap (λ es. map (node_row rel) (map node_of es)) no_entries);
-    cells = IsPermutation-same _ _ (ap (λ es. map (cell_row rel) (flat_map cells_of es)) no_entries);
+  tables = λ relation. record {
+    nodes = IsPermutation-same _ _ (ap (λ es. map (node_row relation) (map node_of es)) no_entries);
+    cells = IsPermutation-same _ _ (ap (λ es. map (cell_row relation) (flat_map cells_of es)) no_entries);
     shared = λ p es e. absurd (none-some es (sym (get-empty place_cmp p) ∙ e));
   };
   audit = IsPermutation-refl [];
@@ -62,9 +62,9 @@ pub holds_entry : (t u : Tables) (c : Content) (bytes : List ℕ)
 holds_entry t u c bytes held adds =
     let entry : AuditRow = record { number = pos (length c.audit + 1); bytes = bytes } in
     record {
-      tables = λ rel. holds_same t u rel (c.db rel) (held.tables rel)
-          (IsPermutation-same _ _ (ap (λ w. filter (λ n. nat_eq n.rel rel) w.nodes) (sym adds.0)))
-          (IsPermutation-same _ _ (ap (λ w. filter (λ x. nat_eq x.rel rel) w.cells) (sym adds.0)));
+      tables = λ relation. holds_same t u relation (c.db relation) (held.tables relation)
+          (IsPermutation-same _ _ (ap (λ w. filter (λ n. nat_eq n.rel relation) w.nodes) (sym adds.0)))
+          (IsPermutation-same _ _ (ap (λ w. filter (λ x. nat_eq x.rel relation) w.cells) (sym adds.0)));
       audit =
           subst (λ l. IsPermutation l u.audit) (sym (numbered_push 1 c.audit bytes))
           (IsPermutation-trans _ _ _ (IsPermutation-to_front (numbered 1 c.audit) entry) (IsPermutation-trans _ _ _ (IsPermutation-cons entry _ _ held.audit) adds.1));
@@ -72,9 +72,9 @@ holds_entry t u c bytes held adds =
 
 pub holds_no_entries : (t u : Tables) (c : Content) → Holds t c → ClearsEntries t u → Holds u (record c { audit = [] })
 holds_no_entries t u c held clears = record {
-  tables = λ rel. holds_same t u rel (c.db rel) (held.tables rel)
-      (IsPermutation-same _ _ (ap (λ w. filter (λ n. nat_eq n.rel rel) w.nodes) (sym clears)))
-      (IsPermutation-same _ _ (ap (λ w. filter (λ x. nat_eq x.rel rel) w.cells) (sym clears)));
+  tables = λ relation. holds_same t u relation (c.db relation) (held.tables relation)
+      (IsPermutation-same _ _ (ap (λ w. filter (λ n. nat_eq n.rel relation) w.nodes) (sym clears)))
+      (IsPermutation-same _ _ (ap (λ w. filter (λ x. nat_eq x.rel relation) w.cells) (sym clears)));
   audit = IsPermutation-same _ _ (ap (λ w. w.audit) (sym clears));
 }
 
@@ -157,45 +157,45 @@ module _ (T : Table) (n : Node) (cells : List Cell) (es : List Element) (none : 
 
 -- ---- a tuple and its rows
 
-module _ (t u : Tables) (c : Content) (rel : ℕ) (n : Node) (cells : List Cell) (es : List Element)
-    (held : Holds t c) (none : get (c.db rel) (place_of_node n) ≡ None) (pattern : n.pattern ≡ map (λ e. e.class) es) (own : cells ≡ cells_from 0 (place_of_node n) es)
-    (adds : AddsTuple (node_row rel n) (map (cell_row rel) cells) t u) where
+module _ (t u : Tables) (c : Content) (relation : ℕ) (n : Node) (cells : List Cell) (es : List Element)
+    (held : Holds t c) (none : get (c.db relation) (place_of_node n) ≡ None) (pattern : n.pattern ≡ map (λ e. e.class) es) (own : cells ≡ cells_from 0 (place_of_node n) es)
+    (adds : AddsTuple (node_row relation n) (map (cell_row relation) cells) t u) where
   abbrev p : Place
   p = place_of_node n
 
   abbrev T : Table
-  T = c.db rel
+  T = c.db relation
 
   node_is : node_of (p, es) ≡ n
   node_is = λ i. record n { pattern = sym pattern i }
 
-  nodes_here : IsPermutation (map (node_row rel) (nodes_in (insert T p es))) (filter (λ m. nat_eq m.rel rel) u.nodes)
+  nodes_here : IsPermutation (map (node_row relation) (nodes_in (insert T p es))) (filter (λ m. nat_eq m.rel relation) u.nodes)
   nodes_here =
-      IsPermutation-trans _ _ _ (IsPermutation-map (node_row rel) _ _ (IsPermutation-map node_of _ _ (entries_new T p es none)))
-      (subst (λ m. IsPermutation (node_row rel m ∷ map (node_row rel) (nodes_in T)) (filter (λ m. nat_eq m.rel rel) u.nodes)) (sym node_is)
-      (added_here (λ m. nat_eq m.rel rel) (node_row rel n ∷ []) t.nodes u.nodes adds.nodes _ (eq-eqb rel rel refl, tt) (held.tables rel).nodes))
+      IsPermutation-trans _ _ _ (IsPermutation-map (node_row relation) _ _ (IsPermutation-map node_of _ _ (entries_new T p es none)))
+      (subst (λ m. IsPermutation (node_row relation m ∷ map (node_row relation) (nodes_in T)) (filter (λ m. nat_eq m.rel relation) u.nodes)) (sym node_is)
+      (added_here (λ m. nat_eq m.rel relation) (node_row relation n ∷ []) t.nodes u.nodes adds.nodes _ (eq-eqb relation relation refl, tt) (held.tables relation).nodes))
 
-  cells_here : IsPermutation (map (cell_row rel) (cells_in (insert T p es))) (filter (λ x. nat_eq x.rel rel) u.cells)
+  cells_here : IsPermutation (map (cell_row relation) (cells_in (insert T p es))) (filter (λ x. nat_eq x.rel relation) u.cells)
   cells_here =
-      IsPermutation-trans _ _ _ (IsPermutation-map (cell_row rel) _ _ (IsPermutation-flat_map cells_of _ _ (entries_new T p es none)))
-      (subst (λ l. IsPermutation l (filter (λ x. nat_eq x.rel rel) u.cells)) (sym (map-append (cell_row rel) (cells_of (p, es)) (cells_in T) ∙ ap (λ ds. map (cell_row rel) ds ++ map (cell_row rel) (cells_in T)) (sym own)))
-      (added_here (λ x. nat_eq x.rel rel) (map (cell_row rel) cells) t.cells u.cells adds.cells _ (all-map _ (cell_row rel) cells (all_of (λ d. nat_eq rel rel ≡ true) (λ d. eq-eqb rel rel refl) cells)) (held.tables rel).cells))
+      IsPermutation-trans _ _ _ (IsPermutation-map (cell_row relation) _ _ (IsPermutation-flat_map cells_of _ _ (entries_new T p es none)))
+      (subst (λ l. IsPermutation l (filter (λ x. nat_eq x.rel relation) u.cells)) (sym (map-append (cell_row relation) (cells_of (p, es)) (cells_in T) ∙ ap (λ ds. map (cell_row relation) ds ++ map (cell_row relation) (cells_in T)) (sym own)))
+      (added_here (λ x. nat_eq x.rel relation) (map (cell_row relation) cells) t.cells u.cells adds.cells _ (all-map _ (cell_row relation) cells (all_of (λ d. nat_eq relation relation ≡ true) (λ d. eq-eqb relation relation refl) cells)) (held.tables relation).cells))
 
-  others_same : (r : ℕ) → nat_eq r rel ≡ false → HoldsTable u r (c.db r)
+  others_same : (r : ℕ) → nat_eq r relation ≡ false → HoldsTable u r (c.db r)
   others_same r other = holds_same t u r (c.db r) (held.tables r)
-      (added_elsewhere (λ m. nat_eq m.rel r) (node_row rel n ∷ []) t.nodes u.nodes adds.nodes (differs, tt))
-      (added_elsewhere (λ x. nat_eq x.rel r) (map (cell_row rel) cells) t.cells u.cells adds.cells (all-map _ (cell_row rel) cells (all_of (λ d. nat_eq rel r ≡ false) (λ d. differs) cells)))
+      (added_elsewhere (λ m. nat_eq m.rel r) (node_row relation n ∷ []) t.nodes u.nodes adds.nodes (differs, tt))
+      (added_elsewhere (λ x. nat_eq x.rel r) (map (cell_row relation) cells) t.cells u.cells adds.cells (all-map _ (cell_row relation) cells (all_of (λ d. nat_eq relation r ≡ false) (λ d. differs) cells)))
     where
-      differs : nat_eq rel r ≡ false
-      differs = false_from_ne_true (nat_eq rel r) (λ b. true≢false (sym (eq-eqb r rel (sym (eqb-true rel r b))) ∙ other))
+      differs : nat_eq relation r ≡ false
+      differs = false_from_ne_true (nat_eq relation r) (λ b. true≢false (sym (eq-eqb r relation (sym (eqb-true relation r b))) ∙ other))
 
-  holds_shared : IsSharedTuple (insert T p es) p es → Holds u (record c { db = with_table c.db rel (insert T p es) })
-  holds_shared new = holds_with t u c rel (insert T p es) held (ap (λ w. w.audit) adds.rest)
-      (record { nodes = nodes_here; cells = cells_here; shared = all_shared T p es none (held.tables rel).shared new }) others_same
+  holds_shared : IsSharedTuple (insert T p es) p es → Holds u (record c { db = with_table c.db relation (insert T p es) })
+  holds_shared new = holds_with t u c relation (insert T p es) held (ap (λ w. w.audit) adds.rest)
+      (record { nodes = nodes_here; cells = cells_here; shared = all_shared T p es none (held.tables relation).shared new }) others_same
 
-pub holds_tuple : (t u : Tables) (c : Content) (rel : ℕ) (n : Node) (cells : List Cell) (es : List Element)
-    → Holds t c → IsSpelledKey n.key → AllByRecursion (IsCellOf n) cells → get (c.db rel) (place_of_node n) ≡ None → IsMadeOf (c.db rel) n cells es
-    → AddsTuple (node_row rel n) (map (cell_row rel) cells) t u
-    → Holds u (record c { db = with_table c.db rel (insert (c.db rel) (place_of_node n) es) })
-holds_tuple t u c rel n cells es held spelled each none made adds =
-    holds_shared t u c rel n cells es held none made.pattern made.own adds (made_shared (c.db rel) n cells es none spelled each made.own made.others (held.tables rel).shared)
+pub holds_tuple : (t u : Tables) (c : Content) (relation : ℕ) (n : Node) (cells : List Cell) (es : List Element)
+    → Holds t c → IsSpelledKey n.key → AllByRecursion (IsCellOf n) cells → get (c.db relation) (place_of_node n) ≡ None → IsMadeOf (c.db relation) n cells es
+    → AddsTuple (node_row relation n) (map (cell_row relation) cells) t u
+    → Holds u (record c { db = with_table c.db relation (insert (c.db relation) (place_of_node n) es) })
+holds_tuple t u c relation n cells es held spelled each none made adds =
+    holds_shared t u c relation n cells es held none made.pattern made.own adds (made_shared (c.db relation) n cells es none spelled each made.own made.others (held.tables relation).shared)

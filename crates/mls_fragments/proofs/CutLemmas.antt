@@ -82,10 +82,10 @@ module _ {R : Type 0} (cmp : R → R → Ordering) (total : IsTotalOrder cmp) (k
       before_too (key x) (key y) k (first x y (sorted_far (λ a b. is_lt (cmp a b)) (ranks_by total (λ r. r)) rows sorted i j d l m)) h
 
 pub nodes_in_order : (rows : List NodeRow) → IsSorted node_cmp rows → AreNodesInOrder rows
-nodes_in_order rows sorted rel ent = parted node_cmp node_total (λ r. (r.rel, r.ent)) (λ x y h. first_two (nat_cmp y.rel x.rel) (slice_cmp nat_cmp y.ent x.ent) (rest_of_node y x) h) rows sorted (rel, ent)
+nodes_in_order rows sorted relation ent = parted node_cmp node_total (λ r. (r.rel, r.ent)) (λ x y h. first_two (nat_cmp y.rel x.rel) (slice_cmp nat_cmp y.ent x.ent) (rest_of_node y x) h) rows sorted (relation, ent)
 
 pub cells_in_order : (rows : List CellRow) → IsSorted cell_cmp rows → AreCellsInOrder rows
-cells_in_order rows sorted rel ent = parted cell_cmp cell_total (λ r. (r.rel, r.ent)) (λ x y h. first_two (nat_cmp y.rel x.rel) (slice_cmp nat_cmp y.ent x.ent) (rest_of_cell y x) h) rows sorted (rel, ent)
+cells_in_order rows sorted relation ent = parted cell_cmp cell_total (λ r. (r.rel, r.ent)) (λ x y h. first_two (nat_cmp y.rel x.rel) (slice_cmp nat_cmp y.ent x.ent) (rest_of_cell y x) h) rows sorted (relation, ent)
 
 -- ---- tests on rows
 

@@ -144,29 +144,29 @@ base_among Had Has policy file b all over = record { had = over.had; was = all o
 -- ---- widening of what is sound already
 
 -- a relation that has as many attributes as it had gains none
-none_more : (p : Policy) (counts : List ℕ) (schemes : Schemes) → AllZip (HadOthers p) counts schemes → (rel : ℕ)
-    → length (scheme_of (schemes_before counts schemes) rel).others ≡ length (scheme_of schemes rel).others → more schemes counts rel ≡ 0
-none_more p [] [] h rel e = refl
-none_more p [] (s ∷ schemes) h rel e = absurd h
-none_more p (n ∷ counts) [] h rel e = absurd h
+none_more : (p : Policy) (counts : List ℕ) (schemes : Schemes) → AllZip (HadOthers p) counts schemes → (relation : ℕ)
+    → length (scheme_of (schemes_before counts schemes) relation).others ≡ length (scheme_of schemes relation).others → more schemes counts relation ≡ 0
+none_more p [] [] h relation e = refl
+none_more p [] (s ∷ schemes) h relation e = absurd h
+none_more p (n ∷ counts) [] h relation e = absurd h
 none_more p (n ∷ counts) (s ∷ schemes) h zero e = let few = h.0.0 in omega (arith, few, e, length-take-le n s.others few)
-none_more p (n ∷ counts) (s ∷ schemes) h (suc rel) e = none_more p counts schemes h.1 rel e
+none_more p (n ∷ counts) (s ∷ schemes) h (suc relation) e = none_more p counts schemes h.1 relation e
 
 module _ (policy : Policy) (file : SchemesFile) (before now : Content) (sound : IsSoundContent policy file.schemes before) (labels : ℕ) (counts : List ℕ) (had : AllZip (HadOthers policy) counts file.schemes)
     (was : IsSoundBefore policy file.schemes labels counts before) (wide : IsWidenedContent file.schemes counts before now) where
-  same_tuple : (rel : ℕ) (p : Place) (o : Option (List Element)) → get (before.db rel) p ≡ o → option_map (λ es. es ++ nulls (more file.schemes counts rel) p.key_class) o ≡ o
-  same_tuple rel p None e = refl
-  same_tuple rel p (Some es) e =
-      let all = ((sound.content rel).stored p es e).count in
-      let some = ((was.content rel).stored p es e).count in
-      ap Some (ap (λ n. es ++ nulls n p.key_class) (none_more policy counts file.schemes had rel (sym some ∙ all)) ∙ append-nil es)
+  same_tuple : (relation : ℕ) (p : Place) (o : Option (List Element)) → get (before.db relation) p ≡ o → option_map (λ es. es ++ nulls (more file.schemes counts relation) p.key_class) o ≡ o
+  same_tuple relation p None e = refl
+  same_tuple relation p (Some es) e =
+      let all = ((sound.content relation).stored p es e).count in
+      let some = ((was.content relation).stored p es e).count in
+      ap Some (ap (λ n. es ++ nulls n p.key_class) (none_more policy counts file.schemes had relation (sym some ∙ all)) ∙ append-nil es)
 
   not_wider : now ≡ before
   not_wider =
-      let db : (rel : ℕ) → now.db rel ≡ before.db rel =
-      λ rel. same_map place_total place_exact (now.db rel) (before.db rel) (λ p. wide.tables rel p ∙ same_tuple rel p (get (before.db rel) p) refl) in
+      let db : (relation : ℕ) → now.db relation ≡ before.db relation =
+      λ relation. same_map place_total place_exact (now.db relation) (before.db relation) (λ p. wide.tables relation p ∙ same_tuple relation p (get (before.db relation) p) refl) in
       let audit = wide.audit in
-      λ i. record { db = λ rel. db rel i; audit = audit i }
+      λ i. record { db = λ relation. db relation i; audit = audit i }
 
 pub sound_is_taken : SoundIsTakenAsItWas
 sound_is_taken policy file had now sound (made none is) = ap (λ (h : Holdings). h.content) is ∙ sym (ap (λ (h : Holdings). h.content) none)

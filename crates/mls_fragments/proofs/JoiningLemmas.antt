@@ -96,21 +96,21 @@ module _ (T B : Table) (stay : (p : Place) (us : List Element) → get T p ≡ S
 -- ---- two parts of a relation
 
 -- each tuple of a table is in the part in which its rows are
-tested : (q : Part) (b : Bool) (v : Tables) (rel : ℕ) (V : Table) → HoldsTable v rel V → AllByRecursion (λ r. q r.rel r.ent ≡ b) v.nodes
-    → (e : Entry) → get V e.0 ≡ Some e.1 → q rel (key_spelling e.0.key) ≡ b
-tested q b v rel V held all e g =
-    let listed = map_among (node_row rel) (nodes_in V) (node_of e) (map_among node_of (entries V) e (entries_among V e.0 e.1 g)) in
-    let kept = among_filter (λ n. nat_eq n.rel rel) v.nodes _ ((among_permutation _ _ held.nodes (node_row rel (node_of e))).0 listed) in
-    all_at (λ r. q r.rel r.ent ≡ b) v.nodes all (node_row rel (node_of e)) kept.0
+tested : (q : Part) (b : Bool) (v : Tables) (relation : ℕ) (V : Table) → HoldsTable v relation V → AllByRecursion (λ r. q r.rel r.ent ≡ b) v.nodes
+    → (e : Entry) → get V e.0 ≡ Some e.1 → q relation (key_spelling e.0.key) ≡ b
+tested q b v relation V held all e g =
+    let listed = map_among (node_row relation) (nodes_in V) (node_of e) (map_among node_of (entries V) e (entries_among V e.0 e.1 g)) in
+    let kept = among_filter (λ n. nat_eq n.rel relation) v.nodes _ ((among_permutation _ _ held.nodes (node_row relation (node_of e))).0 listed) in
+    all_at (λ r. q r.rel r.ent ≡ b) v.nodes all (node_row relation (node_of e)) kept.0
 
-module _ (q : Part) (rel : ℕ) (s t u : Tables) (T U : Table) (before : HoldsTable s rel T) (more : HoldsTable t rel U)
+module _ (q : Part) (relation : ℕ) (s t u : Tables) (T U : Table) (before : HoldsTable s relation T) (more : HoldsTable t relation U)
     (outside : AllByRecursion (λ r. q r.rel r.ent ≡ false) s.nodes) (inside : AllByRecursion (λ r. q r.rel r.ent ≡ true) t.nodes) where
   abbrev both : Table
   both = with_entries T (entries U)
 
   new : AreNew T (entries U)
   new = are_new T (entries U) (so_true _ (entries_sorted U)) (λ e i. none_from (get T e.0) (λ us g.
-      true≢false (sym (tested q true t rel U more inside e (among_entries U e i)) ∙ tested q false s rel T before outside (e.0, us) g)))
+      true≢false (sym (tested q true t relation U more inside e (among_entries U e i)) ∙ tested q false s relation T before outside (e.0, us) g)))
 
   first : (p : Place) (us : List Element) → get T p ≡ Some us → get both p ≡ Some us
   first = stays T (entries U) new
@@ -135,19 +135,19 @@ module _ (q : Part) (rel : ℕ) (s t u : Tables) (T U : Table) (before : HoldsTa
   module _ (nodes : IsPermutation (t.nodes ++ s.nodes) u.nodes) (cells : IsPermutation (t.cells ++ s.cells) u.cells) where
     -- rows of entries, which each relation's part has
     rows_joined : {R : Type 0} (rel_of : R → ℕ) (rows : Entries → List R) → ((xs ys : Entries) → rows (xs ++ ys) ≡ rows xs ++ rows ys) → ((xs ys : Entries) → IsPermutation xs ys → IsPermutation (rows xs) (rows ys))
-        → (xs ys zs : List R) → IsPermutation (ys ++ xs) zs → IsPermutation (rows (entries T)) (filter (λ r. nat_eq (rel_of r) rel) xs)
-        → IsPermutation (rows (entries U)) (filter (λ r. nat_eq (rel_of r) rel) ys) → IsPermutation (rows (entries both)) (filter (λ r. nat_eq (rel_of r) rel) zs)
+        → (xs ys zs : List R) → IsPermutation (ys ++ xs) zs → IsPermutation (rows (entries T)) (filter (λ r. nat_eq (rel_of r) relation) xs)
+        → IsPermutation (rows (entries U)) (filter (λ r. nat_eq (rel_of r) relation) ys) → IsPermutation (rows (entries both)) (filter (λ r. nat_eq (rel_of r) relation) zs)
     rows_joined rel_of rows split moved xs ys zs same left right =
         IsPermutation-trans _ _ _ (moved _ _ (entries_joined T (entries U) new))
-        (subst (λ l. IsPermutation l (filter (λ r. nat_eq (rel_of r) rel) zs)) (sym (split (entries U) (entries T)))
+        (subst (λ l. IsPermutation l (filter (λ r. nat_eq (rel_of r) relation) zs)) (sym (split (entries U) (entries T)))
         (IsPermutation-trans _ _ _ (IsPermutation-append _ _ _ _ right left)
-        (subst (λ l. IsPermutation l (filter (λ r. nat_eq (rel_of r) rel) zs)) (filter-append (λ r. nat_eq (rel_of r) rel) ys xs) (IsPermutation-filter (λ r. nat_eq (rel_of r) rel) _ _ same))))
+        (subst (λ l. IsPermutation l (filter (λ r. nat_eq (rel_of r) relation) zs)) (filter-append (λ r. nat_eq (rel_of r) relation) ys xs) (IsPermutation-filter (λ r. nat_eq (rel_of r) relation) _ _ same))))
 
-    pub joined_table : HoldsTable u rel both
+    pub joined_table : HoldsTable u relation both
     joined_table = record {
-      nodes = rows_joined (λ r. r.rel) (λ es. map (node_row rel) (map node_of es)) (λ xs ys. ap (map (node_row rel)) (map-append node_of xs ys) ∙ map-append (node_row rel) (map node_of xs) (map node_of ys))
-          (λ xs ys p. IsPermutation-map (node_row rel) _ _ (IsPermutation-map node_of _ _ p)) s.nodes t.nodes u.nodes nodes before.nodes more.nodes;
-      cells = rows_joined (λ r. r.rel) (λ es. map (cell_row rel) (flat_map cells_of es)) (λ xs ys. ap (map (cell_row rel)) (flat_map-append cells_of xs ys) ∙ map-append (cell_row rel) (flat_map cells_of xs) (flat_map cells_of ys))
-          (λ xs ys p. IsPermutation-map (cell_row rel) _ _ (IsPermutation-flat_map cells_of _ _ p)) s.cells t.cells u.cells cells before.cells more.cells;
+      nodes = rows_joined (λ r. r.rel) (λ es. map (node_row relation) (map node_of es)) (λ xs ys. ap (map (node_row relation)) (map-append node_of xs ys) ∙ map-append (node_row relation) (map node_of xs) (map node_of ys))
+          (λ xs ys p. IsPermutation-map (node_row relation) _ _ (IsPermutation-map node_of _ _ p)) s.nodes t.nodes u.nodes nodes before.nodes more.nodes;
+      cells = rows_joined (λ r. r.rel) (λ es. map (cell_row relation) (flat_map cells_of es)) (λ xs ys. ap (map (cell_row relation)) (flat_map-append cells_of xs ys) ∙ map-append (cell_row relation) (flat_map cells_of xs) (flat_map cells_of ys))
+          (λ xs ys p. IsPermutation-map (cell_row relation) _ _ (IsPermutation-flat_map cells_of _ _ p)) s.cells t.cells u.cells cells before.cells more.cells;
       shared = each _ (λ p es g. shared_still T both first p es (before.shared p es g)) (λ p es g. shared_still U both second p es (more.shared p es g));
     }

@@ -52,7 +52,7 @@ module _ (left kept : Part) (nodes now_nodes next_nodes : List NodeRow) (cells n
 
 -- the last part is all that is left
 pub last_taken : (nodes : List NodeRow) (cells : List CellRow) (part : AllRows) → part.nodes.items ≡ nodes → part.cells.items ≡ cells → part.entries.items ≡ []
-    → IsTakenOff (λ rel ent. false) nodes [] cells [] part
+    → IsTakenOff (λ relation ent. false) nodes [] cells [] part
 last_taken nodes cells part same_nodes same_cells none = record {
   part_nodes = same_nodes ∙ sym (filter_all _ nodes (all_of _ (λ r. refl) nodes));
   part_cells = same_cells ∙ sym (filter_all _ cells (all_of _ (λ r. refl) cells));
@@ -63,10 +63,10 @@ last_taken nodes cells part same_nodes same_cells none = record {
 
 -- ---- no tuple
 
-none_held : (t : Tables) (rel : ℕ) → t.nodes ≡ [] → t.cells ≡ [] → HoldsTable t rel (table_in [] rel)
-none_held t rel nodes cells = record {
-  nodes = IsPermutation-same _ _ (ap (λ es. map (node_row rel) (map node_of es)) (entries-from_sorted place_cmp [] tt) ∙ sym (ap (filter (λ n. nat_eq n.rel rel)) nodes));
-  cells = IsPermutation-same _ _ (ap (λ es. map (cell_row rel) (flat_map cells_of es)) (entries-from_sorted place_cmp [] tt) ∙ sym (ap (filter (λ c. nat_eq c.rel rel)) cells));
+none_held : (t : Tables) (relation : ℕ) → t.nodes ≡ [] → t.cells ≡ [] → HoldsTable t relation (table_in [] relation)
+none_held t relation nodes cells = record {
+  nodes = IsPermutation-same _ _ (ap (λ es. map (node_row relation) (map node_of es)) (entries-from_sorted place_cmp [] tt) ∙ sym (ap (filter (λ n. nat_eq n.rel relation)) nodes));
+  cells = IsPermutation-same _ _ (ap (λ es. map (cell_row relation) (flat_map cells_of es)) (entries-from_sorted place_cmp [] tt) ∙ sym (ap (filter (λ c. nat_eq c.rel relation)) cells));
   shared = λ p es g. absurd (nothing p es g);
 }
 
@@ -74,12 +74,12 @@ module _ (policy : Policy) (schemes : Schemes) (labels : ℕ) (nodes : List Node
   abbrev all : Tables
   all = rows_in nodes cells
 
-  pub first_judged : AllByRecursion (IsEntryOf labels) list → IsJudged policy schemes labels (rows_of (other (λ rel ent. true)) all) list (found [] list)
+  pub first_judged : AllByRecursion (IsEntryOf labels) list → IsJudged policy schemes labels (rows_of (other (λ relation ent. true)) all) list (found [] list)
   first_judged entries = record {
-    tables = λ rel. none_held _ rel (filter_none _ nodes (all_of _ (λ r. refl) nodes)) (filter_none _ cells (all_of _ (λ r. refl) cells));
+    tables = λ relation. none_held _ relation (filter_none _ nodes (all_of _ (λ r. refl) nodes)) (filter_none _ cells (all_of _ (λ r. refl) cells));
     sound = record {
-      content = are_content (labels_of policy) schemes [] (λ rel l. absurd (omega (arith, l)));
-      classes = λ rel p es g. absurd (nothing p es g);
+      content = are_content (labels_of policy) schemes [] (λ relation l. absurd (omega (arith, l)));
+      classes = λ relation p es g. absurd (nothing p es g);
       entries = entries;
     };
     audit = refl;
@@ -97,20 +97,20 @@ module _ (policy : Policy) (schemes : Schemes) (labels : ℕ) (nodes : List Node
 
     pub part_judged : IsJudged policy schemes labels (rows_of (other (both left kept)) all) list (with_tables c tables)
     part_judged = record {
-      tables = λ rel. joined_table left rel (rows_of (other left) all) (rows_of (outside kept left) all) (rows_of (other (both left kept)) all) (c.db rel) (table_in tables rel) (judged.tables rel) (holds.tables rel) before here
+      tables = λ relation. joined_table left relation (rows_of (other left) all) (rows_of (outside kept left) all) (rows_of (other (both left kept)) all) (c.db relation) (table_in tables relation) (judged.tables relation) (holds.tables relation) before here
           (taken_off (λ r. left r.rel r.ent) (λ r. kept r.rel r.ent) nodes) (taken_off (λ r. left r.rel r.ent) (λ r. kept r.rel r.ent) cells);
       sound = record {
-        content = λ rel. joined_content left rel (rows_of (other left) all) (rows_of (outside kept left) all) (rows_of (other (both left kept)) all) (c.db rel) (table_in tables rel) (judged.tables rel) (holds.tables rel) before here
-            (labels_of policy) (scheme_of schemes rel) (judged.sound.content rel) (sound.content rel);
-        classes = λ rel. joined_within left rel (rows_of (other left) all) (rows_of (outside kept left) all) (rows_of (other (both left kept)) all) (c.db rel) (table_in tables rel) (judged.tables rel) (holds.tables rel) before here
-            labels (judged.sound.classes rel) (sound.classes rel);
+        content = λ relation. joined_content left relation (rows_of (other left) all) (rows_of (outside kept left) all) (rows_of (other (both left kept)) all) (c.db relation) (table_in tables relation) (judged.tables relation) (holds.tables relation) before here
+            (labels_of policy) (scheme_of schemes relation) (judged.sound.content relation) (sound.content relation);
+        classes = λ relation. joined_within left relation (rows_of (other left) all) (rows_of (outside kept left) all) (rows_of (other (both left kept)) all) (c.db relation) (table_in tables relation) (judged.tables relation) (holds.tables relation) before here
+            labels (judged.sound.classes relation) (sound.classes relation);
         entries = judged.sound.entries;
       };
       audit = judged.audit;
     }
 
   -- what no row is outside of is all
-  pub all_judged : (q : Part) (c : Content) → ((rel : ℕ) (ent : List ℕ) → q rel ent ≡ true) → IsJudged policy schemes labels (rows_of q all) list c → IsJudged policy schemes labels all list c
+  pub all_judged : (q : Part) (c : Content) → ((relation : ℕ) (ent : List ℕ) → q relation ent ≡ true) → IsJudged policy schemes labels (rows_of q all) list c → IsJudged policy schemes labels all list c
   all_judged q c each judged =
       subst (λ t. IsJudged policy schemes labels t list c)
       (λ i. rows_in (filter_all (λ r. q r.rel r.ent) nodes (all_of _ (λ r. each r.rel r.ent) nodes) i) (filter_all (λ r. q r.rel r.ent) cells (all_of _ (λ r. each r.rel r.ent) cells) i)) judged
@@ -129,7 +129,7 @@ pub record IsUnderWay (policy : Policy) (schemes : Schemes) (labels : ℕ) (node
 pub begins : (policy : Policy) (schemes : Schemes) (labels : ℕ) (nodes : List NodeRow) (cells : List CellRow) (list : List (List ℕ)) → AreNodesInOrder nodes → AreCellsInOrder cells → AllByRecursion (IsEntryOf labels) list
     → IsUnderWay policy schemes labels nodes cells list nodes cells (found [] list)
 begins policy schemes labels nodes cells list nodes_order cells_order entries = record {
-  left = λ rel ent. true;
+  left = λ relation ent. true;
   nodes_are = sym (filter_all _ nodes (all_of _ (λ r. refl) nodes));
   cells_are = sym (filter_all _ cells (all_of _ (λ r. refl) cells));
   nodes_order = nodes_order;
@@ -170,18 +170,18 @@ none_left false = refl
 
 module _ (policy : Policy) (schemes : Schemes) (labels : ℕ) (nodes : List NodeRow) (cells : List CellRow) (list : List (List ℕ)) (c : Content) (part : AllRows)
     (going : IsUnderWay policy schemes labels nodes cells list part.nodes.items part.cells.items c) (none : part.entries.items ≡ []) where
-  all_taken : IsTakenOff (λ rel ent. false) part.nodes.items [] part.cells.items [] part
+  all_taken : IsTakenOff (λ relation ent. false) part.nodes.items [] part.cells.items [] part
   all_taken = last_taken part.nodes.items part.cells.items part refl refl none
 
   pub ends : (tables : List Entries) (audit : List (List ℕ)) → ((t : Tables) → AreAll t part → Holds t (found tables audit)) → IsSoundWithin policy schemes labels (found tables audit)
       → IsJudged policy schemes labels (rows_in nodes cells) list (with_tables c tables)
   ends tables audit held sound =
-      all_judged policy schemes labels nodes cells list (other (both going.left (λ rel ent. false))) (with_tables c tables) (λ rel ent. none_left (going.left rel ent))
-      (more_judged policy schemes labels nodes cells list part.nodes.items [] part.cells.items [] c going (λ rel ent. false) part all_taken tables audit held sound)
+      all_judged policy schemes labels nodes cells list (other (both going.left (λ relation ent. false))) (with_tables c tables) (λ relation ent. none_left (going.left relation ent))
+      (more_judged policy schemes labels nodes cells list part.nodes.items [] part.cells.items [] c going (λ relation ent. false) part all_taken tables audit held sound)
 
   pub refused_last : (X : Type 0) → ((t : Tables) → AreAll t part → (d : Content) → Holds t d → IsSoundWithin policy schemes labels d → X)
       → (t : Tables) → IsPermutation t.nodes nodes → IsPermutation t.cells cells → (d : Content) → Holds t d → IsSoundWithin policy schemes labels d → X
-  refused_last = refused policy schemes labels nodes cells list part.nodes.items [] part.cells.items [] c going (λ rel ent. false) part all_taken
+  refused_last = refused policy schemes labels nodes cells list part.nodes.items [] part.cells.items [] c going (λ relation ent. false) part all_taken
 
 -- ---- all rows
 
@@ -189,7 +189,7 @@ pub judged_holds : (policy : Policy) (schemes : Schemes) (labels : ℕ) (rows : 
     → IsPermutation rows.nodes.items nodes → IsPermutation rows.cells.items cells → IsPermutation (numbered 1 list) rows.entries.items
     → IsJudged policy schemes labels (rows_in nodes cells) list c → (t : Tables) → AreAll t rows → Holds t c
 judged_holds policy schemes labels rows nodes cells list c same_nodes same_cells entries judged t all = record {
-  tables = λ rel. holds_same (rows_in nodes cells) t rel (c.db rel) (judged.tables rel)
+  tables = λ relation. holds_same (rows_in nodes cells) t relation (c.db relation) (judged.tables relation)
       (IsPermutation-filter _ _ _ (IsPermutation-sym _ _ (IsPermutation-trans _ _ _ all.0 same_nodes))) (IsPermutation-filter _ _ _ (IsPermutation-sym _ _ (IsPermutation-trans _ _ _ all.1.0 same_cells)));
   audit = subst (λ l. IsPermutation (numbered 1 l) t.audit) (sym judged.audit) (IsPermutation-trans _ _ _ entries (IsPermutation-sym _ _ all.1.1));
 }

@@ -22,10 +22,10 @@ use Rattle.mls_fragments.specs.Migrating.{more, wide_tables}
 -- ---- items by their numbers
 
 -- what holds of each table holds by number, and of none
-pub each_table : (P : Entries → Type 0) → P [] → (tables : List Entries) → AllByRecursion P tables → (rel : ℕ) → P (slice_index_or tables rel [])
-each_table P none [] h rel = none
+pub each_table : (P : Entries → Type 0) → P [] → (tables : List Entries) → AllByRecursion P tables → (relation : ℕ) → P (slice_index_or tables relation [])
+each_table P none [] h relation = none
 each_table P none (es ∷ tables) h zero = h.0
-each_table P none (es ∷ tables) h (suc rel) = each_table P none tables h.1 rel
+each_table P none (es ∷ tables) h (suc relation) = each_table P none tables h.1 relation
 
 -- ---- entries of one relation
 
@@ -48,51 +48,51 @@ spelled_widened n (e ∷ es) h = ((h.0.0, spelled_more n e.0.key_class e.1 h.0.1
 -- ---- all relations
 
 module _ (schemes : Schemes) (counts : List ℕ) where
-  entries_from : (k : ℕ) (tables : List Entries) (rel : ℕ) → slice_index_or (wide_tables schemes counts k tables) rel [] ≡ map (widened_entry (more schemes counts (k + rel))) (slice_index_or tables rel [])
-  entries_from k [] rel = refl
+  entries_from : (k : ℕ) (tables : List Entries) (relation : ℕ) → slice_index_or (wide_tables schemes counts k tables) relation [] ≡ map (widened_entry (more schemes counts (k + relation))) (slice_index_or tables relation [])
+  entries_from k [] relation = refl
   entries_from k (es ∷ tables) zero = ap (λ n. map (widened_entry (more schemes counts n)) es) (omega arith)
-  entries_from k (es ∷ tables) (suc rel) =
-      entries_from (suc k) tables rel ∙ ap (λ n. map (widened_entry (more schemes counts n)) (slice_index_or tables rel [])) (omega arith)
+  entries_from k (es ∷ tables) (suc relation) =
+      entries_from (suc k) tables relation ∙ ap (λ n. map (widened_entry (more schemes counts n)) (slice_index_or tables relation [])) (omega arith)
 
   pub wide_length : (k : ℕ) (tables : List Entries) → length (wide_tables schemes counts k tables) ≡ length tables
   wide_length k [] = refl
   wide_length k (es ∷ tables) = ap suc (wide_length (suc k) tables)
 
 module _ (schemes : Schemes) (counts : List ℕ) (tables wide : List Entries) (are : wide ≡ wide_tables schemes counts 0 tables) where
-  entries_wide : (rel : ℕ) → slice_index_or wide rel [] ≡ map (widened_entry (more schemes counts rel)) (slice_index_or tables rel [])
-  entries_wide rel = ap (λ ws. slice_index_or ws rel []) are ∙ entries_from schemes counts 0 tables rel ∙ ap (λ n. map (widened_entry (more schemes counts n)) (slice_index_or tables rel [])) (omega arith)
+  entries_wide : (relation : ℕ) → slice_index_or wide relation [] ≡ map (widened_entry (more schemes counts relation)) (slice_index_or tables relation [])
+  entries_wide relation = ap (λ ws. slice_index_or ws relation []) are ∙ entries_from schemes counts 0 tables relation ∙ ap (λ n. map (widened_entry (more schemes counts n)) (slice_index_or tables relation [])) (omega arith)
 
-  module _ (sorted : (rel : ℕ) → IsStrictlySortedBy place_cmp (keys_of (slice_index_or tables rel []))) where
-    pub sorted_wide : (rel : ℕ) → IsStrictlySortedBy place_cmp (keys_of (slice_index_or wide rel []))
-    sorted_wide rel =
-        subst (IsStrictlySortedBy place_cmp) (sym (ap keys_of (entries_wide rel) ∙ keys_widened (more schemes counts rel) (slice_index_or tables rel []))) (sorted rel)
+  module _ (sorted : (relation : ℕ) → IsStrictlySortedBy place_cmp (keys_of (slice_index_or tables relation []))) where
+    pub sorted_wide : (relation : ℕ) → IsStrictlySortedBy place_cmp (keys_of (slice_index_or wide relation []))
+    sorted_wide relation =
+        subst (IsStrictlySortedBy place_cmp) (sym (ap keys_of (entries_wide relation) ∙ keys_widened (more schemes counts relation) (slice_index_or tables relation []))) (sorted relation)
 
-    pub tables_wide : (rel : ℕ) → IsWidened (more schemes counts rel) (table_in tables rel) (table_in wide rel)
-    tables_wide rel = table_widened (more schemes counts rel) (slice_index_or tables rel []) (slice_index_or wide rel []) (sorted rel) (entries_wide rel)
+    pub tables_wide : (relation : ℕ) → IsWidened (more schemes counts relation) (table_in tables relation) (table_in wide relation)
+    tables_wide relation = table_widened (more schemes counts relation) (slice_index_or tables relation []) (slice_index_or wide relation []) (sorted relation) (entries_wide relation)
 
     -- a relation that is sound with fewer attributes is sound, widened
-    pub content_wide : (policy : Policy) (rel : ℕ) → rel < length schemes → 0 < length (scheme_of schemes rel).keys → HadOthers policy (slice_index_or counts rel 0) (scheme_of schemes rel)
-        → IsUnder (length (labels_of policy)) (scheme_before (slice_index_or counts rel 0) (scheme_of schemes rel))
-        → IsContent (labels_of policy) (scheme_before (slice_index_or counts rel 0) (scheme_of schemes rel)) (table_in tables rel)
-        → IsContent (labels_of policy) (scheme_of schemes rel) (table_in wide rel)
-    content_wide policy rel l some had under content =
+    pub content_wide : (policy : Policy) (relation : ℕ) → relation < length schemes → 0 < length (scheme_of schemes relation).keys → HadOthers policy (slice_index_or counts relation 0) (scheme_of schemes relation)
+        → IsUnder (length (labels_of policy)) (scheme_before (slice_index_or counts relation 0) (scheme_of schemes relation))
+        → IsContent (labels_of policy) (scheme_before (slice_index_or counts relation 0) (scheme_of schemes relation)) (table_in tables relation)
+        → IsContent (labels_of policy) (scheme_of schemes relation) (table_in wide relation)
+    content_wide policy relation l some had under content =
         let ls = labels_of policy in
-        let k = slice_index_or counts rel 0 in
-        let new = scheme_of schemes rel in
-        widening_keeps_content ls (length ls) (more schemes counts rel) (scheme_before k new) new (table_in tables rel) (table_in wide rel) some under
+        let k = slice_index_or counts relation 0 in
+        let new = scheme_of schemes relation in
+        widening_keeps_content ls (length ls) (more schemes counts relation) (scheme_before k new) new (table_in tables relation) (table_in wide relation) some under
         (record { keys = refl; more = drop k new.others; others = sym (take-append-drop k new.others); count = length-drop k new.others; around = had.1 })
-        (tables_wide rel)
-        (subst (λ xs. IsContent xs (scheme_before k new) (table_in tables rel)) (sym (take_all (length ls) ls (omega arith))) content)
+        (tables_wide relation)
+        (subst (λ xs. IsContent xs (scheme_before k new) (table_in tables relation)) (sym (take_all (length ls) ls (omega arith))) content)
 
-  pub spelled_wide : ((rel : ℕ) → AllByRecursion IsSpelledEntry (slice_index_or tables rel [])) → (rel : ℕ) → AllByRecursion IsSpelledEntry (slice_index_or wide rel [])
-  spelled_wide spelled rel = subst (AllByRecursion IsSpelledEntry) (sym (entries_wide rel)) (spelled_widened (more schemes counts rel) (slice_index_or tables rel []) (spelled rel))
+  pub spelled_wide : ((relation : ℕ) → AllByRecursion IsSpelledEntry (slice_index_or tables relation [])) → (relation : ℕ) → AllByRecursion IsSpelledEntry (slice_index_or wide relation [])
+  spelled_wide spelled relation = subst (AllByRecursion IsSpelledEntry) (sym (entries_wide relation)) (spelled_widened (more schemes counts relation) (slice_index_or tables relation []) (spelled relation))
 
 -- ---- relations and entries
 
-pub scheme_each : (P : Scheme → Type 0) (schemes : Schemes) → AllByRecursion P schemes → (rel : ℕ) → rel < length schemes → P (scheme_of schemes rel)
-scheme_each P [] h rel l = absurd (omega (arith, l))
+pub scheme_each : (P : Scheme → Type 0) (schemes : Schemes) → AllByRecursion P schemes → (relation : ℕ) → relation < length schemes → P (scheme_of schemes relation)
+scheme_each P [] h relation l = absurd (omega (arith, l))
 scheme_each P (s ∷ schemes) h zero l = h.0
-scheme_each P (s ∷ schemes) h (suc rel) l = scheme_each P schemes h.1 rel (omega (arith, l))
+scheme_each P (s ∷ schemes) h (suc relation) l = scheme_each P schemes h.1 relation (omega (arith, l))
 
 -- an entry of one of some labels is one of more
 pub entries_more : (k n : ℕ) → k ≤ n → (audit : List (List ℕ)) → AllByRecursion (IsEntryOf k) audit → AllByRecursion (IsEntryOf n) audit

@@ -76,20 +76,20 @@ module _ (t u : Tables) (here new : Noted) (was : IsNoted t here) where
   abbrev c : Content
   c = content_of here.content.changes
 
-  pub noted_tuple : (rel : ℕ) (n : Node) (cells : List Cell) → new.content.changes ≡ Adds rel n cells ∷ here.content.changes → new.last ≡ here.last
-      → IsSpelledKey n.key → AllByRecursion (IsCellOf n) cells → get (c.db rel) (place_of_node n) ≡ None → (es : List Element) × IsMadeOf (c.db rel) n cells es
-      → (n.key_class < 256) × (n.label < 256) → AddsTuple (node_row rel n) (map (cell_row rel) cells) t u → IsNoted u new
-  noted_tuple rel n cells changes last key each none made small adds = noted_as u new _ changes (last ∙ was.last) (meta_stays t u (ap (λ (x : Tables). x.meta) adds.rest) was.meta) (tuple_bytes c rel was.classes n _ small)
-      (subst (λ es. Holds u (record c { db = with_table c.db rel (insert (c.db rel) (place_of_node n) es) })) (sym (elements_made (c.db rel) (get (c.db rel)) (λ q. refl) n cells made.0 made.1))
-      (holds_tuple t u c rel n cells made.0 was.holds key each none made.1 adds))
+  pub noted_tuple : (relation : ℕ) (n : Node) (cells : List Cell) → new.content.changes ≡ Adds relation n cells ∷ here.content.changes → new.last ≡ here.last
+      → IsSpelledKey n.key → AllByRecursion (IsCellOf n) cells → get (c.db relation) (place_of_node n) ≡ None → (es : List Element) × IsMadeOf (c.db relation) n cells es
+      → (n.key_class < 256) × (n.label < 256) → AddsTuple (node_row relation n) (map (cell_row relation) cells) t u → IsNoted u new
+  noted_tuple relation n cells changes last key each none made small adds = noted_as u new _ changes (last ∙ was.last) (meta_stays t u (ap (λ (x : Tables). x.meta) adds.rest) was.meta) (tuple_bytes c relation was.classes n _ small)
+      (subst (λ es. Holds u (record c { db = with_table c.db relation (insert (c.db relation) (place_of_node n) es) })) (sym (elements_made (c.db relation) (get (c.db relation)) (λ q. refl) n cells made.0 made.1))
+      (holds_tuple t u c relation n cells made.0 was.holds key each none made.1 adds))
 
-  pub noted_value : (rel : ℕ) (p : Place) (attr : ℕ) (v : Option Value) → new.content.changes ≡ Sets rel p attr v ∷ here.content.changes → new.last ≡ here.last
-      → IsSpelledKey p.key → IfSome v HasSpelling → HasCell (c.db rel) p attr → SetsCell (value_row rel p attr v) t u → IsNoted u new
-  noted_value rel p attr v changes last key value there sets = noted_as u new _ changes (last ∙ was.last) (meta_stays t u (ap (λ (x : Tables). x.meta) sets.0) was.meta) (value_bytes c rel was.classes p attr v) (holds_value t u c rel p attr v was.holds key value there sets)
+  pub noted_value : (relation : ℕ) (p : Place) (attr : ℕ) (v : Option Value) → new.content.changes ≡ Sets relation p attr v ∷ here.content.changes → new.last ≡ here.last
+      → IsSpelledKey p.key → IfSome v HasSpelling → HasCell (c.db relation) p attr → SetsCell (value_row relation p attr v) t u → IsNoted u new
+  noted_value relation p attr v changes last key value there sets = noted_as u new _ changes (last ∙ was.last) (meta_stays t u (ap (λ (x : Tables). x.meta) sets.0) was.meta) (value_bytes c relation was.classes p attr v) (holds_value t u c relation p attr v was.holds key value there sets)
 
-  pub noted_rest : (rel : ℕ) (p : Place) → new.content.changes ≡ Drops rel p ∷ here.content.changes → new.last ≡ here.last
-      → IsSpelledKey p.key → get (c.db rel) p ≢ None → IsAlone (c.db rel) p → DropsTuple rel p t u → IsNoted u new
-  noted_rest rel p changes last key there alone drops = noted_as u new _ changes (last ∙ was.last) (meta_stays t u (ap (λ (x : Tables). x.meta) drops) was.meta) (rest_bytes c rel was.classes p) (holds_rest t u c rel p was.holds key there alone _ refl drops)
+  pub noted_rest : (relation : ℕ) (p : Place) → new.content.changes ≡ Drops relation p ∷ here.content.changes → new.last ≡ here.last
+      → IsSpelledKey p.key → get (c.db relation) p ≢ None → IsAlone (c.db relation) p → DropsTuple relation p t u → IsNoted u new
+  noted_rest relation p changes last key there alone drops = noted_as u new _ changes (last ∙ was.last) (meta_stays t u (ap (λ (x : Tables). x.meta) drops) was.meta) (rest_bytes c relation was.classes p) (holds_rest t u c relation p was.holds key there alone _ refl drops)
 
   pub noted_entry : (bytes : List ℕ) → new.content.changes ≡ Appends bytes ∷ here.content.changes → new.last ≡ here.last +ℤ pos 1
       → AddsEntry (record { number = here.last +ℤ pos 1; bytes = bytes }) t u → IsNoted u new
@@ -102,12 +102,12 @@ module _ (t u : Tables) (here new : Noted) (was : IsNoted t here) where
   noted_clear changes last clears = noted_as u new _ changes last (meta_stays t u (ap (λ (x : Tables). x.meta) clears) was.meta) was.classes (holds_no_entries t u c was.holds clears)
 
 -- the state in a change, with a tuple more
-pub state_added : (t u : TableState) (here last : Noted) (changes : List Change) (rel : ℕ) (n : Node) (cells : List Cell) (es : List Element) → t.begun ≡ true → u.begun ≡ true
-    → changes ≡ Adds rel n cells ∷ here.content.changes → IsMadeOf ((content_of here.content.changes).db rel) n cells es
+pub state_added : (t u : TableState) (here last : Noted) (changes : List Change) (relation : ℕ) (n : Node) (cells : List Cell) (es : List Element) → t.begun ≡ true → u.begun ≡ true
+    → changes ≡ Adds relation n cells ∷ here.content.changes → IsMadeOf ((content_of here.content.changes).db relation) n cells es
     → state_with (content_of changes) (content_of last.content.changes) u.begun
-    ≡ with_relation (state_of (base_state t here last)) rel (insert ((content_of here.content.changes).db rel) (place_of_node n) es)
-state_added t u here last changes rel n cells es was mode is made =
-    ap (λ cs. state_with (content_of cs) before u.begun) is ∙ ap (λ fs. state_with (added fs) before u.begun) (elements_made (c.db rel) (get (c.db rel)) (λ q. refl) n cells es made)
+    ≡ with_relation (state_of (base_state t here last)) relation (insert ((content_of here.content.changes).db relation) (place_of_node n) es)
+state_added t u here last changes relation n cells es was mode is made =
+    ap (λ cs. state_with (content_of cs) before u.begun) is ∙ ap (λ fs. state_with (added fs) before u.begun) (elements_made (c.db relation) (get (c.db relation)) (λ q. refl) n cells es made)
     ∙ ap (state_with (added es) before) mode
     ∙ sym (ap (λ b. record { now = added es; kept = cond b before c; begun = b }) was)
   where
@@ -118,4 +118,4 @@ state_added t u here last changes rel n cells es was mode is made =
     before = content_of last.content.changes
 
     added : List Element → Content
-    added fs = record { db = with_table c.db rel (insert (c.db rel) (place_of_node n) fs); audit = c.audit }
+    added fs = record { db = with_table c.db relation (insert (c.db relation) (place_of_node n) fs); audit = c.audit }

@@ -30,9 +30,9 @@ use Rattle.mls_rows.proofs.WrittenLemmas.{spelled_keys}
 
 -- ---- the cells of one table
 
-module _ (t : Tables) (rel : ℕ) (T : Table) (held : HoldsTable t rel T) where
+module _ (t : Tables) (relation : ℕ) (T : Table) (held : HoldsTable t relation T) where
   nodes_spelled : AllByRecursion IsSpelledNode (nodes_in T)
-  nodes_spelled = all-map IsSpelledNode node_of (entries T) (each_among (λ e. IsSpelledKey e.0.key) (entries T) (λ e i. spelled_keys t rel T held e i))
+  nodes_spelled = all-map IsSpelledNode node_of (entries T) (each_among (λ e. IsSpelledKey e.0.key) (entries T) (λ e i. spelled_keys t relation T held e i))
 
   cells_spelled : AllByRecursion IsSpelledCell (cells_in T)
   cells_spelled = each_among IsSpelledCell (cells_in T) (λ d k.
@@ -67,13 +67,13 @@ module _ (t : Tables) (rel : ℕ) (T : Table) (held : HoldsTable t rel T) where
 
 -- ---- two tables of the same rows
 
-module _ (t : Tables) (rel : ℕ) (T U : Table) (h : HoldsTable t rel T) (k : HoldsTable t rel U) where
+module _ (t : Tables) (relation : ℕ) (T U : Table) (h : HoldsTable t relation T) (k : HoldsTable t relation U) where
   same_nodes : IsPermutation (nodes_in T) (nodes_in U)
-  same_nodes = reflects IsSpelledNode (node_row rel) (same_node rel) (nodes_in T) (nodes_in U) (nodes_spelled t rel T h) (nodes_spelled t rel U k)
+  same_nodes = reflects IsSpelledNode (node_row relation) (same_node relation) (nodes_in T) (nodes_in U) (nodes_spelled t relation T h) (nodes_spelled t relation U k)
       (IsPermutation-trans _ _ _ h.nodes (IsPermutation-sym _ _ k.nodes))
 
   same_cells : IsPermutation (cells_in T) (cells_in U)
-  same_cells = reflects IsSpelledCell (cell_row rel) (same_cell rel) (cells_in T) (cells_in U) (cells_spelled t rel T h) (cells_spelled t rel U k)
+  same_cells = reflects IsSpelledCell (cell_row relation) (same_cell relation) (cells_in T) (cells_in U) (cells_spelled t relation T h) (cells_spelled t relation U k)
       (IsPermutation-trans _ _ _ h.cells (IsPermutation-sym _ _ k.cells))
 
   -- the elements are the same where the classes are
@@ -84,7 +84,7 @@ module _ (t : Tables) (rel : ℕ) (T U : Table) (h : HoldsTable t rel T) (k : Ho
       let below : i < length us = omega (arith, l, count) in
       let class : (at es i).class ≡ (at us i).class =
       sym (get_or-map (λ e. e.class) es i null_element 0 l) ∙ ap (λ ms. get_or ms i 0) pattern ∙ get_or-map (λ e. e.class) us i null_element 0 below in
-      sym (cell_is t rel U k p us f i below (at es i) class ((among_permutation _ _ same_cells _).0 (has_cell t rel T h p es g i l))))
+      sym (cell_is t relation U k p us f i below (at es i) class ((among_permutation _ _ same_cells _).0 (has_cell t relation T h p es g i l))))
 
   -- so what one has, the other has
   has_too : (p : Place) (es : List Element) → get T p ≡ Some es → get U p ≡ Some es
@@ -95,10 +95,10 @@ module _ (t : Tables) (rel : ℕ) (T U : Table) (h : HoldsTable t rel T) (k : Ho
       let there : get U p ≡ Some e.0.1 = ap (get U) (sym place) ∙ among_entries U e.0 e.1 in
       there ∙ ap Some (sym (elements_are p es e.0.1 g there (ap (λ (m : Node). m.pattern) e.2)))
 
-pub one_table : (t : Tables) (rel : ℕ) (T U : Table) → HoldsTable t rel T → HoldsTable t rel U → T ≡ U
-one_table t rel T U h k = same_entries_map T U (entries_are U (entries T) (entries_sorted T) (λ e. (
-  (λ i. has_too t rel T U h k e.0 e.1 (among_entries T e i)),
-  (λ g. entries_among T e.0 e.1 (has_too t rel U T k h e.0 e.1 g)),
+pub one_table : (t : Tables) (relation : ℕ) (T U : Table) → HoldsTable t relation T → HoldsTable t relation U → T ≡ U
+one_table t relation T U h k = same_entries_map T U (entries_are U (entries T) (entries_sorted T) (λ e. (
+  (λ i. has_too t relation T U h k e.0 e.1 (among_entries T e i)),
+  (λ g. entries_among T e.0 e.1 (has_too t relation U T k h e.0 e.1 g)),
 )))
 
 -- ---- entries
@@ -111,6 +111,6 @@ one_list t c d h k =
 
 pub one_content : RowsHoldOneContent
 one_content t c d h k =
-    let db : (rel : ℕ) → c.db rel ≡ d.db rel = λ rel. one_table t rel (c.db rel) (d.db rel) (h.tables rel) (k.tables rel) in
+    let db : (relation : ℕ) → c.db relation ≡ d.db relation = λ relation. one_table t relation (c.db relation) (d.db relation) (h.tables relation) (k.tables relation) in
     let audit = one_list t c d h k in
-    λ i. record { db = λ rel. db rel i; audit = audit i }
+    λ i. record { db = λ relation. db relation i; audit = audit i }

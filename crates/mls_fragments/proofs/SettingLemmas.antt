@@ -147,122 +147,122 @@ module _ (p : Place) (attr : ℕ) (v : Option Value) where
 
   -- ---- the rows of its cells
 
-  module _ (rel : ℕ) (spelled : IsSpelledKey p.key) where
+  module _ (relation : ℕ) (spelled : IsSpelledKey p.key) where
     abbrev set_row : CellRow
-    set_row = cell_row rel (cell_at p attr new)
+    set_row = cell_row relation (cell_at p attr new)
 
     abbrev put : CellRow → CellRow
     put d = cond (has_key_of set_row d) set_row d
 
-    key_test : (q : Place) (k : ℕ) (e : Element) → IsSpelledKey q.key → has_key_of set_row (cell_row rel (cell_at q k e)) ≡ (is_entity p q && (nat_eq k attr && nat_eq e.class p.class))
-    key_test q k e h = entity_test rel p q (nat_eq e.class p.class && nat_eq k attr) spelled h ∙ ap (λ b. is_entity p q && b) (and_turned (nat_eq e.class p.class) (nat_eq k attr))
+    key_test : (q : Place) (k : ℕ) (e : Element) → IsSpelledKey q.key → has_key_of set_row (cell_row relation (cell_at q k e)) ≡ (is_entity p q && (nat_eq k attr && nat_eq e.class p.class))
+    key_test q k e h = entity_test relation p q (nat_eq e.class p.class && nat_eq k attr) spelled h ∙ ap (λ b. is_entity p q && b) (and_turned (nat_eq e.class p.class) (nat_eq k attr))
 
     -- the row of an element that is set, or stays
-    put_element : (q : Place) (k : ℕ) (e : Element) → IsSpelledKey q.key → cell_row rel (cell_at q k (set_element (is_entity p q) k e)) ≡ put (cell_row rel (cell_at q k e))
-    put_element q k e h = by _ refl ∙ ap (λ b. cond b set_row (cell_row rel (cell_at q k e))) (sym (key_test q k e h))
+    put_element : (q : Place) (k : ℕ) (e : Element) → IsSpelledKey q.key → cell_row relation (cell_at q k (set_element (is_entity p q) k e)) ≡ put (cell_row relation (cell_at q k e))
+    put_element q k e h = by _ refl ∙ ap (λ b. cond b set_row (cell_row relation (cell_at q k e))) (sym (key_test q k e h))
       where
-        by : (b : Bool) → (is_entity p q && (nat_eq k attr && nat_eq e.class p.class)) ≡ b → cell_row rel (cell_at q k (cond b new e)) ≡ cond b set_row (cell_row rel (cell_at q k e))
+        by : (b : Bool) → (is_entity p q && (nat_eq k attr && nat_eq e.class p.class)) ≡ b → cell_row relation (cell_at q k (cond b new e)) ≡ cond b set_row (cell_row relation (cell_at q k e))
         by true t =
             let entity = (entity_decides p q).0 (and_parts (is_entity p q) _ t).0 in
             let number = eqb-true k attr (and_parts (nat_eq k attr) _ (and_parts (is_entity p q) _ t).1).0 in
-            λ i. cell_row rel (cell_at (record { key = sym entity.0 i; key_class = sym entity.1 i; class = p.class }) (number i) new)
+            λ i. cell_row relation (cell_at (record { key = sym entity.0 i; key_class = sym entity.1 i; class = p.class }) (number i) new)
         by false t = refl
 
     -- each cell with the element that it is made of
     cells_each : (q : Place) (b : Bool) → is_entity p q ≡ b → IsSpelledKey q.key → (k : ℕ) (es : List Element)
-        → map (cell_row rel) (cells_from k q (cond b (set_from attr p.class v k es) es)) ≡ map put (map (cell_row rel) (cells_from k q es))
+        → map (cell_row relation) (cells_from k q (cond b (set_from attr p.class v k es) es)) ≡ map put (map (cell_row relation) (cells_from k q es))
     cells_each q true s h k [] = refl
     cells_each q false s h k [] = refl
     cells_each q true s h k (e ∷ es) =
         let rest = cells_from (suc k) q (set_from attr p.class v (suc k) es) in
-        let here = ap (λ b. cell_row rel (cell_at q k (set_element b k e))) (sym s) ∙ put_element q k e h in
+        let here = ap (λ b. cell_row relation (cell_at q k (set_element b k e))) (sym s) ∙ put_element q k e h in
         let more = cells_each q true s h (suc k) es in
-        ap (λ m. map (cell_row rel) (cond (nat_eq m q.class) (cell_at q k (set_element true k e) ∷ rest) rest)) (set_class true k e)
-        ∙ elim (nat_eq e.class q.class) as (λ b. map (cell_row rel) (cond b (cell_at q k (set_element true k e) ∷ rest) rest) ≡ map put (map (cell_row rel) (cond b (cell_at q k e ∷ cells_from (suc k) q es) (cells_from (suc k) q es)))) [
+        ap (λ m. map (cell_row relation) (cond (nat_eq m q.class) (cell_at q k (set_element true k e) ∷ rest) rest)) (set_class true k e)
+        ∙ elim (nat_eq e.class q.class) as (λ b. map (cell_row relation) (cond b (cell_at q k (set_element true k e) ∷ rest) rest) ≡ map put (map (cell_row relation) (cond b (cell_at q k e ∷ cells_from (suc k) q es) (cells_from (suc k) q es)))) [
           | true ↦ λ i. here i ∷ more i
           | false ↦ more
         ]
     cells_each q false s h k (e ∷ es) =
-        let here = ap (λ b. cell_row rel (cell_at q k (set_element b k e))) (sym s) ∙ put_element q k e h in
+        let here = ap (λ b. cell_row relation (cell_at q k (set_element b k e))) (sym s) ∙ put_element q k e h in
         let more = cells_each q false s h (suc k) es in
-        elim (nat_eq e.class q.class) as (λ b. map (cell_row rel) (cond b (cell_at q k e ∷ cells_from (suc k) q es) (cells_from (suc k) q es)) ≡ map put (map (cell_row rel) (cond b (cell_at q k e ∷ cells_from (suc k) q es) (cells_from (suc k) q es)))) [
+        elim (nat_eq e.class q.class) as (λ b. map (cell_row relation) (cond b (cell_at q k e ∷ cells_from (suc k) q es) (cells_from (suc k) q es)) ≡ map put (map (cell_row relation) (cond b (cell_at q k e ∷ cells_from (suc k) q es) (cells_from (suc k) q es)))) [
           | true ↦ λ i. here i ∷ more i
           | false ↦ more
         ]
 
     rows_each : (es : List Entry) → ((e : Entry) → IsAmong e es → IsSpelledKey e.0.key)
-        → map (cell_row rel) (flat_map cells_of (map (λ e. (e.0, set_in p attr v e.0 e.1)) es)) ≡ map put (map (cell_row rel) (flat_map cells_of es))
+        → map (cell_row relation) (flat_map cells_of (map (λ e. (e.0, set_in p attr v e.0 e.1)) es)) ≡ map put (map (cell_row relation) (flat_map cells_of es))
     rows_each [] keys = refl
     rows_each (e ∷ es) keys =
-        map-append (cell_row rel) (cells_from 0 e.0 (set_in p attr v e.0 e.1)) _
+        map-append (cell_row relation) (cells_from 0 e.0 (set_in p attr v e.0 e.1)) _
         ∙ (λ i. cells_each e.0 (is_entity p e.0) refl (keys e (inl refl)) 0 e.1 i ++ rows_each es (λ d k. keys d (inr k)) i)
-        ∙ sym (map-append put (map (cell_row rel) (cells_of e)) _)
-        ∙ ap (map put) (sym (map-append (cell_row rel) (cells_of e) (flat_map cells_of es)))
+        ∙ sym (map-append put (map (cell_row relation) (cells_of e)) _)
+        ∙ ap (map put) (sym (map-append (cell_row relation) (cells_of e) (flat_map cells_of es)))
 
     -- the cell of an element, among those of its tuple
-    key_here : (k : ℕ) (e : Element) → e.class ≡ p.class → has_key_of set_row (cell_row rel (cell_at p k e)) ≡ nat_eq k attr
+    key_here : (k : ℕ) (e : Element) → e.class ≡ p.class → has_key_of set_row (cell_row relation (cell_at p k e)) ≡ nat_eq k attr
     key_here k e own =
         key_test p k e spelled
         ∙ ap (λ b. b && (nat_eq k attr && nat_eq e.class p.class)) ((entity_decides p p).1 (refl, refl))
         ∙ ap (λ b. nat_eq k attr && b) (eq-eqb e.class p.class own)
         ∙ and_turned (nat_eq k attr) true
 
-    none_later : (k : ℕ) (es : List Element) → attr < k → filter (has_key_of set_row) (map (cell_row rel) (cells_from k p es)) ≡ []
+    none_later : (k : ℕ) (es : List Element) → attr < k → filter (has_key_of set_row) (map (cell_row relation) (cells_from k p es)) ≡ []
     none_later k [] l = refl
     none_later k (e ∷ es) l =
-        let rest = map (cell_row rel) (cells_from (suc k) p es) in
+        let rest = map (cell_row relation) (cells_from (suc k) p es) in
         let more = none_later (suc k) es (omega arith) in
-        elim (nat_eq e.class p.class) as (λ b. nat_eq e.class p.class ≡ b → filter (has_key_of set_row) (map (cell_row rel) (cond b (cell_at p k e ∷ cells_from (suc k) p es) (cells_from (suc k) p es))) ≡ []) [
+        elim (nat_eq e.class p.class) as (λ b. nat_eq e.class p.class ≡ b → filter (has_key_of set_row) (map (cell_row relation) (cond b (cell_at p k e ∷ cells_from (suc k) p es) (cells_from (suc k) p es))) ≡ []) [
           | true ↦ λ own. cond-false _ _ _ (key_here k e (eqb-true e.class p.class own) ∙ ne_eqb k attr (λ same. omega (arith, same))) ∙ more
           | false ↦ λ own. more
         ] refl
 
     one_cell : (k i : ℕ) (es : List Element) → i < length es → k + i ≡ attr → (at es i).class ≡ p.class
-        → IsOne (has_key_of set_row) (map (cell_row rel) (cells_from k p es)) (cell_row rel (cell_at p attr (at es i)))
+        → IsOne (has_key_of set_row) (map (cell_row relation) (cells_from k p es)) (cell_row relation (cell_at p attr (at es i)))
     one_cell k i [] l n own = absurd (omega arith)
     one_cell k zero (e ∷ es) l n own =
         let number : k ≡ attr = omega arith in
-        ap (λ b. filter (has_key_of set_row) (map (cell_row rel) (cond b (cell_at p k e ∷ cells_from (suc k) p es) (cells_from (suc k) p es)))) (eq-eqb e.class p.class own)
+        ap (λ b. filter (has_key_of set_row) (map (cell_row relation) (cond b (cell_at p k e ∷ cells_from (suc k) p es) (cells_from (suc k) p es)))) (eq-eqb e.class p.class own)
         ∙ cond-true _ _ _ (key_here k e own ∙ eq-eqb k attr number)
-        ∙ (λ j. cell_row rel (cell_at p (number j) e) ∷ none_later (suc k) es (omega arith) j)
+        ∙ (λ j. cell_row relation (cell_at p (number j) e) ∷ none_later (suc k) es (omega arith) j)
     one_cell k (suc i) (e ∷ es) l n own =
         let more = one_cell (suc k) i es (omega arith) (omega arith) own in
-        elim (nat_eq e.class p.class) as (λ b. nat_eq e.class p.class ≡ b → IsOne (has_key_of set_row) (map (cell_row rel) (cond b (cell_at p k e ∷ cells_from (suc k) p es) (cells_from (suc k) p es))) (cell_row rel (cell_at p attr (at es i)))) [
+        elim (nat_eq e.class p.class) as (λ b. nat_eq e.class p.class ≡ b → IsOne (has_key_of set_row) (map (cell_row relation) (cond b (cell_at p k e ∷ cells_from (suc k) p es) (cells_from (suc k) p es))) (cell_row relation (cell_at p attr (at es i)))) [
           | true ↦ λ here. cond-false _ _ _ (key_here k e (eqb-true e.class p.class here) ∙ ne_eqb k attr (λ same. omega (arith, same))) ∙ more
           | false ↦ λ here. more
         ] refl
 
     -- ---- the rows of a relation
 
-    module _ (t : Tables) (T : Table) (held : HoldsTable t rel T) where
+    module _ (t : Tables) (T : Table) (held : HoldsTable t relation T) where
       keys : (e : Entry) → IsAmong e (entries T) → IsSpelledKey e.0.key
-      keys = spelled_keys t rel T held
+      keys = spelled_keys t relation T held
 
       set_nodes : nodes_in (change (set_in p attr v) T) ≡ nodes_in T
       set_nodes = ap (map node_of) (entries-change (set_in p attr v) T) ∙ map-map node_of (λ e. (e.0, set_in p attr v e.0 e.1)) (entries T) ∙ (λ i. map (λ e. same_node e i) (entries T))
 
-      set_cells : map (cell_row rel) (cells_in (change (set_in p attr v) T)) ≡ map put (map (cell_row rel) (cells_in T))
-      set_cells = ap (λ es. map (cell_row rel) (flat_map cells_of es)) (entries-change (set_in p attr v) T) ∙ rows_each (entries T) keys
+      set_cells : map (cell_row relation) (cells_in (change (set_in p attr v) T)) ≡ map put (map (cell_row relation) (cells_in T))
+      set_cells = ap (λ es. map (cell_row relation) (flat_map cells_of es)) (entries-change (set_in p attr v) T) ∙ rows_each (entries T) keys
 
-      in_relation : (x : CellRow) → has_key_of set_row x ≡ true → nat_eq x.rel rel ≡ true
+      in_relation : (x : CellRow) → has_key_of set_row x ≡ true → nat_eq x.rel relation ≡ true
       in_relation x h = (and_parts _ _ h).0
 
-      in_tuple : (x : CellRow) → has_key_of set_row x ≡ true → is_cell_in (tuple_key rel p) x ≡ true
-      in_tuple x h = first_four (nat_eq x.rel rel) (bytes_eq x.ent (key_spelling p.key)) (nat_eq x.kclass p.key_class) (nat_eq x.label p.class) (nat_eq x.attr attr) h
+      in_tuple : (x : CellRow) → has_key_of set_row x ≡ true → is_cell_in (tuple_key relation p) x ≡ true
+      in_tuple x h = first_four (nat_eq x.rel relation) (bytes_eq x.ent (key_spelling p.key)) (nat_eq x.kclass p.key_class) (nat_eq x.label p.class) (nat_eq x.attr attr) h
 
       -- the tuple of the element's class has the cell
-      cell_there : HasCell T p attr → (x : CellRow) × IsOne (has_key_of set_row) (map (cell_row rel) (cells_in T)) x
+      cell_there : HasCell T p attr → (x : CellRow) × IsOne (has_key_of set_row) (map (cell_row relation) (cells_in T)) x
       cell_there has =
           let q = has.0 in
           let own = (held.shared q has.1 has.3).own attr has.4 in
           let same = (entity_decides p q).0 has.2 in
           let place : with_class q (at has.1 attr).class ≡ p = λ i. record { key = sym same.0 i; key_class = sym same.1 i; class = has.5 i } in
           let class : (at own.0 attr).class ≡ p.class = ap (λ e. e.class) own.3 ∙ has.5 in (
-            cell_row rel (cell_at p attr (at own.0 attr)),
-            sym (filter-filter (has_key_of set_row) (is_cell_in (tuple_key rel p)) in_tuple (map (cell_row rel) (cells_in T)))
-                ∙ ap (filter (has_key_of set_row)) (cells_where rel T p spelled keys (λ b. b)
-                ∙ ap (λ es. map (cell_row rel) (flat_map cells_of es)) (entries-at T p own.0 (sym (ap (get T) place) ∙ own.1))
-                ∙ ap (map (cell_row rel)) (append-nil (cells_from 0 p own.0)))
+            cell_row relation (cell_at p attr (at own.0 attr)),
+            sym (filter-filter (has_key_of set_row) (is_cell_in (tuple_key relation p)) in_tuple (map (cell_row relation) (cells_in T)))
+                ∙ ap (filter (has_key_of set_row)) (cells_where relation T p spelled keys (λ b. b)
+                ∙ ap (λ es. map (cell_row relation) (flat_map cells_of es)) (entries-at T p own.0 (sym (ap (get T) place) ∙ own.1))
+                ∙ ap (map (cell_row relation)) (append-nil (cells_from 0 p own.0)))
                 ∙ one_cell 0 attr own.0 own.2 (omega arith) class,
           )
 
@@ -270,20 +270,20 @@ module _ (p : Place) (attr : ℕ) (v : Option Value) where
       one_there has =
           let it = cell_there has in (
             it.0,
-            sym (filter-filter (has_key_of set_row) (λ x. nat_eq x.rel rel) in_relation t.cells)
-                ∙ one_permuted it.0 _ (subst (λ l. IsPermutation l (filter (has_key_of set_row) (filter (λ x. nat_eq x.rel rel) t.cells))) it.1 (IsPermutation-filter (has_key_of set_row) _ _ held.cells)),
+            sym (filter-filter (has_key_of set_row) (λ x. nat_eq x.rel relation) in_relation t.cells)
+                ∙ one_permuted it.0 _ (subst (λ l. IsPermutation l (filter (has_key_of set_row) (filter (λ x. nat_eq x.rel relation) t.cells))) it.1 (IsPermutation-filter (has_key_of set_row) _ _ held.cells)),
           )
 
       cells_put : HasCell T p attr → (cells : List CellRow) → IsPermutation (set_row ∷ filter (λ d. not (has_key_of set_row d)) t.cells) cells
-          → IsPermutation (map (cell_row rel) (cells_in (change (set_in p attr v) T))) (filter (λ x. nat_eq x.rel rel) cells)
+          → IsPermutation (map (cell_row relation) (cells_in (change (set_in p attr v) T))) (filter (λ x. nat_eq x.rel relation) cells)
       cells_put has cells sets =
           let it = cell_there has in
-          let here = λ (x : CellRow). nat_eq x.rel rel in
+          let here = λ (x : CellRow). nat_eq x.rel relation in
           let other = λ (x : CellRow). not (has_key_of set_row x) in
           let first : filter here (set_row ∷ filter other t.cells) ≡ set_row ∷ filter other (filter here t.cells) =
-          cond-true _ _ _ (eq-eqb rel rel refl) ∙ ap (λ l. set_row ∷ l) (filter_turned here other t.cells) in
+          cond-true _ _ _ (eq-eqb relation relation refl) ∙ ap (λ l. set_row ∷ l) (filter_turned here other t.cells) in
           subst (λ l. IsPermutation l (filter here cells)) (sym set_cells)
-          (IsPermutation-trans _ _ _ (IsPermutation-sym _ _ (set_one (has_key_of set_row) set_row it.0 (map (cell_row rel) (cells_in T)) it.1))
+          (IsPermutation-trans _ _ _ (IsPermutation-sym _ _ (set_one (has_key_of set_row) set_row it.0 (map (cell_row relation) (cells_in T)) it.1))
           (IsPermutation-trans _ _ _ (IsPermutation-cons set_row _ _ (IsPermutation-filter other _ _ held.cells))
           (subst (λ l. IsPermutation l (filter here cells)) first (IsPermutation-filter here _ _ sets))))
 
@@ -322,7 +322,7 @@ module _ (p : Place) (attr : ℕ) (v : Option Value) where
             by (Some fs) e h = subst (IsSharedTuple (change (set_in p attr v) T) q) (same_Some (set_in p attr v q fs) es h) (shared_set q fs (held.shared q fs e))
 
         pub table_set : HasCell T p attr → (cells : List CellRow) → IsPermutation (set_row ∷ filter (λ d. not (has_key_of set_row d)) t.cells) cells
-            → HoldsTable (record t { cells = cells }) rel (change (set_in p attr v) T)
+            → HoldsTable (record t { cells = cells }) relation (change (set_in p attr v) T)
         table_set has cells sets = record {
           nodes = rw set_nodes held.nodes;
           cells = cells_put has cells sets;
@@ -330,25 +330,25 @@ module _ (p : Place) (attr : ℕ) (v : Option Value) where
         }
 
 -- the cell that is set is there, once
-pub is_one : (t : Tables) (c : Content) (rel : ℕ) (p : Place) (attr : ℕ) (v : Option Value) → Holds t c → IsSpelledKey p.key → HasCell (c.db rel) p attr
-    → (was : CellRow) × IsOne (has_key_of (cell_row rel (cell_at p attr (record { value = v; class = p.class })))) t.cells was
-is_one t c rel p attr v held spelled has = one_there p attr v rel spelled t (c.db rel) (held.tables rel) has
+pub is_one : (t : Tables) (c : Content) (relation : ℕ) (p : Place) (attr : ℕ) (v : Option Value) → Holds t c → IsSpelledKey p.key → HasCell (c.db relation) p attr
+    → (was : CellRow) × IsOne (has_key_of (cell_row relation (cell_at p attr (record { value = v; class = p.class })))) t.cells was
+is_one t c relation p attr v held spelled has = one_there p attr v relation spelled t (c.db relation) (held.tables relation) has
 
-pub holds_value : (t u : Tables) (c : Content) (rel : ℕ) (p : Place) (attr : ℕ) (v : Option Value)
-    → Holds t c → IsSpelledKey p.key → IfSome v HasSpelling → HasCell (c.db rel) p attr
-    → SetsCell (cell_row rel (cell_at p attr (record { value = v; class = p.class }))) t u
-    → Holds u (record c { db = with_table c.db rel (change (set_in p attr v) (c.db rel)) })
-holds_value t u c rel p attr v held spelled short has sets =
-    subst (λ w. Holds w (record c { db = with_table c.db rel (change (set_in p attr v) (c.db rel)) })) (sym sets.0)
-    (holds_with t _ c rel (change (set_in p attr v) (c.db rel)) held refl (table_set p attr v rel spelled t (c.db rel) (held.tables rel) short has u.cells sets.1) (λ r other.
+pub holds_value : (t u : Tables) (c : Content) (relation : ℕ) (p : Place) (attr : ℕ) (v : Option Value)
+    → Holds t c → IsSpelledKey p.key → IfSome v HasSpelling → HasCell (c.db relation) p attr
+    → SetsCell (cell_row relation (cell_at p attr (record { value = v; class = p.class }))) t u
+    → Holds u (record c { db = with_table c.db relation (change (set_in p attr v) (c.db relation)) })
+holds_value t u c relation p attr v held spelled short has sets =
+    subst (λ w. Holds w (record c { db = with_table c.db relation (change (set_in p attr v) (c.db relation)) })) (sym sets.0)
+    (holds_with t _ c relation (change (set_in p attr v) (c.db relation)) held refl (table_set p attr v relation spelled t (c.db relation) (held.tables relation) short has u.cells sets.1) (λ r other.
     holds_same t _ r (c.db r) (held.tables r) (IsPermutation-refl _) (others r other)))
   where
     row : CellRow
-    row = cell_row rel (cell_at p attr (record { value = v; class = p.class }))
+    row = cell_row relation (cell_at p attr (record { value = v; class = p.class }))
 
-    others : (r : ℕ) → nat_eq r rel ≡ false → IsPermutation (filter (λ x. nat_eq x.rel r) t.cells) (filter (λ x. nat_eq x.rel r) u.cells)
+    others : (r : ℕ) → nat_eq r relation ≡ false → IsPermutation (filter (λ x. nat_eq x.rel r) t.cells) (filter (λ x. nat_eq x.rel r) u.cells)
     others r other =
         let first : filter (λ x. nat_eq x.rel r) (row ∷ filter (λ d. not (has_key_of row d)) t.cells) ≡ filter (λ x. nat_eq x.rel r) t.cells =
-        cond-false _ _ _ (ne_eqb rel r (λ e. true≢false (sym (eq-eqb r rel (sym e)) ∙ other)))
-        ∙ others_stay (λ (x : CellRow). x.rel) (has_key_of row) rel r (λ x h. (and_parts _ _ h).0) other t.cells in
+        cond-false _ _ _ (ne_eqb relation r (λ e. true≢false (sym (eq-eqb r relation (sym e)) ∙ other)))
+        ∙ others_stay (λ (x : CellRow). x.rel) (has_key_of row) relation r (λ x h. (and_parts _ _ h).0) other t.cells in
         subst (λ l. IsPermutation l (filter (λ x. nat_eq x.rel r) u.cells)) first (IsPermutation-filter (λ (x : CellRow). nat_eq x.rel r) _ _ sets.1)

@@ -59,7 +59,7 @@ pub record IsBefore (policy : Policy) (schemes : Schemes) (labels : ℕ) (counts
 
 -- how many attributes a relation has behind the first so many
 abbrev pub more : Schemes → List ℕ → ℕ → ℕ
-more schemes counts rel = length (scheme_of schemes rel).others - slice_index_or counts rel 0
+more schemes counts relation = length (scheme_of schemes relation).others - slice_index_or counts relation 0
 
 -- content that an older store may have
 abbrev pub IsSoundBefore : Policy → Schemes → ℕ → List ℕ → Content → Type 0
@@ -67,7 +67,7 @@ IsSoundBefore policy schemes labels counts = IsSoundWithin policy (older_schemes
 
 -- each relation is widened by its new attributes, and the audit list is the same
 pub record IsWidenedContent (schemes : Schemes) (counts : List ℕ) (old new : Content) : Type 0 where
-  pub tables : (rel : ℕ) → IsWidened (more schemes counts rel) (old.db rel) (new.db rel)
+  pub tables : (relation : ℕ) → IsWidened (more schemes counts relation) (old.db relation) (new.db relation)
   pub audit : new.audit ≡ old.audit
 
 -- tables of relations numbered from k, whose tuples are widened so

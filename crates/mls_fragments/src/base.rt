@@ -160,49 +160,49 @@ impl<S: Alter> Base for SqlBase<S> {
         change!(self, _ => self.now.copy(&self.kept), self.store.rollback())
     }
 
-    fn fragment(&mut self, rel: RelNo, label: LabelNo) -> Result<Fragment, BaseFault> {
-        settle!(self, found => found, read_fragment(&mut self.store, self.alloc, rel, label))
+    fn fragment(&mut self, relation: RelNo, label: LabelNo) -> Result<Fragment, BaseFault> {
+        settle!(self, found => found, read_fragment(&mut self.store, self.alloc, relation, label))
     }
 
-    fn fragments(&mut self, rel: RelNo, labels: &[LabelNo]) -> Result<Fragment, BaseFault> {
-        settle!(self, found => found, read_fragments(&mut self.store, self.alloc, rel, labels))
+    fn fragments(&mut self, relation: RelNo, labels: &[LabelNo]) -> Result<Fragment, BaseFault> {
+        settle!(self, found => found, read_fragments(&mut self.store, self.alloc, relation, labels))
     }
 
-    fn entity(&mut self, rel: RelNo, place: &Place) -> Result<Fragment, BaseFault> {
-        settle!(self, found => found, read_entity(&mut self.store, self.alloc, rel, place))
+    fn entity(&mut self, relation: RelNo, place: &Place) -> Result<Fragment, BaseFault> {
+        settle!(self, found => found, read_entity(&mut self.store, self.alloc, relation, place))
     }
 
-    fn pattern(&mut self, rel: RelNo, place: &Place) -> Result<Option<Items<LabelNo>>, BaseFault> {
-        settle!(self, found => found, read_pattern(&mut self.store, self.alloc, rel, place))
+    fn pattern(&mut self, relation: RelNo, place: &Place) -> Result<Option<Items<LabelNo>>, BaseFault> {
+        settle!(self, found => found, read_pattern(&mut self.store, self.alloc, relation, place))
     }
 
-    fn add(&mut self, rel: RelNo, node: Node, cells: &[Cell]) -> Result<(), BaseFault> {
+    fn add(&mut self, relation: RelNo, node: Node, cells: &[Cell]) -> Result<(), BaseFault> {
         change!(
             self,
-            _ => self.now.content.add(rel, &node, cells),
-            add_tuple(&mut self.store, self.alloc, rel, &node, cells)
+            _ => self.now.content.add(relation, &node, cells),
+            add_tuple(&mut self.store, self.alloc, relation, &node, cells)
         )
     }
 
     fn set(
         &mut self,
-        rel: RelNo,
+        relation: RelNo,
         place: &Place,
         attr: usize,
         value: Option<Value>,
     ) -> Result<(), BaseFault> {
         change!(
             self,
-            _ => self.now.content.set(rel, place, attr, &value),
-            set_value(&mut self.store, self.alloc, rel, place, attr, &value)
+            _ => self.now.content.set(relation, place, attr, &value),
+            set_value(&mut self.store, self.alloc, relation, place, attr, &value)
         )
     }
 
-    fn drop_at(&mut self, rel: RelNo, place: &Place) -> Result<(), BaseFault> {
+    fn drop_at(&mut self, relation: RelNo, place: &Place) -> Result<(), BaseFault> {
         change!(
             self,
-            _ => self.now.content.drop_at(rel, place),
-            drop_tuple(&mut self.store, self.alloc, rel, place)
+            _ => self.now.content.drop_at(relation, place),
+            drop_tuple(&mut self.store, self.alloc, relation, place)
         )
     }
 

@@ -110,11 +110,11 @@ fn widened_tables(
         ≡ wide_tables schemes.now counts.now 0 (map (λ t. t.entries) tables.items)) }
 {
     let mut wide = Vec::new(alloc);
-    let mut rel = 0;
+    let mut relation = 0;
     for table in tables {
-        let scheme = schemes.scheme(RelNo::new(rel as u8));
-        wide.push(widened(alloc, table, scheme.others().len() - counts[rel])?)?;
-        rel += 1;
+        let scheme = schemes.scheme(RelNo::new(relation as u8));
+        wide.push(widened(alloc, table, scheme.others().len() - counts[relation])?)?;
+        relation += 1;
     }
     Ok(wide)
 }

@@ -59,23 +59,23 @@ impl GhostContent {
     }
 
     /// One tuple more.
-    pub fn add(&mut self, rel: RelNo, node: &Node, cells: &[Cell])
-        ensures { self.new.changes ≡ Adds rel node.now cells.now ∷ self.old.changes }
+    pub fn add(&mut self, relation: RelNo, node: &Node, cells: &[Cell])
+        ensures { self.new.changes ≡ Adds relation node.now cells.now ∷ self.old.changes }
     {
-        self.note(&(rel, node, cells));
+        self.note(&(relation, node, cells));
     }
 
     /// One element has another value.
-    pub fn set(&mut self, rel: RelNo, place: &Place, attr: usize, value: &Option<Value>)
-        ensures { self.new.changes ≡ Sets rel place.now attr value.now ∷ self.old.changes }
+    pub fn set(&mut self, relation: RelNo, place: &Place, attr: usize, value: &Option<Value>)
+        ensures { self.new.changes ≡ Sets relation place.now attr value.now ∷ self.old.changes }
     {
-        self.note(&(rel, place, attr, value));
+        self.note(&(relation, place, attr, value));
     }
 
     /// One tuple less.
-    pub fn drop_at(&mut self, rel: RelNo, place: &Place)
-        ensures { self.new.changes ≡ Drops rel place.now ∷ self.old.changes }
+    pub fn drop_at(&mut self, relation: RelNo, place: &Place)
+        ensures { self.new.changes ≡ Drops relation place.now ∷ self.old.changes }
     {
-        self.note(&(rel, place));
+        self.note(&(relation, place));
     }
 }

@@ -50,27 +50,27 @@ entries-remove T p = sym (entries_are (remove T p) (filter elsewhere (entries T)
 
 -- the rows that go
 abbrev is_gone_node : ℕ → Place → NodeRow → Bool
-is_gone_node rel p = is_node (tuple_key rel p)
+is_gone_node relation p = is_node (tuple_key relation p)
 
 abbrev is_gone_cell : ℕ → Place → CellRow → Bool
-is_gone_cell rel p = is_cell_in (tuple_key rel p)
+is_gone_cell relation p = is_cell_in (tuple_key relation p)
 
 abbrev without : ℕ → Place → Tables → Tables
-without rel p t = record t { nodes = filter (λ n. not (is_gone_node rel p n)) t.nodes; cells = filter (λ x. not (is_gone_cell rel p x)) t.cells }
+without relation p t = record t { nodes = filter (λ n. not (is_gone_node relation p n)) t.nodes; cells = filter (λ x. not (is_gone_cell relation p x)) t.cells }
 
-module _ (t : Tables) (rel : ℕ) (T : Table) (p : Place) (held : HoldsTable t rel T) (spelled : IsSpelledKey p.key) (alone : IsAlone T p) where
+module _ (t : Tables) (relation : ℕ) (T : Table) (p : Place) (held : HoldsTable t relation T) (spelled : IsSpelledKey p.key) (alone : IsAlone T p) where
   keys : (e : Entry) → IsAmong e (entries T) → IsSpelledKey e.0.key
-  keys = spelled_keys t rel T held
+  keys = spelled_keys t relation T held
 
-  node_rows : filter (λ n. not (is_gone_node rel p n)) (map (node_row rel) (nodes_in T)) ≡ map (node_row rel) (nodes_in (remove T p))
+  node_rows : filter (λ n. not (is_gone_node relation p n)) (map (node_row relation) (nodes_in T)) ≡ map (node_row relation) (nodes_in (remove T p))
   node_rows =
-      filter-map _ (node_row rel) (nodes_in T)
-      ∙ ap (map (node_row rel)) (filter-map _ node_of (entries T)
+      filter-map _ (node_row relation) (nodes_in T)
+      ∙ ap (map (node_row relation)) (filter-map _ node_of (entries T)
       ∙ ap (map node_of) (filter_same _ (λ e. not (is_place e.0 p)) (entries T) (each_among _ (entries T) (λ e i.
-      ap not (entity_test rel p e.0 (nat_eq e.0.class p.class) spelled (keys e i) ∙ place_test p e.0))) ∙ sym (entries-remove T p)))
+      ap not (entity_test relation p e.0 (nat_eq e.0.class p.class) spelled (keys e i) ∙ place_test p e.0))) ∙ sym (entries-remove T p)))
 
-  cell_rows : filter (λ x. not (is_gone_cell rel p x)) (map (cell_row rel) (cells_in T)) ≡ map (cell_row rel) (cells_in (remove T p))
-  cell_rows = cells_where rel T p spelled keys not ∙ ap (λ es. map (cell_row rel) (flat_map cells_of es)) (sym (entries-remove T p))
+  cell_rows : filter (λ x. not (is_gone_cell relation p x)) (map (cell_row relation) (cells_in T)) ≡ map (cell_row relation) (cells_in (remove T p))
+  cell_rows = cells_where relation T p spelled keys not ∙ ap (λ es. map (cell_row relation) (flat_map cells_of es)) (sym (entries-remove T p))
 
   -- no tuple that is left has an element of the one that goes
   shared_left : (q : Place) (es : List Element) → get (remove T p) q ≡ Some es → IsSharedTuple (remove T p) q es
@@ -92,21 +92,21 @@ module _ (t : Tables) (rel : ℕ) (T : Table) (p : Place) (held : HoldsTable t r
           let entity = (entity_decides p q).1 (sym (ap (λ x. x.key) same), sym (ap (λ x. x.key_class) same)) in
           alone q es old.1 entity (λ k. true≢false (sym (is_place-same q p (of_entity p q entity ∙ ap (with_class p) k)) ∙ old.0)) i l (ap (λ x. x.class) same)
 
-  pub table_left : HoldsTable (without rel p t) rel (remove T p)
+  pub table_left : HoldsTable (without relation p t) relation (remove T p)
   table_left = record {
-    nodes = rw (← node_rows, filter_turned (λ n. nat_eq n.rel rel) (λ n. not (is_gone_node rel p n)) t.nodes) (IsPermutation-filter _ _ _ held.nodes);
-    cells = rw (← cell_rows, filter_turned (λ x. nat_eq x.rel rel) (λ x. not (is_gone_cell rel p x)) t.cells) (IsPermutation-filter _ _ _ held.cells);
+    nodes = rw (← node_rows, filter_turned (λ n. nat_eq n.rel relation) (λ n. not (is_gone_node relation p n)) t.nodes) (IsPermutation-filter _ _ _ held.nodes);
+    cells = rw (← cell_rows, filter_turned (λ x. nat_eq x.rel relation) (λ x. not (is_gone_cell relation p x)) t.cells) (IsPermutation-filter _ _ _ held.cells);
     shared = shared_left;
   }
 
-pub holds_rest : (t u : Tables) (c : Content) (rel : ℕ) (p : Place)
-    → Holds t c → IsSpelledKey p.key → get (c.db rel) p ≢ None → IsAlone (c.db rel) p
-    → (s : Tables) → DropsNode (tuple_key rel p) t s → DropsCells (tuple_key rel p) s u
-    → Holds u (record c { db = with_table c.db rel (remove (c.db rel) p) })
-holds_rest t u c rel p held spelled there alone s node cells =
-    let is : u ≡ without rel p t = cells ∙ ap (λ (w : Tables). record w { cells = filter (λ x. not (is_gone_cell rel p x)) w.cells }) node in
-    subst (λ w. Holds w (record c { db = with_table c.db rel (remove (c.db rel) p) })) (sym is)
-    (holds_with t _ c rel (remove (c.db rel) p) held refl (table_left t rel (c.db rel) p (held.tables rel) spelled alone) (λ r other.
+pub holds_rest : (t u : Tables) (c : Content) (relation : ℕ) (p : Place)
+    → Holds t c → IsSpelledKey p.key → get (c.db relation) p ≢ None → IsAlone (c.db relation) p
+    → (s : Tables) → DropsNode (tuple_key relation p) t s → DropsCells (tuple_key relation p) s u
+    → Holds u (record c { db = with_table c.db relation (remove (c.db relation) p) })
+holds_rest t u c relation p held spelled there alone s node cells =
+    let is : u ≡ without relation p t = cells ∙ ap (λ (w : Tables). record w { cells = filter (λ x. not (is_gone_cell relation p x)) w.cells }) node in
+    subst (λ w. Holds w (record c { db = with_table c.db relation (remove (c.db relation) p) })) (sym is)
+    (holds_with t _ c relation (remove (c.db relation) p) held refl (table_left t relation (c.db relation) p (held.tables relation) spelled alone) (λ r other.
     holds_same t _ r (c.db r) (held.tables r)
-    (IsPermutation-same _ _ (sym (others_stay (λ n. n.rel) (is_gone_node rel p) rel r (λ n h. (and_parts _ _ h).0) other t.nodes)))
-    (IsPermutation-same _ _ (sym (others_stay (λ x. x.rel) (is_gone_cell rel p) rel r (λ x h. (and_parts _ _ h).0) other t.cells)))))
+    (IsPermutation-same _ _ (sym (others_stay (λ n. n.rel) (is_gone_node relation p) relation r (λ n h. (and_parts _ _ h).0) other t.nodes)))
+    (IsPermutation-same _ _ (sym (others_stay (λ x. x.rel) (is_gone_cell relation p) relation r (λ x h. (and_parts _ _ h).0) other t.cells)))))

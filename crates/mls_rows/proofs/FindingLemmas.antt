@@ -37,7 +37,7 @@ use Rattle.mls_rows.specs.Holding.{Holds, IsSharedTuple, node_row, cell_row, IsS
 
 -- ---- what is put together has spellings
 
-module _ (rel : ℕ) (nodes : List NodeRow) (cells : List CellRow) (es : Entries) (made : IsAssembled rel nodes cells es) where
+module _ (relation : ℕ) (nodes : List NodeRow) (cells : List CellRow) (es : Entries) (made : IsAssembled relation nodes cells es) where
   spelled_value : (s : CellPlace) (o : Option (Option Value)) → made.held s ≡ o → IfSome (unwrap_or o None) HasSpelling
   spelled_value s None h = tt
   spelled_value s (Some v) h = (let r = made.values.sound s v h in subst (λ x. IfSome x HasSpelling) r.3 (all_at IsSpelledCell made.cs made.cells_spelled r.0 r.1).1)
@@ -65,22 +65,22 @@ module _ {R : Type 0} (rel_of : R → ℕ) (rows : ℕ → Entries → List R) (
   rows_from k (es ∷ tables) = rows k es ++ rows_from (suc k) tables
 
   abbrev is_of : ℕ → R → Bool
-  is_of rel r = nat_eq (rel_of r) rel
+  is_of relation r = nat_eq (rel_of r) relation
 
   all_of_rel : (k : ℕ) (xs : List R) → AllByRecursion (λ r. rel_of r ≡ k) xs → filter (is_of k) xs ≡ xs
   all_of_rel k [] h = refl
   all_of_rel k (x ∷ xs) h = ap (λ b. cond b (x ∷ filter (is_of k) xs) (filter (is_of k) xs)) (eq-eqb (rel_of x) k h.0) ∙ ap (λ l. x ∷ l) (all_of_rel k xs h.1)
 
-  none_of_rel : (k rel : ℕ) (xs : List R) → (k ≡ rel → ⊥) → AllByRecursion (λ r. rel_of r ≡ k) xs → filter (is_of rel) xs ≡ []
-  none_of_rel k rel [] n h = refl
-  none_of_rel k rel (x ∷ xs) n h = ap (λ b. cond b (x ∷ filter (is_of rel) xs) (filter (is_of rel) xs)) (ne_eqb (rel_of x) rel (λ e. n (sym h.0 ∙ e))) ∙ none_of_rel k rel xs n h.1
+  none_of_rel : (k relation : ℕ) (xs : List R) → (k ≡ relation → ⊥) → AllByRecursion (λ r. rel_of r ≡ k) xs → filter (is_of relation) xs ≡ []
+  none_of_rel k relation [] n h = refl
+  none_of_rel k relation (x ∷ xs) n h = ap (λ b. cond b (x ∷ filter (is_of relation) xs) (filter (is_of relation) xs)) (ne_eqb (rel_of x) relation (λ e. n (sym h.0 ∙ e))) ∙ none_of_rel k relation xs n h.1
 
-  none_before : (k rel : ℕ) (tables : List Entries) → rel < k → filter (is_of rel) (rows_from k tables) ≡ []
-  none_before k rel [] l = refl
-  none_before k rel (es ∷ tables) l =
-      filter-append (is_of rel) (rows k es) (rows_from (suc k) tables)
-      ∙ ap (λ xs. xs ++ filter (is_of rel) (rows_from (suc k) tables)) (none_of_rel k rel (rows k es) (λ e. omega (arith, l, e)) (own k es))
-      ∙ none_before (suc k) rel tables (omega (arith, l))
+  none_before : (k relation : ℕ) (tables : List Entries) → relation < k → filter (is_of relation) (rows_from k tables) ≡ []
+  none_before k relation [] l = refl
+  none_before k relation (es ∷ tables) l =
+      filter-append (is_of relation) (rows k es) (rows_from (suc k) tables)
+      ∙ ap (λ xs. xs ++ filter (is_of relation) (rows_from (suc k) tables)) (none_of_rel k relation (rows k es) (λ e. omega (arith, l, e)) (own k es))
+      ∙ none_before (suc k) relation tables (omega (arith, l))
 
   -- those of one relation are the rows of its table
   pub rows_of_rel : (k j : ℕ) (tables : List Entries) → filter (is_of (k + j)) (rows_from k tables) ≡ rows (k + j) (slice_index_or tables j [])
@@ -162,15 +162,15 @@ all_same_rel : {A R : Type 0} (rel_of : R → ℕ) (f : A → R) (k : ℕ) → (
 all_same_rel rel_of f k same [] = tt
 all_same_rel rel_of f k same (x ∷ xs) = (same x, all_same_rel rel_of f k same xs)
 
-pub nodes_of_rel : (tables : List Entries) (rel : ℕ) → filter (λ r. nat_eq r.rel rel) (node_rows 0 tables) ≡ map (node_row rel) (map node_of (slice_index_or tables rel []))
-nodes_of_rel tables rel =
-    subst (λ n. filter (λ r. nat_eq r.rel n) (node_rows 0 tables) ≡ map (node_row n) (map node_of (slice_index_or tables rel []))) (zero-add rel)
-    (rows_of_rel (λ r. r.rel) (λ k es. map (node_row k) (map node_of es)) (λ k. refl) (λ k es. all_same_rel (λ r. r.rel) (node_row k) k (λ n. refl) (map node_of es)) 0 rel tables)
+pub nodes_of_rel : (tables : List Entries) (relation : ℕ) → filter (λ r. nat_eq r.rel relation) (node_rows 0 tables) ≡ map (node_row relation) (map node_of (slice_index_or tables relation []))
+nodes_of_rel tables relation =
+    subst (λ n. filter (λ r. nat_eq r.rel n) (node_rows 0 tables) ≡ map (node_row n) (map node_of (slice_index_or tables relation []))) (zero-add relation)
+    (rows_of_rel (λ r. r.rel) (λ k es. map (node_row k) (map node_of es)) (λ k. refl) (λ k es. all_same_rel (λ r. r.rel) (node_row k) k (λ n. refl) (map node_of es)) 0 relation tables)
 
-pub cells_of_rel : (tables : List Entries) (rel : ℕ) → filter (λ r. nat_eq r.rel rel) (cell_rows 0 tables) ≡ map (cell_row rel) (flat_map cells_of (slice_index_or tables rel []))
-cells_of_rel tables rel =
-    subst (λ n. filter (λ r. nat_eq r.rel n) (cell_rows 0 tables) ≡ map (cell_row n) (flat_map cells_of (slice_index_or tables rel []))) (zero-add rel)
-    (rows_of_rel (λ r. r.rel) (λ k es. map (cell_row k) (flat_map cells_of es)) (λ k. refl) (λ k es. all_same_rel (λ r. r.rel) (cell_row k) k (λ n. refl) (flat_map cells_of es)) 0 rel tables)
+pub cells_of_rel : (tables : List Entries) (relation : ℕ) → filter (λ r. nat_eq r.rel relation) (cell_rows 0 tables) ≡ map (cell_row relation) (flat_map cells_of (slice_index_or tables relation []))
+cells_of_rel tables relation =
+    subst (λ n. filter (λ r. nat_eq r.rel n) (cell_rows 0 tables) ≡ map (cell_row n) (flat_map cells_of (slice_index_or tables relation []))) (zero-add relation)
+    (rows_of_rel (λ r. r.rel) (λ k es. map (cell_row k) (flat_map cells_of es)) (λ k. refl) (λ k es. all_same_rel (λ r. r.rel) (cell_row k) k (λ n. refl) (flat_map cells_of es)) 0 relation tables)
 
 pub node_rows_next : {B : Type 0} (f : B → Entries) (tables : List B) (i : ℕ) (t : B) → i < length tables → t ≡ get_or tables i t
     → node_rows 0 (map f (take (i + 1) tables)) ≡ node_rows 0 (map f (take i tables)) ++ map (node_row i) (map node_of (f t))
@@ -195,23 +195,23 @@ shared ls n T stored p es h spelled = record {
 }
 
 module _ (ls : Labels) (tables : List Entries) (audit : List (List ℕ)) (t : Tables)
-    (sorted : (rel : ℕ) → IsStrictlySortedBy place_cmp (keys_of (slice_index_or tables rel [])))
-    (spelled : (rel : ℕ) → AllByRecursion IsSpelledEntry (slice_index_or tables rel []))
-    (stored : (rel : ℕ) → (n : ℕ) × IsStored ls n (table_in tables rel))
+    (sorted : (relation : ℕ) → IsStrictlySortedBy place_cmp (keys_of (slice_index_or tables relation [])))
+    (spelled : (relation : ℕ) → AllByRecursion IsSpelledEntry (slice_index_or tables relation []))
+    (stored : (relation : ℕ) → (n : ℕ) × IsStored ls n (table_in tables relation))
     (nodes : IsPermutation (node_rows 0 tables) t.nodes) (cells : IsPermutation (cell_rows 0 tables) t.cells) (listed : IsPermutation (numbered 1 audit) t.audit) where
-  same_entries : (rel : ℕ) → entries (table_in tables rel) ≡ slice_index_or tables rel []
-  same_entries rel = entries-table_of (slice_index_or tables rel []) (sorted rel)
+  same_entries : (relation : ℕ) → entries (table_in tables relation) ≡ slice_index_or tables relation []
+  same_entries relation = entries-table_of (slice_index_or tables relation []) (sorted relation)
 
   pub holds_found : Holds t (found tables audit)
   holds_found = record {
-    tables = λ rel. record {
-      nodes = subst (λ xs. IsPermutation xs (filter (λ r. nat_eq r.rel rel) t.nodes)) (nodes_of_rel tables rel ∙ ap (λ xs. map (node_row rel) (map node_of xs)) (sym (same_entries rel)))
-          (IsPermutation-filter (λ r. nat_eq r.rel rel) (node_rows 0 tables) t.nodes nodes);
-      cells = subst (λ xs. IsPermutation xs (filter (λ r. nat_eq r.rel rel) t.cells)) (cells_of_rel tables rel ∙ ap (λ xs. map (cell_row rel) (flat_map cells_of xs)) (sym (same_entries rel)))
-          (IsPermutation-filter (λ r. nat_eq r.rel rel) (cell_rows 0 tables) t.cells cells);
+    tables = λ relation. record {
+      nodes = subst (λ xs. IsPermutation xs (filter (λ r. nat_eq r.rel relation) t.nodes)) (nodes_of_rel tables relation ∙ ap (λ xs. map (node_row relation) (map node_of xs)) (sym (same_entries relation)))
+          (IsPermutation-filter (λ r. nat_eq r.rel relation) (node_rows 0 tables) t.nodes nodes);
+      cells = subst (λ xs. IsPermutation xs (filter (λ r. nat_eq r.rel relation) t.cells)) (cells_of_rel tables relation ∙ ap (λ xs. map (cell_row relation) (flat_map cells_of xs)) (sym (same_entries relation)))
+          (IsPermutation-filter (λ r. nat_eq r.rel relation) (cell_rows 0 tables) t.cells cells);
       shared = λ p es h.
-          shared ls (stored rel).0 (table_in tables rel) (stored rel).1 p es h
-          (all_at IsSpelledEntry (slice_index_or tables rel []) (spelled rel) (p, es) ((in_table_of (slice_index_or tables rel []) (sorted rel) (p, es)).1 h));
+          shared ls (stored relation).0 (table_in tables relation) (stored relation).1 p es h
+          (all_at IsSpelledEntry (slice_index_or tables relation []) (spelled relation) (p, es) ((in_table_of (slice_index_or tables relation []) (sorted relation) (p, es)).1 h));
     };
     audit = listed;
   }
@@ -219,10 +219,10 @@ module _ (ls : Labels) (tables : List Entries) (audit : List (List ℕ)) (t : Ta
 -- ---- what is found
 
 -- what holds of each table that is there, and of none, holds of each number
-at_each : (P : Entries → Type 0) → P [] → (tables : List Entries) → ((rel : ℕ) → rel < length tables → P (slice_index_or tables rel [])) → (rel : ℕ) → P (slice_index_or tables rel [])
-at_each P none [] h rel = none
+at_each : (P : Entries → Type 0) → P [] → (tables : List Entries) → ((relation : ℕ) → relation < length tables → P (slice_index_or tables relation [])) → (relation : ℕ) → P (slice_index_or tables relation [])
+at_each P none [] h relation = none
 at_each P none (es ∷ tables) h zero = h 0 (omega arith)
-at_each P none (es ∷ tables) h (suc rel) = at_each P none tables (λ r l. h (suc r) (omega (arith, l))) rel
+at_each P none (es ∷ tables) h (suc relation) = at_each P none tables (λ r l. h (suc r) (omega (arith, l))) relation
 
 pub nothing : (p : Place) (es : List Element) → get (table_of []) p ≡ Some es → ⊥
 nothing p es h = (in_table_of [] none_sorted (p, es)).1 h
@@ -234,15 +234,15 @@ empty_content ls scheme = record {
 }
 
 -- a number of a table, or one past all of them
-pub within : (rel : ℕ) (tables : List Entries) → (rel < length tables) ⊎ ((length tables ≤ rel) × (slice_index_or tables rel [] ≡ []))
-within rel [] = inr (omega arith, refl)
+pub within : (relation : ℕ) (tables : List Entries) → (relation < length tables) ⊎ ((length tables ≤ relation) × (slice_index_or tables relation [] ≡ []))
+within relation [] = inr (omega arith, refl)
 within zero (es ∷ tables) = inl (omega arith)
-within (suc rel) (es ∷ tables) = elim (within rel tables) [ inl l ↦ inl (omega (arith, l)) | inr e ↦ inr (omega (arith, e.0), e.1) ]
+within (suc relation) (es ∷ tables) = elim (within relation tables) [ inl l ↦ inl (omega (arith, l)) | inr e ↦ inr (omega (arith, e.0), e.1) ]
 
 pub are_content : (ls : Labels) (schemes : Schemes) (tables : List Entries) → AreTables ls schemes tables → AreContent ls schemes (table_in tables)
-are_content ls schemes tables h rel = elim (within rel tables) [
-  | inl l ↦ h rel l
-  | inr e ↦ subst (λ es. IsContent ls (scheme_of schemes rel) (table_of es)) (sym e.1) (empty_content ls (scheme_of schemes rel))
+are_content ls schemes tables h relation = elim (within relation tables) [
+  | inl l ↦ h relation l
+  | inr e ↦ subst (λ es. IsContent ls (scheme_of schemes relation) (table_of es)) (sym e.1) (empty_content ls (scheme_of schemes relation))
 ]
 
 pub finds : (ls : Labels) (schemes : Schemes) (rows : AllRows) (tables : List Entries) (audit : List (List ℕ)) → AreAssembled rows.nodes.items rows.cells.items tables → AreTables ls schemes tables
@@ -250,19 +250,19 @@ pub finds : (ls : Labels) (schemes : Schemes) (rows : AllRows) (tables : List En
     → (t : Tables) → AreAll t rows → Holds t (found tables audit)
 finds ls schemes rows tables audit made content nodes cells listed t all =
     holds_found ls tables audit t
-    (at_each (λ es. IsStrictlySortedBy place_cmp (keys_of es)) none_sorted tables (λ rel l. (made rel l).sorted))
-    (at_each (AllByRecursion IsSpelledEntry) tt tables (λ rel l. spelled_entries rel rows.nodes.items rows.cells.items (slice_index_or tables rel []) (made rel l)))
-    (λ rel. (length (scheme_of schemes rel).others, (are_content ls schemes tables content rel).stored))
+    (at_each (λ es. IsStrictlySortedBy place_cmp (keys_of es)) none_sorted tables (λ relation l. (made relation l).sorted))
+    (at_each (AllByRecursion IsSpelledEntry) tt tables (λ relation l. spelled_entries relation rows.nodes.items rows.cells.items (slice_index_or tables relation []) (made relation l)))
+    (λ relation. (length (scheme_of schemes relation).others, (are_content ls schemes tables content relation).stored))
     (IsPermutation-trans _ _ _ nodes (IsPermutation-sym _ _ all.0))
     (IsPermutation-trans _ _ _ cells (IsPermutation-sym _ _ all.1.0))
     (IsPermutation-trans _ _ _ listed (IsPermutation-sym _ _ all.1.1))
 
 -- what holds of tables by their numbers holds of each
-pub tables_each : {B : Type 0} (P : Entries → Type 0) (f : B → Entries) (tables : List B) → ((rel : ℕ) → rel < length (map f tables) → P (slice_index_or (map f tables) rel []))
+pub tables_each : {B : Type 0} (P : Entries → Type 0) (f : B → Entries) (tables : List B) → ((relation : ℕ) → relation < length (map f tables) → P (slice_index_or (map f tables) relation []))
     → AllByRecursion (λ t. P (f t)) tables
 tables_each P f [] h = tt
-tables_each P f (t ∷ tables) h = (h 0 (omega arith), tables_each P f tables (λ rel l. h (suc rel) (omega (arith, l))))
+tables_each P f (t ∷ tables) h = (h 0 (omega arith), tables_each P f tables (λ relation l. h (suc relation) (omega (arith, l))))
 
 -- the tables found are spelled
 pub tables_spelled : {B : Type 0} (f : B → Entries) (nodes : List NodeRow) (cells : List CellRow) (tables : List B) → AreAssembled nodes cells (map f tables) → AllByRecursion (λ t. AllByRecursion IsSpelledEntry (f t)) tables
-tables_spelled f nodes cells tables made = tables_each (AllByRecursion IsSpelledEntry) f tables (λ rel l. spelled_entries rel nodes cells (slice_index_or (map f tables) rel []) (made rel l))
+tables_spelled f nodes cells tables made = tables_each (AllByRecursion IsSpelledEntry) f tables (λ relation l. spelled_entries relation nodes cells (slice_index_or (map f tables) relation []) (made relation l))

@@ -34,10 +34,10 @@ none : (es : Entries) → ((e : Entry) → IsAmong e es → ⊥) → es ≡ []
 none [] h = refl
 none (e ∷ es) h = absurd (h e (inl refl))
 
-no_scheme_at : (schemes : Schemes) (rel : ℕ) → length schemes ≤ rel → scheme_of schemes rel ≡ no_scheme
-no_scheme_at [] rel l = refl
+no_scheme_at : (schemes : Schemes) (relation : ℕ) → length schemes ≤ relation → scheme_of schemes relation ≡ no_scheme
+no_scheme_at [] relation l = refl
 no_scheme_at (s ∷ schemes) zero l = absurd (omega (arith, l))
-no_scheme_at (s ∷ schemes) (suc rel) l = no_scheme_at schemes rel (omega (arith, l))
+no_scheme_at (s ∷ schemes) (suc relation) l = no_scheme_at schemes relation (omega (arith, l))
 
 -- a key of no attributes has no value
 no_key : (P : Attribute → Value → Type 0) (key : List Value) → AllZip P [] key → 0 < length key → ⊥
@@ -58,64 +58,64 @@ module _ (ls : Labels) (few : length ls ≤ 256) (schemes : Schemes) (t : Tables
 
   -- ---- what is put together is the table
 
-  module _ (rel : ℕ) (es : Entries) (made : IsAssembled rel rows.nodes.items rows.cells.items es) where
+  module _ (relation : ℕ) (es : Entries) (made : IsAssembled relation rows.nodes.items rows.cells.items es) where
     abbrev T : Table
-    T = c.db rel
+    T = c.db relation
 
-    abbrev held : HoldsTable t rel T
-    held = holds.tables rel
+    abbrev held : HoldsTable t relation T
+    held = holds.tables relation
 
     nodes_spelled : AllByRecursion IsSpelledNode (nodes_in T)
-    nodes_spelled = all-map IsSpelledNode node_of (entries T) (each_among (λ e. IsSpelledKey e.0.key) (entries T) (λ e i. spelled_keys t rel T held e i))
+    nodes_spelled = all-map IsSpelledNode node_of (entries T) (each_among (λ e. IsSpelledKey e.0.key) (entries T) (λ e i. spelled_keys t relation T held e i))
 
     cells_spelled : AllByRecursion IsSpelledCell (cells_in T)
-    cells_spelled = each_among IsSpelledCell (cells_in T) (λ d k. (cell_reads t c holds bytes rel d k).0)
+    cells_spelled = each_among IsSpelledCell (cells_in T) (λ d k. (cell_reads t c holds bytes relation d k).0)
 
     same_nodes : IsPermutation (nodes_in T) made.ns
-    same_nodes = reflects IsSpelledNode (node_row rel) (same_node rel) (nodes_in T) made.ns nodes_spelled made.nodes_spelled
-        (subst (IsPermutation (map (node_row rel) (nodes_in T))) (sym made.nodes_are)
-        (IsPermutation-trans _ _ _ held.nodes (IsPermutation-filter (λ r. nat_eq r.rel rel) t.nodes rows.nodes.items all.0)))
+    same_nodes = reflects IsSpelledNode (node_row relation) (same_node relation) (nodes_in T) made.ns nodes_spelled made.nodes_spelled
+        (subst (IsPermutation (map (node_row relation) (nodes_in T))) (sym made.nodes_are)
+        (IsPermutation-trans _ _ _ held.nodes (IsPermutation-filter (λ r. nat_eq r.rel relation) t.nodes rows.nodes.items all.0)))
 
     same_cells : IsPermutation (cells_in T) made.cs
-    same_cells = reflects IsSpelledCell (cell_row rel) (same_cell rel) (cells_in T) made.cs cells_spelled made.cells_spelled
-        (subst (IsPermutation (map (cell_row rel) (cells_in T))) (sym made.cells_are)
-        (IsPermutation-trans _ _ _ held.cells (IsPermutation-filter (λ r. nat_eq r.rel rel) t.cells rows.cells.items all.1.0)))
+    same_cells = reflects IsSpelledCell (cell_row relation) (same_cell relation) (cells_in T) made.cs cells_spelled made.cells_spelled
+        (subst (IsPermutation (map (cell_row relation) (cells_in T))) (sym made.cells_are)
+        (IsPermutation-trans _ _ _ held.cells (IsPermutation-filter (λ r. nat_eq r.rel relation) t.cells rows.cells.items all.1.0)))
 
     abbrev n : ℕ
-    n = length (scheme_of schemes rel).others
+    n = length (scheme_of schemes relation).others
 
     entries_made : es ≡ entries T
-    entries_made = entries_all ls n T (content rel).stored made.ns made.cs same_nodes same_cells made.held made.values es made.sorted made.rows
+    entries_made = entries_all ls n T (content relation).stored made.ns made.cs same_nodes same_cells made.held made.values es made.sorted made.rows
 
     table_made : table_of es ≡ T
-    table_made = table_all ls n T (content rel).stored made.ns made.cs same_nodes same_cells made.held made.values es made.sorted made.rows
+    table_made = table_all ls n T (content relation).stored made.ns made.cs same_nodes same_cells made.held made.values es made.sorted made.rows
 
   -- ---- of all relations
 
   -- there is no tuple of a relation that is not declared
-  nothing_beyond : (rel : ℕ) → length schemes ≤ rel → entries (c.db rel) ≡ []
-  nothing_beyond rel l = none (entries (c.db rel)) (λ e i.
-      let there = among_entries (c.db rel) e i in
-      let key = (holds.tables rel).shared e.0 e.1 there in
-      let fits = subst (λ s. Fits ls s e.0 e.1) (no_scheme_at schemes rel l) ((content rel).fits e.0 e.1 there) in
+  nothing_beyond : (relation : ℕ) → length schemes ≤ relation → entries (c.db relation) ≡ []
+  nothing_beyond relation l = none (entries (c.db relation)) (λ e i.
+      let there = among_entries (c.db relation) e i in
+      let key = (holds.tables relation).shared e.0 e.1 there in
+      let fits = subst (λ s. Fits ls s e.0 e.1) (no_scheme_at schemes relation l) ((content relation).fits e.0 e.1 there) in
       no_key (λ a v. (is_kind v a.1.kind ≡ true) × (in_interval ls e.0.key_class a ≡ true)) e.0.key fits.key key.key.count.some)
 
   module _ (tables : List Entries) (count : length tables ≡ length schemes) (made : AreAssembled rows.nodes.items rows.cells.items tables) where
     pub tables_are : AreTables ls schemes tables
-    tables_are rel l = subst (IsContent ls (scheme_of schemes rel)) (sym (table_made rel (slice_index_or tables rel []) (made rel l))) (content rel)
+    tables_are relation l = subst (IsContent ls (scheme_of schemes relation)) (sym (table_made relation (slice_index_or tables relation []) (made relation l))) (content relation)
 
-    entries_of : (rel : ℕ) → slice_index_or tables rel [] ≡ entries (c.db rel)
-    entries_of rel = elim (within rel tables) [
-      | inl l ↦ entries_made rel (slice_index_or tables rel []) (made rel l)
-      | inr h ↦ h.1 ∙ sym (nothing_beyond rel (omega (arith, h.0, count)))
+    entries_of : (relation : ℕ) → slice_index_or tables relation [] ≡ entries (c.db relation)
+    entries_of relation = elim (within relation tables) [
+      | inl l ↦ entries_made relation (slice_index_or tables relation []) (made relation l)
+      | inr h ↦ h.1 ∙ sym (nothing_beyond relation (omega (arith, h.0, count)))
     ]
 
-    pub same_node_rows : (rel : ℕ) → IsPermutation (filter (λ r. nat_eq r.rel rel) (node_rows 0 tables)) (filter (λ r. nat_eq r.rel rel) rows.nodes.items)
-    same_node_rows rel =
-        subst (λ xs. IsPermutation xs (filter (λ r. nat_eq r.rel rel) rows.nodes.items)) (sym (nodes_of_rel tables rel ∙ ap (λ es. map (node_row rel) (map node_of es)) (entries_of rel)))
-        (IsPermutation-trans _ _ _ (holds.tables rel).nodes (IsPermutation-filter (λ r. nat_eq r.rel rel) t.nodes rows.nodes.items all.0))
+    pub same_node_rows : (relation : ℕ) → IsPermutation (filter (λ r. nat_eq r.rel relation) (node_rows 0 tables)) (filter (λ r. nat_eq r.rel relation) rows.nodes.items)
+    same_node_rows relation =
+        subst (λ xs. IsPermutation xs (filter (λ r. nat_eq r.rel relation) rows.nodes.items)) (sym (nodes_of_rel tables relation ∙ ap (λ es. map (node_row relation) (map node_of es)) (entries_of relation)))
+        (IsPermutation-trans _ _ _ (holds.tables relation).nodes (IsPermutation-filter (λ r. nat_eq r.rel relation) t.nodes rows.nodes.items all.0))
 
-    pub same_cell_rows : (rel : ℕ) → IsPermutation (filter (λ r. nat_eq r.rel rel) (cell_rows 0 tables)) (filter (λ r. nat_eq r.rel rel) rows.cells.items)
-    same_cell_rows rel =
-        subst (λ xs. IsPermutation xs (filter (λ r. nat_eq r.rel rel) rows.cells.items)) (sym (cells_of_rel tables rel ∙ ap (λ es. map (cell_row rel) (flat_map cells_of es)) (entries_of rel)))
-        (IsPermutation-trans _ _ _ (holds.tables rel).cells (IsPermutation-filter (λ r. nat_eq r.rel rel) t.cells rows.cells.items all.1.0))
+    pub same_cell_rows : (relation : ℕ) → IsPermutation (filter (λ r. nat_eq r.rel relation) (cell_rows 0 tables)) (filter (λ r. nat_eq r.rel relation) rows.cells.items)
+    same_cell_rows relation =
+        subst (λ xs. IsPermutation xs (filter (λ r. nat_eq r.rel relation) rows.cells.items)) (sym (cells_of_rel tables relation ∙ ap (λ es. map (cell_row relation) (flat_map cells_of es)) (entries_of relation)))
+        (IsPermutation-trans _ _ _ (holds.tables relation).cells (IsPermutation-filter (λ r. nat_eq r.rel relation) t.cells rows.cells.items all.1.0))

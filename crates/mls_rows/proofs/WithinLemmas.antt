@@ -33,21 +33,21 @@ each_class labels es h =
     list_all-map (λ m. nat_lt m labels) (λ x. x.class) es ∙ each-all (λ e. nat_lt e.class labels) null_element es (λ i l. lt-ltb (at es i).class labels (h i l))
 
 module _ (labels : ℕ) (t : Tables) (rows : AllRows) (all : AreAll t rows) (c : Content) (holds : Holds t c) where
-  row_of : (rel : ℕ) (e : Entry) → get (c.db rel) e.0 ≡ Some e.1 → IsAmong (node_row rel (node_of e)) rows.nodes.items
-  row_of rel e h =
-      let listed = map_among (node_row rel) (nodes_in (c.db rel)) (node_of e) (map_among node_of (entries (c.db rel)) e (entries_among (c.db rel) e.0 e.1 h)) in
-      let kept = among_filter (λ n. nat_eq n.rel rel) t.nodes _ ((among_permutation _ _ (holds.tables rel).nodes (node_row rel (node_of e))).0 listed) in
-      (among_permutation t.nodes rows.nodes.items all.0 (node_row rel (node_of e))).0 kept.0
+  row_of : (relation : ℕ) (e : Entry) → get (c.db relation) e.0 ≡ Some e.1 → IsAmong (node_row relation (node_of e)) rows.nodes.items
+  row_of relation e h =
+      let listed = map_among (node_row relation) (nodes_in (c.db relation)) (node_of e) (map_among node_of (entries (c.db relation)) e (entries_among (c.db relation) e.0 e.1 h)) in
+      let kept = among_filter (λ n. nat_eq n.rel relation) t.nodes _ ((among_permutation _ _ (holds.tables relation).nodes (node_row relation (node_of e))).0 listed) in
+      (among_permutation t.nodes rows.nodes.items all.0 (node_row relation (node_of e))).0 kept.0
 
-  pub classes_within : list_all (is_within labels) rows.nodes.items ≡ true → (rel : ℕ) → AreWithin labels (c.db rel)
-  classes_within within rel p es h m occurs =
-      let row = and_parts _ _ (all-among (is_within labels) rows.nodes.items within (node_row rel (node_of (p, es))) (row_of rel (p, es) h)) in
+  pub classes_within : list_all (is_within labels) rows.nodes.items ≡ true → (relation : ℕ) → AreWithin labels (c.db relation)
+  classes_within within relation p es h m occurs =
+      let row = and_parts _ _ (all-among (is_within labels) rows.nodes.items within (node_row relation (node_of (p, es))) (row_of relation (p, es) h)) in
       elim occurs [
         | inl e ↦ subst (λ n. n < labels) (sym e) (ltb-true p.key_class labels row.0)
         | inr k ↦ subst (λ n. n < labels) (sym k.2) (class_at labels es row.1 k.0 k.1)
       ]
 
-  pub rows_within : ((rel : ℕ) → AreWithin labels (c.db rel)) → list_all (is_within labels) rows.nodes.items ≡ true
+  pub rows_within : ((relation : ℕ) → AreWithin labels (c.db relation)) → list_all (is_within labels) rows.nodes.items ≡ true
   rows_within within = among-all (is_within labels) rows.nodes.items (λ r i.
       let here = filter_among (λ n. nat_eq n.rel r.rel) t.nodes r ((among_permutation t.nodes rows.nodes.items all.0 r).1 i) (eq-eqb r.rel r.rel refl) in
       let n = among_map (node_row r.rel) (nodes_in (c.db r.rel)) r ((among_permutation _ _ (holds.tables r.rel).nodes r).1 here) in
@@ -64,6 +64,6 @@ sound_whole policy schemes c h = record { content = h.content; entries = h.entri
 pub within_whole : (policy : Policy) (schemes : Schemes) (c : Content) → IsSoundContent policy schemes c → IsSoundWithin policy schemes (length policy.labels) c
 within_whole policy schemes c h = record {
   content = h.content;
-  classes = λ rel p es there m occurs. subst (λ n. m < n) (length-map policy.labels (λ l. l.value)) (((h.content rel).stored p es there).declared m occurs);
+  classes = λ relation p es there m occurs. subst (λ n. m < n) (length-map policy.labels (λ l. l.value)) (((h.content relation).stored p es there).declared m occurs);
   entries = h.entries;
 }

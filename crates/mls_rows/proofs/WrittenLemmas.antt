@@ -43,10 +43,10 @@ filter_each {A} {B} f test q (x ∷ xs) h =
 -- ---- tests on places
 
 -- the row of a tuple of q is about the entity of p, and passes another test
-pub entity_test : (rel : ℕ) (p q : Place) (b : Bool) → IsSpelledKey p.key → IsSpelledKey q.key
-    → (nat_eq rel rel && (bytes_eq (key_spelling q.key) (key_spelling p.key) && (nat_eq q.key_class p.key_class && b))) ≡ (is_entity p q && b)
-entity_test rel p q b hp hq =
-    ap (λ x. x && (same && (classes && b))) (eq-eqb rel rel refl)
+pub entity_test : (relation : ℕ) (p q : Place) (b : Bool) → IsSpelledKey p.key → IsSpelledKey q.key
+    → (nat_eq relation relation && (bytes_eq (key_spelling q.key) (key_spelling p.key) && (nat_eq q.key_class p.key_class && b))) ≡ (is_entity p q && b)
+entity_test relation p q b hp hq =
+    ap (λ x. x && (same && (classes && b))) (eq-eqb relation relation refl)
     ∙ grouped same classes
     ∙ ap (λ x. x && b) (entity_is p q (same && classes) (
       (λ h. (let c = and_parts same classes h in (sym (unambiguous.keys q.key p.key hq hp ((bytes_decides _ _).0 c.0)), sym (eqb-true _ _ c.1)))),
@@ -75,34 +75,34 @@ place_test p q = same_from_decides {P = q ≡ p} _ _ (
 
 -- ---- the cells of one tuple
 
-module _ (rel : ℕ) (T : Table) (p : Place) (spelled : IsSpelledKey p.key) (keys : (e : Entry) → IsAmong e (entries T) → IsSpelledKey e.0.key) where
-  cell_test : (e : Entry) → IsAmong e (entries T) → (d : Cell) → IsAmong d (cells_of e) → is_cell_in (tuple_key rel p) (cell_row rel d) ≡ is_place e.0 p
+module _ (relation : ℕ) (T : Table) (p : Place) (spelled : IsSpelledKey p.key) (keys : (e : Entry) → IsAmong e (entries T) → IsSpelledKey e.0.key) where
+  cell_test : (e : Entry) → IsAmong e (entries T) → (d : Cell) → IsAmong d (cells_of e) → is_cell_in (tuple_key relation p) (cell_row relation d) ≡ is_place e.0 p
   cell_test e i d k =
       let f = cell_found 0 e.0 e.1 d k in
-      let about : Cell → Bool = λ d. is_cell_in (tuple_key rel p) (cell_row rel d) in
+      let about : Cell → Bool = λ d. is_cell_in (tuple_key relation p) (cell_row relation d) in
       ap about f.1.1
       ∙ ap (λ m. about (cell_at e.0 (0 + f.0) (record { value = (at e.1 f.0).value; class = m }))) f.1.2
-      ∙ entity_test rel p e.0 (nat_eq e.0.class p.class) spelled (keys e i)
+      ∙ entity_test relation p e.0 (nat_eq e.0.class p.class) spelled (keys e i)
       ∙ place_test p e.0
 
   -- of the rows of cells, those of some places are those of the tuples there
   pub cells_where : (keep : Bool → Bool)
-      → filter (λ x. keep (is_cell_in (tuple_key rel p) x)) (map (cell_row rel) (cells_in T)) ≡ map (cell_row rel) (flat_map cells_of (filter (λ e. keep (is_place e.0 p)) (entries T)))
+      → filter (λ x. keep (is_cell_in (tuple_key relation p) x)) (map (cell_row relation) (cells_in T)) ≡ map (cell_row relation) (flat_map cells_of (filter (λ e. keep (is_place e.0 p)) (entries T)))
   cells_where keep =
-      filter-map _ (cell_row rel) (cells_in T)
-      ∙ ap (map (cell_row rel)) (filter_each cells_of _ (λ e. keep (is_place e.0 p)) (entries T) (λ e i d k. ap keep (cell_test e i d k)))
+      filter-map _ (cell_row relation) (cells_in T)
+      ∙ ap (map (cell_row relation)) (filter_each cells_of _ (λ e. keep (is_place e.0 p)) (entries T) (λ e i d k. ap keep (cell_test e i d k)))
 
 -- ---- the rows of a relation
 
-pub spelled_keys : (t : Tables) (rel : ℕ) (T : Table) → HoldsTable t rel T → (e : Entry) → IsAmong e (entries T) → IsSpelledKey e.0.key
-spelled_keys t rel T held e i = (held.shared e.0 e.1 (among_entries T e i)).key
+pub spelled_keys : (t : Tables) (relation : ℕ) (T : Table) → HoldsTable t relation T → (e : Entry) → IsAmong e (entries T) → IsSpelledKey e.0.key
+spelled_keys t relation T held e i = (held.shared e.0 e.1 (among_entries T e i)).key
 
 -- where only rows of one relation are left out, those of another stay
-pub others_stay : {X : Type 0} (rel_of : X → ℕ) (test : X → Bool) (rel r : ℕ) → ((x : X) → test x ≡ true → nat_eq (rel_of x) rel ≡ true) → nat_eq r rel ≡ false → (xs : List X)
+pub others_stay : {X : Type 0} (rel_of : X → ℕ) (test : X → Bool) (relation r : ℕ) → ((x : X) → test x ≡ true → nat_eq (rel_of x) relation ≡ true) → nat_eq r relation ≡ false → (xs : List X)
     → filter (λ x. nat_eq (rel_of x) r) (filter (λ x. not (test x)) xs) ≡ filter (λ x. nat_eq (rel_of x) r) xs
-others_stay rel_of test rel r of other =
+others_stay rel_of test relation r of other =
     filter-filter (λ x. nat_eq (rel_of x) r) (λ x. not (test x)) (λ x here. not_from_false (test x) (false_from_ne_true (test x) (λ t.
-    true≢false (sym (eq-eqb r rel (sym (eqb-true (rel_of x) r here) ∙ eqb-true (rel_of x) rel (of x t))) ∙ other))))
+    true≢false (sym (eq-eqb r relation (sym (eqb-true (rel_of x) r here) ∙ eqb-true (rel_of x) relation (of x t))) ∙ other))))
 
 -- a relation whose rows are the same in another order
 pub holds_same : (t u : Tables) (r : ℕ) (T : Table) → HoldsTable t r T
@@ -111,13 +111,13 @@ pub holds_same : (t u : Tables) (r : ℕ) (T : Table) → HoldsTable t r T
 holds_same t u r T h nodes cells = record { nodes = IsPermutation-trans _ _ _ h.nodes nodes; cells = IsPermutation-trans _ _ _ h.cells cells; shared = h.shared }
 
 -- one relation is changed
-pub holds_with : (t u : Tables) (c : Content) (rel : ℕ) (T : Table) → Holds t c → u.audit ≡ t.audit
-    → HoldsTable u rel T → ((r : ℕ) → nat_eq r rel ≡ false → HoldsTable u r (c.db r)) → Holds u (record c { db = with_table c.db rel T })
-holds_with t u c rel T h same here others = record {
-  tables = λ r. by r (nat_eq r rel) refl;
+pub holds_with : (t u : Tables) (c : Content) (relation : ℕ) (T : Table) → Holds t c → u.audit ≡ t.audit
+    → HoldsTable u relation T → ((r : ℕ) → nat_eq r relation ≡ false → HoldsTable u r (c.db r)) → Holds u (record c { db = with_table c.db relation T })
+holds_with t u c relation T h same here others = record {
+  tables = λ r. by r (nat_eq r relation) refl;
   audit = subst (IsPermutation (numbered 1 c.audit)) (sym same) h.audit;
 }
   where
-    by : (r : ℕ) (b : Bool) → nat_eq r rel ≡ b → HoldsTable u r (cond b T (c.db r))
-    by r true e = subst (λ k. HoldsTable u k T) (sym (eqb-true r rel e)) here
+    by : (r : ℕ) (b : Bool) → nat_eq r relation ≡ b → HoldsTable u r (cond b T (c.db r))
+    by r true e = subst (λ k. HoldsTable u k T) (sym (eqb-true r relation e)) here
     by r false e = others r e

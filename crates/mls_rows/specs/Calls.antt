@@ -30,7 +30,7 @@ pub record IsSpelledTuple (n : Node) (ds : List Cell) : Type 0 where
   pub cells : AllByRecursion (IsCellOf n) ds
 
 -- a value with a spelling is set of an element that stands once
-pub record CanSetValue (t : TableState) (rel : ℕ) (p : Place) (attr : ℕ) (v : Option Value) : Type 0 where
+pub record CanSetValue (t : TableState) (relation : ℕ) (p : Place) (attr : ℕ) (v : Option Value) : Type 0 where
   pub key : IsSpelledKey p.key
   pub value : IfSome v HasSpelling
-  pub there : IsClean t → (was : CellRow) × IsOne (has_key_of (value_row rel p attr v)) t.now.cells was
+  pub there : IsClean t → (was : CellRow) × IsOne (has_key_of (value_row relation p attr v)) t.now.cells was

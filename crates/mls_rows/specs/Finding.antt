@@ -56,7 +56,7 @@ pub record IsCellRow (r : CellRow) : Type 0 where
 -- the classes of all tuples are numbers of one byte, so a row that does not read shows that its store is not
 -- clean
 abbrev pub HasByteClasses : Content → Type 0
-HasByteClasses c = (rel : ℕ) (p : Place) (es : List Element) → get (c.db rel) p ≡ Some es → (p.key_class < 256)
+HasByteClasses c = (relation : ℕ) (p : Place) (es : List Element) → get (c.db relation) p ≡ Some es → (p.key_class < 256)
     × (p.class < 256)
 
 -- the rows are those of content, and each can be read
@@ -70,12 +70,12 @@ abbrev pub IsSpelledEntry : Place × List Element → Type 0
 IsSpelledEntry e = IsSpelledKey e.0.key × AllByRecursion (λ x. IfSome x.value HasSpelling) e.1
 
 -- tuples put together from the nodes and the cells of one relation
-pub record IsAssembled (rel : ℕ) (nodes : List NodeRow) (cells : List CellRow) (es : Entries) : Type 0 where
+pub record IsAssembled (relation : ℕ) (nodes : List NodeRow) (cells : List CellRow) (es : Entries) : Type 0 where
   pub ns : List Node
   pub cs : List Cell
   pub held : CellPlace → Option (Option Value)
-  pub nodes_are : map (node_row rel) ns ≡ filter (λ r. nat_eq r.rel rel) nodes
-  pub cells_are : map (cell_row rel) cs ≡ filter (λ r. nat_eq r.rel rel) cells
+  pub nodes_are : map (node_row relation) ns ≡ filter (λ r. nat_eq r.rel relation) nodes
+  pub cells_are : map (cell_row relation) cs ≡ filter (λ r. nat_eq r.rel relation) cells
   pub nodes_spelled : AllByRecursion IsSpelledNode ns
   pub cells_spelled : AllByRecursion IsSpelledCell cs
   pub values : AreValues cs held
@@ -83,13 +83,13 @@ pub record IsAssembled (rel : ℕ) (nodes : List NodeRow) (cells : List CellRow)
   pub rows : AreRows held ns (λ q. lookup (is_at (place_cmp q)) es)
 
 abbrev pub AreAssembled : List NodeRow → List CellRow → List Entries → Type 0
-AreAssembled nodes cells tables = (rel : ℕ) → rel < length tables
-    → IsAssembled rel nodes cells (slice_index_or tables rel [])
+AreAssembled nodes cells tables = (relation : ℕ) → relation < length tables
+    → IsAssembled relation nodes cells (slice_index_or tables relation [])
 
 -- the tables of relations, each of the stored form with the kinds and intervals of its scheme
 abbrev pub AreTables : Labels → Schemes → List Entries → Type 0
-AreTables ls schemes tables = (rel : ℕ) → rel < length tables
-    → IsContent ls (scheme_of schemes rel) (table_in tables rel)
+AreTables ls schemes tables = (relation : ℕ) → relation < length tables
+    → IsContent ls (scheme_of schemes relation) (table_in tables relation)
 
 -- ---- stores of older schemes
 
@@ -104,7 +104,7 @@ AreWithin labels T = (p : Place) (es : List Element) → get T p ≡ Some es →
 -- sound content in which the first labels alone occur
 pub record IsSoundWithin (policy : Policy) (schemes : Schemes) (labels : ℕ) (c : Content) : Type 0 where
   pub content : AreContent (labels_of policy) schemes c.db
-  pub classes : (rel : ℕ) → AreWithin labels (c.db rel)
+  pub classes : (relation : ℕ) → AreWithin labels (c.db relation)
   pub entries : AllByRecursion (IsEntryOf labels) c.audit
 
 -- what is found
@@ -125,8 +125,8 @@ pub record HasFound (policy : Policy) (schemes : Schemes) (labels : ℕ) (rows :
 
 -- two lists have the same rows of each relation
 abbrev pub AreAlike : {R : Type 0} → (R → ℕ) → List R → List R → Type 0
-AreAlike rel_of xs ys = (rel : ℕ)
-    → IsPermutation (filter (λ r. nat_eq (rel_of r) rel) xs) (filter (λ r. nat_eq (rel_of r) rel) ys)
+AreAlike rel_of xs ys = (relation : ℕ)
+    → IsPermutation (filter (λ r. nat_eq (rel_of r) relation) xs) (filter (λ r. nat_eq (rel_of r) relation) ys)
 
 -- the rows of tables, which are numbered from k
 abbrev pub node_rows : ℕ → List Entries → List NodeRow

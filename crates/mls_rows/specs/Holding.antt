@@ -25,13 +25,13 @@ value_bytes None = 0 ∷ []
 value_bytes (Some v) = value_spelling v
 
 abbrev pub node_row : ℕ → Node → NodeRow
-node_row rel n =
-    record { rel = rel; ent = key_spelling n.key; kclass = n.key_class; label = n.label; pattern = n.pattern }
+node_row relation n =
+    record { rel = relation; ent = key_spelling n.key; kclass = n.key_class; label = n.label; pattern = n.pattern }
 
 abbrev pub cell_row : ℕ → Cell → CellRow
-cell_row rel c =
+cell_row relation c =
     record {
-      rel = rel;
+      rel = relation;
       ent = key_spelling c.key;
       kclass = c.key_class;
       label = c.label;
@@ -42,7 +42,7 @@ cell_row rel c =
 
 -- the key of the tuple at a place
 abbrev pub tuple_key : ℕ → Place → TupleKey
-tuple_key rel p = record { rel = rel; ent = key_spelling p.key; kclass = p.key_class; label = p.class }
+tuple_key relation p = record { rel = relation; ent = key_spelling p.key; kclass = p.key_class; label = p.class }
 
 -- a cell of a tuple's own class, beside the tuple's node
 abbrev pub own_cell : Cell → OwnCell
@@ -62,15 +62,15 @@ pub record IsSharedTuple (T : Table) (p : Place) (es : List Element) : Type 0 wh
       × (i < length fs) × (at fs i ≡ at es i)
 
 -- the rows of a relation are those of its table, in any order
-pub record HoldsTable (t : Tables) (rel : ℕ) (T : Table) : Type 0 where
-  pub nodes : IsPermutation (map (node_row rel) (nodes_in T)) (filter (λ n. nat_eq n.rel rel) t.nodes)
-  pub cells : IsPermutation (map (cell_row rel) (cells_in T)) (filter (λ c. nat_eq c.rel rel) t.cells)
+pub record HoldsTable (t : Tables) (relation : ℕ) (T : Table) : Type 0 where
+  pub nodes : IsPermutation (map (node_row relation) (nodes_in T)) (filter (λ n. nat_eq n.rel relation) t.nodes)
+  pub cells : IsPermutation (map (cell_row relation) (cells_in T)) (filter (λ c. nat_eq c.rel relation) t.cells)
   pub shared : (p : Place) (es : List Element) → get T p ≡ Some es → IsSharedTuple T p es
 
 -- The rows are those of the content, in any order. A base that kept content beside its store, and never wrote
 -- it, would break this.
 pub record Holds (t : Tables) (c : Content) : Type 0 where
-  pub tables : (rel : ℕ) → HoldsTable t rel (c.db rel)
+  pub tables : (relation : ℕ) → HoldsTable t relation (c.db relation)
   pub audit : IsPermutation (numbered 1 c.audit) t.audit
 
 abbrev pub IsSpelledNode : Node → Type 0
@@ -83,7 +83,7 @@ IsSpelledCell c = IsSpelledKey c.key × IfSome c.value HasSpelling
 
 -- the row of a value at an attribute, of the entity and the class of a place
 abbrev pub value_row : ℕ → Place → ℕ → Option Value → CellRow
-value_row rel p attr v = cell_row rel (cell_at p attr (record { value = v; class = p.class }))
+value_row relation p attr v = cell_row relation (cell_at p attr (record { value = v; class = p.class }))
 
 -- a tuple's node and the elements of its class
 pub record AddsTuple (n : NodeRow) (own : List CellRow) (old new : Tables) : Type 0 where
@@ -93,7 +93,7 @@ pub record AddsTuple (n : NodeRow) (own : List CellRow) (old new : Tables) : Typ
 
 -- the node of a place and the elements of its class
 abbrev pub DropsTuple : ℕ → Place → Tables → Tables → Type 0
-DropsTuple rel p old new = new ≡ record old {
-  nodes = filter (λ n. not (is_node (tuple_key rel p) n)) old.nodes;
-  cells = filter (λ c. not (is_cell_in (tuple_key rel p) c)) old.cells;
+DropsTuple relation p old new = new ≡ record old {
+  nodes = filter (λ n. not (is_node (tuple_key relation p) n)) old.nodes;
+  cells = filter (λ c. not (is_cell_in (tuple_key relation p) c)) old.cells;
 }

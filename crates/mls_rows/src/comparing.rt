@@ -17,17 +17,17 @@ use std::alloc::{AllocError, Global};
 fn push_nodes(
     alloc: Global,
     rows: &mut Vec<NodeRow>,
-    rel: RelNo,
+    relation: RelNo,
     table: &TupleMap,
 ) -> Result<(), RowFault>
     requires spelled { AllByRecursion IsSpelledEntry table.now.entries }
     ensures pushed { OnOk result (rows.new.items ≡ rows.old.items
-        ++ map (node_row rel) (map node_of table.now.entries)) }
+        ++ map (node_row relation) (map node_of table.now.entries)) }
     ensures fault { IfErr result IsMemory }
 {
     let nodes = nodes_of(alloc, table)?;
     for node in &nodes {
-        rows.push(row_of_node(alloc, rel, node)?)?;
+        rows.push(row_of_node(alloc, relation, node)?)?;
     }
     Ok(())
 }
@@ -36,17 +36,17 @@ fn push_nodes(
 fn push_cells(
     alloc: Global,
     rows: &mut Vec<CellRow>,
-    rel: RelNo,
+    relation: RelNo,
     table: &TupleMap,
 ) -> Result<(), RowFault>
     requires spelled { AllByRecursion IsSpelledEntry table.now.entries }
     ensures pushed { OnOk result (rows.new.items ≡ rows.old.items
-        ++ map (cell_row rel) (flat_map cells_of table.now.entries)) }
+        ++ map (cell_row relation) (flat_map cells_of table.now.entries)) }
     ensures fault { IfErr result IsMemory }
 {
     let cells = cells_of(alloc, table)?;
     for cell in &cells {
-        rows.push(row_of_cell(alloc, rel, cell)?)?;
+        rows.push(row_of_cell(alloc, relation, cell)?)?;
     }
     Ok(())
 }
@@ -59,8 +59,8 @@ pub fn node_rows(alloc: Global, tables: &[TupleMap]) -> Result<Vec<NodeRow>, Row
     ensures fault { IfErr result IsMemory }
 {
     let mut rows = Vec::new(alloc);
-    for (rel, table) in tables.iter().enumerate() {
-        push_nodes(alloc, &mut rows, RelNo::new(rel as u8), table)?;
+    for (relation, table) in tables.iter().enumerate() {
+        push_nodes(alloc, &mut rows, RelNo::new(relation as u8), table)?;
     }
     Ok(rows)
 }
@@ -73,8 +73,8 @@ pub fn cell_rows(alloc: Global, tables: &[TupleMap]) -> Result<Vec<CellRow>, Row
     ensures fault { IfErr result IsMemory }
 {
     let mut rows = Vec::new(alloc);
-    for (rel, table) in tables.iter().enumerate() {
-        push_cells(alloc, &mut rows, RelNo::new(rel as u8), table)?;
+    for (relation, table) in tables.iter().enumerate() {
+        push_cells(alloc, &mut rows, RelNo::new(relation as u8), table)?;
     }
     Ok(rows)
 }

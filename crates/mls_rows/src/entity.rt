@@ -32,16 +32,16 @@ fn nothing(alloc: Global) -> Fragment
 pub fn read_entity<S: Alter>(
     store: &mut TableStore<S>,
     alloc: Global,
-    rel: RelNo,
+    relation: RelNo,
     place: &Place,
 ) -> Result<Fragment, StoreFault>
     requires key { IsSpelledKey place.now.key }
     requires readable { IsClean store.old → AreReadable store.old.now }
     ensures read { IsRead store.old store.new result }
     ensures found { IsClean store.new → (c : Content) → Holds store.old.now c
-        → IfOk result (IsEntityPart (c.db rel) place.now) }
+        → IfOk result (IsEntityPart (c.db relation) place.now) }
 {
-    let key = match key_of_place(alloc, rel, place) {
+    let key = match key_of_place(alloc, relation, place) {
         Ok(key) => key,
         Err(fault) => return Err(abandon_at_row(store, fault)),
     };
@@ -50,7 +50,7 @@ pub fn read_entity<S: Alter>(
         return Ok(nothing(alloc));
     }
     let cells = store.cells_of_tuple(&key)?;
-    match fragment_of_relation(alloc, rel, &nodes, &cells) {
+    match fragment_of_relation(alloc, relation, &nodes, &cells) {
         Ok(fragment) => Ok(fragment),
         Err(fault) => Err(abandon_at_row(store, fault)),
     }
@@ -71,15 +71,15 @@ fn first_pattern(alloc: Global, patterns: &[Items<u8>]) -> Result<Option<Items<L
 pub fn read_pattern<S: Alter>(
     store: &mut TableStore<S>,
     alloc: Global,
-    rel: RelNo,
+    relation: RelNo,
     place: &Place,
 ) -> Result<Option<Items<LabelNo>>, StoreFault>
     requires key { IsSpelledKey place.now.key }
     ensures read { IsRead store.old store.new result }
     ensures found { IsClean store.new → (c : Content) → Holds store.old.now c
-        → IfOk result (λ pattern. pattern ≡ option_map classes (get (c.db rel) place.now)) }
+        → IfOk result (λ pattern. pattern ≡ option_map classes (get (c.db relation) place.now)) }
 {
-    let key = match key_of_place(alloc, rel, place) {
+    let key = match key_of_place(alloc, relation, place) {
         Ok(key) => key,
         Err(fault) => return Err(abandon_at_row(store, fault)),
     };

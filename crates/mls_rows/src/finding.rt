@@ -25,16 +25,16 @@ use std::alloc::{AllocError, Global};
 /// The tuples of one relation, put together from its nodes and cells.
 fn assembled(
     alloc: Global,
-    rel: RelNo,
+    relation: RelNo,
     nodes: &[NodeRow],
     cells: &[CellRow],
     at: &mut Where,
 ) -> Result<TupleMap, RowFault>
-    ensures assembled { IfOk result (λ rows. IsAssembled rel nodes.now cells.now rows.entries) }
+    ensures assembled { IfOk result (λ rows. IsAssembled relation nodes.now cells.now rows.entries) }
     ensures only { AllByRecursion IsNodeRow nodes.now → AllByRecursion IsCellRow cells.now → IfErr result IsMemory }
 {
-    let nodes = nodes_of_relation(alloc, rel, nodes, at)?;
-    let values = values_of(alloc, cells_of_relation(alloc, rel, cells, at)?)?;
+    let nodes = nodes_of_relation(alloc, relation, nodes, at)?;
+    let values = values_of(alloc, cells_of_relation(alloc, relation, cells, at)?)?;
     Ok(rows_of(alloc, nodes, &values)?)
 }
 
@@ -52,8 +52,8 @@ pub fn tables_of(
     ensures only { AllByRecursion IsNodeRow nodes.now → AllByRecursion IsCellRow cells.now → IfErr result IsMemory }
 {
     let mut tables = Vec::new(alloc);
-    for rel in 0..count {
-        tables.push(assembled(alloc, RelNo::new(rel as u8), nodes, cells, at)?)?;
+    for relation in 0..count {
+        tables.push(assembled(alloc, RelNo::new(relation as u8), nodes, cells, at)?)?;
     }
     Ok(tables)
 }
@@ -72,10 +72,10 @@ fn are_content(
     ensures { IfOk result (λ b. IsTrue b
         ↔ AreTables (labels_of policy.now) schemes.now (map (λ t. t.entries) tables.now)) }
 {
-    for (rel, table) in tables.iter().enumerate() {
-        let rel = RelNo::new(rel as u8);
-        at.begin(Step::Tuple(rel));
-        let scheme = schemes.scheme(rel);
+    for (relation, table) in tables.iter().enumerate() {
+        let relation = RelNo::new(relation as u8);
+        at.begin(Step::Tuple(relation));
+        let scheme = schemes.scheme(relation);
         if !is_content(alloc, policy, scheme, table, &mut at.row)? {
             return Ok(false);
         }

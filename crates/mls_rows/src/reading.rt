@@ -121,18 +121,18 @@ fn decoded_node(alloc: Global, row: &NodeRow) -> Result<Node, RowFault>
 /// The nodes of one relation among rows.
 pub(crate) fn nodes_of_relation(
     alloc: Global,
-    rel: RelNo,
+    relation: RelNo,
     rows: &[NodeRow],
     at: &mut Where,
 ) -> Result<Items<Node>, RowFault>
-    ensures shown { IfOk result (λ nodes. map (node_row rel) nodes ≡ filter (λ r. nat_eq r.rel rel) rows.now) }
+    ensures shown { IfOk result (λ nodes. map (node_row relation) nodes ≡ filter (λ r. nat_eq r.rel relation) rows.now) }
     ensures spelled { IfOk result (AllByRecursion IsSpelledNode) }
     ensures only { AllByRecursion IsNodeRow rows.now → IfErr result IsMemory }
 {
     at.begin(Step::Node);
     let mut nodes = Vec::new(alloc);
     for row in rows {
-        if row.rel == u32::from(rel.byte()) {
+        if row.rel == u32::from(relation.byte()) {
             nodes.push(decoded_node(alloc, row)?)?;
         }
         at.pass();
@@ -171,18 +171,18 @@ fn decoded_cell(alloc: Global, row: &CellRow) -> Result<Cell, RowFault>
 /// The cells of one relation among rows.
 pub(crate) fn cells_of_relation(
     alloc: Global,
-    rel: RelNo,
+    relation: RelNo,
     rows: &[CellRow],
     at: &mut Where,
 ) -> Result<Items<Cell>, RowFault>
-    ensures shown { IfOk result (λ cells. map (cell_row rel) cells ≡ filter (λ r. nat_eq r.rel rel) rows.now) }
+    ensures shown { IfOk result (λ cells. map (cell_row relation) cells ≡ filter (λ r. nat_eq r.rel relation) rows.now) }
     ensures spelled { IfOk result (AllByRecursion IsSpelledCell) }
     ensures only { AllByRecursion IsCellRow rows.now → IfErr result IsMemory }
 {
     at.begin(Step::Cell);
     let mut cells = Vec::new(alloc);
     for row in rows {
-        if row.rel == u32::from(rel.byte()) {
+        if row.rel == u32::from(relation.byte()) {
             cells.push(decoded_cell(alloc, row)?)?;
         }
         at.pass();
@@ -192,19 +192,19 @@ pub(crate) fn cells_of_relation(
 
 pub(crate) fn fragment_of_relation(
     alloc: Global,
-    rel: RelNo,
+    relation: RelNo,
     nodes: &[NodeRow],
     cells: &[CellRow],
 ) -> Result<Fragment, RowFault>
-    ensures nodes { IfOk result (λ f. map (node_row rel) f.nodes ≡ filter (λ r. nat_eq r.rel rel) nodes.now) }
-    ensures cells { IfOk result (λ f. map (cell_row rel) f.cells ≡ filter (λ r. nat_eq r.rel rel) cells.now) }
+    ensures nodes { IfOk result (λ f. map (node_row relation) f.nodes ≡ filter (λ r. nat_eq r.rel relation) nodes.now) }
+    ensures cells { IfOk result (λ f. map (cell_row relation) f.cells ≡ filter (λ r. nat_eq r.rel relation) cells.now) }
     ensures spelled { IfOk result (λ f. AllByRecursion IsSpelledNode f.nodes × AllByRecursion IsSpelledCell f.cells) }
     ensures only { AllByRecursion IsNodeRow nodes.now → AllByRecursion IsCellRow cells.now → IfErr result IsMemory }
 {
     let mut at = Where::start();
     Ok(Fragment {
-        nodes: nodes_of_relation(alloc, rel, nodes, &mut at)?,
-        cells: cells_of_relation(alloc, rel, cells, &mut at)?,
+        nodes: nodes_of_relation(alloc, relation, nodes, &mut at)?,
+        cells: cells_of_relation(alloc, relation, cells, &mut at)?,
     })
 }
 
@@ -212,17 +212,17 @@ pub(crate) fn fragment_of_relation(
 pub fn read_fragment<S: Alter>(
     store: &mut TableStore<S>,
     alloc: Global,
-    rel: RelNo,
+    relation: RelNo,
     label: LabelNo,
 ) -> Result<Fragment, StoreFault>
     requires readable { IsClean store.old → AreReadable store.old.now }
     ensures read { IsRead store.old store.new result }
     ensures found { IsClean store.new → (c : Content) → Holds store.old.now c
-        → IfOk result (IsFragment (c.db rel) label) }
+        → IfOk result (IsFragment (c.db relation) label) }
 {
-    let nodes = store.nodes_of_class(u32::from(rel.byte()), u32::from(label.byte()))?;
-    let cells = store.cells_of_class(u32::from(rel.byte()), u32::from(label.byte()))?;
-    match fragment_of_relation(alloc, rel, &nodes, &cells) {
+    let nodes = store.nodes_of_class(u32::from(relation.byte()), u32::from(label.byte()))?;
+    let cells = store.cells_of_class(u32::from(relation.byte()), u32::from(label.byte()))?;
+    match fragment_of_relation(alloc, relation, &nodes, &cells) {
         Ok(fragment) => Ok(fragment),
         Err(fault) => Err(abandon_at_row(store, fault)),
     }
@@ -244,19 +244,19 @@ fn bits_of(labels: &[LabelNo]) -> u64
 pub fn read_fragments<S: Alter>(
     store: &mut TableStore<S>,
     alloc: Global,
-    rel: RelNo,
+    relation: RelNo,
     labels: &[LabelNo],
 ) -> Result<Fragment, StoreFault>
     requires few { AllByRecursion (λ m. m < 64) labels.now }
     requires readable { IsClean store.old → AreReadable store.old.now }
     ensures read { IsRead store.old store.new result }
     ensures found { IsClean store.new → (c : Content) → Holds store.old.now c
-        → IfOk result (AreFragments (c.db rel) labels.now) }
+        → IfOk result (AreFragments (c.db relation) labels.now) }
 {
     let bits = bits_of(labels);
-    let nodes = store.nodes_among(u32::from(rel.byte()), bits)?;
-    let cells = store.cells_among(u32::from(rel.byte()), bits)?;
-    match fragment_of_relation(alloc, rel, &nodes, &cells) {
+    let nodes = store.nodes_among(u32::from(relation.byte()), bits)?;
+    let cells = store.cells_among(u32::from(relation.byte()), bits)?;
+    match fragment_of_relation(alloc, relation, &nodes, &cells) {
         Ok(fragment) => Ok(fragment),
         Err(fault) => Err(abandon_at_row(store, fault)),
     }

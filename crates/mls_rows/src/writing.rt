@@ -54,13 +54,13 @@ fn ent_of(alloc: Global, key: &[Value]) -> Result<Items<u8>, RowFault>
 }
 
 /// The key of the tuple at a place.
-pub(crate) fn key_of_place(alloc: Global, rel: RelNo, place: &Place) -> Result<TupleKey, RowFault>
+pub(crate) fn key_of_place(alloc: Global, relation: RelNo, place: &Place) -> Result<TupleKey, RowFault>
     requires { IsSpelledKey place.now.key }
-    ensures made { IfOk result (λ key. key ≡ tuple_key rel place.now) }
+    ensures made { IfOk result (λ key. key ≡ tuple_key relation place.now) }
     ensures fault { IfErr result IsMemory }
 {
     Ok(TupleKey {
-        rel: u32::from(rel.byte()),
+        rel: u32::from(relation.byte()),
         ent: ent_of(alloc, &place.key)?,
         kclass: u32::from(place.key_class.byte()),
         label: u32::from(place.class.byte()),
@@ -78,14 +78,14 @@ fn number_of(attr: usize) -> Result<u32, RowFault>
     }
 }
 
-pub(crate) fn row_of_node(alloc: Global, rel: RelNo, node: &Node) -> Result<NodeRow, RowFault>
+pub(crate) fn row_of_node(alloc: Global, relation: RelNo, node: &Node) -> Result<NodeRow, RowFault>
     requires { IsSpelledKey node.now.key }
-    ensures made { IfOk result (λ row. row ≡ node_row rel node.now) }
+    ensures made { IfOk result (λ row. row ≡ node_row relation node.now) }
     ensures classes { OnOk result ((node.now.key_class < 256) × (node.now.label < 256)) }
     ensures fault { IfErr result IsMemory }
 {
     Ok(NodeRow {
-        rel: u32::from(rel.byte()),
+        rel: u32::from(relation.byte()),
         ent: ent_of(alloc, &node.key)?,
         kclass: u32::from(node.key_class.byte()),
         label: u32::from(node.label.byte()),
@@ -93,13 +93,13 @@ pub(crate) fn row_of_node(alloc: Global, rel: RelNo, node: &Node) -> Result<Node
     })
 }
 
-pub(crate) fn row_of_cell(alloc: Global, rel: RelNo, cell: &Cell) -> Result<CellRow, RowFault>
+pub(crate) fn row_of_cell(alloc: Global, relation: RelNo, cell: &Cell) -> Result<CellRow, RowFault>
     requires { IsSpelledCell cell.now }
-    ensures made { IfOk result (λ row. row ≡ cell_row rel cell.now) }
+    ensures made { IfOk result (λ row. row ≡ cell_row relation cell.now) }
     ensures fault { IfErr result IsMemory }
 {
     Ok(CellRow {
-        rel: u32::from(rel.byte()),
+        rel: u32::from(relation.byte()),
         ent: ent_of(alloc, &cell.key)?,
         kclass: u32::from(cell.key_class.byte()),
         label: u32::from(cell.label.byte()),
@@ -110,18 +110,18 @@ pub(crate) fn row_of_cell(alloc: Global, rel: RelNo, cell: &Cell) -> Result<Cell
 
 fn row_of_value(
     alloc: Global,
-    rel: RelNo,
+    relation: RelNo,
     place: &Place,
     attr: usize,
     value: &Option<Value>,
 ) -> Result<CellRow, RowFault>
     requires key { IsSpelledKey place.now.key }
     requires value { IfSome value.now HasSpelling }
-    ensures made { IfOk result (λ row. row ≡ value_row rel place.now attr value.now) }
+    ensures made { IfOk result (λ row. row ≡ value_row relation place.now attr value.now) }
     ensures fault { IfErr result IsMemory }
 {
     Ok(CellRow {
-        rel: u32::from(rel.byte()),
+        rel: u32::from(relation.byte()),
         ent: ent_of(alloc, &place.key)?,
         kclass: u32::from(place.key_class.byte()),
         label: u32::from(place.class.byte()),
@@ -164,18 +164,18 @@ struct TupleRows {
 
 fn rows_of_tuple(
     alloc: Global,
-    rel: RelNo,
+    relation: RelNo,
     node: &Node,
     cells: &[Cell],
 ) -> Result<TupleRows, RowFault>
     requires { IsSpelledTuple node.now cells.now }
-    ensures node { IfOk result (λ rows. rows.node ≡ node_row rel node.now) }
-    ensures own { IfOk result (λ rows. map (cell_beside rows.node) rows.own.items ≡ map (cell_row rel) cells.now) }
+    ensures node { IfOk result (λ rows. rows.node ≡ node_row relation node.now) }
+    ensures own { IfOk result (λ rows. map (cell_beside rows.node) rows.own.items ≡ map (cell_row relation) cells.now) }
     ensures classes { OnOk result ((node.now.key_class < 256) × (node.now.label < 256)) }
     ensures fault { IfErr result IsMemory }
 {
     Ok(TupleRows {
-        node: row_of_node(alloc, rel, node)?,
+        node: row_of_node(alloc, relation, node)?,
         own: own_cells(alloc, cells)?,
     })
 }
@@ -184,7 +184,7 @@ fn rows_of_tuple(
 pub fn add_tuple<S: Alter>(
     store: &mut TableStore<S>,
     alloc: Global,
-    rel: RelNo,
+    relation: RelNo,
     node: &Node,
     cells: &[Cell],
 ) -> Result<(), StoreFault>
@@ -193,9 +193,9 @@ pub fn add_tuple<S: Alter>(
     ensures step { IsStep store.old store.new result }
     ensures classes { OnOk result ((node.now.key_class < 256) × (node.now.label < 256)) }
     ensures done { IsClean store.new → OnOk result
-        (Writes (AddsTuple (node_row rel node.now) (map (cell_row rel) cells.now)) store.old store.new) }
+        (Writes (AddsTuple (node_row relation node.now) (map (cell_row relation) cells.now)) store.old store.new) }
 {
-    match rows_of_tuple(alloc, rel, node, cells) {
+    match rows_of_tuple(alloc, relation, node, cells) {
         Ok(rows) => {
             store.add_node(&rows.node)?;
             store.add_cells(&rows.node, &rows.own)
@@ -208,18 +208,18 @@ pub fn add_tuple<S: Alter>(
 pub fn set_value<S: Alter>(
     store: &mut TableStore<S>,
     alloc: Global,
-    rel: RelNo,
+    relation: RelNo,
     place: &Place,
     attr: usize,
     value: &Option<Value>,
 ) -> Result<(), StoreFault>
     requires begun { store.old.begun ≡ true }
-    requires can { CanSetValue store.old rel place.now attr value.now }
+    requires can { CanSetValue store.old relation place.now attr value.now }
     ensures step { IsStep store.old store.new result }
     ensures done { IsClean store.new → OnOk result
-        (Writes (SetsCell (value_row rel place.now attr value.now)) store.old store.new) }
+        (Writes (SetsCell (value_row relation place.now attr value.now)) store.old store.new) }
 {
-    match row_of_value(alloc, rel, place, attr, value) {
+    match row_of_value(alloc, relation, place, attr, value) {
         Ok(row) => store.set_cell(&row),
         Err(fault) => Err(abandon_at_row(store, fault)),
     }
@@ -229,15 +229,15 @@ pub fn set_value<S: Alter>(
 pub fn drop_tuple<S: Alter>(
     store: &mut TableStore<S>,
     alloc: Global,
-    rel: RelNo,
+    relation: RelNo,
     place: &Place,
 ) -> Result<(), StoreFault>
     requires begun { store.old.begun ≡ true }
     requires key { IsSpelledKey place.now.key }
     ensures step { IsStep store.old store.new result }
-    ensures done { IsClean store.new → OnOk result (Writes (DropsTuple rel place.now) store.old store.new) }
+    ensures done { IsClean store.new → OnOk result (Writes (DropsTuple relation place.now) store.old store.new) }
 {
-    let key = match key_of_place(alloc, rel, place) {
+    let key = match key_of_place(alloc, relation, place) {
         Ok(key) => key,
         Err(fault) => return Err(abandon_at_row(store, fault)),
     };

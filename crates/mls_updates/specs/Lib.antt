@@ -3,7 +3,7 @@
 pub mod Outcome
 pub mod Writes
 pub mod Laws
-pub mod Rows
+pub mod NewTuples
 pub mod States
 pub mod Calls
 pub mod Steps

@@ -13,8 +13,8 @@ use Rattle.mls_filterview.specs.Content.{Seen}
 use Rattle.mls_filterview.specs.Fragment.{set_in, HasCell, IsAlone, IsMadeOf, node_of, cells_of}
 use Rattle.mls_filterview.specs.Stored.{with_class, IsStored}
 use Rattle.mls_filterview.specs.View.{IsAmong}
-use Rattle.mls_updates.specs.declared.row.Row.{Row}
-use Rattle.mls_updates.specs.Rows.{entry_of}
+use Rattle.mls_updates.specs.declared.new_tuple.NewTuple.{NewTuple}
+use Rattle.mls_updates.specs.NewTuples.{entry_of}
 use Rattle.mls_updates.specs.Writes.{Sets, set_element}
 
 -- cells of the class of p set one after another, the last one first
@@ -58,8 +58,8 @@ pub record IsBegunAt {Self : Type 0} (seen : Self → Seen) (base : Self) (count
   pub key : IsSpelledKey p.key
 
 module _ {Self : Type 0} (seen : Self → Seen) (base : Self) where
-  -- a row is added where none is, its elements of other classes in the tuples there
-  pub record CanAddRow (r : Row) : Type 0 where
+  -- a tuple is added where none is, its elements of other classes in the tuples there
+  pub record CanAddTuple (r : NewTuple) : Type 0 where
     pub begun : (seen base).state.begun ≡ true
     pub key : IsSpelledKey r.place.key
     pub values : AllByRecursion (λ e. IfSome e.value HasSpelling) r.elements

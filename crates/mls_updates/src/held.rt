@@ -8,7 +8,7 @@ ghost use Rattle.mls_filterview.specs.Fragment.{place_of_node};
 ghost use Rattle.mls_updates.specs.States.{tables_of};
 
 use crate::making::elements_of;
-use crate::tables::{Tables, add, copy_tables};
+use crate::tables::{TupleMaps, add, copy_tables};
 use mls_filterview::{Cell, Node};
 use mls_lattice::Items;
 use mls_scheme::{Place, RelNo};
@@ -18,7 +18,7 @@ use std::collections::BTreeMap;
 /// The tuples of all relations, and the audit list.
 #[derive(Drop)]
 pub(crate) struct Held {
-    pub(crate) tables: Tables,
+    pub(crate) tables: TupleMaps,
     pub(crate) audit: Vec<Items<u8>>,
 }
 

@@ -34,7 +34,7 @@ impl ListBase {
     }
 
     /// Ends the change, if one is begun, where a growth was refused.
-    fn fail(&mut self) -> BaseFault
+    fn abandon(&mut self) -> BaseFault
         ensures ended { state_of self.new.held self.new.saved ≡ failed (state_of self.old.held self.old.saved) }
         ensures mode { is_some self.new.saved ≡ false }
         ensures memory { result ≡ BaseFault.Memory }
@@ -85,21 +85,21 @@ impl Base for ListBase {
     fn fragment(&mut self, relation: RelNo, label: LabelNo) -> Result<Fragment, BaseFault> {
         match fragments(self.alloc, &self.held.tables, relation, &[label]) {
             Ok(fragment) => Ok(fragment),
-            Err(_) => Err(self.fail()),
+            Err(_) => Err(self.abandon()),
         }
     }
 
     fn fragments(&mut self, relation: RelNo, labels: &[LabelNo]) -> Result<Fragment, BaseFault> {
         match fragments(self.alloc, &self.held.tables, relation, labels) {
             Ok(fragment) => Ok(fragment),
-            Err(_) => Err(self.fail()),
+            Err(_) => Err(self.abandon()),
         }
     }
 
     fn entity(&mut self, relation: RelNo, place: &Place) -> Result<Fragment, BaseFault> {
         match entity(self.alloc, &self.held.tables, relation, place) {
             Ok(fragment) => Ok(fragment),
-            Err(_) => Err(self.fail()),
+            Err(_) => Err(self.abandon()),
         }
     }
 
@@ -110,7 +110,7 @@ impl Base for ListBase {
     ) -> Result<Option<Items<LabelNo>>, BaseFault> {
         match pattern(self.alloc, &self.held.tables, relation, place) {
             Ok(pattern) => Ok(pattern),
-            Err(_) => Err(self.fail()),
+            Err(_) => Err(self.abandon()),
         }
     }
 
@@ -120,7 +120,7 @@ impl Base for ListBase {
         }
         match self.held.add(self.alloc, relation, node, cells) {
             Ok(_) => Ok(()),
-            Err(_) => Err(self.fail()),
+            Err(_) => Err(self.abandon()),
         }
     }
 
@@ -143,7 +143,7 @@ impl Base for ListBase {
             &value,
         ) {
             Ok(_) => Ok(()),
-            Err(_) => Err(self.fail()),
+            Err(_) => Err(self.abandon()),
         }
     }
 
@@ -153,7 +153,7 @@ impl Base for ListBase {
         }
         match drop_at(self.alloc, &mut self.held.tables, relation, place) {
             Ok(_) => Ok(()),
-            Err(_) => Err(self.fail()),
+            Err(_) => Err(self.abandon()),
         }
     }
 
@@ -163,7 +163,7 @@ impl Base for ListBase {
         }
         match self.held.add_entry(self.alloc, bytes) {
             Ok(_) => Ok(()),
-            Err(_) => Err(self.fail()),
+            Err(_) => Err(self.abandon()),
         }
     }
 
@@ -178,7 +178,7 @@ impl Base for ListBase {
     fn audit_all(&mut self) -> Result<Items<Items<u8>>, BaseFault> {
         match copy_entries(&self.held.audit) {
             Ok(entries) => Ok(Items::from(entries)),
-            Err(_) => Err(self.fail()),
+            Err(_) => Err(self.abandon()),
         }
     }
 }

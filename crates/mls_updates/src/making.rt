@@ -6,7 +6,7 @@ ghost use Rattle.mls_filterview.specs.Stored.{with_class};
 ghost use Rattle.mls_filterview.specs.Assembly.{elements_from, value_held, value_in};
 ghost use Rattle.mls_updates.specs.States.{tables_of};
 
-use crate::tables::{Tables, found_at};
+use crate::tables::{TupleMaps, found_at};
 use mls_filterview::Cell;
 use mls_lattice::LabelNo;
 use mls_scheme::{Element, Place, RelNo, Value, copy_key};
@@ -15,7 +15,7 @@ use std::alloc::{AllocError, Global};
 /// The elements of a pattern: of the place's own class from the cells, of other classes from the entity's tuples.
 pub(crate) fn elements_of(
     alloc: Global,
-    tables: &Tables,
+    tables: &TupleMaps,
     relation: RelNo,
     place: &Place,
     cells: &[Cell],
@@ -37,7 +37,7 @@ pub(crate) fn elements_of(
 
 /// The value at an attribute of a class.
 fn value_by_class(
-    tables: &Tables,
+    tables: &TupleMaps,
     relation: RelNo,
     place: &Place,
     cells: &[Cell],

@@ -7,11 +7,11 @@ ghost use Rattle.mls_scheme.specs.declared.tuple.Element.{Element as SpecElement
 ghost use Rattle.mls_filterview.specs.Content.{with_relation};
 ghost use Rattle.mls_filterview.specs.Calls.{IsStep};
 ghost use Rattle.mls_filterview.specs.Fragment.{IsMadeOf, node_of, cells_of};
-ghost use Rattle.mls_updates.specs.Steps.{outline, CanAddRow};
+ghost use Rattle.mls_updates.specs.Steps.{outline, CanAddTuple};
 ghost use Rattle.mls_updates.specs.Writes.{set_element};
 
-use crate::adding::add_row;
-use crate::row::Row;
+use crate::adding::add_tuple;
+use crate::new_tuple::NewTuple;
 use crate::sets::copy_value;
 use mls_filterview::{Base, BaseFault, settle};
 use mls_lattice::{Items, LabelNo};
@@ -60,11 +60,11 @@ fn outline_tuple(
     place: Place,
     sets: &[(usize, Option<Value>)],
     pattern: &[LabelNo],
-) -> Result<Row, AllocError>
+) -> Result<NewTuple, AllocError>
     ensures { IfOk result (λ r. r ≡ record { relation = relation; place = place; elements = outline place.class sets.now 0 pattern.now }) }
 {
     let elements = outline_elements(alloc, place.class, sets, pattern)?;
-    Ok(Row {
+    Ok(NewTuple {
         relation,
         place,
         elements: Items::from(elements),
@@ -81,7 +81,7 @@ pub(crate) fn add_outline<B: Base>(
     sets: &[(usize, Option<Value>)],
     pattern: &[LabelNo],
 ) -> Result<(), BaseFault>
-    requires { CanAddRow B.seen base.old (record { relation = relation; place = place; elements = outline place.class sets.now 0 pattern.now }) }
+    requires { CanAddTuple B.seen base.old (record { relation = relation; place = place; elements = outline place.class sets.now 0 pattern.now }) }
     ensures step { IsStep B.seen base.old base.new result }
     ensures done { (B.seen base.new).is_clean → (es : List SpecElement)
         → IsMadeOf ((B.seen base.old).state.now.db relation) (node_of
@@ -90,6 +90,6 @@ pub(crate) fn add_outline<B: Base>(
         → OnOk result ((B.seen base.new).state
         ≡ with_relation (B.seen base.old).state relation (insert ((B.seen base.old).state.now.db relation) place es)) }
 {
-    let row = settle(base, outline_tuple(alloc, relation, place, sets, pattern))?;
-    add_row(alloc, base, &row)
+    let tuple = settle(base, outline_tuple(alloc, relation, place, sets, pattern))?;
+    add_tuple(alloc, base, &tuple)
 }

@@ -4,10 +4,10 @@ ghost use Rattle.std.specs.FinMap.{insert};
 ghost use Rattle.mls_filterview.specs.Calls.{IsStep};
 ghost use Rattle.mls_filterview.specs.Content.{with_relation};
 ghost use Rattle.mls_updates.specs.Writes.{root};
-ghost use Rattle.mls_updates.specs.Steps.{CanAddRow};
+ghost use Rattle.mls_updates.specs.Steps.{CanAddTuple};
 
-use crate::adding::add_row;
-use crate::row::Row;
+use crate::adding::add_tuple;
+use crate::new_tuple::NewTuple;
 use crate::sets::copy_value;
 use mls_filterview::{Base, BaseFault, settle};
 use mls_lattice::{Items, LabelNo};
@@ -38,11 +38,11 @@ fn root_at(
     relation: RelNo,
     place: Place,
     values: &[Option<Value>],
-) -> Result<Row, AllocError>
+) -> Result<NewTuple, AllocError>
     ensures { IfOk result (λ r. r ≡ record { relation = relation; place = place; elements = root place.class values.now }) }
 {
     let elements = root_elements(alloc, place.class, values)?;
-    Ok(Row {
+    Ok(NewTuple {
         relation,
         place,
         elements: Items::from(elements),
@@ -57,12 +57,12 @@ pub(crate) fn add_root<B: Base>(
     place: Place,
     values: &[Option<Value>],
 ) -> Result<(), BaseFault>
-    requires { CanAddRow B.seen base.old (record { relation = relation; place = place; elements = root place.class values.now }) }
+    requires { CanAddTuple B.seen base.old (record { relation = relation; place = place; elements = root place.class values.now }) }
     ensures step { IsStep B.seen base.old base.new result }
     ensures done { (B.seen base.new).is_clean → OnOk result ((B.seen base.new).state
         ≡ with_relation (B.seen base.old).state relation
         (insert ((B.seen base.old).state.now.db relation) place (root place.class values.now))) }
 {
-    let row = settle(base, root_at(alloc, relation, place, values))?;
-    add_row(alloc, base, &row)
+    let tuple = settle(base, root_at(alloc, relation, place, values))?;
+    add_tuple(alloc, base, &tuple)
 }

@@ -17,10 +17,10 @@ use std::alloc::{AllocError, Global};
 use std::collections::BTreeMap;
 
 /// Maps of tuples by the numbers of their relations. A relation without a map has no tuple.
-pub(crate) type Tables = BTreeMap<RelNo, TupleMap>;
+pub(crate) type TupleMaps = BTreeMap<RelNo, TupleMap>;
 
 /// The same tuples.
-pub(crate) fn copy_tables(tables: &Tables) -> Result<Tables, AllocError>
+pub(crate) fn copy_tables(tables: &TupleMaps) -> Result<TupleMaps, AllocError>
     ensures { IfOk result (λ copy. tables_of copy ≡ tables_of tables.now) }
 {
     tables.clone()
@@ -28,7 +28,7 @@ pub(crate) fn copy_tables(tables: &Tables) -> Result<Tables, AllocError>
 
 /// The elements of the tuple of a relation at a place, if there is one.
 pub(crate) fn found_at<'a>(
-    tables: &'a Tables,
+    tables: &'a TupleMaps,
     relation: RelNo,
     place: &Place,
 ) -> Option<&'a Items<Element>>
@@ -43,7 +43,7 @@ pub(crate) fn found_at<'a>(
 /// What labels hold of a relation.
 pub(crate) fn fragments(
     alloc: Global,
-    tables: &Tables,
+    tables: &TupleMaps,
     relation: RelNo,
     labels: &[LabelNo],
 ) -> Result<Fragment, AllocError>
@@ -61,7 +61,7 @@ pub(crate) fn fragments(
 /// What a class holds of one entity.
 pub(crate) fn entity(
     alloc: Global,
-    tables: &Tables,
+    tables: &TupleMaps,
     relation: RelNo,
     place: &Place,
 ) -> Result<Fragment, AllocError>
@@ -81,7 +81,7 @@ pub(crate) fn entity(
 /// The classes of the elements of the tuple of a relation at a place, if there is one.
 pub(crate) fn pattern(
     alloc: Global,
-    tables: &Tables,
+    tables: &TupleMaps,
     relation: RelNo,
     place: &Place,
 ) -> Result<Option<Items<LabelNo>>, AllocError>
@@ -94,7 +94,7 @@ pub(crate) fn pattern(
 }
 
 /// Takes the tuples of a relation out.
-fn take(alloc: Global, tables: &mut Tables, relation: RelNo) -> TupleMap
+fn take(alloc: Global, tables: &mut TupleMaps, relation: RelNo) -> TupleMap
     ensures taken { table_of result.entries ≡ tables_of tables.old relation }
     ensures others { (r : ℕ) → nat_eq r relation ≡ false → tables_of tables.new r ≡ tables_of tables.old r }
 {
@@ -105,7 +105,7 @@ fn take(alloc: Global, tables: &mut Tables, relation: RelNo) -> TupleMap
 }
 
 /// Puts tuples in place of those of a relation.
-fn put(tables: &mut Tables, relation: RelNo, tuples: TupleMap) -> Result<(), AllocError>
+fn put(tables: &mut TupleMaps, relation: RelNo, tuples: TupleMap) -> Result<(), AllocError>
     ensures { OnOk result (tables_of tables.new ≡ with_table (tables_of tables.old) relation (table_of tuples.entries)) }
 {
     tables.insert(relation, tuples)?;
@@ -115,7 +115,7 @@ fn put(tables: &mut Tables, relation: RelNo, tuples: TupleMap) -> Result<(), All
 /// Adds a tuple.
 pub(crate) fn add(
     alloc: Global,
-    tables: &mut Tables,
+    tables: &mut TupleMaps,
     relation: RelNo,
     place: Place,
     elements: Items<Element>,
@@ -132,7 +132,7 @@ pub(crate) fn add(
 /// Sets the value of a cell, in each tuple of the entity that has it.
 pub(crate) fn set(
     alloc: Global,
-    tables: &mut Tables,
+    tables: &mut TupleMaps,
     relation: RelNo,
     place: &Place,
     attr: usize,
@@ -150,7 +150,7 @@ pub(crate) fn set(
 /// Removes the tuple at a place, if there is one.
 pub(crate) fn drop_at(
     alloc: Global,
-    tables: &mut Tables,
+    tables: &mut TupleMaps,
     relation: RelNo,
     place: &Place,
 ) -> Result<(), AllocError>

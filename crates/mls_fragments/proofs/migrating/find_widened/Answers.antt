@@ -64,24 +64,24 @@ returns-clause-widened c =
     let wide = map (λ t. t.entries) c.in_ok-widened_tables.field-0.items in
     let before : c.in_ok-before.before ≡ schemes_before counts schemes = c.in_ok-before.ensures ∙ ap (λ ns. schemes_before ns schemes) c.deref.ensures.value in
     let is : wide ≡ wide_tables schemes counts 0 tables = c.in_ok-widened_tables.ensures ∙ ap (λ ns. wide_tables schemes ns 0 tables) c.deref-2.ensures.value in
-    let sorted : (rel : ℕ) → IsStrictlySortedBy place_cmp (keys_of (slice_index_or tables rel []))
+    let sorted : (relation : ℕ) → IsStrictlySortedBy place_cmp (keys_of (slice_index_or tables relation []))
     = each_table (λ es. IsStrictlySortedBy place_cmp (keys_of es)) none_sorted tables (all-map (λ es. IsStrictlySortedBy place_cmp (keys_of es)) (λ t. t.entries) lists f.sorted) in
-    let spelled : (rel : ℕ) → AllByRecursion IsSpelledEntry (slice_index_or tables rel [])
+    let spelled : (relation : ℕ) → AllByRecursion IsSpelledEntry (slice_index_or tables relation [])
     = each_table (AllByRecursion IsSpelledEntry) tt tables (all-map (AllByRecursion IsSpelledEntry) (λ t. t.entries) lists f.spelled) in
     let shorter : length c.in_ok-before.before ≡ length schemes = ap length before ∙ before_long counts schemes long in
     let listed : length wide ≡ length tables = ap length is ∙ wide_length schemes counts 0 tables in
     let counted : length tables ≡ length c.in_ok-before.before = length-map lists (λ t. t.entries) ∙ f.count in
     let count : length wide ≡ length schemes = listed ∙ counted ∙ shorter in
-    let all_content = are_content ls schemes wide (λ rel l.
-    let within : rel < length schemes = omega (arith, l, count) in
-    let at : scheme_of c.in_ok-before.before rel ≡ scheme_before (slice_index_or counts rel 0) (scheme_of schemes rel) = ap (λ (ss : Schemes). scheme_of ss rel) before ∙ before_at counts schemes rel long within in
-    content_wide schemes counts tables wide is sorted policy rel within
-    (subst (λ s. 0 < length s.keys) at (scheme_each IsScheme c.in_ok-before.before f.valid.each rel (omega (arith, within, shorter))).some_key)
-    (extends_at policy schemes b.text counts b.extends rel within)
-    (subst (λ n. IsUnder n (scheme_before (slice_index_or counts rel 0) (scheme_of schemes rel))) (sym (length-map policy.labels (λ l. l.value)))
-    (subst (IsUnder (length policy.labels)) (before_at counts schemes rel long within)
-    (scheme_each (IsUnder (length policy.labels)) (schemes_before counts schemes) (before_under (length policy.labels) counts schemes c.args.design.now.under) rel (omega (arith, within, before_long counts schemes long)))))
-    (subst (λ s. IsContent ls s (table_in tables rel)) at (f.sound.content rel))) in
+    let all_content = are_content ls schemes wide (λ relation l.
+    let within : relation < length schemes = omega (arith, l, count) in
+    let at : scheme_of c.in_ok-before.before relation ≡ scheme_before (slice_index_or counts relation 0) (scheme_of schemes relation) = ap (λ (ss : Schemes). scheme_of ss relation) before ∙ before_at counts schemes relation long within in
+    content_wide schemes counts tables wide is sorted policy relation within
+    (subst (λ s. 0 < length s.keys) at (scheme_each IsScheme c.in_ok-before.before f.valid.each relation (omega (arith, within, shorter))).some_key)
+    (extends_at policy schemes b.text counts b.extends relation within)
+    (subst (λ n. IsUnder n (scheme_before (slice_index_or counts relation 0) (scheme_of schemes relation))) (sym (length-map policy.labels (λ l. l.value)))
+    (subst (IsUnder (length policy.labels)) (before_at counts schemes relation long within)
+    (scheme_each (IsUnder (length policy.labels)) (schemes_before counts schemes) (before_under (length policy.labels) counts schemes c.args.design.now.under) relation (omega (arith, within, before_long counts schemes long)))))
+    (subst (λ s. IsContent ls s (table_in tables relation)) at (f.sound.content relation))) in
     record {
       widened = (
         found tables entries,
@@ -96,9 +96,9 @@ returns-clause-widened c =
       classes = content_bytes ls schemes (found wide entries) (few_labels policy f.few) all_content;
       holds = λ t nodes cells audit.
           holds_found ls wide entries t (sorted_wide schemes counts tables wide is sorted) (spelled_wide schemes counts tables wide is spelled)
-          (λ rel. (length (scheme_of schemes rel).others, (all_content rel).stored)) nodes cells audit;
+          (λ relation. (length (scheme_of schemes relation).others, (all_content relation).stored)) nodes cells audit;
       listed = λ t all. (f.held t all).audit;
-      spelled = tables_each (AllByRecursion IsSpelledEntry) (λ t. t.entries) c.in_ok-widened_tables.field-0.items (λ rel l. spelled_wide schemes counts tables wide is spelled rel);
+      spelled = tables_each (AllByRecursion IsSpelledEntry) (λ t. t.entries) c.in_ok-widened_tables.field-0.items (λ relation l. spelled_wide schemes counts tables wide is spelled relation);
       count = (let few = f.valid.few in omega (arith, listed, counted, few, length-map c.in_ok-widened_tables.field-0.items (λ t. t.entries)));
       last = search rules;
     }

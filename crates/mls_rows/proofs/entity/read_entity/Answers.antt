@@ -13,29 +13,29 @@ use Rattle.mls_rows.proofs.entity.read_entity.Goals as goal
 pub returns-in-Ok-fragment_of_relation-clause-found : goal.returns-in-Ok-fragment_of_relation-clause-found
 returns-in-Ok-fragment_of_relation-clause-found g c clean content holds =
     let p = c.args.place.now in
-    let rel = c.args.rel in
+    let relation = c.args.relation in
     let t = c.args.store.now.now in
     let f = c.in-Ok-fragment_of_relation.fragment in
     let nodes = c.in_ok-nodes.nodes.items in
     let cells = c.in_ok-cells.cells.items in
     let before = c.in_ok-cells.ensures.call.clean clean in
-    let key : c.in-Ok.key ≡ tuple_key c.args.rel p = c.in-Ok.ensures.made in
+    let key : c.in-Ok.key ≡ tuple_key c.args.relation p = c.in-Ok.ensures.made in
     let some_nodes = subst (λ k. IsPermutation (filter (is_node k) t.nodes) nodes) key (c.in_ok-nodes.ensures.found before) in
     let same_cells = ap (λ u. u.cells) (c.in_ok-nodes.ensures.same before).0 in
     let read_cells = subst (λ k. IsPermutation (filter (is_cell_in k) c.nodes_of_key.new.self.now.cells) cells) key (c.in_ok-cells.ensures.found clean) in
-    let some_cells = subst (λ xs. IsPermutation (filter (is_cell_in (tuple_key rel p)) xs) cells) same_cells read_cells in
-    found_entity t content rel p f nodes cells holds c.requires.key some_nodes some_cells
-    (subst (λ xs. map (node_row rel) f.nodes ≡ filter (λ r. nat_eq r.rel rel) xs) c.deref.ensures.value c.in-Ok-fragment_of_relation.ensures.nodes)
-    (subst (λ xs. map (cell_row rel) f.cells ≡ filter (λ r. nat_eq r.rel rel) xs) c.deref-2.ensures.value c.in-Ok-fragment_of_relation.ensures.cells)
+    let some_cells = subst (λ xs. IsPermutation (filter (is_cell_in (tuple_key relation p)) xs) cells) same_cells read_cells in
+    found_entity t content relation p f nodes cells holds c.requires.key some_nodes some_cells
+    (subst (λ xs. map (node_row relation) f.nodes ≡ filter (λ r. nat_eq r.rel relation) xs) c.deref.ensures.value c.in-Ok-fragment_of_relation.ensures.nodes)
+    (subst (λ xs. map (cell_row relation) f.cells ≡ filter (λ r. nat_eq r.rel relation) xs) c.deref-2.ensures.value c.in-Ok-fragment_of_relation.ensures.cells)
     c.in-Ok-fragment_of_relation.ensures.spelled.0 c.in-Ok-fragment_of_relation.ensures.spelled.1
 
 pub returns-then-is_empty-clause-found : goal.returns-then-is_empty-clause-found
 returns-then-is_empty-clause-found g c clean content holds =
     let p = c.args.place.now in
-    let key : c.in-Ok.key ≡ tuple_key c.args.rel p = c.in-Ok.ensures.made in
+    let key : c.in-Ok.key ≡ tuple_key c.args.relation p = c.in-Ok.ensures.made in
     let none : c.in_ok-nodes.nodes.items ≡ [] = nil_from_length c.in_ok-nodes.nodes.items (sym c.in_ok-nodes.nodes.ok.0 ∙ (Decides-eqb c.in_ok-nodes.nodes.len 0).0 (sym c.is_empty.ensures ∙ c.if-is_empty.true)) in
     let some = subst (λ k. IsPermutation (filter (is_node k) c.args.store.now.now.nodes) c.in_ok-nodes.nodes.items) key (c.in_ok-nodes.ensures.found clean) in
-    shows_nothing c.args.store.now.now content c.args.rel p c.nothing.result holds c.requires.key (subst (IsPermutation (filter (is_node (tuple_key c.args.rel p)) c.args.store.now.now.nodes)) none some) c.nothing.ensures.0 c.nothing.ensures.1
+    shows_nothing c.args.store.now.now content c.args.relation p c.nothing.result holds c.requires.key (subst (IsPermutation (filter (is_node (tuple_key c.args.relation p)) c.args.store.now.now.nodes)) none some) c.nothing.ensures.0 c.nothing.ensures.1
 
 pub abandon_at_row-requires-in-Err-fragment_of_relation : goal.abandon_at_row-requires-in-Err-fragment_of_relation
 abandon_at_row-requires-in-Err-fragment_of_relation g c bad clean =

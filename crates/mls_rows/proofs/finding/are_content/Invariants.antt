@@ -5,5 +5,5 @@ use Rattle.mls_filterview.specs.Stored.{IsContent}
 use Rattle.mls_rows.specs.Changes.{table_in}
 use Rattle.mls_rows.proofs.finding.are_content.Given as goal
 
-abbrev pub invariant-loop-rel : goal.invariant-loop-rel
-invariant-loop-rel l = (rel : ℕ) → rel < l.rel → IsContent (labels_of l.policy) (scheme_of l.schemes rel) (table_in (map (λ t. t.entries) l.tables) rel)
+abbrev pub invariant-loop-relation : goal.invariant-loop-relation
+invariant-loop-relation l = (relation : ℕ) → relation < l.relation → IsContent (labels_of l.policy) (scheme_of l.schemes relation) (table_in (map (λ t. t.entries) l.tables) relation)

@@ -42,17 +42,17 @@ returns-clause-found c =
       held = held;
       sound = record {
         content = all_content;
-        classes = λ rel.
+        classes = λ relation.
             let t : Tables = record { nodes = c.args.rows.nodes.items; cells = c.args.rows.cells.items; audit = c.args.rows.entries.items; meta = [] } in
             let all : AreAll t c.args.rows = (IsPermutation-refl t.nodes, (IsPermutation-refl t.cells, IsPermutation-refl t.audit)) in
             classes_within c.args.labels t c.args.rows all content (held t all)
-            (subst (λ ns. list_all (is_within c.args.labels) ns ≡ true) c.deref.ensures.value (sym c.are_within.ensures ∙ c.if-not-are_within.false)) rel;
+            (subst (λ ns. list_all (is_within c.args.labels) ns ≡ true) c.deref.ensures.value (sym c.are_within.ensures ∙ c.if-not-are_within.false)) relation;
         entries = c.in_ok-entries.ensures.entries;
       };
       classes = content_bytes ls schemes content (few_labels c.args.policy.now c.use_invariant.ensures.few_labels) all_content;
       few = search rules;
       spelled = tables_spelled (λ t. t.entries) c.deref-2.result.now c.deref-3.result.now c.in_ok-tables.tables.items c.in_ok-tables.ensures.assembled;
-      sorted = tables_each (λ es. IsStrictlySortedBy place_cmp (keys_of es)) (λ t. t.entries) c.in_ok-tables.tables.items (λ rel l. (c.in_ok-tables.ensures.assembled rel l).sorted);
+      sorted = tables_each (λ es. IsStrictlySortedBy place_cmp (keys_of es)) (λ t. t.entries) c.in_ok-tables.tables.items (λ relation l. (c.in_ok-tables.ensures.assembled relation l).sorted);
       count = search rules;
       valid = search rules;
       last = search rules;

@@ -5,6 +5,6 @@ use Rattle.mls_rows.proofs.reading.cells_of_relation.Given as goal
 
 abbrev pub invariant-loop-row : goal.invariant-loop-row
 invariant-loop-row l = record {
-  shown : map (cell_row l.rel) l.cells.items ≡ filter (λ r. nat_eq r.rel l.rel) (take l.row-index l.rows);
+  shown : map (cell_row l.relation) l.cells.items ≡ filter (λ r. nat_eq r.rel l.relation) (take l.row-index l.rows);
   spelled : AllByRecursion IsSpelledCell l.cells.items;
 }

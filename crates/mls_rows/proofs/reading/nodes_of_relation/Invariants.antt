@@ -5,6 +5,6 @@ use Rattle.mls_rows.proofs.reading.nodes_of_relation.Given as goal
 
 abbrev pub invariant-loop-row : goal.invariant-loop-row
 invariant-loop-row l = record {
-  shown : map (node_row l.rel) l.nodes.items ≡ filter (λ r. nat_eq r.rel l.rel) (take l.row-index l.rows);
+  shown : map (node_row l.relation) l.nodes.items ≡ filter (λ r. nat_eq r.rel l.relation) (take l.row-index l.rows);
   spelled : AllByRecursion IsSpelledNode l.nodes.items;
 }

@@ -14,13 +14,13 @@ returns-in-Ok-clause-found g c clean content holds =
     let nodes = c.in_ok-nodes.nodes.items in
     let cells = c.in_ok-cells.cells.items in
     let before = c.in_ok-cells.ensures.call.clean clean in
-    let some_nodes : IsPermutation (filter (is_node_at c.args.rel c.args.label) t.nodes) nodes = subst₂ (λ r l. IsPermutation (filter (is_node_at r l) t.nodes) nodes) (c.from.ensures ∙ c.byte.ensures) (c.from-2.ensures ∙ c.byte-2.ensures) (c.in_ok-nodes.ensures.found before) in
+    let some_nodes : IsPermutation (filter (is_node_at c.args.relation c.args.label) t.nodes) nodes = subst₂ (λ r l. IsPermutation (filter (is_node_at r l) t.nodes) nodes) (c.from.ensures ∙ c.byte.ensures) (c.from-2.ensures ∙ c.byte-2.ensures) (c.in_ok-nodes.ensures.found before) in
     let same_cells = ap (λ u. u.cells) (c.in_ok-nodes.ensures.same before).0 in
-    let read_cells : IsPermutation (filter (is_cell_at c.args.rel c.args.label) c.nodes_of_class.new.self.now.cells) cells = subst₂ (λ r l. IsPermutation (filter (is_cell_at r l) c.nodes_of_class.new.self.now.cells) cells) (c.from-3.ensures ∙ c.byte-3.ensures) (c.from-4.ensures ∙ c.byte-4.ensures) (c.in_ok-cells.ensures.found clean) in
-    let some_cells = subst (λ xs. IsPermutation (filter (is_cell_at c.args.rel c.args.label) xs) cells) same_cells read_cells in
-    found_fragment t content c.args.rel f nodes cells holds
-    (subst (λ xs. map (node_row c.args.rel) f.nodes ≡ filter (λ r. nat_eq r.rel c.args.rel) xs) c.deref.ensures.value c.in-Ok.ensures.nodes)
-    (subst (λ xs. map (cell_row c.args.rel) f.cells ≡ filter (λ r. nat_eq r.rel c.args.rel) xs) c.deref-2.ensures.value c.in-Ok.ensures.cells)
+    let read_cells : IsPermutation (filter (is_cell_at c.args.relation c.args.label) c.nodes_of_class.new.self.now.cells) cells = subst₂ (λ r l. IsPermutation (filter (is_cell_at r l) c.nodes_of_class.new.self.now.cells) cells) (c.from-3.ensures ∙ c.byte-3.ensures) (c.from-4.ensures ∙ c.byte-4.ensures) (c.in_ok-cells.ensures.found clean) in
+    let some_cells = subst (λ xs. IsPermutation (filter (is_cell_at c.args.relation c.args.label) xs) cells) same_cells read_cells in
+    found_fragment t content c.args.relation f nodes cells holds
+    (subst (λ xs. map (node_row c.args.relation) f.nodes ≡ filter (λ r. nat_eq r.rel c.args.relation) xs) c.deref.ensures.value c.in-Ok.ensures.nodes)
+    (subst (λ xs. map (cell_row c.args.relation) f.cells ≡ filter (λ r. nat_eq r.rel c.args.relation) xs) c.deref-2.ensures.value c.in-Ok.ensures.cells)
     c.in-Ok.ensures.spelled.0 c.in-Ok.ensures.spelled.1 c.args.label some_nodes some_cells
 
 pub abandon_at_row-requires : goal.abandon_at_row-requires

@@ -5,7 +5,7 @@ use Rattle.mls_rows.proofs.writing.drop_tuple.Goals as goal
 
 pub returns-clause-done : goal.returns-clause-done
 returns-clause-done g c clean =
-    drops_both c.args.rel c.args.place.now c.in-Ok.key c.args.store.now c.drop_node.new.self c.drop_cells.new.self c.drop_cells.result c.in-Ok.ensures.made
+    drops_both c.args.relation c.args.place.now c.in-Ok.key c.args.store.now c.drop_node.new.self c.drop_cells.new.self c.drop_cells.result c.in-Ok.ensures.made
     (c.in_ok-drop_node.ensures.done (c.drop_cells.ensures.call.clean clean)) (c.drop_cells.ensures.done clean)
 
 pub returns-in-Err-clause-step : goal.returns-in-Err-clause-step

@@ -3,19 +3,19 @@ use Rattle.std.specs.FinMap.{insert}
 use Rattle.std.proofs.lemmas.Result.{on_ok_weaker}
 use Rattle.mls_filterview.specs.Content.{with_relation}
 use Rattle.mls_filterview.specs.Fragment.{node_of, cells_of, place_of_node}
-use Rattle.mls_updates.specs.Rows.{entry_of}
+use Rattle.mls_updates.specs.NewTuples.{entry_of}
 use Rattle.mls_updates.proofs.CallLemmas.{made_same, change_step}
 use Rattle.mls_updates.proofs.SpellingLemmas.{tuple_cells}
 use Rattle.mls_filterview.specs.Calls.{CanAdd, IsChange}
-use Rattle.mls_updates.proofs.adding.add_row.Goals as goal
+use Rattle.mls_updates.proofs.adding.add_tuple.Goals as goal
 
 pub returns-clause-done : goal.returns-clause-done
 returns-clause-done g c = λ clean es is.
-    let relation = c.args.row.now.relation in
-    let n = node_of (entry_of c.args.row.now) in
+    let relation = c.args.tuple.now.relation in
+    let n = node_of (entry_of c.args.tuple.now) in
     let T = (g.B.Base.seen c.args.base.now).state.now.db relation in
     let node : c.in_ok-parts.parts.node ≡ n = subst (λ r. IfOk r (λ x. x.node ≡ n)) c.in_ok-parts.ensures.value c.parts_of.ensures.node in
-    let own = subst (λ r. IfOk r (λ x. x.cells.items ≡ cells_of (entry_of c.args.row.now))) c.in_ok-parts.ensures.value c.parts_of.ensures.cells in
+    let own = subst (λ r. IfOk r (λ x. x.cells.items ≡ cells_of (entry_of c.args.tuple.now))) c.in_ok-parts.ensures.value c.parts_of.ensures.cells in
     let same : (g.B.Base.seen c.settle.new.base).state ≡ (g.B.Base.seen c.args.base.now).state = ap g.B.Base.seen c.in_ok-parts.ensures.same in
     on_ok_weaker c.add.result (λ e. e ∙ (λ i. with_relation (same i) relation (insert ((same i).now.db relation) (place_of_node (node i)) es)))
     (c.add.ensures.done clean es
@@ -23,15 +23,15 @@ returns-clause-done g c = λ clean es is.
 
 pub add-requires : goal.add-requires
 add-requires g c =
-    let relation = c.args.row.now.relation in
-    let n = node_of (entry_of c.args.row.now) in
+    let relation = c.args.tuple.now.relation in
+    let n = node_of (entry_of c.args.tuple.now) in
     let node : c.in_ok-parts.parts.node ≡ n = subst (λ r. IfOk r (λ x. x.node ≡ n)) c.in_ok-parts.ensures.value c.parts_of.ensures.node in
-    let own = subst (λ r. IfOk r (λ x. x.cells.items ≡ cells_of (entry_of c.args.row.now))) c.in_ok-parts.ensures.value c.parts_of.ensures.cells in
+    let own = subst (λ r. IfOk r (λ x. x.cells.items ≡ cells_of (entry_of c.args.tuple.now))) c.in_ok-parts.ensures.value c.parts_of.ensures.cells in
     subst (λ b. CanAdd g.B.Base.seen b relation c.in_ok-parts.parts.node c.deref.result.now) (sym c.in_ok-parts.ensures.same)
     (subst (λ k. CanAdd g.B.Base.seen c.args.base.now relation k c.deref.result.now) (sym node)
     (subst (CanAdd g.B.Base.seen c.args.base.now relation n) (sym (c.deref.ensures.value ∙ own)) (record {
       key = c.requires.key;
-      cells = tuple_cells c.args.row.now.place c.args.row.now.elements c.requires.values;
+      cells = tuple_cells c.args.tuple.now.place c.args.tuple.now.elements c.requires.values;
       absent = c.requires.absent;
       made = c.requires.made;
     })))

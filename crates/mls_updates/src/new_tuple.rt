@@ -1,7 +1,7 @@
 //! One tuple, whole.
 ghost use Rattle.std.specs.Prelude.{◌≡◌, ◌++◌, IfOk, OnOk};
 ghost use Rattle.mls_filterview.specs.Fragment.{node_of, cells_of};
-ghost use Rattle.mls_updates.specs.Rows.{entry_of};
+ghost use Rattle.mls_updates.specs.NewTuples.{entry_of};
 
 use mls_filterview::{Cell, Node, add_cells, node_of};
 use mls_lattice::Items;
@@ -10,13 +10,13 @@ use std::alloc::{AllocError, Global};
 
 /// A tuple of a relation, at its place.
 #[derive(Drop)]
-pub(crate) struct Row {
+pub(crate) struct NewTuple {
     pub(crate) relation: RelNo,
     pub(crate) place: Place,
     pub(crate) elements: Items<Element>,
 }
 
-impl Row {
+impl NewTuple {
     /// The tuple without its values.
     pub(crate) fn node(&self, alloc: Global) -> Result<Node, AllocError>
         ensures { IfOk result (λ n. n ≡ node_of (entry_of self.now)) }

@@ -42,14 +42,11 @@ fn fragments_of(alloc: Global, rows: &[Row], labels: &[LabelNo]) -> Result<Fragm
 }
 
 impl Broken {
-    ghost use Rattle.std.specs.Prelude.{false};
     ghost use Rattle.mls_filterview.specs.Calls.{IsRead};
-    ghost use Rattle.mls_filterview.specs.Content.{no_content};
 
     /// What these labels hold.
     fn held(&mut self, labels: &[LabelNo]) -> Result<Fragment, BaseFault>
-        ensures { IsRead (λ _. ⊥) (λ b. b.failures) (λ _. record { now = no_content; kept = no_content; begun = false })
-            self.old self.new result }
+        ensures { IsRead ⟦<Broken as Base>⟧.seen self.old self.new result }
     {
         if labels.contains(&self.broken) {
             self.failures = self.failures.checked_add(1).ok_or(BaseFault::Memory)?;

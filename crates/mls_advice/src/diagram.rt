@@ -214,6 +214,7 @@ impl<'a> Drawing<'a> {
     fn relations_to(&self, text: &mut String, schemes: &Schemes) -> Told {
         let heading = ["relation", "part", "name", "kind", "classes"];
         let mut rows = vec![in self.alloc; row_of(self.alloc, &heading)?]?;
+        schemes.use_invariant();
         for place in 0..schemes.count() {
             let scheme = schemes.scheme(RelNo::new(place as u8));
             self.part_to(&mut rows, scheme.name(), "key", scheme.keys())?;

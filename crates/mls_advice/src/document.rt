@@ -211,7 +211,7 @@ fn nearest_to(alloc: Global, text: &mut String, value: &Value, names: &[Str]) ->
 
 /// A file that is refused: of schemes, where a policy is given. The number of its fault, and the steps to where reading stopped.
 #[derive(Clone, Copy)]
-struct Site<'a> {
+struct RefusedField<'a> {
     alloc: Global,
     path: &'a str,
     policy: Option<&'a Policy>,
@@ -219,7 +219,7 @@ struct Site<'a> {
     steps: &'a [Step],
 }
 
-impl Site<'_> {
+impl RefusedField<'_> {
     /// What is known of the field.
     fn known(&self) -> Option<&'static Known> {
         let keys: &[Known] = if self.policy.is_some() {
@@ -318,7 +318,7 @@ pub fn refused_lines<'a>(
     code: u8,
     steps: &'a [Step],
 ) -> Result<String, AllocError> {
-    let site = Site {
+    let site = RefusedField {
         alloc,
         path,
         policy,

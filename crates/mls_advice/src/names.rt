@@ -24,6 +24,7 @@ pub struct Names<'a> {
 impl<'a> Names<'a> {
     /// The scheme of a relation, if it has one.
     pub fn scheme(&self, rel: u32) -> Option<&'a Scheme> {
+        self.schemes.use_invariant();
         if (rel as usize) < self.schemes.count() {
             Some(self.schemes.scheme(RelNo::new(rel as u8)))
         } else {

@@ -50,6 +50,7 @@ pub fn declared_names(
     schemes: &Schemes,
 ) -> Result<Vec<Str>, AllocError> {
     let mut names = label_names(alloc, policy)?;
+    schemes.use_invariant();
     for place in 0..schemes.count() {
         push_relation(alloc, &mut names, schemes.scheme(RelNo::new(place as u8)))?;
     }

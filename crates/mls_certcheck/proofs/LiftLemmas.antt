@@ -16,7 +16,7 @@ use Rattle.mls_certcheck.specs.declared.cert.Cert2.{Cert2}
 use Rattle.mls_certcheck.specs.declared.cert.Certificate.TheVariants.{One, Two}
 use Rattle.mls_certcheck.specs.Place.{Node, Plain, Branching, Looping, Place, places}
 use Rattle.mls_certcheck.specs.Lines.{Line, by, outcome_flows, write, order, rest, within_ends, stmt_lines, own_lines, lines_at, tx_lines, all_places, lines}
-use Rattle.mls_certcheck.specs.Rules.{Claim, claim, hi, after, pc, slot_label, source_label, IsOver, Holds}
+use Rattle.mls_certcheck.specs.Rules.{Claim, claim, hi, after, pc, slot_label, source_label, IsAbove, IsObeyed}
 use Rattle.mls_certcheck.specs.Laws.{IsLift, FlatCertificatesLift}
 use Rattle.mls_certcheck.specs.declared.flow.Slot.{Slot}
 use Rattle.mls_certcheck.specs.declared.flow.Slot.TheVariants.{Variable, Statement}
@@ -158,13 +158,13 @@ module _ (policy : Policy) (tx : Tx) (one : Cert) (two : Cert2) (lift : IsLift o
   source_under (Parameter i) = Dominates-refl _
   source_under (Declared label) = Dominates-refl _
 
-  over_lifts : (p q : Pair) (ss : List Source) → q ≡ p → IsOver k p ss → IsOver j q ss
+  over_lifts : (p q : Pair) (ss : List Source) → q ≡ p → IsAbove k p ss → IsAbove j q ss
   over_lifts p q ss e h =
-      subst (λ r. IsOver j r ss) (sym e) (all_if (λ s. Dominates p (source_label k s)) (λ s. Dominates p (source_label j s)) (λ s d. Dominates-trans p (source_label k s) (source_label j s) d (source_under s)) ss h)
+      subst (λ r. IsAbove j r ss) (sym e) (all_if (λ s. Dominates p (source_label k s)) (λ s. Dominates p (source_label j s)) (λ s d. Dominates-trans p (source_label k s) (source_label j s) d (source_under s)) ss h)
 
-  flow_lifts : (f : Flow) → Bounds (length two.rows) f → Holds k f → Holds j f
+  flow_lifts : (f : Flow) → Bounds (length two.rows) f → IsObeyed k f → IsObeyed j f
   flow_lifts (Into ts ss) is h =
-      all_zip (IsAfter (length two.rows)) (λ t. IsOver k (slot_label k t) ss) (λ t. IsOver j (slot_label j t) ss) (λ t at g. over_lifts (slot_label k t) (slot_label j t) ss (slot_same t at) g) ts is h
+      all_zip (IsAfter (length two.rows)) (λ t. IsAbove k (slot_label k t) ss) (λ t. IsAbove j (slot_label j t) ss) (λ t at g. over_lifts (slot_label k t) (slot_label j t) ss (slot_same t at) g) ts is h
   flow_lifts (Kept m n but) is h = λ x lt other. subst (λ p. Dominates p (after j m x)) (sym (after_same n x is)) (Dominates-trans _ _ _ (h x lt other) (after_under m x))
   flow_lifts (Within limit ss) is h = over_lifts (label_of k.labels limit) (label_of k.labels limit) ss refl h
   flow_lifts (Under ss) is h = over_lifts (hi k) (hi k) ss refl h
@@ -178,5 +178,5 @@ lift_rules policy tx one two lift rules =
     record {
       var_count = all_if (λ row. row ≡ one.var_labels) (λ row. length row ≡ length tx.vars) (λ row e. ap length e ∙ rules.var_count.0) two.rows lift.rows;
       stmt_count = (rows, pcs);
-      lines = all_zip (BoundsOf (length two.rows)) (λ l. Holds k l.flow) (λ l. Holds j l.flow) (λ l. flow_lifts policy tx one two lift l.flow) (lines tx) (lines_bound (length two.rows) tx (sym rows)) rules.lines;
+      lines = all_zip (BoundsOf (length two.rows)) (λ l. IsObeyed k l.flow) (λ l. IsObeyed j l.flow) (λ l. flow_lifts policy tx one two lift l.flow) (lines tx) (lines_bound (length two.rows) tx (sym rows)) rules.lines;
     }

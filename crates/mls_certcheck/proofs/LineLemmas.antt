@@ -8,7 +8,7 @@ use Rattle.mls_translang.specs.Tree.{Expr, Known, Null, Var, Param, Field, No, O
 use Rattle.mls_certcheck.specs.Place.{Node, Plain, Place, directs, last, branching, looping}
 use Rattle.mls_scheme.specs.Writes.{operands}
 use Rattle.mls_certcheck.specs.Lines.{names, target, stmt_lines, rest, lines_at, tx_lines, all_places}
-use Rattle.mls_certcheck.specs.Rules.{Claim, hi, after, pc, param_label, source_label, IsOver, Holds, Rules}
+use Rattle.mls_certcheck.specs.Rules.{Claim, hi, after, pc, param_label, source_label, IsAbove, IsObeyed, Rules}
 use Rattle.mls_certcheck.specs.declared.flow.Slot.TheVariants.{Statement}
 use Rattle.mls_certcheck.specs.declared.flow.Source.{Source}
 use Rattle.mls_certcheck.specs.declared.flow.Source.TheVariants.{Held, Declared}
@@ -27,7 +27,7 @@ module _ (c : Claim) where
   lab b rows (No e) = lab b rows e
   lab b rows (Op op left right) = join (lab b rows left) (lab b rows right)
 
-  over_names : (b : ℕ) (rows : List ℕ) (e : Expr) (p : Pair) → IsOver c p (names b rows e) → Dominates p (lab b rows e)
+  over_names : (b : ℕ) (rows : List ℕ) (e : Expr) (p : Pair) → IsAbove c p (names b rows e) → Dominates p (lab b rows e)
   over_names b rows (Known v) p h = above_bottom p
   over_names b rows Null p h = above_bottom p
   over_names b rows (No e) p h = over_names b rows e p h
@@ -41,15 +41,15 @@ module _ (c : Claim) where
   abbrev pub Keeps : ℕ → ℕ → Type 0
   Keeps m n = (x : ℕ) → x < length c.tx.vars → Dominates (after c n x) (after c m x)
 
-  keeps : (m n : ℕ) → Holds c (Kept m n None) → Keeps m n
+  keeps : (m n : ℕ) → IsObeyed c (Kept m n None) → Keeps m n
   keeps m n h x lt = h x lt (λ e. absurd cc)
 
   -- the lines of a statement hold
   abbrev pub Obeys : Place → Type 0
-  Obeys p = AllByRecursion (λ l. Holds c l.flow) (lines_at (length c.tx.vars) p)
+  Obeys p = AllByRecursion (λ l. IsObeyed c l.flow) (lines_at (length c.tx.vars) p)
 
   -- a pair that is under the labels of statements inside
-  body_over : (sources : List Source) (l : Pair) → ((p : Pair) → IsOver c p sources → Dominates p l) → (inner : List ℕ) → Holds c (Into (map (λ m. Statement m) inner) sources) → AllByRecursion (λ m. Dominates (pc c m) l) inner
+  body_over : (sources : List Source) (l : Pair) → ((p : Pair) → IsAbove c p sources → Dominates p l) → (inner : List ℕ) → IsObeyed c (Into (map (λ m. Statement m) inner) sources) → AllByRecursion (λ m. Dominates (pc c m) l) inner
   body_over sources l f [] h = tt
   body_over sources l f (m ∷ ms) h = (f (pc c m) h.0, body_over sources l f ms h.1)
 
@@ -58,14 +58,14 @@ module _ (c : Claim) where
     ObeysAt node = Obeys (record { number = n; around = a; before = b; rows = rows; node = node })
 
     -- that the statement runs, and an expression
-    both_over : (e : Expr) (p : Pair) → IsOver c p (Held (Statement n) ∷ names b rows e) → Dominates p (join (pc c n) (lab b rows e))
+    both_over : (e : Expr) (p : Pair) → IsAbove c p (Held (Statement n) ∷ names b rows e) → Dominates p (join (pc c n) (lab b rows e))
     both_over e p h = join-least (pc c n) (lab b rows e) p h.0 (over_names b rows e p h.1)
 
     pub runs_in : (node : Node) → ObeysAt node → Dominates (pc c n) (pc c a)
     runs_in node h = h.1.0.0.0
 
-    pub rests : (stmt : Stmt) → ObeysAt (Plain stmt) → Holds c (Kept b n (target stmt))
-    rests stmt h = (all_back (λ l. Holds c l.flow) (stmt_lines n b rows stmt) (rest n b stmt) h.1.1).0
+    pub rests : (stmt : Stmt) → ObeysAt (Plain stmt) → IsObeyed c (Kept b n (target stmt))
+    rests stmt h = (all_back (λ l. IsObeyed c l.flow) (stmt_lines n b rows stmt) (rest n b stmt) h.1.1).0
 
     pub assigned : (x : ℕ) (e : Expr) → ObeysAt (Plain (Assign x e)) → Dominates (after c n x) (join (pc c n) (lab b rows e))
     assigned x e h = both_over e (after c n x) h.1.1.0.0
@@ -77,7 +77,7 @@ module _ (c : Claim) where
       pub write_operands : (outcome : Option ℕ) → ObeysAt (Plain (Write_at relation w writing outcome)) → AllByRecursion (λ e. Dominates (label_of c.labels w) (lab b rows e)) (operands writing)
       write_operands outcome h =
           let l = label_of c.labels w in
-          all_if (λ e. IsOver c l (names b rows e)) (λ e. Dominates l (lab b rows e)) (λ e. over_names b rows e l) (operands writing)
+          all_if (λ e. IsAbove c l (names b rows e)) (λ e. Dominates l (lab b rows e)) (λ e. over_names b rows e l) (operands writing)
           (flat_each (λ s. Dominates l (source_label c s)) (names b rows) (operands writing) h.1.1.0.1)
 
       pub write_into : (outcome : Option ℕ) → ObeysAt (Plain (Write_at relation w writing outcome)) → IfSome outcome (λ x. Dominates (after c n x) (label_of c.labels w))
@@ -124,4 +124,4 @@ module _ (c : Claim) where
   -- the rules hold at each statement
   pub rules_everywhere : Rules c → AllByRecursion Obeys (all_places c.tx)
   rules_everywhere r =
-      flat_each (λ l. Holds c l.flow) (lines_at (length c.tx.vars)) (all_places c.tx) (all_back (λ l. Holds c l.flow) (tx_lines c.tx) (flat_map (lines_at (length c.tx.vars)) (all_places c.tx)) r.lines)
+      flat_each (λ l. IsObeyed c l.flow) (lines_at (length c.tx.vars)) (all_places c.tx) (all_back (λ l. IsObeyed c l.flow) (tx_lines c.tx) (flat_map (lines_at (length c.tx.vars)) (all_places c.tx)) r.lines)

@@ -10,7 +10,7 @@ use Rattle.mls_translang.specs.Tree.{statements}
 use Rattle.mls_certcheck.specs.declared.cert.Certificate.{Certificate}
 use Rattle.mls_certcheck.specs.declared.cert.Certificate.TheVariants.{One, Two}
 use Rattle.mls_certcheck.specs.Lines.{Line, lines}
-use Rattle.mls_certcheck.specs.Rules.{Claim, hi, after, slot_label, source_label, var_rows, Counts, IsOver, Holds, Rules}
+use Rattle.mls_certcheck.specs.Rules.{Claim, hi, after, slot_label, source_label, var_rows, Counts, IsAbove, IsObeyed, Rules}
 use Rattle.mls_certcheck.specs.Checks.{all_below, counts, is_target, is_over, holds, verdict, unless, count_verdict, First}
 use Rattle.mls_certcheck.specs.declared.flow.Source.{Source}
 use Rattle.mls_certcheck.specs.declared.flow.Flow.{Flow}
@@ -82,14 +82,14 @@ then_ok (Ok u) s h = (refl, h)
 then_ok (Err e) s h = absurd cc
 
 module _ (c : Claim) where
-  pub over_to : (p : Pair) (ss : List Source) → is_over c p ss ≡ true → IsOver c p ss
+  pub over_to : (p : Pair) (ss : List Source) → is_over c p ss ≡ true → IsAbove c p ss
   over_to p ss h = each_true (λ s. source_label c s ⊑ p) (λ s. Dominates p (source_label c s)) (λ s. ⊑-Dominates (source_label c s) p) ss h
 
-  pub to_over : (p : Pair) (ss : List Source) → IsOver c p ss → is_over c p ss ≡ true
+  pub to_over : (p : Pair) (ss : List Source) → IsAbove c p ss → is_over c p ss ≡ true
   to_over p ss h = true_each (λ s. source_label c s ⊑ p) (λ s. Dominates p (source_label c s)) (λ s. Dominates-⊑ (source_label c s) p) ss h
 
-  holds_to : (f : Flow) → holds c f ≡ true → Holds c f
-  holds_to (Into ts ss) h = each_true (λ t. is_over c (slot_label c t) ss) (λ t. IsOver c (slot_label c t) ss) (λ t. over_to (slot_label c t) ss) ts h
+  holds_to : (f : Flow) → holds c f ≡ true → IsObeyed c f
+  holds_to (Into ts ss) h = each_true (λ t. is_over c (slot_label c t) ss) (λ t. IsAbove c (slot_label c t) ss) (λ t. over_to (slot_label c t) ss) ts h
   holds_to (Kept m n but) h = λ x lt other.
       elim (or_parts _ _ (below_true (length c.tx.vars) (λ x. is_target but x || after c m x ⊑ after c n x) h x lt)) [
         | inl is ↦ absurd (other (target_is but x is))
@@ -98,8 +98,8 @@ module _ (c : Claim) where
   holds_to (Within limit ss) h = over_to (label_of c.labels limit) ss h
   holds_to (Under ss) h = over_to (hi c) ss h
 
-  to_holds : (f : Flow) → Holds c f → holds c f ≡ true
-  to_holds (Into ts ss) h = true_each (λ t. is_over c (slot_label c t) ss) (λ t. IsOver c (slot_label c t) ss) (λ t. to_over (slot_label c t) ss) ts h
+  to_holds : (f : Flow) → IsObeyed c f → holds c f ≡ true
+  to_holds (Into ts ss) h = true_each (λ t. is_over c (slot_label c t) ss) (λ t. IsAbove c (slot_label c t) ss) (λ t. to_over (slot_label c t) ss) ts h
   to_holds (Kept m n but) h = true_below (length c.tx.vars) (λ x. is_target but x || after c m x ⊑ after c n x)
       (λ x lt. elim (cases_Bool (is_target but x)) [
         | inl is ↦ or_left _ _ is
@@ -108,16 +108,16 @@ module _ (c : Claim) where
   to_holds (Within limit ss) h = to_over (label_of c.labels limit) ss h
   to_holds (Under ss) h = to_over (hi c) ss h
 
-  lines_to : (ls : List Line) → verdict c ls ≡ Ok tt → AllByRecursion (λ l. Holds c l.flow) ls
+  lines_to : (ls : List Line) → verdict c ls ≡ Ok tt → AllByRecursion (λ l. IsObeyed c l.flow) ls
   lines_to [] h = tt
   lines_to (l ∷ ls) h =
-      let more : verdict c ls ≡ Ok tt → AllByRecursion (λ l. Holds c l.flow) ls = lines_to ls in
-      elim (holds c l.flow) as (λ b. holds c l.flow ≡ b → cond b (verdict c ls) (Err l.refusal) ≡ Ok tt → Holds c l.flow × AllByRecursion (λ l. Holds c l.flow) ls) [
+      let more : verdict c ls ≡ Ok tt → AllByRecursion (λ l. IsObeyed c l.flow) ls = lines_to ls in
+      elim (holds c l.flow) as (λ b. holds c l.flow ≡ b → cond b (verdict c ls) (Err l.refusal) ≡ Ok tt → IsObeyed c l.flow × AllByRecursion (λ l. IsObeyed c l.flow) ls) [
         | true ↦ λ e k. (holds_to l.flow e, more k)
         | false ↦ λ e k. absurd cc
       ] refl h
 
-  to_lines : (ls : List Line) → AllByRecursion (λ l. Holds c l.flow) ls → verdict c ls ≡ Ok tt
+  to_lines : (ls : List Line) → AllByRecursion (λ l. IsObeyed c l.flow) ls → verdict c ls ≡ Ok tt
   to_lines [] h = refl
   to_lines (l ∷ ls) h = rw (to_holds l.flow h.0) (to_lines ls h.1)
 

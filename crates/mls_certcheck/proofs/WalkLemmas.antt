@@ -7,6 +7,7 @@ use Rattle.mls_translang.specs.Tx.{Tx, depth}
 use Rattle.mls_translang.specs.Blocks.{block_of}
 use Rattle.mls_translang.specs.declared.block.Stmt.{Stmt}
 use Rattle.mls_translang.specs.declared.block.Stmt.TheVariants as stmt
+use Rattle.mls_translang.proofs.BlockLemmas.{statements_more}
 use Rattle.mls_certcheck.specs.Place.{Place, Plain, branching, looping, last, places}
 use Rattle.mls_certcheck.specs.Lines.{Line, lines_at, body_lines}
 use Rattle.mls_certcheck.specs.Loops.{loops_of}

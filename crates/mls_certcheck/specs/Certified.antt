@@ -4,7 +4,7 @@ use Rattle.std.proofs.Props.{props}
 use Rattle.mls_lattice.specs.Lattice.{Pair, Dominates}
 use Rattle.mls_certcheck.specs.declared.cert.Certificate.{Certificate}
 use Rattle.mls_certcheck.specs.declared.cert.Certificate.TheVariants.{One, Two}
-use Rattle.mls_certcheck.specs.Rules.{Claim, Holds, Rules, Counts}
+use Rattle.mls_certcheck.specs.Rules.{Claim, IsObeyed, Rules, Counts}
 use Rattle.mls_certcheck.specs.declared.flow.Flow.{Flow}
 use Rattle.mls_certcheck.specs.declared.flow.Flow.TheVariants.{Into, Kept, Within, Under}
 
@@ -15,7 +15,7 @@ counts-prop : (n : ℕ) (cert : Certificate) → IsProp (Counts n cert)
 counts-prop n (One cert) = hlevel props
 counts-prop n (Two cert) = hlevel props
 
-holds-prop : (c : Claim) (flow : Flow) → IsProp (Holds c flow)
+holds-prop : (c : Claim) (flow : Flow) → IsProp (IsObeyed c flow)
 holds-prop c (Into targets sources) = hlevel (props, Dominates-prop)
 holds-prop c (Kept m n but) = hlevel (props, Dominates-prop)
 holds-prop c (Within limit sources) = hlevel (props, Dominates-prop)

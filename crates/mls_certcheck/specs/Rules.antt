@@ -76,20 +76,20 @@ module _ (c : Claim) where
   -- ---- what may flow
 
   -- a pair dominates the label of each source
-  abbrev pub IsOver : Pair → List Source → Type 0
-  IsOver p sources = AllByRecursion (λ s. Dominates p (source_label s)) sources
+  abbrev pub IsAbove : Pair → List Source → Type 0
+  IsAbove p sources = AllByRecursion (λ s. Dominates p (source_label s)) sources
 
-  abbrev pub Holds : Flow → Type 0
-  Holds (Into targets sources) = AllByRecursion (λ t. IsOver (slot_label t) sources) targets
-  Holds (Kept m n but) = (x : ℕ) → x < length c.tx.vars → (but ≡ Some x → ⊥) → Dominates (after n x) (after m x)
-  Holds (Within limit sources) = IsOver (label_of c.labels limit) sources
-  Holds (Under sources) = IsOver hi sources
+  abbrev pub IsObeyed : Flow → Type 0
+  IsObeyed (Into targets sources) = AllByRecursion (λ t. IsAbove (slot_label t) sources) targets
+  IsObeyed (Kept m n but) = (x : ℕ) → x < length c.tx.vars → (but ≡ Some x → ⊥) → Dominates (after n x) (after m x)
+  IsObeyed (Within limit sources) = IsAbove (label_of c.labels limit) sources
+  IsObeyed (Under sources) = IsAbove hi sources
 
   -- as many labels as it takes, and every line holds
   pub record Rules : Type 0 where
     pub var_count : AllByRecursion (λ row. length row ≡ length c.tx.vars) (var_rows c.cert)
     pub stmt_count : Counts (statements c.tx.body) c.cert
-    pub lines : AllByRecursion (λ line. Holds line.flow) (lines c.tx)
+    pub lines : AllByRecursion (λ line. IsObeyed line.flow) (lines c.tx)
 
 -- a transaction and its certificate, under a policy
 abbrev pub claim : Policy → Tx → Certificate → Claim

@@ -1,5 +1,5 @@
 -- Stored transactions: with a certificate, or without one.
-use Rattle.std.specs.Prelude.{◌≡◌, ⊤}
+use Rattle.std.specs.Prelude.{⊤}
 use Rattle.mls_lattice.specs.Policy.{Policy}
 use Rattle.mls_translang.specs.Tx.{Tx}
 use Rattle.mls_certcheck.specs.Rules.{Rules, claim}
@@ -19,8 +19,3 @@ WhereCertified P (Plain tx) = ⊤
 abbrev pub IsCertifiedUnder : Policy → Stored → Type 0
 IsCertifiedUnder policy (Certified k) = Rules (claim policy k.tx k.cert)
 IsCertifiedUnder policy (Plain tx) = ⊤
-
--- where it has a certificate, it was checked under the policy
-abbrev pub IsMadeUnder : Policy → Stored → Type 0
-IsMadeUnder policy (Certified k) = k.policy.value ≡ policy
-IsMadeUnder policy (Plain tx) = ⊤

@@ -32,25 +32,17 @@ pub enum Rule {
     AboveCeiling,
 }
 
+/// The short names of the rules, in their order.
+static TEXTS: [&str; 12] = [
+    "F1", "F2", "F3", "F4", "F5", "F6", "F7", "F8", "F9", "42", "43", "44",
+];
+
 impl Rule {
     /// The short name of the rule.
     pub fn text(self) -> &'static str
         ensures { result.now ≡ text_of self }
     {
-        match self {
-            Rule::Assignment => "F1",
-            Rule::Branch => "F2",
-            Rule::RowLoop => "F3",
-            Rule::Write => "F4",
-            Rule::Order => "F5",
-            Rule::Release => "F6",
-            Rule::Emit => "F7",
-            Rule::Context => "F8",
-            Rule::Rest => "F9",
-            Rule::VarCount => "42",
-            Rule::StmtCount => "43",
-            Rule::AboveCeiling => "44",
-        }
+        TEXTS[self as usize]
     }
 }
 

@@ -28,7 +28,7 @@ use Rattle.mls_runs.specs.ShellRun.{IsShellRun, IsShellRefused}
 use Rattle.mls_runs.specs.DeskRun.{IsDeskRun}
 use Rattle.mls_command.specs.Acting.{Prints, IsRunDeed, IsTaskRefused, IsTaskDeed, IsDeedOf}
 use Rattle.mls_command.specs.Accounting.{Accounts, IsUnread, IsAccountOf}
-use Rattle.mls_command.specs.Answering.{IsFinished, IsNoted, Answers, asked, IsAnsweredAs, IsOutcomeOf, not_asked}
+use Rattle.mls_command.specs.Answering.{IsFinished, IsNoted, AnswersWords, asked, IsAnsweredAs, IsOutcomeOf, not_asked}
 use Rattle.mls_command.specs.Explained.{explained_of}
 
 -- ---- tasks
@@ -170,7 +170,7 @@ module _ (h : Hosted) (wrote told more : List ℕ → Type 0) (f : (text : List 
       status_is = x.status_is;
     }
 
-    answers_told : (Does : Job → Deed → Type 0) → ((job : Job) → Retells (Does job)) → (words : List Text) → Answers h Does words wrote told status → Answers h Does words wrote more status
+    answers_told : (Does : Job → Deed → Type 0) → ((job : Job) → Retells (Does job)) → (words : List Text) → AnswersWords h Does words wrote told status → AnswersWords h Does words wrote more status
     answers_told Does retell words (asked job is finished) = asked job is (finished_told h.before.is_watched (Does job) (retell job) finished)
     answers_told Does retell words (not_asked usage nothing kept w t s) = not_asked usage nothing kept w (f (usage_text usage) t) s
 

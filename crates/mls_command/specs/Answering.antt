@@ -31,19 +31,19 @@ pub record IsNoted (h : Hosting) (words : List Text) (Then : List ℕ → Type 0
 
 module _ (h : Hosted) where
   -- the words ask for a job, which is done or given up; or for none, and each store keeps what it kept
-  pub data Answers (Does : Job → Deed → Type 0) (words : List Text) (wrote told : List ℕ → Type 0)
+  pub data AnswersWords (Does : Job → Deed → Type 0) (words : List Text) (wrote told : List ℕ → Type 0)
       (status : ℕ) : Type 0 where
     asked : (job : Job) → Asks words job → IsFinished h.before.is_watched (Does job) wrote told status
-        → Answers Does words wrote told status
+        → AnswersWords Does words wrote told status
     not_asked : (usage : Usage) → AskNothing words usage → KeepsStores h → wrote [] → told (usage_text usage)
-        → status ≡ usage_status usage → Answers Does words wrote told status
+        → status ≡ usage_status usage → AnswersWords Does words wrote told status
 
   -- the command does what it says; where another one is explained, what is told of the inputs of that, and stores are
   -- left
   abbrev pub IsAnsweredAs : Option (List Text) → List Text → (wrote told : List ℕ → Type 0) → ℕ → Type 0
-  IsAnsweredAs None words wrote told status = Answers (IsDeedOf h) words wrote told status
+  IsAnsweredAs None words wrote told status = AnswersWords (IsDeedOf h) words wrote told status
   IsAnsweredAs (Some other) words wrote told status =
-      KeepsStores h × Answers (IsAccountOf h.before) other wrote told status
+      KeepsStores h × AnswersWords (IsAccountOf h.before) other wrote told status
 
   abbrev pub IsOutcomeOf : List Text → (wrote told : List ℕ → Type 0) → ℕ → Type 0
   IsOutcomeOf words wrote told status =

@@ -6,7 +6,7 @@ use Rattle.mls_filterview.specs.Content.{Seen}
 use Rattle.mls_lattice.specs.Policy.{Policy}
 use Rattle.mls_scheme.specs.declared.file.SchemesFile.{SchemesFile}
 use Rattle.mls_tables.specs.Store.{IsClean}
-use Rattle.mls_fragments.specs.Based.{BaseState}
+use Rattle.mls_fragments.specs.Based.{BaseState, state_of}
 use Rattle.mls_fragments.specs.Again.{FindsHoldings}
 use Rattle.mls_fragments.specs.Holdings.{Holdings}
 use Rattle.mls_fragments.specs.Opening.{IsStoreOrMemory}

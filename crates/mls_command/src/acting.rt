@@ -5,7 +5,7 @@ ghost use Rattle.mls_host.specs.Reading.{FitSetting, HasUser};
 ghost use Rattle.mls_host.specs.Words.{named, texts_of};
 ghost use Rattle.mls_command.specs.Acting.{IsTaskDeed, IsDeedOf};
 ghost use Rattle.mls_command.specs.Accounting.{IsAccountOf};
-ghost use Rattle.mls_command.specs.Answering.{IsFinished, IsNoted, Answers, IsOutcomeOf};
+ghost use Rattle.mls_command.specs.Answering.{IsFinished, IsNoted, AnswersWords, IsOutcomeOf};
 
 use crate::accounting::finish_account;
 use crate::certifying::certified;
@@ -122,7 +122,7 @@ fn answer<H: Host, W: Write, E: Write>(
     out: &mut W,
     err: &mut Errors<E>,
 ) -> u8
-    ensures { Answers (hosted H.hosting H.Lines.echo host.old host.new)
+    ensures { AnswersWords (hosted H.hosting H.Lines.echo host.old host.new)
         (IsDeedOf (hosted H.hosting H.Lines.echo host.old host.new)) (texts_of words.now)
         (IsAppended W.contents out.old out.new) (IsTold E.contents err.old err.new) result }
 {
@@ -143,7 +143,7 @@ fn explain_inputs<H: Host, W: Write, E: Write>(
     out: &mut W,
     err: &mut Errors<E>,
 ) -> u8
-    ensures { Answers (hosted H.hosting H.Lines.echo host.now host.now)
+    ensures { AnswersWords (hosted H.hosting H.Lines.echo host.now host.now)
         (IsAccountOf (H.hosting host.now)) (texts_of words.now)
         (IsAppended W.contents out.old out.new) (IsTold E.contents err.old err.new) result }
 {

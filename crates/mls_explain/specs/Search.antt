@@ -1,4 +1,4 @@
--- The search back from the ends of chains, one more slot in each round.
+-- Inner: no public contract names these. The search back from the ends of chains, one more slot in each round.
 use Rattle.std.specs.Prelude.{◌≡◌, ◌⊎◌, ℕ, ◌+◌, ◌≤◌, List, [], ◌∷◌, ◌++◌, length, map, Option, Some, None, Contains}
 use Rattle.mls_lattice.specs.Policy.{Policy}
 use Rattle.mls_translang.specs.Tx.{Tx}

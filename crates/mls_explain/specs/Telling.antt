@@ -90,7 +90,7 @@ abbrev pub IsListing : List (List ℕ) → List ℕ → Type 0
 IsListing ls text =
     (parts : List (List ℕ)) × AllZip (λ line part. (n : Option ℕ) × (part ≡ shown n line)) ls parts × (text ≡ concat parts)
 
-pub record IsTold (p : Policy) (schemes : Schemes) (tx : Tx) (labelling : Labelling) (text : List ℕ) : Type 0 where
+pub record TellsLabelling (p : Policy) (schemes : Schemes) (tx : Tx) (labelling : Labelling) (text : List ℕ) : Type 0 where
   pub listing : List ℕ
   pub lists : IsListing (lines (utf8_lossy (printed p schemes tx))) listing
   pub advice : List ℕ
@@ -98,4 +98,4 @@ pub record IsTold (p : Policy) (schemes : Schemes) (tx : Tx) (labelling : Labell
 
 -- what came of a transaction, and a text that tells it
 abbrev pub IsExplanation : Policy → Schemes → Tx → Explained → Type 0
-IsExplanation p schemes tx e = IsLabelling p tx e.labelling × IsTold p schemes tx e.labelling (string_bytes e.text)
+IsExplanation p schemes tx e = IsLabelling p tx e.labelling × TellsLabelling p schemes tx e.labelling (string_bytes e.text)

@@ -1,7 +1,7 @@
 //! What is told of a transaction.
 ghost use Rattle.std.specs.Prelude.{string_bytes, IfOk};
 ghost use Rattle.mls_translang.specs.Fits.{IsReadUnder};
-ghost use Rattle.mls_explain.specs.Telling.{IsTold, IsExplanation};
+ghost use Rattle.mls_explain.specs.Telling.{TellsLabelling, IsExplanation};
 
 use crate::labelling::{Labelling, labelling_of};
 use crate::numbering::numbered;
@@ -28,7 +28,7 @@ fn text_of(
     labelling: &Labelling,
 ) -> Result<String, AllocError>
     requires { IsReadUnder policy.now schemes.now tx.now }
-    ensures { IfOk result (λ s. IsTold policy.now schemes.now tx.now labelling.now (string_bytes s)) }
+    ensures { IfOk result (λ s. TellsLabelling policy.now schemes.now tx.now labelling.now (string_bytes s)) }
 {
     let printed = print(alloc, policy, schemes, tx)?;
     let printed = String::from_utf8_lossy(alloc, &printed)?;

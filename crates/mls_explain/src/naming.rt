@@ -4,6 +4,7 @@ ghost use Rattle.std.specs.Prelude.{◌≡◌, string_bytes, IfOk};
 ghost use Rattle.mls_lattice.specs.Lattice.{pair_of};
 ghost use Rattle.mls_explain.specs.Telling.{is_named, names_of, words_of};
 
+use mls_certcheck::flows;
 use mls_lattice::{Label, LabelNo, Policy};
 use std::alloc::{AllocError, Global};
 
@@ -14,7 +15,7 @@ fn is_named(exact: bool, label: Label, declared: Label) -> bool
     if exact {
         label.same(declared)
     } else {
-        label.dominates(declared)
+        flows(declared, label)
     }
 }
 

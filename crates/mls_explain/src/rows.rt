@@ -47,6 +47,7 @@ fn tell_tuple(
     rows: &AllRows,
 ) -> Told {
     let mut at = Where::start();
+    names.schemes.use_invariant();
     let count = names.schemes.count();
     let Ok(tables) = tables_of(names.alloc, count, &rows.nodes, &rows.cells, &mut at) else {
         return Err(AllocError);

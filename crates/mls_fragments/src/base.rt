@@ -172,7 +172,11 @@ impl<S: Alter> Base for SqlBase<S> {
         settle!(self, found => found, read_entity(&mut self.store, self.alloc, relation, place))
     }
 
-    fn pattern(&mut self, relation: RelNo, place: &Place) -> Result<Option<Items<LabelNo>>, BaseFault> {
+    fn pattern(
+        &mut self,
+        relation: RelNo,
+        place: &Place,
+    ) -> Result<Option<Items<LabelNo>>, BaseFault> {
         settle!(self, found => found, read_pattern(&mut self.store, self.alloc, relation, place))
     }
 

@@ -12,8 +12,8 @@ ghost use Rattle.mls_fragments.specs.Parts.{Part, before, AreNodesInOrder, AreCe
 ghost use Rattle.mls_fragments.specs.Parts.{IsJudged, rows_in};
 
 use crate::design::Design;
+use crate::ghost_content::GhostContent;
 use crate::noted::Noted;
-use crate::recalled::GhostContent;
 use mls_lattice::Items;
 use mls_rows::{RowFault, Where, entries_of, find};
 use mls_tables::{AllRows, CellRow, NodeRow};

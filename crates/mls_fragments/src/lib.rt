@@ -5,6 +5,7 @@ mod again;
 mod base;
 mod connecting;
 mod design;
+mod ghost_content;
 mod in_memory;
 mod judging;
 mod laws;
@@ -14,7 +15,6 @@ mod migrating;
 mod noted;
 mod open_fault;
 mod opening;
-mod recalled;
 mod refusing;
 
 pub use base::SqlBase;

@@ -3,7 +3,7 @@ ghost use Rattle.std.specs.Prelude.{◌≡◌, pos, [], ◌∷◌, map};
 ghost use Rattle.mls_fragments.specs.Based.{fault_of};
 ghost use Rattle.mls_rows.specs.Changes.Change.{Finds, Appends, Clears};
 
-use crate::recalled::GhostContent;
+use crate::ghost_content::GhostContent;
 use mls_filterview::BaseFault;
 use mls_rows::Found;
 use mls_tables::StoreFault;

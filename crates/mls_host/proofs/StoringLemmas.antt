@@ -13,9 +13,9 @@ use Rattle.mls_certcheck.specs.declared.refusal.Refusal.{Refusal}
 use Rattle.mls_certcheck.proofs.RulesLemmas.{first_from_rules}
 use Rattle.mls_certcheck.specs.declared.stored.Stored.{Stored}
 use Rattle.mls_certcheck.specs.declared.stored.Stored.TheVariants.{Certified, Plain}
-use Rattle.mls_certcheck.specs.Stored.{tx_of, IsMadeUnder}
+use Rattle.mls_certcheck.specs.Stored.{tx_of}
 use Rattle.mls_certcheck.specs.Site.{AreRead, AreCertified}
-use Rattle.mls_certcheck.proofs.StoredLemmas.{made_certified}
+use Rattle.mls_certcheck.proofs.StoredLemmas.{IsMadeUnder, made_certified}
 use Rattle.mls_host.specs.Storing.{IsStoredWith, AreStoredWith, cert_named}
 
 -- what is refused breaks a rule

@@ -1,4 +1,4 @@
--- Commands of a command line that are built step by step.
+-- Inner: no public contract names these. Commands of a command line that are built step by step.
 use Rattle.std.specs.Prelude.{◌≡◌, false, Result, IfOk}
 use Rattle.std.specs.declared.alloc.AllocError.{AllocError}
 use Rattle.clap.specs.Words.{App, app_of}

@@ -78,7 +78,7 @@ module _ (h : Hosted) where
   IsKeptAt (Some path) left = (row : MetaRow) × h.after.keeps path (holdings_of row left)
 
   -- what leads from one content to another, under a policy and schemes, is done over a store
-  pub record IsOver (policy : Policy) (file : SchemesFile) (store : Option (List ℕ))
+  pub record LeadsOverStore (policy : Policy) (file : SchemesFile) (store : Option (List ℕ))
       (Leads : Content → Content → Type 0) : Type 0 where
     pub first : Content
     pub left : Content

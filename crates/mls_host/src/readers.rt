@@ -80,7 +80,7 @@ pub(crate) fn read_certificates(
 }
 
 /// The events of a script under a policy and schemes.
-pub fn read_script(
+pub(crate) fn read_script(
     alloc: Global,
     policy: &Policy,
     schemes: &Schemes,

@@ -19,7 +19,7 @@ pub enum Usage {
 }
 
 /// Writes the line that tells want of memory.
-pub fn tell_memory<W: Write>(err: &mut W) -> Result<(), WriteFault<W>>
+pub(crate) fn tell_memory<W: Write>(err: &mut W) -> Result<(), WriteFault<W>>
     ensures { OnOk result (Appends (W.contents err.old) (W.contents err.new) memory_text) }
 {
     write_bytes(err, b"mldb: memory\n")

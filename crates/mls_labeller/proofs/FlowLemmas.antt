@@ -8,7 +8,7 @@ use Rattle.mls_translang.specs.Tx.{Tx}
 use Rattle.mls_certcheck.specs.declared.cert.Certificate.{Certificate}
 use Rattle.mls_certcheck.specs.declared.flow.Line.{Line}
 use Rattle.mls_certcheck.specs.Lines.{by, within_ends, tx_lines, lines}
-use Rattle.mls_certcheck.specs.Rules.{Claim, Rules, hi, source_label, IsOver, Holds}
+use Rattle.mls_certcheck.specs.Rules.{Claim, Rules, hi, source_label, IsAbove, IsObeyed}
 use Rattle.mls_certcheck.specs.declared.flow.Source.{Source}
 use Rattle.mls_certcheck.specs.declared.flow.Source.TheVariants.{Held, Parameter, Declared}
 use Rattle.mls_certcheck.specs.declared.flow.Flow.{Flow}
@@ -25,7 +25,7 @@ module _ (c : Claim) where
   abbrev Bounded : Line → Type 0
   Bounded line = IsBounded c line.flow
 
-  is_bounded : (f : Flow) → Holds c f → IsBounded c f
+  is_bounded : (f : Flow) → IsObeyed c f → IsBounded c f
   is_bounded (Into ts ss) h = h
   is_bounded (Kept m n but) h = h
   is_bounded (Within limit ss) h = tt
@@ -35,7 +35,7 @@ module _ (c : Claim) where
   rules_meet r = record {
     var_count = r.var_count;
     stmt_count = r.stmt_count;
-    bounds = all_if (λ line. Holds c line.flow) Bounded (λ line. is_bounded line.flow) (lines c.tx) r.lines;
+    bounds = all_if (λ line. IsObeyed c line.flow) Bounded (λ line. is_bounded line.flow) (lines c.tx) r.lines;
   }
 
   -- those of the transaction itself raise none
@@ -64,10 +64,10 @@ module _ (ls : Labels) (tx : Tx) (x y : Certificate) where
     source_falls (Parameter i) = Dominates-refl _
     source_falls (Declared label) = Dominates-refl _
 
-    pub over_falls : (p : Pair) (ss : List Source) → IsOver cy p ss → IsOver cx p ss
+    pub over_falls : (p : Pair) (ss : List Source) → IsAbove cy p ss → IsAbove cx p ss
     over_falls p ss h = all_if (λ s. Dominates p (source_label cy s)) (λ s. Dominates p (source_label cx s)) (λ s d. Dominates-trans p (source_label cy s) (source_label cx s) d (source_falls s)) ss h
 
-    flow_falls : (f : Flow) → IsBounded cx f → Holds cy f → Holds cx f
+    flow_falls : (f : Flow) → IsBounded cx f → IsObeyed cy f → IsObeyed cx f
     flow_falls (Into ts ss) h g = h
     flow_falls (Kept m n but) h g = h
     flow_falls (Within limit ss) h g = over_falls (label_of ls limit) ss g
@@ -77,5 +77,5 @@ module _ (ls : Labels) (tx : Tx) (x y : Certificate) where
     lesser_obey m r = record {
       var_count = m.var_count;
       stmt_count = m.stmt_count;
-      lines = all_zip (λ line. IsBounded cx line.flow) (λ line. Holds cy line.flow) (λ line. Holds cx line.flow) (λ line. flow_falls line.flow) (lines tx) m.bounds r.lines;
+      lines = all_zip (λ line. IsBounded cx line.flow) (λ line. IsObeyed cy line.flow) (λ line. IsObeyed cx line.flow) (λ line. flow_falls line.flow) (lines tx) m.bounds r.lines;
     }

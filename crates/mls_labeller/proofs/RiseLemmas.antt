@@ -5,7 +5,7 @@ use Rattle.mls_lattice.specs.declared.label.Label.{Label}
 use Rattle.mls_lattice.specs.Lattice.{Pair, Dominates, join, bottom, pair_of}
 use Rattle.mls_lattice.specs.Policy.{labels_of}
 use Rattle.mls_lattice.proofs.LatticeLemmas.{⊑-Dominates, Dominates-⊑, join-least}
-use Rattle.mls_certcheck.specs.Rules.{Claim, claim, slot_label, IsOver}
+use Rattle.mls_certcheck.specs.Rules.{Claim, claim, slot_label, IsAbove}
 use Rattle.mls_certcheck.specs.Walk.{IsJoin}
 use Rattle.mls_certcheck.specs.declared.flow.Slot.{Slot}
 use Rattle.mls_certcheck.specs.declared.flow.Source.{Source}
@@ -21,10 +21,10 @@ use Rattle.mls_labeller.proofs.RowLemmas.{is_of, has_rows, var_counts, stmt_coun
 
 -- ---- just the pairs over sources dominate their join
 
-join_over : (c : Claim) (ss : List Source) (p q : Pair) → IsJoin c ss p → Dominates q p → IsOver c q ss
+join_over : (c : Claim) (ss : List Source) (p q : Pair) → IsJoin c ss p → Dominates q p → IsAbove c q ss
 join_over c ss p q j h = over_to c q ss (sym (j.flows q) ∙ Dominates-⊑ p q h)
 
-over_join : (c : Claim) (ss : List Source) (p q : Pair) → IsJoin c ss p → IsOver c q ss → Dominates q p
+over_join : (c : Claim) (ss : List Source) (p q : Pair) → IsJoin c ss p → IsAbove c q ss → Dominates q p
 over_join c ss p q j h = ⊑-Dominates p q (j.flows q ∙ to_over c q ss h)
 
 -- ---- one step, and one more
@@ -72,13 +72,13 @@ module _ (k : Rising) where
 
   module _ (ss : List Source) (p : Pair) (x : List (List Label)) (j : IsJoin (at x) ss p) where
     -- where the sources flow to a slot, their join is due
-    pub join_due : (t : Slot) → Stands k x → IsDue k (λ c. IsOver c (slot_label c t) ss) → IsDue k (λ c. Dominates (slot_label c t) p)
+    pub join_due : (t : Slot) → Stands k x → IsDue k (λ c. IsAbove c (slot_label c t) ss) → IsDue k (λ c. Dominates (slot_label c t) p)
     join_due t stands due other m = over_join (at x) ss p (slot_label (at other) t) j (over_falls (labels_of k.labeller.policy.now) k.labeller.tx.now (certificate k.version x) (certificate k.version other) (stands.below other m) (slot_label (at other) t) ss (due other m))
 
     pub rises_pour : (ts : List Slot) (y : List (List Label)) (rose : Bool) → Rises k (λ c. AllByRecursion (λ t. Dominates (slot_label c t) p) ts) x y rose → Rises k (λ c. IsBounded c (Into ts ss)) x y rose
     rises_pour ts y rose h =
         let poured : List (List Label) → Type 0 = λ w. AllByRecursion (λ t. Dominates (slot_label (at w) t) p) ts in
-        let flows : poured x → IsBounded (at x) (Into ts ss) = all_if (λ t. Dominates (slot_label (at x) t) p) (λ t. IsOver (at x) (slot_label (at x) t) ss) (λ t. join_over (at x) ss p (slot_label (at x) t) j) ts in
+        let flows : poured x → IsBounded (at x) (Into ts ss) = all_if (λ t. Dominates (slot_label (at x) t) p) (λ t. IsAbove (at x) (slot_label (at x) t) ss) (λ t. join_over (at x) ss p (slot_label (at x) t) j) ts in
         record { stands = h.stands; still = λ e. let same = (h.still e).0 in (same, subst (λ w. poured w → IsBounded (at w) (Into ts ss)) (sym same) flows (h.still e).1); falls = h.falls }
 
   -- ---- the lowest labels

@@ -3,7 +3,7 @@ use Rattle.std.specs.Prelude.{ℕ, List, map}
 use Rattle.mls_translang.specs.Tree.{Block}
 use Rattle.mls_certcheck.specs.Place.{directs}
 pub use Rattle.mls_certcheck.specs.Lines.{body_lines}
-use Rattle.mls_certcheck.specs.Rules.{Claim, Holds}
+use Rattle.mls_certcheck.specs.Rules.{Claim, IsObeyed}
 use Rattle.mls_certcheck.specs.declared.flow.Slot.{Slot}
 use Rattle.mls_certcheck.specs.declared.flow.Slot.TheVariants.{Statement}
 use Rattle.mls_certcheck.specs.declared.flow.Flow.{Flow}
@@ -15,7 +15,7 @@ own_slots n block = map (λ m. Statement m) (directs n block)
 
 -- it holds, if it sets a bound: what flows out raises no label
 abbrev pub IsBounded : Claim → Flow → Type 0
-IsBounded c (Into targets sources) = Holds c (Into targets sources)
-IsBounded c (Kept m n but) = Holds c (Kept m n but)
+IsBounded c (Into targets sources) = IsObeyed c (Into targets sources)
+IsBounded c (Kept m n but) = IsObeyed c (Kept m n but)
 IsBounded c (Within limit sources) = Unit {0}
 IsBounded c (Under sources) = Unit {0}

@@ -25,16 +25,16 @@ IsBetween (Some b) (Int n) = Within b n
 IsBetween (Some b) (Text s) = ⊥
 
 -- a value of the range, or null where it can be
-abbrev pub Holds : Range → Option Value → Type 0
-Holds r None = r.null ≡ true
-Holds r (Some v) = IsAmong r.listed v × IsBetween r.bounds v
+abbrev pub Admits : Range → Option Value → Type 0
+Admits r None = r.null ≡ true
+Admits r (Some v) = IsAmong r.listed v × IsBetween r.bounds v
 
 abbrev pub any_value : Range
 any_value = record { null = true; listed = None; bounds = None }
 
 -- the first range holds all that the second does
 abbrev pub Includes : Range → Range → Type 0
-Includes r q = (v : Option Value) → Holds q v → Holds r v
+Includes r q = (v : Option Value) → Admits q v → Admits r v
 
 -- what these two operators do with numbers
 abbrev pub arithmetic : Operator → (ℤ → ℤ → ℤ)
@@ -49,7 +49,7 @@ IsArithmetic operator =
 
 -- each variable has a value of its range
 abbrev pub AreHeld : List Range → Variables → Type 0
-AreHeld ranges vars = (x : ℕ) → Holds (slice_index_or ranges x any_value) (vars x)
+AreHeld ranges vars = (x : ℕ) → Admits (slice_index_or ranges x any_value) (vars x)
 
 -- the second ranges hold what the first do
 abbrev pub Wider : List Range → List Range → Type 0
@@ -57,4 +57,4 @@ Wider before after = (x : ℕ) → Includes (slice_index_or after x any_value) (
 
 -- an expression has values of the range
 abbrev pub Gives : List Range → Expr → Range → Type 0
-Gives ranges e r = (env : Environment) → AreHeld ranges env.vars → Holds r (value_in env e)
+Gives ranges e r = (env : Environment) → AreHeld ranges env.vars → Admits r (value_in env e)

@@ -14,7 +14,7 @@ use Rattle.mls_certcheck.specs.Meaning.{Item, Progress, run_block, run_tx}
 use Rattle.mls_certcheck.specs.Secure.{AreStored, SameViews, SameArgs, param_labels, seen_items, Alike, Secure}
 use Rattle.mls_labeller.specs.declared.told.Told.{Told}
 use Rattle.mls_labeller.specs.declared.range.Range.{Range}
-use Rattle.mls_labeller.specs.Ranges.{Holds, AreHeld}
+use Rattle.mls_labeller.specs.Ranges.{Admits, AreHeld}
 
 abbrev pub is_release : Simple → Bool
 is_release (Release e to into) = true
@@ -27,7 +27,7 @@ pub data CanRelease : Bool → Block → List Told → List Item → List Item �
   Silent : {looped : Bool} {stmt : Simple} {rest : Block} {told : List Told} {xs zs : List Item} → is_release stmt ≡ false
       → CanRelease looped rest told xs zs → CanRelease looped (Do stmt rest) told xs zs
   Gives : {e : Expr} {into : ℕ} {rest : Block} {this : Told} {told : List Told} {xs zs : List Item} (v : Option Value)
-      → Holds this.range v → CanRelease this.looped rest told (xs ++ (this.to, v) ∷ []) zs
+      → Admits this.range v → CanRelease this.looped rest told (xs ++ (this.to, v) ∷ []) zs
       → CanRelease this.looped (Do (Release e this.to into) rest) (this ∷ told) xs zs
   -- a branch gives what one of its blocks can give
   Either : {looped : Bool} {guard : Expr} {one other rest : Block} {a b told : List Told} {xs zs : List Item} (taken : Bool) (x y : List Item)

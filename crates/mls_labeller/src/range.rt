@@ -2,7 +2,7 @@
 ghost use Rattle.std.specs.Prelude.{◌≡◌, IfOk, OnOk, Some, Contains};
 ghost use Rattle.mls_scheme.specs.declared.value.Value.{Value as SpecValue};
 ghost use Rattle.mls_certcheck.specs.Expressions.{Datum, value_of, apply};
-ghost use Rattle.mls_labeller.specs.Ranges.{IsAmong, IsBetween, Holds, Includes, any_value};
+ghost use Rattle.mls_labeller.specs.Ranges.{IsAmong, IsBetween, Admits, Includes, any_value};
 
 use crate::bounds::Bounds;
 use mls_lattice::Items;
@@ -76,7 +76,7 @@ impl Range {
 
     /// Null alone.
     pub(crate) fn null(alloc: Global) -> Range
-        ensures { Holds result None }
+        ensures { Admits result None }
     {
         let bounds = Bounds {
             low: i64::MAX,
@@ -91,7 +91,7 @@ impl Range {
 
     /// A value alone.
     pub(crate) fn one(alloc: Global, value: &Value) -> Result<Range, AllocError>
-        ensures { IfOk result (λ r. Holds r (Some value.now)) }
+        ensures { IfOk result (λ r. Admits r (Some value.now)) }
     {
         let values = vec![in alloc; value.copy()?]?;
         let bounds = match value {
@@ -136,8 +136,8 @@ impl Range {
 
     /// What an operator gives: any value where a result may lie out of bounds, since that is null.
     pub(crate) fn apply(&self, operator: Operator, other: &Range) -> Range
-        ensures { (x y : Datum) → Holds self.now (value_of x) → Holds other.now (value_of y)
-            → Holds result (value_of (apply operator x y)) }
+        ensures { (x y : Datum) → Admits self.now (value_of x) → Admits other.now (value_of y)
+            → Admits result (value_of (apply operator x y)) }
     {
         let (Some(left), Some(right)) = (self.bounds, other.bounds) else {
             return Range::any();

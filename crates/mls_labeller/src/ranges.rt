@@ -5,7 +5,7 @@ ghost use Rattle.mls_scheme.specs.declared.value.Value.TheVariants.{Int};
 ghost use Rattle.mls_updates.specs.declared.outcome.Outcome.{Outcome};
 ghost use Rattle.mls_updates.specs.Outcome.{code_of};
 ghost use Rattle.mls_certcheck.specs.Meaning.{Variables, set_var, set_outcome};
-ghost use Rattle.mls_labeller.specs.Ranges.{Holds, any_value, AreHeld, Wider, Gives};
+ghost use Rattle.mls_labeller.specs.Ranges.{Admits, any_value, AreHeld, Wider, Gives};
 
 use crate::bounds::Bounds;
 use crate::range::Range;
@@ -20,7 +20,7 @@ pub(crate) struct Ranges {
 
 /// The numbers of outcomes of a write.
 fn outcomes() -> Range
-    ensures { (o : Outcome) → Holds result (Some (Int (pos (code_of o)))) }
+    ensures { (o : Outcome) → Admits result (Some (Int (pos (code_of o)))) }
 {
     Range {
         null: false,
@@ -84,7 +84,7 @@ impl Ranges {
     /// The ranges after a variable got a value of another.
     pub fn put(&self, variable: u8, range: Range) -> Result<Ranges, AllocError>
         ensures { IfOk result (λ r. (vars : Variables) (v : SpecOption SpecValue) → AreHeld self.now.vars.items vars
-            → Holds range v → AreHeld r.vars.items (set_var variable v vars)) }
+            → Admits range v → AreHeld r.vars.items (set_var variable v vars)) }
     {
         let mut ranges = self.copy()?;
         let place = usize::from(variable);

@@ -10,7 +10,7 @@ use Rattle.mls_lattice.specs.Labels.{Labels, below}
 use Rattle.mls_lattice.specs.Policy.{Name, Policy, granted_modes}
 use Rattle.mls_scheme.specs.Scheme.{Scheme}
 use Rattle.mls_audit.specs.declared.entry.Entry.{Entry}
-use Rattle.mls_script.specs.Grammar.{no_query}
+use Rattle.mls_translang.specs.declared.query.Query.{Query}
 use Rattle.mls_script.specs.declared.event.Event.{Event}
 use Rattle.mls_script.specs.declared.event.Command.{Command}
 use Rattle.mls_script.specs.declared.event.Command.TheVariants.{Open, Audit, View}
@@ -21,6 +21,10 @@ use Rattle.mls_machine.specs.declared.reply.Reply.TheVariants.{Opened, Entries}
 use Rattle.mls_machine.specs.Denying.{first_denial, read_mode, write_mode}
 use Rattle.mls_machine.specs.Machine.{World, Step, no_sessions, in_session, unless, viewed, denial_entry, denied, open_step, step}
 use Rattle.mls_machine.specs.Output.{reply_lines, run_lines, printed}
+
+-- a query for all rows
+abbrev no_query : Query
+no_query = record { highest = false; class = None; test = None; first = None }
 
 abbrev event : ℕ → Name → Command → Event
 event level session command = record { level = level; session = session; command = command }

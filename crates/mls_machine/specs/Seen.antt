@@ -1,4 +1,4 @@
--- What a reader may see of a level and of an item.
+-- Inner: no public contract names these. What a reader may see of a level and of an item.
 use Rattle.std.specs.Prelude.{ℕ, Bool, true, List, [], ◌∷◌, Option, Some, None}
 use Rattle.mls_lattice.specs.Labels.{Labels, below}
 use Rattle.mls_lattice.specs.Policy.{Policy, labels_of}

@@ -91,7 +91,7 @@ module _ (policy : Policy) (schemes : Schemes) (relation : ℕ) where
   -- ---- and what tells it is read
 
   -- the condition was read, before these tokens, and no fault was noted
-  pub record IsRead (s : State) (test : Expr) (us : List Token) : Type 0 where
+  pub record IsConditionRead (s : State) (test : Expr) (us : List Token) : Type 0 where
     pub rest : Left
     pub is : condition_at policy schemes relation s ≡ Ok (test, (s.0, rest))
     pub tokens : without_places rest.placed ≡ us
@@ -113,4 +113,4 @@ abbrev pub ConditionsAreRead : Type 0
 ConditionsAreRead =
     (policy : Policy) (schemes : Schemes) → IsPolicy policy → AreSchemes schemes
     → (relation : ℕ) (s : State) (test : Expr) (ts us : List Token) → relation < length schemes → TellsCondition policy schemes relation test ts
-    → EndsCondition us → without_places s.1.placed ≡ ts ++ us → IsRead policy schemes relation s test us
+    → EndsCondition us → without_places s.1.placed ≡ ts ++ us → IsConditionRead policy schemes relation s test us

@@ -1,5 +1,5 @@
 -- The parts of the entities of one key, put together.
-use Rattle.std.proofs.Common.{◌≡◌, ◌+◌, ℕ, Bool, true, false, cond, List, ◌++◌, length, Some, None, refl, sym, ap, ◌∙◌, inl, inr, arith, ◌⊎◌, true≢false}
+use Rattle.std.proofs.Common.{◌≡◌, ◌+◌, ◌<◌, ℕ, Bool, true, false, cond, List, ◌++◌, length, Some, None, refl, sym, ap, ◌∙◌, inl, inr, arith, ◌⊎◌, true≢false}
 use Rattle.std.specs.FinMap.{get}
 use Rattle.std.proofs.lemmas.Bool.{cases_lt}
 use Rattle.std.proofs.lemmas.Option.{none-some}
@@ -20,10 +20,17 @@ use Rattle.mls_filterview.proofs.MovedLemmas.{moved}
 use Rattle.mls_filterview.proofs.PartLemmas.{parts_more, parts_same, OfEntity, own_class, own_key_class, over_key, in_those, those_have, those_stored}
 use Rattle.mls_queries.specs.Query.{is_key}
 use Rattle.mls_queries.specs.Demanded.{of_key}
-use Rattle.mls_queries.specs.Parts.{IsOfKey}
 use Rattle.mls_queries.proofs.TopLemmas.{same_key, key_same}
 
 -- ---- key class by key class
+
+module _ (ls : Labels) (T : Table) (c : ℕ) (values : List Value) where
+  -- a tuple of the key with these values and a key class below k, of a class that c dominates
+  pub record IsOfKey (k : ℕ) (e : Entry) : Type 0 where
+    pub has : get T e.0 ≡ Some e.1
+    pub key : e.0.key ≡ values
+    pub key_class : e.0.key_class < k
+    pub low : below ls e.0.class c ≡ true
 
 module _ (ls : Labels) (T : Table) (c : ℕ) (key : List Value) where
   abbrev OfKey : ℕ → Entry → Type 0

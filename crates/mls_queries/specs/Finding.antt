@@ -8,7 +8,7 @@ use Rattle.mls_queries.specs.Views.{Kept, AreViews}
 
 -- a declared label looks at the content of a relation, with views that are kept of it
 pub record CanFind {Self : Type 0} (seen : Self → Seen) (base : Self) (policy : Policy) (scheme : Scheme)
-(relation c : ℕ) (kept : Kept) : Type 0 where
+    (relation c : ℕ) (kept : Kept) : Type 0 where
   pub label : c < length policy.labels
   pub content : (seen base).is_clean → IsContent (labels_of policy) scheme ((seen base).state.now.db relation)
   pub views : AreViews policy seen base kept

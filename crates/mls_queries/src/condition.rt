@@ -51,7 +51,7 @@ fn eval<'a>(expr: &'a Expr, row: &'a Tuple) -> Datum<'a>
 }
 
 /// Whether a row passes a condition, which reads nothing but its attributes.
-pub fn holds(test: &Expr, row: &Tuple) -> bool
+pub(crate) fn holds(test: &Expr, row: &Tuple) -> bool
     ensures { result ≡ passes test.now row.now }
 {
     eval(test, row).is_true()

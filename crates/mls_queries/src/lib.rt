@@ -18,11 +18,10 @@ mod selection;
 mod views;
 mod wanted;
 
-pub use condition::{cell, holds};
+pub use condition::cell;
 pub use datum::Datum;
 pub use finding::find;
 pub use laws::{keys_are_looked_up, queries_use_the_view, rows_that_pass_are_of_the_view};
 pub use operator::apply;
-pub use selecting::select;
 pub use selection::Selection;
 pub use views::Views;

@@ -82,7 +82,7 @@ fn asks_nothing(query: &Query) -> bool
 }
 
 /// What a query finds among the rows of a view, which come in the order of keys. No row is copied.
-pub fn select(
+pub(crate) fn select(
     alloc: Global,
     policy: &Policy,
     view: SharedView,

@@ -14,13 +14,13 @@ use Rattle.mls_tables.specs.Store.{TableState, IsClean, IsStoreCall, IsSame}
 use Rattle.mls_rows.specs.Holding.{value_row}
 
 -- a call that reads: an answer leaves the rows, and whether a change is begun
-pub record IsRead {A : Type 0} (old new : TableState) (result : Result A StoreFault) : Type 0 where
+pub record IsRowRead {A : Type 0} (old new : TableState) (result : Result A StoreFault) : Type 0 where
   pub call : IsStoreCall old new result
   pub mode : OnOk result (new.begun ≡ old.begun)
   pub same : IsClean new → OnOk result (IsSame old new)
 
 -- a step of a change that is begun: an answer leaves it begun
-pub record IsStep {A : Type 0} (old new : TableState) (result : Result A StoreFault) : Type 0 where
+pub record IsRowStep {A : Type 0} (old new : TableState) (result : Result A StoreFault) : Type 0 where
   pub call : IsStoreCall old new result
   pub mode : OnOk result (new.begun ≡ true)
 

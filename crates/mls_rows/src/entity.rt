@@ -5,7 +5,7 @@ ghost use Rattle.mls_scheme.specs.Spelling.{IsSpelledKey};
 ghost use Rattle.mls_filterview.specs.Content.{Content};
 ghost use Rattle.mls_filterview.specs.Fragment.{IsEntityPart, classes};
 ghost use Rattle.mls_tables.specs.Store.{IsClean};
-ghost use Rattle.mls_rows.specs.Calls.{IsRead};
+ghost use Rattle.mls_rows.specs.Calls.{IsRowRead};
 ghost use Rattle.mls_rows.specs.Finding.{IsMemory, AreReadable};
 ghost use Rattle.mls_rows.specs.Holding.{Holds};
 
@@ -37,7 +37,7 @@ pub fn read_entity<S: Alter>(
 ) -> Result<Fragment, StoreFault>
     requires key { IsSpelledKey place.now.key }
     requires readable { IsClean store.old → AreReadable store.old.now }
-    ensures read { IsRead store.old store.new result }
+    ensures read { IsRowRead store.old store.new result }
     ensures found { IsClean store.new → (c : Content) → Holds store.old.now c
         → IfOk result (IsEntityPart (c.db relation) place.now) }
 {
@@ -75,7 +75,7 @@ pub fn read_pattern<S: Alter>(
     place: &Place,
 ) -> Result<Option<Items<LabelNo>>, StoreFault>
     requires key { IsSpelledKey place.now.key }
-    ensures read { IsRead store.old store.new result }
+    ensures read { IsRowRead store.old store.new result }
     ensures found { IsClean store.new → (c : Content) → Holds store.old.now c
         → IfOk result (λ pattern. pattern ≡ option_map classes (get (c.db relation) place.now)) }
 {

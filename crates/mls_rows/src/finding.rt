@@ -213,6 +213,7 @@ pub fn find(
         entries,
     } = rows;
     policy.use_invariant();
+    schemes.use_invariant();
     if !are_within(labels, &nodes, at) {
         return Err(RowFault::BadRow);
     }

@@ -9,7 +9,7 @@ ghost use Rattle.mls_filterview.specs.Content.{Content};
 ghost use Rattle.mls_filterview.specs.Fragment.{IsFragment, AreFragments};
 ghost use Rattle.mls_tables.specs.Rows.{numbered, has_bit};
 ghost use Rattle.mls_tables.specs.Store.{IsClean, IsStoreFault};
-ghost use Rattle.mls_rows.specs.Calls.{IsRead};
+ghost use Rattle.mls_rows.specs.Calls.{IsRowRead};
 ghost use Rattle.mls_rows.specs.declared.reading.RowFault.TheVariants.{Memory};
 ghost use Rattle.mls_rows.specs.Finding.{IsMemory, IsNodeRow, IsCellRow, AreReadable};
 ghost use Rattle.mls_rows.specs.Holding.{Holds, node_row, cell_row, value_bytes, IsSpelledNode, IsSpelledCell};
@@ -68,7 +68,7 @@ pub(crate) fn abandon_at_row<S: Alter>(store: &mut TableStore<S>, fault: RowFaul
 {
     match fault {
         RowFault::BadRow => {
-            store.condemn();
+            store.abandon_corrupt();
             StoreFault::Store
         }
         RowFault::Memory => {
@@ -216,7 +216,7 @@ pub fn read_fragment<S: Alter>(
     label: LabelNo,
 ) -> Result<Fragment, StoreFault>
     requires readable { IsClean store.old → AreReadable store.old.now }
-    ensures read { IsRead store.old store.new result }
+    ensures read { IsRowRead store.old store.new result }
     ensures found { IsClean store.new → (c : Content) → Holds store.old.now c
         → IfOk result (IsFragment (c.db relation) label) }
 {
@@ -249,7 +249,7 @@ pub fn read_fragments<S: Alter>(
 ) -> Result<Fragment, StoreFault>
     requires few { AllByRecursion (λ m. m < 64) labels.now }
     requires readable { IsClean store.old → AreReadable store.old.now }
-    ensures read { IsRead store.old store.new result }
+    ensures read { IsRowRead store.old store.new result }
     ensures found { IsClean store.new → (c : Content) → Holds store.old.now c
         → IfOk result (AreFragments (c.db relation) labels.now) }
 {
@@ -295,7 +295,7 @@ pub fn read_entries<S: Alter>(
     alloc: Global,
 ) -> Result<Items<Items<u8>>, StoreFault>
     requires readable { IsClean store.old → AreReadable store.old.now }
-    ensures read { IsRead store.old store.new result }
+    ensures read { IsRowRead store.old store.new result }
     ensures found { IsClean store.new → (c : Content) → Holds store.old.now c
         → IfOk result (λ entries. entries ≡ c.audit) }
 {

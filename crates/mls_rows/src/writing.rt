@@ -5,7 +5,7 @@ ghost use Rattle.mls_scheme.specs.Spelling.{HasSpelling, IsSpelledKey, key_spell
 ghost use Rattle.mls_tables.specs.Rows.{cell_beside};
 ghost use Rattle.mls_tables.specs.Statements.{SetsCell, AddsEntry};
 ghost use Rattle.mls_tables.specs.Store.{IsClean, Writes};
-ghost use Rattle.mls_rows.specs.Calls.{IsStep, IsSpelledTuple, CanSetValue};
+ghost use Rattle.mls_rows.specs.Calls.{IsRowStep, IsSpelledTuple, CanSetValue};
 ghost use Rattle.mls_rows.specs.Finding.{IsMemory};
 ghost use Rattle.mls_rows.specs.Holding.{node_row, cell_row, value_bytes, IsSpelledCell, value_row, own_cell};
 ghost use Rattle.mls_rows.specs.Holding.{tuple_key, AddsTuple, DropsTuple};
@@ -54,7 +54,11 @@ fn ent_of(alloc: Global, key: &[Value]) -> Result<Items<u8>, RowFault>
 }
 
 /// The key of the tuple at a place.
-pub(crate) fn key_of_place(alloc: Global, relation: RelNo, place: &Place) -> Result<TupleKey, RowFault>
+pub(crate) fn key_of_place(
+    alloc: Global,
+    relation: RelNo,
+    place: &Place,
+) -> Result<TupleKey, RowFault>
     requires { IsSpelledKey place.now.key }
     ensures made { IfOk result (λ key. key ≡ tuple_key relation place.now) }
     ensures fault { IfErr result IsMemory }
@@ -190,7 +194,7 @@ pub fn add_tuple<S: Alter>(
 ) -> Result<(), StoreFault>
     requires begun { store.old.begun ≡ true }
     requires tuple { IsSpelledTuple node.now cells.now }
-    ensures step { IsStep store.old store.new result }
+    ensures step { IsRowStep store.old store.new result }
     ensures classes { OnOk result ((node.now.key_class < 256) × (node.now.label < 256)) }
     ensures done { IsClean store.new → OnOk result
         (Writes (AddsTuple (node_row relation node.now) (map (cell_row relation) cells.now)) store.old store.new) }
@@ -215,7 +219,7 @@ pub fn set_value<S: Alter>(
 ) -> Result<(), StoreFault>
     requires begun { store.old.begun ≡ true }
     requires can { CanSetValue store.old relation place.now attr value.now }
-    ensures step { IsStep store.old store.new result }
+    ensures step { IsRowStep store.old store.new result }
     ensures done { IsClean store.new → OnOk result
         (Writes (SetsCell (value_row relation place.now attr value.now)) store.old store.new) }
 {
@@ -234,7 +238,7 @@ pub fn drop_tuple<S: Alter>(
 ) -> Result<(), StoreFault>
     requires begun { store.old.begun ≡ true }
     requires key { IsSpelledKey place.now.key }
-    ensures step { IsStep store.old store.new result }
+    ensures step { IsRowStep store.old store.new result }
     ensures done { IsClean store.new → OnOk result (Writes (DropsTuple relation place.now) store.old store.new) }
 {
     let key = match key_of_place(alloc, relation, place) {
@@ -274,7 +278,7 @@ pub fn add_entry<S: Alter>(
     bytes: &[u8],
 ) -> Result<i64, StoreFault>
     requires begun { store.old.begun ≡ true }
-    ensures step { IsStep store.old store.new result }
+    ensures step { IsRowStep store.old store.new result }
     ensures number { IfOk result (λ number. number ≡ last +ℤ pos 1) }
     ensures done { IsClean store.new → OnOk result
         (Writes (AddsEntry (record { number = last +ℤ pos 1; bytes = bytes.now })) store.old store.new) }

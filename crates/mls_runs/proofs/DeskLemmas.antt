@@ -5,7 +5,6 @@ use Rattle.std.specs.Io.KnownBytes.{Appends}
 use Rattle.std.proofs.KnownBytes.{Appends-nil, Appends-trans}
 use Rattle.std.proofs.Math.Seq.{take-append-add}
 use Rattle.mls_lattice.specs.Policy.{Policy}
-use Rattle.mls_lattice.proofs.EachLemmas.{all_append}
 use Rattle.mls_scheme.specs.Scheme.{Schemes}
 use Rattle.mls_filterview.specs.Content.{Seen}
 use Rattle.mls_script.specs.declared.event.Event.{Event}
@@ -13,7 +12,7 @@ use Rattle.mls_certcheck.specs.Site.{Site}
 use Rattle.mls_machine.specs.Machine.{World, end_of}
 use Rattle.mls_machine.specs.Observation.{EventsFit}
 use Rattle.mls_machine.specs.Serving.{answers_to}
-use Rattle.mls_sessions.specs.Sessions.{site_of}
+use Rattle.mls_sessions.specs.Sessions.{site_of_run}
 use Rattle.mls_script.specs.declared.run_fault.RunCause.TheVariants.{Memory}
 use Rattle.mls_script.specs.declared.run_fault.RunFault.{RunFault}
 use Rattle.mls_sessions.specs.declared.engine.Engine.{Engine}
@@ -23,7 +22,7 @@ use Rattle.mls_host.specs.declared.ending.Ending.{Ending}
 use Rattle.mls_host.specs.Ending.{ending_if}
 use Rattle.mls_runs.specs.Running.{standing}
 use Rattle.mls_runs.specs.declared.shell_session.Fate.{Fate}
-use Rattle.mls_runs.specs.Shell.{Turn, IsShellTurn, events_of, events_in, is_last, is_failed, is_lost, FateFits, IsRead}
+use Rattle.mls_runs.specs.Shell.{Turn, IsShellTurn, events_of, events_in, is_last, is_failed, is_lost, FateFits, IsLineRead}
 use Rattle.mls_runs.proofs.ShellLemmas.{or_none, end_of-append, events-snoc, any-snoc, none_failed, failed_there}
 use Rattle.mls_runs.proofs.TalkLemmas.{AreHeard, heard_more, fits_more, last_line, failed_last}
 use Rattle.mls_runs.specs.Marks.{mark_of}
@@ -84,11 +83,11 @@ module _ {B : Type 0} (seen : B → Seen) (echo : List ℕ → List ℕ) (first 
 
   module _ (now : Engine B) (left is : Option (List ℕ)) (s : SoFar now left is false) where
     same_site : site now ≡ at
-    same_site = ap site_of s.heard.kept.site
+    same_site = ap site_of_run s.heard.kept.site
 
     -- a line is read, and something becomes of it
     pub record Heard (fate : Fate) (over shown : Option (List ℕ)) (Broken : Type 0) : Type 0 where
-      pub read : IsRead echo (IsFate at.policy at.schemes) left over is shown Broken fate
+      pub read : IsLineRead echo (IsFate at.policy at.schemes) left over is shown Broken fate
       pub fits : FateFits at.policy at.schemes fate
 
     module _ (fate : Fate) (over shown : Option (List ℕ)) (Broken : Type 0) (l : Heard fate over shown Broken) where
@@ -239,9 +238,9 @@ module _ {B : Type 0} (seen : B → Seen) (echo : List ℕ → List ℕ) (first 
 -- ---- at a site that is the same
 
 pub heard_at : (echo : List ℕ → List ℕ) (q : Site) (policy : Policy) (schemes : Schemes) (a b c d : Option (List ℕ)) (Broken : Type 0) (fate : Fate) → q.policy ≡ policy → q.schemes ≡ schemes
-    → IsRead echo (IsFate policy schemes) a b c d Broken fate → IsRead echo (IsFate q.policy q.schemes) a b c d Broken fate
+    → IsLineRead echo (IsFate policy schemes) a b c d Broken fate → IsLineRead echo (IsFate q.policy q.schemes) a b c d Broken fate
 heard_at echo q policy schemes a b c d Broken fate e f h =
-    subst (λ y. IsRead echo (IsFate q.policy y) a b c d Broken fate) (sym f) (subst (λ x. IsRead echo (IsFate x schemes) a b c d Broken fate) (sym e) h)
+    subst (λ y. IsLineRead echo (IsFate q.policy y) a b c d Broken fate) (sym f) (subst (λ x. IsLineRead echo (IsFate x schemes) a b c d Broken fate) (sym e) h)
 
 -- lines are answered at what is the same site, from and to what are the same worlds
 pub service_at : (echo : List ℕ → List ℕ) (before after : Option (List ℕ)) (Broken : Type 0) (Wrote : List ℕ → Type 0) (end : Result Ending RunFault) (s t : Site) (v x w y : World) → s ≡ t → v ≡ x → w ≡ y

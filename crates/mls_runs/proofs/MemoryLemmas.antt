@@ -1,9 +1,7 @@
 -- The store of a machine in memory is not opened for the causes that its connection is handed back for.
-use Rattle.std.proofs.Common.{◌≡◌, ◌↔◌, ◌⊎◌, inl, inr, ℕ, Bool, List, Option, Some, None, option_map, refl, sym, ◌∙◌, subst, MatchOption, IsTrue}
+use Rattle.std.proofs.Common.{◌≡◌, ◌↔◌, ◌⊎◌, inl, inr, Bool, Option, Some, option_map, refl, sym, ◌∙◌, subst, MatchOption, IsTrue}
 use Rattle.sqlite.specs.Effect.{Database}
-use Rattle.sqlite.specs.Held.{state}
 use Rattle.sqlite.specs.State.{State}
-use Rattle.sqlite.specs.Steps.{over_memory}
 use Rattle.mls_lattice.specs.Policy.{Policy}
 use Rattle.mls_scheme.specs.declared.file.SchemesFile.{SchemesFile}
 use Rattle.mls_fragments.specs.Holdings.{Holdings, HasHoldings}

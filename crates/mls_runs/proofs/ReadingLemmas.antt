@@ -13,7 +13,7 @@ use Rattle.mls_tokens.specs.Typing.{HasNoFeed, IsNext}
 use Rattle.mls_runs.specs.declared.shell_session.Fate.{Fate}
 use Rattle.mls_runs.specs.declared.shell_session.Fate.TheVariants as fates
 use Rattle.mls_runs.specs.Typed.{Becomes}
-use Rattle.mls_runs.specs.Shell.{events_of, IsShellTurn, whole, long, cut, IsCut, IsRead}
+use Rattle.mls_runs.specs.Shell.{events_of, IsShellTurn, whole, long, cut, IsCut, IsLineRead}
 use Rattle.mls_runs.proofs.TypedLemmas.{read_line, read_in_vain}
 use Rattle.mls_runs.specs.Desk.{opens_other, other_name, IsFate, over, said, other, refused}
 use Rattle.mls_runs.specs.Reading.{fate_read, fate_of}
@@ -56,7 +56,7 @@ module _ (policy : Policy) (schemes : Schemes) (line : List ℕ) where
   was_read fate (refused fault c r f) h = let bad : fates.Refused fault ≡ fates.Unreadable = sym f ∙ h in absurd cc
 
   pub read_whole : (echo : List ℕ → List ℕ) (before after was is : Option (List ℕ)) (Broken : Type 0) → IsNext before after line → length line ≤ 1048576 → Appends was is (echo line) → (fate : Fate)
-      → Becomes (fate_of policy schemes line) fate → IsRead echo (IsFate policy schemes) before after was is Broken fate
+      → Becomes (fate_of policy schemes line) fate → IsLineRead echo (IsFate policy schemes) before after was is Broken fate
   read_whole echo before after was is Broken n short w fate (inl e) =
       let found = subst (IsFate policy schemes line) (sym e) fate_is in
       read_line echo (IsFate policy schemes) before after was is Broken line n short w fate found (over_is_empty fate found) (was_read fate found)
@@ -148,7 +148,7 @@ cut_one _ h = absurd h
 
 -- of a line that is read one event is told at most
 pub one_event : (echo : List ℕ → List ℕ) (policy : Policy) (schemes : Schemes) (before after was is : Option (List ℕ)) (Broken : Type 0) (fate : Fate)
-    → IsRead echo (IsFate policy schemes) before after was is Broken fate → length (events_of fate) ≤ 1
+    → IsLineRead echo (IsFate policy schemes) before after was is Broken fate → length (events_of fate) ≤ 1
 one_event echo policy schemes before after was is Broken fate h = subst (λ (x : Fate). length (events_of x) ≤ 1) h.same (of_turn h.is_turn)
   where
     of_turn : IsShellTurn echo (IsFate policy schemes) before after h.turn → length (events_of h.turn.fate) ≤ 1

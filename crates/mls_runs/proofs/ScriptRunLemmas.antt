@@ -14,7 +14,7 @@ use Rattle.mls_host.specs.Storing.{AreStoredWith}
 use Rattle.mls_host.specs.Causes.{IsBarred, IsNotBegun, no_memory, no_store}
 use Rattle.mls_host.specs.Stop.{IsEnd}
 use Rattle.mls_runs.proofs.RunningLemmas.{end_weaker}
-use Rattle.mls_runs.specs.ScriptRun.{site_under, IsScriptRun}
+use Rattle.mls_runs.specs.ScriptRun.{site_of_setting, IsScriptRun}
 use Rattle.mls_runs.specs.Running.{IsRun, form_of}
 use Rattle.mls_runs.specs.Work.{IsOverStore}
 
@@ -30,7 +30,7 @@ module _ (h : Hosted) (inputs : Inputs) (store : Option (List ℕ)) (is_table : 
 
   module _ (stored : List Stored) (stored_are : AreStoredWith inputs.setting.policy inputs.certificates inputs.transactions stored) (Still : Type 0) (still : Still → Wrote []) where
     abbrev Runs : Form → List Event → Result (Unit {0}) RunFault → Type 0
-    Runs form events = IsOverStore h inputs.setting.policy inputs.setting.file store (IsRun (site_under inputs.setting stored) (record { reader = inputs.setting.reader; form = form }) events Wrote)
+    Runs form events = IsOverStore h inputs.setting.policy inputs.setting.file store (IsRun (site_of_setting inputs.setting stored) (record { reader = inputs.setting.reader; form = form }) events Wrote)
 
     -- the events of a script, over what is stored; where none is answered, all is still as it was
     pub script_run : (form : Form) (events : List Event) → form ≡ form_of is_table → events ≡ inputs.events → (r : Result (Unit {0}) Stop)

@@ -12,7 +12,7 @@ use Rattle.mls_machine.specs.Machine.{World, end_of}
 use Rattle.mls_machine.specs.Observation.{EventsFit}
 use Rattle.mls_lattice.specs.Policy.{Policy}
 use Rattle.mls_scheme.specs.Scheme.{Schemes}
-use Rattle.mls_sessions.specs.Sessions.{site_of}
+use Rattle.mls_sessions.specs.Sessions.{site_of_run}
 use Rattle.mls_script.specs.declared.run_fault.RunFault.{RunFault}
 use Rattle.mls_script.specs.declared.run_fault.RunCause.{RunCause}
 use Rattle.mls_sessions.specs.declared.engine.Engine.{Engine}
@@ -28,7 +28,7 @@ use Rattle.mls_runs.specs.Tally.{tally_with}
 use Rattle.mls_host.specs.Ending.{ending_if}
 use Rattle.mls_host.specs.Hosting.{IsTold}
 use Rattle.mls_host.proofs.HostingLemmas.{told_nothing, told_more}
-use Rattle.mls_runs.specs.Shell.{audience_at, verdicts_in, Turn, IsFate, events_of, events_in, opening, is_open, is_last, is_failed, is_lost, verdict_of, is_short, end_told, prompt_of, told_of, AreTold, AreAllTold, answers, after_opening, transcript, shown_to, AreTurns, tally_of, IsSilent, FateFits, IsAnswered, IsFollowed, IsRead, IsConversation}
+use Rattle.mls_runs.specs.Shell.{audience_at, verdicts_in, Turn, IsFate, events_of, events_in, opening, is_open, is_last, is_failed, is_lost, verdict_of, is_short, end_told, prompt_of, told_of, AreTold, AreAllTold, answers, after_opening, transcript, shown_to, AreTurns, tally_of, IsSilent, FateFits, IsAnswered, IsFollowed, IsLineRead, IsConversation}
 use Rattle.mls_runs.proofs.ShellLemmas.{nothing_done, whole_more, stopped_more, fault_more, first_part, length-snoc, events-snoc, told-snoc, world-snoc, transcript-snoc, shown_before, shown_behind, shown_from, turns-snoc, AreFew, few_more, tally-snoc, none_failed, failed_there, silent_turn, silent_lines, any-snoc}
 
 -- the events of a line are answered
@@ -101,9 +101,9 @@ pub level_at : (p q : Site) (policy : Policy) → p ≡ q → q.policy ≡ polic
 level_at p q policy same a level h = subst (λ (x : Site). level < length x.policy.labels) (sym same) (subst (λ (x : Policy). level < length x.labels) (sym a) h)
 
 pub read_at : (echo : List ℕ → List ℕ) (q : Site) (policy : Policy) (schemes : Schemes) (session : ShellSession) (a b c d : Option (List ℕ)) (Broken : Type 0) (fate : Fate) → q.policy ≡ policy → q.schemes ≡ schemes
-    → IsRead echo (IsFate policy schemes session) a b c d Broken fate → IsRead echo (IsFate q.policy q.schemes session) a b c d Broken fate
+    → IsLineRead echo (IsFate policy schemes session) a b c d Broken fate → IsLineRead echo (IsFate q.policy q.schemes session) a b c d Broken fate
 read_at echo q policy schemes session a b c d Broken fate e f h =
-    subst (λ y. IsRead echo (IsFate q.policy y session) a b c d Broken fate) (sym f) (subst (λ x. IsRead echo (IsFate x schemes session) a b c d Broken fate) (sym e) h)
+    subst (λ y. IsLineRead echo (IsFate q.policy y session) a b c d Broken fate) (sym f) (subst (λ x. IsLineRead echo (IsFate x schemes session) a b c d Broken fate) (sym e) h)
 
 -- a line behind which no other is read is the end, or it was not read, or the shell is given up at it
 pub last_line : (fate : Fate) (left : Option (List ℕ)) → is_last fate ≡ true → is_lost fate ≡ false → (fate ≡ fates.Over → IsAtEnd left) → IsAtEnd left ⊎ (is_failed fate ≡ true)
@@ -209,13 +209,13 @@ module _ {B E : Type 0} (seen : B → Seen) (contents : E → Option (List ℕ))
 
   module _ (count : ℕ) (now : Engine B) (err : Errors E) (left is : Option (List ℕ)) (was_opened : Bool) (tally : Tally) (s : SoFar count now err left is was_opened tally false) where
     same_site : site now ≡ at
-    same_site = ap site_of s.heard.kept.site
+    same_site = ap site_of_run s.heard.kept.site
 
     -- the prompt is shown, a line is read, something becomes of it, and that is told
     pub record Line (fate : Fate) (asked said : Errors E) (over shown : Option (List ℕ)) (Broken : Type 0) : Type 0 where
       pub was_open : is_open session (world_of seen now) ≡ true
       pub asked_is : IsTold contents err asked (prompt_of session)
-      pub read : IsRead echo (IsFate at.policy at.schemes session) left over is shown Broken fate
+      pub read : IsLineRead echo (IsFate at.policy at.schemes session) left over is shown Broken fate
       pub fits : FateFits at.policy at.schemes fate
       pub said_is : IsMore session.is_watched (λ more. IsTold contents asked said (told_of session (count + 1) fate ++ more))
 

@@ -18,7 +18,7 @@ use Rattle.mls_runs.specs.declared.shell_session.ShellSession.{ShellSession}
 use Rattle.mls_runs.specs.declared.shell_session.Fate.{Fate}
 use Rattle.mls_runs.specs.declared.shell_session.Fate.TheVariants as fates
 use Rattle.mls_runs.specs.Typed.{fate_of_fault, fate_read, fate_of, Becomes}
-use Rattle.mls_runs.specs.Shell.{prefix_of, is_own, is_asked, meant, IsCommand, IsFate, over, help, asked, said, blank, refused, IsCut, whole, long, cut, IsRead}
+use Rattle.mls_runs.specs.Shell.{prefix_of, is_own, is_asked, meant, IsCommand, IsFate, over, help, asked, said, blank, refused, IsCut, whole, long, cut, IsLineRead}
 
 pub lost_read : (cause : RunCause) → fates.Lost cause ≡ fates.Unreadable → ⊥
 lost_read cause h = absurd cc
@@ -52,7 +52,7 @@ module _ (echo : List ℕ → List ℕ) (IsFateOf : List ℕ → Fate → Type 0
 
   -- it is understood
   pub read_line : (line : List ℕ) → IsNext before after line → length line ≤ 1048576 → Appends was is (echo line) → (fate : Fate) → IsFateOf line fate → (fate ≡ fates.Over → line ≡ []) → (fate ≡ fates.Unreadable → ⊥)
-      → IsRead echo IsFateOf before after was is Broken fate
+      → IsLineRead echo IsFateOf before after was is Broken fate
   read_line line n short w fate is none read = record {
     turn = record { line = line; shown = echo line; fate = fate };
     is_turn = whole n short refl is;
@@ -63,7 +63,7 @@ module _ (echo : List ℕ → List ℕ) (IsFateOf : List ℕ → Fate → Type 0
   }
 
   -- there is no memory to understand it
-  pub read_in_vain : (line : List ℕ) → IsNext before after line → Appends was is (echo line) → (fate : Fate) → fate ≡ fates.Lost Memory → IsRead echo IsFateOf before after was is Broken fate
+  pub read_in_vain : (line : List ℕ) → IsNext before after line → Appends was is (echo line) → (fate : Fate) → fate ≡ fates.Lost Memory → IsLineRead echo IsFateOf before after was is Broken fate
   read_in_vain line n w fate e = record {
     turn = record { line = line; shown = echo line; fate = fate };
     is_turn = cut line [] n.read (append-nil (echo line)) (subst IsCut (sym e) (λ is. cc));
@@ -73,7 +73,7 @@ module _ (echo : List ℕ → List ℕ) (IsFateOf : List ℕ → Fate → Type 0
     broken = λ u. let bad : fates.Lost Memory ≡ fates.Unreadable = sym e ∙ u in absurd cc;
   }
 
-  pub read_long : (line : List ℕ) → IsLong before after line → Appends was is [] → IsRead echo IsFateOf before after was is Broken fates.TooLong
+  pub read_long : (line : List ℕ) → IsLong before after line → Appends was is [] → IsLineRead echo IsFateOf before after was is Broken fates.TooLong
   read_long line l w = record {
     turn = record { line = line; shown = []; fate = fates.TooLong };
     is_turn = long l refl refl;
@@ -83,7 +83,7 @@ module _ (echo : List ℕ → List ℕ) (IsFateOf : List ℕ → Fate → Type 0
     broken = λ u. let bad : fates.TooLong ≡ fates.Unreadable = u in absurd cc;
   }
 
-  pub read_lost : (fate : Fate) → IsCut fate → (fate ≡ fates.Unreadable → Broken) → IsLost echo before after was is → IsRead echo IsFateOf before after was is Broken fate
+  pub read_lost : (fate : Fate) → IsCut fate → (fate ≡ fates.Unreadable → Broken) → IsLost echo before after was is → IsLineRead echo IsFateOf before after was is Broken fate
   read_lost fate c b l = record {
     turn = record { line = l.bytes; shown = l.shown; fate = fate };
     is_turn = cut l.line l.rest l.read l.part c;
@@ -150,7 +150,7 @@ module _ (policy : Policy) (schemes : Schemes) (session : ShellSession) where
 
   module _ (echo : List ℕ → List ℕ) (before after was is_now : Option (List ℕ)) (Broken : Type 0) where
     pub read_whole : IsPolicy policy → AreSchemes schemes → (line : List ℕ) → IsNext before after line → length line ≤ 1048576 → Appends was is_now (echo line) → (fate : Fate) → Becomes (fate_of policy schemes session line) fate
-        → IsRead echo (IsFate policy schemes session) before after was is_now Broken fate
+        → IsLineRead echo (IsFate policy schemes session) before after was is_now Broken fate
     read_whole is_policy are_schemes line n short w fate (inl e) =
         let is = subst (IsFate policy schemes session line) (sym e) (fate_is is_policy are_schemes line) in
         read_line echo (IsFate policy schemes session) before after was is_now Broken line n short w fate is (over_is_empty line fate is) (was_read line fate is)

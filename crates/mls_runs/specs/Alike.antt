@@ -7,7 +7,7 @@ use Rattle.mls_machine.specs.Observation.{AreStored, EventsFit, AgreeAt, seen, r
 use Rattle.mls_host.specs.Hosting.{Hosted, IsClean}
 use Rattle.mls_host.specs.declared.job.Inputs.{Inputs}
 use Rattle.mls_runs.specs.Running.{first_world}
-use Rattle.mls_runs.specs.ScriptRun.{site_under, IsScriptRun}
+use Rattle.mls_runs.specs.ScriptRun.{site_of_setting, IsScriptRun}
 
 -- a second run, from its content over its events, looks alike to c: what both begin with, what c sees of the events,
 -- and what they release to c, if c does not dominate all that the calls that it sees can read
@@ -29,5 +29,5 @@ WriteTheSame h W k V =
     → j.setting ≡ i.setting
     → (x : IsScriptRun h i store is_table W (Ok tt)) (y : IsScriptRun k j other is_table V (Ok tt))
     → y.stored ≡ x.stored → (was : IsClean h store) (is : IsClean k other)
-    → LooksAlike (site_under i.setting x.stored) c (x.run was).first i.events (y.run is).first j.events
+    → LooksAlike (site_of_setting i.setting x.stored) c (x.run was).first i.events (y.run is).first j.events
     → (text : List ℕ) × W text × V text

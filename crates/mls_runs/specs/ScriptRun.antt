@@ -25,8 +25,8 @@ abbrev pub audience_of : Setting → Bool → Audience
 audience_of s is_table = record { reader = s.reader; form = form_of is_table }
 
 -- under a policy and schemes, over what is stored
-abbrev pub site_under : Setting → List Stored → Site
-site_under s stored = site_of s.policy s.file.schemes stored
+abbrev pub site_of_setting : Setting → List Stored → Site
+site_of_setting s stored = site_of s.policy s.file.schemes stored
 
 -- the events that were read are run, over what is stored of the transactions with the certificates; the run ended, or
 -- stopped at a fault
@@ -35,4 +35,4 @@ pub record IsScriptRun (h : Hosted) (inputs : Inputs) (store : Option (List ℕ)
   pub stored : List Stored
   pub stored_are : AreStoredWith inputs.setting.policy inputs.certificates inputs.transactions stored
   pub run : IsOverStore h inputs.setting.policy inputs.setting.file store
-      (IsRun (site_under inputs.setting stored) (audience_of inputs.setting is_table) inputs.events Wrote) end
+      (IsRun (site_of_setting inputs.setting stored) (audience_of inputs.setting is_table) inputs.events Wrote) end

@@ -354,7 +354,7 @@ pub record IsFollowed (site : Site) (audience : Audience) (w : World) (es : List
   pub cause : IfErr r (λ fault. IfErr end (λ f. (f.cause ≡ fault.cause) × (f.done ≡ fault.done)))
 
 -- a line is read, and this becomes of it
-pub record IsRead (echo : List ℕ → List ℕ) (IsFateOf : List ℕ → Fate → Type 0)
+pub record IsLineRead (echo : List ℕ → List ℕ) (IsFateOf : List ℕ → Fate → Type 0)
     (before after was is : Option (List ℕ)) (Broken : Type 0) (fate : Fate) : Type 0 where
   pub turn : Turn
   pub is_turn : IsShellTurn echo IsFateOf before after turn

@@ -1,4 +1,4 @@
--- How lines are counted, one after another.
+-- Inner: no public contract names these. How lines are counted, one after another.
 use Rattle.std.specs.Prelude.{◌+◌}
 use Rattle.mls_host.specs.declared.telling.Tally.{Tally}
 use Rattle.mls_runs.specs.declared.tally.Verdict.{Verdict}

@@ -9,7 +9,7 @@ use Rattle.mls_machine.specs.Turning.{turn_lines, turned}
 use Rattle.mls_script.specs.declared.run_fault.RunFault.{RunFault}
 use Rattle.mls_sessions.specs.Turning.{IsTurned}
 use Rattle.mls_host.specs.declared.job.Setting.{Setting}
-use Rattle.mls_host.specs.Hosting.{Hosted, IsClean, IsOver}
+use Rattle.mls_host.specs.Hosting.{Hosted, IsClean, LeadsOverStore}
 use Rattle.mls_runs.specs.History.{world_of}
 
 -- a turning passes nothing down: of any other world that looks alike to a level it shows that the same entries, and leaves
@@ -30,4 +30,4 @@ module _ (setting : Setting) (Wrote : List ℕ → Type 0) (end : Result (Unit {
 
   -- the list of a store is turned, where that is clean
   abbrev pub IsTurnRun : Hosted → Option (List ℕ) → Type 0
-  IsTurnRun h store = IsClean h store → IsOver h setting.policy setting.file store IsTurning
+  IsTurnRun h store = IsClean h store → LeadsOverStore h setting.policy setting.file store IsTurning

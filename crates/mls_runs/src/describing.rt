@@ -164,6 +164,7 @@ fn relation_to(text: &mut String, to: &Listener<'_>, scheme: &Scheme) -> Result<
 }
 
 fn relations_to(text: &mut String, to: &Listener<'_>) -> Result<(), AllocError> {
+    to.schemes.use_invariant();
     for place in 0..to.schemes.count() {
         if let Some(scheme) = relation_of(to.schemes, RelNo::new(place as u8)) {
             relation_to(text, to, scheme)?;

@@ -9,9 +9,10 @@ ghost use Rattle.mls_certcheck.specs.Site.{site_of};
 ghost use Rattle.mls_runs.specs.Shell.{events_of, is_failed, is_lost};
 ghost use Rattle.mls_runs.specs.Desk.{TellsOne, IsDone, IsFollowed, IsService, IsDesk};
 
+use crate::Fate;
 use crate::marks::write_mark;
 use crate::reading::next_fate;
-use crate::{Fate, is_last};
+use crate::shell::is_last;
 use mls_filterview::Base;
 use mls_host::{Ending, ending_if};
 use mls_lattice::{Items, Policy};
@@ -143,7 +144,7 @@ fn serve<B: Base, L: TypedLines, W: Write>(
 ///
 /// Each answer stands before the next line is read: a host that shows each line among what is written shows it right before its answer.
 /// What sessions are answered whose levels a level dominates passes nothing down to that level but what is released.
-pub fn desk_over_base<B: Base, L: TypedLines, W: Write>(
+pub(crate) fn desk_over_base<B: Base, L: TypedLines, W: Write>(
     alloc: Global,
     policy: &Policy,
     schemes: &Schemes,

@@ -29,13 +29,11 @@ mod typed;
 mod words;
 mod work;
 
-pub use crate::desk::desk_over_base;
 pub use crate::alike::runs_write_the_same;
 pub use crate::desks::run_desk;
 pub use crate::history::{HistoryCause, HistoryFault, Run, run_history};
 pub use crate::memory::{HeldFile, MemoryHost};
 pub use crate::running::{run_over_base, run_script};
-pub use crate::shell::{is_last, shell_over_base};
 pub use crate::shell_session::{Fate, ShellSession};
 pub use crate::shells::run_shell;
 pub use crate::turning::turn_store;

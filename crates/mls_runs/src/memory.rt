@@ -1,6 +1,5 @@
 //! A machine in memory, of which contracts know all: its files, its standard input, and one store.
 ghost use Rattle.std.specs.Prelude.{◌≡◌, IfOk, IfErr, option_map};
-ghost use Rattle.mls_host.specs.Hosting.{IsAppended};
 ghost use Rattle.mls_runs.specs.Memory.{IsUncopied, file_named, cause_of, in_memory_fault};
 
 use mls_fragments::{OpenFault, SqlBase};

@@ -96,7 +96,7 @@ fn follow<B: Base, W: Write>(
 }
 
 /// Whether no line is read behind it.
-pub fn is_last(fate: &Fate) -> bool
+pub(crate) fn is_last(fate: &Fate) -> bool
     ensures { result ≡ is_last fate.now }
 {
     match fate {
@@ -185,7 +185,7 @@ fn converse<B: Base, L: TypedLines, W: Write, E: Write>(
 ///
 /// What is written is what a run writes of these events for the level of the session alone, and each answer stands before the next line
 /// is read: a host that shows each line among what is written shows it right before its answer.
-pub fn shell_over_base<B: Base, L: TypedLines, W: Write, E: Write>(
+pub(crate) fn shell_over_base<B: Base, L: TypedLines, W: Write, E: Write>(
     alloc: Global,
     policy: &Policy,
     schemes: &Schemes,

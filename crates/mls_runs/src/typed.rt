@@ -2,9 +2,9 @@
 ghost use Rattle.std.specs.Prelude.{◌≡◌, ◌∷◌, ◌++◌, ◌||◌, [], codes, IfOk, bytes_eq};
 ghost use Rattle.std.specs.List.{AllByRecursion, list_all};
 ghost use Rattle.mls_script.specs.Event.{EventFits};
-ghost use Rattle.mls_script.specs.Reading.{IsRead as IsScriptRead, script_at};
+ghost use Rattle.mls_script.specs.Reading.{GivesScript, script_at};
 ghost use Rattle.mls_runs.specs.Shell.{prefix_of, opening, is_own, fate_of_events, is_asked, meant, IsFate, FateFits};
-ghost use Rattle.mls_runs.specs.Shell.{IsRead};
+ghost use Rattle.mls_runs.specs.Shell.{IsLineRead};
 ghost use Rattle.mls_runs.specs.Typed.{fate_of_fault, fate_of, Becomes};
 
 use crate::shell_session::{Fate, ShellSession};
@@ -106,7 +106,7 @@ fn events_of(
     session: &ShellSession,
     line: &[u8],
 ) -> Result<Vec<Event>, ScriptFault>
-    ensures exact { IsScriptRead (λ v. v.items) result (script_at policy.now schemes.now
+    ensures exact { GivesScript (λ v. v.items) result (script_at policy.now schemes.now
         (prefix_of session.now ++ line.now)) }
     ensures fits { IfOk result (λ v. AllByRecursion (EventFits policy.now schemes.now) v.items) }
 {
@@ -189,7 +189,7 @@ pub(crate) fn next_fate<L: TypedLines, W: Write>(
     out: &mut W,
     heard: &mut Vec<u8>,
 ) -> Fate
-    ensures read { IsRead L.echo (IsFate policy.now schemes.now session.now) (L.remaining lines.old) (L.remaining lines.new)
+    ensures read { IsLineRead L.echo (IsFate policy.now schemes.now session.now) (L.remaining lines.old) (L.remaining lines.new)
         (W.contents out.old) (W.contents out.new) (L.breaks lines.new) result }
     ensures fits { FateFits policy.now schemes.now result }
 {

@@ -11,7 +11,6 @@ use Rattle.mls_scheme.specs.declared.value.Value.TheVariants.{Int, Text}
 use Rattle.mls_scheme.specs.Value.{is_signed, is_text, is_kind, fits_kind}
 use Rattle.mls_scheme.specs.Scheme.{Attribute, Scheme, IsScheme}
 use Rattle.mls_scheme.specs.Spelling.{HasSpelling, IsSpelledKey}
-use Rattle.mls_scheme.specs.Fits.{IsKeyOf}
 
 -- ---- in code each number has 64 bits, and each text is UTF-8
 
@@ -62,14 +61,10 @@ kinds-length [] (v ∷ vs) h = absurd h
 kinds-length (a ∷ ats) [] h = absurd h
 kinds-length (a ∷ ats) (v ∷ vs) h = ap suc (kinds-length ats vs h.1)
 
--- what the bytes of a key ask
-pub key_of-spelled : (scheme : Scheme) (key : List Value) → IsKeyOf scheme key → IsSpelledKey key
-key_of-spelled scheme key h = record { count = h.count; each = values-spelled scheme.keys key h.kinds }
-
--- values of the kinds of the key attributes are a key, since a scheme has one to four of these
-pub key_of-kinds : (scheme : Scheme) (key : List Value) → IsScheme scheme → AllZip (λ a v. is_kind v a.1.kind ≡ true) scheme.keys key → IsKeyOf scheme key
-key_of-kinds scheme key is kinds =
+-- values of the kinds of the key attributes have what the bytes of a key ask, since a scheme has one to four of these
+pub key-spelled : (scheme : Scheme) (key : List Value) → IsScheme scheme → AllZip (λ a v. is_kind v a.1.kind ≡ true) scheme.keys key → IsSpelledKey key
+key-spelled scheme key is kinds =
     let len = kinds-length scheme.keys key kinds in
     let some = is.some_key in
     let few = is.few_keys in
-    record { count = record { some = omega (arith, len, some); few = omega (arith, len, few) }; kinds = kinds }
+    record { count = record { some = omega (arith, len, some); few = omega (arith, len, few) }; each = values-spelled scheme.keys key kinds }

@@ -7,7 +7,6 @@ use Rattle.mls_scheme.specs.declared.tuple.Element.{Element}
 use Rattle.mls_scheme.specs.Value.{is_kind, fits_kind}
 use Rattle.mls_scheme.specs.declared.place.Place.{Place}
 use Rattle.mls_scheme.specs.declared.attributes.Column.{Column}
-use Rattle.mls_scheme.specs.Spelling.{IsKey}
 use Rattle.mls_scheme.specs.Scheme.{Attribute, Scheme}
 
 -- whether a class lies in the interval of what is kept of an attribute
@@ -21,11 +20,6 @@ in_interval ls class a = in_column ls class a.1
 -- values or nulls have the number and the kinds of attributes
 abbrev pub HaveKinds : List Attribute → List (Option Value) → Type 0
 HaveKinds = AllZip (λ a v. fits_kind v a.1.kind ≡ true)
-
--- a key of a scheme: one to four values, of the kinds of its key attributes
-pub record IsKeyOf (scheme : Scheme) (key : List Value) : Type 0 where
-  pub count : IsKey key
-  pub kinds : AllZip (λ a v. is_kind v a.1.kind ≡ true) scheme.keys key
 
 -- a tuple has the numbers and kinds of its scheme, and its classes lie in their intervals
 pub record Fits (ls : Labels) (scheme : Scheme) (p : Place) (es : List Element) : Type 0 where

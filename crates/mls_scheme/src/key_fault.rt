@@ -3,6 +3,7 @@ ghost use Rattle.std.specs.Prelude.{◌≡◌};
 ghost use Rattle.mls_scheme.specs.declared.key_fault.KeyFault.TheVariants.{Memory};
 ghost use Rattle.mls_scheme.specs.KeyWords.{key_word_of};
 
+use mls_lattice::words;
 use std::alloc::{AllocError, AllocFailed};
 use std::fmt;
 use thiserror::Error;
@@ -22,18 +23,15 @@ pub enum KeyFault {
     Memory,
 }
 
+/// The names of the faults, in their order.
+static WORDS: [&str; 5] = words! { Short BadTag BadText Trailing Memory };
+
 impl KeyFault {
     /// The name of the fault.
     pub fn word(self) -> &'static str
         ensures { result.now ≡ key_word_of self }
     {
-        match self {
-            KeyFault::Short => "Short",
-            KeyFault::BadTag => "BadTag",
-            KeyFault::BadText => "BadText",
-            KeyFault::Trailing => "Trailing",
-            KeyFault::Memory => "Memory",
-        }
+        WORDS[self as usize]
     }
 }
 

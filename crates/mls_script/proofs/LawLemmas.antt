@@ -25,7 +25,7 @@ use Rattle.mls_script.specs.declared.fault.ScriptCause.TheVariants.{Unterminated
 use Rattle.mls_script.specs.declared.fault.LineFault.{LineFault}
 use Rattle.mls_script.specs.declared.fault.ScriptFault.{ScriptFault}
 use Rattle.mls_script.specs.Event.{EventFits}
-use Rattle.mls_script.specs.Reading.{end_at, event_at, told_at, placed_on, line_at, in_script, lines_at, split_lines, script_at, IsJudged, LinesAreJudged, IsRead}
+use Rattle.mls_script.specs.Reading.{end_at, event_at, told_at, placed_on, line_at, in_script, lines_at, split_lines, script_at, IsJudged, LinesAreJudged, GivesScript}
 use Rattle.mls_script.specs.Script.{Line, Tells, IsLineOf, ReadsScript}
 use Rattle.mls_script.proofs.CommandFound.{event_read}
 
@@ -197,7 +197,7 @@ module _ (policy : Policy) (schemes : Schemes) where
       let found = lines_found 1 [] (split_lines [] bytes) es split.one e in
       record { lines = found.told; text = sym split.whole ∙ found.text; told = found.whole; each = found.each }
 
-  pub read_found : {X : Type 0} (view : X → List Event) (bytes : List ℕ) (r : Result X ScriptFault) → IsRead view r (script_at policy schemes bytes) → IfOk r (λ v. ReadsScript policy schemes bytes (view v))
+  pub read_found : {X : Type 0} (view : X → List Event) (bytes : List ℕ) (r : Result X ScriptFault) → GivesScript view r (script_at policy schemes bytes) → IfOk r (λ v. ReadsScript policy schemes bytes (view v))
   read_found view bytes (Ok v) h = script_found bytes (view v) h
   read_found view bytes (Err e) h = tt
 
@@ -210,6 +210,6 @@ module _ (policy : Policy) (schemes : Schemes) where
       one text None tells more = more
       one text (Some e) tells more = (tells.fits, more)
 
-  pub fits_found : {X : Type 0} (view : X → List Event) (bytes : List ℕ) (r : Result X ScriptFault) → IsRead view r (script_at policy schemes bytes) → IfOk r (λ v. AllByRecursion (EventFits policy schemes) (view v))
+  pub fits_found : {X : Type 0} (view : X → List Event) (bytes : List ℕ) (r : Result X ScriptFault) → GivesScript view r (script_at policy schemes bytes) → IfOk r (λ v. AllByRecursion (EventFits policy schemes) (view v))
   fits_found view bytes (Ok v) h = let reads = script_found bytes (view v) h in subst (AllByRecursion (EventFits policy schemes)) (sym reads.told) (all_fit reads.lines reads.each)
   fits_found view bytes (Err e) h = tt

@@ -43,7 +43,7 @@ use Rattle.mls_script.specs.Grammar.{verbs, verb_word, verb_of}
 use Rattle.mls_script.specs.QueryTokens.{TellsTail, TellsQuery}
 use Rattle.mls_script.specs.ReadList.{list_at, sets_at}
 use Rattle.mls_script.specs.ReadQuery.{query_at}
-use Rattle.mls_script.specs.Reading.{verb_of_token, end_at, view_at, keyed_at, insert_at, update_at, delete_at, call_at, command_at, event_at, told_at, placed_on, line_at, in_script, lines_at, split_lines, script_at, IsRead}
+use Rattle.mls_script.specs.Reading.{verb_of_token, end_at, view_at, keyed_at, insert_at, update_at, delete_at, call_at, command_at, event_at, told_at, placed_on, line_at, in_script, lines_at, split_lines, script_at, GivesScript}
 use Rattle.mls_script.specs.Script.{Line, Tells, IsLineOf, ReadsScript, ScriptsAreOnce}
 use Rattle.mls_script.specs.Tokens.{label_token, list_tokens, set_tokens, keyed_tokens, command_tokens, event_tokens}
 use Rattle.mls_script.proofs.LawLemmas.{listed}
@@ -211,7 +211,7 @@ module _ (policy : Policy) (schemes : Schemes) (is_policy : IsPolicy policy) (ar
       ap (λ x. lines_at policy schemes 1 [] (split_lines [] x)) h.text ∙ lines_again h.lines 1 [] h.each ∙ ap (λ (x : List Event). Ok x) (sym h.told)
 
   -- a text that tells events is not refused
-  pub read_refused : {X : Type 0} (view : X → List Event) (bytes : List ℕ) (r : Result X ScriptFault) → IsRead view r (script_at policy schemes bytes)
+  pub read_refused : {X : Type 0} (view : X → List Event) (bytes : List ℕ) (r : Result X ScriptFault) → GivesScript view r (script_at policy schemes bytes)
       → IfErr r (λ e. (e.cause ≡ Memory → ⊥) → (es : List Event) → ReadsScript policy schemes bytes es → ⊥)
   read_refused view bytes (Ok x) given = tt
   read_refused view bytes (Err e) given = λ other es reads. let p = given other in let q = script_again bytes es reads in cc

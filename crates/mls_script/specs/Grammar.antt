@@ -1,7 +1,6 @@
 -- The verbs of commands, by their words.
-use Rattle.std.specs.Prelude.{ℕ, false, if◌then◌else◌, List, [], ◌∷◌, codes, Option, Some, None, bytes_eq}
+use Rattle.std.specs.Prelude.{ℕ, if◌then◌else◌, List, [], ◌∷◌, codes, Option, Some, None, bytes_eq}
 use Rattle.mls_scheme.specs.declared.write.Write.TheVariants as writes
-use Rattle.mls_translang.specs.declared.query.Query.{Query}
 use Rattle.mls_script.specs.declared.event.Command.{Command}
 use Rattle.mls_script.specs.declared.event.Command.TheVariants as commands
 use Rattle.mls_script.specs.declared.grammar.Verb.{Verb}
@@ -38,7 +37,3 @@ verb_of (commands.Write relation (writes.Insert key values)) = Insert
 verb_of (commands.Write relation (writes.Update key key_class from sets)) = Update
 verb_of (commands.Write relation (writes.Delete key key_class)) = Delete
 verb_of (commands.Call tx args) = Call
-
--- a query for all rows
-abbrev pub no_query : Query
-no_query = record { highest = false; class = None; test = None; first = None }

@@ -157,8 +157,8 @@ unfoldable pub script_at : Policy → Schemes → List ℕ → Result (List Even
 script_at policy schemes bytes = lines_at policy schemes 1 [] (split_lines [] bytes)
 
 -- What script returned is what reading gives, unless memory ran out.
-abbrev pub IsRead : {X : Type 0} → (X → List Event) → Result X ScriptFault → Result (List Event) ScriptFault → Type 0
-IsRead = GivesUnless (λ e. e.cause ≡ Memory)
+abbrev pub GivesScript : {X : Type 0} → (X → List Event) → Result X ScriptFault → Result (List Event) ScriptFault → Type 0
+GivesScript = GivesUnless (λ e. e.cause ≡ Memory)
 
 -- The same of what is read of a line.
 abbrev pub Gives : {X Y : Type 0} → (X → Y) → Result X LineFault → Result Y LineFault → Type 0

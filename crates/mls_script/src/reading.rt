@@ -7,7 +7,7 @@ ghost use Rattle.mls_script.specs.Event.{EventFits};
 ghost use Rattle.mls_script.specs.Script.{ReadsScript};
 ghost use Rattle.mls_tokens.specs.Scanning.{tokens_at};
 ghost use Rattle.mls_parser.specs.Noted.{Gives as TextGives};
-ghost use Rattle.mls_script.specs.Reading.{Gives, IsRead, told_at, line_at, script_at};
+ghost use Rattle.mls_script.specs.Reading.{Gives, GivesScript, told_at, line_at, script_at};
 
 use crate::command::told;
 use crate::event::Event;
@@ -91,7 +91,7 @@ fn events_of(
     schemes: &Schemes,
     bytes: &[u8],
 ) -> Result<Vec<Event>, ScriptFault>
-    ensures { IsRead (λ v. v.items) result (script_at policy.now schemes.now bytes.now) }
+    ensures { GivesScript (λ v. v.items) result (script_at policy.now schemes.now bytes.now) }
 {
     let mut events = Vec::new(alloc);
     let mut rest = bytes;
@@ -123,7 +123,7 @@ pub fn script(
     bytes: &[u8],
 ) -> Result<Vec<Event>, ScriptFault>
     // The events, or the first fault with its line, column and cause.
-    ensures exact { IsRead (λ v. v.items) result (script_at policy.now schemes.now bytes.now) }
+    ensures exact { GivesScript (λ v. v.items) result (script_at policy.now schemes.now bytes.now) }
     // What is read is what the text tells.
     ensures reads { IfOk result (λ v. ReadsScript policy.now schemes.now bytes.now v.items) }
     // Unless memory runs out, no text that tells events is refused.

@@ -2,6 +2,8 @@
 ghost use Rattle.std.specs.Prelude.{◌≡◌};
 ghost use Rattle.mls_script.specs.RunFault.{cause_word};
 
+use mls_lattice::words;
+
 /// Why a run stops.
 #[derive(Clone, Copy, PartialEq, Eq, Debug)]
 pub enum RunCause {
@@ -13,16 +15,15 @@ pub enum RunCause {
     Write,
 }
 
+/// The names of the causes, in their order.
+static WORDS: [&str; 3] = words! { Store Memory Write };
+
 impl RunCause {
     /// The name of the cause.
     pub fn word(self) -> &'static str
         ensures { result.now ≡ cause_word self }
     {
-        match self {
-            RunCause::Store => "Store",
-            RunCause::Memory => "Memory",
-            RunCause::Write => "Write",
-        }
+        WORDS[self as usize]
     }
 }
 

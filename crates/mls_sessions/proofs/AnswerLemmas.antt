@@ -23,9 +23,9 @@ use Rattle.mls_script.specs.declared.run_fault.RunCause.TheVariants.{Store, Memo
 use Rattle.mls_sessions.specs.declared.engine.Engine.{Engine}
 use Rattle.mls_sessions.specs.declared.notice.Notice.{Notice}
 use Rattle.mls_sessions.specs.Cause.{cause_of}
-use Rattle.mls_sessions.specs.Sessions.{site_of}
+use Rattle.mls_sessions.specs.Sessions.{site_of_run}
 use Rattle.mls_sessions.specs.Engine.{site, world_of, IsEngineReady, IsEngineStep, IsKept}
-use Rattle.mls_sessions.specs.Run.{is_done, are_done, printed_to, world_after, IsStopped, answer_text, IsAnswered, IsHalted}
+use Rattle.mls_sessions.specs.Run.{is_done, are_done, printed_to, world_after, IsStopped, answer_text, IsEventAnswered, IsHalted}
 use Rattle.mls_sessions.proofs.StepLemmas.{entries_known}
 
 -- ---- one event
@@ -51,9 +51,9 @@ module _ {B : Type 0} (seen : B → Seen) (old new : Engine B) (audience : Audie
 
     module _ (kept : new.site ≡ old.site) (bytes : List ℕ) (is : bytes ≡ reply_shows (site new) audience event r) where
       text_is : bytes ≡ answer_text (site old) audience first event a b first
-      text_is = is ∙ (λ i. reply_shows (site_of (kept i)) audience event (h.reply i))
+      text_is = is ∙ (λ i. reply_shows (site_of_run (kept i)) audience event (h.reply i))
 
-      pub answered : Appends a b bytes → IsAnswered (site old) audience first event a b (world_of seen new)
+      pub answered : Appends a b bytes → IsEventAnswered (site old) audience first event a b (world_of seen new)
       answered p = record { bytes = subst (Appends a b) text_is p; world = h.world }
 
 pub stored_at : {B : Type 0} (seen : B → Seen) (e : Engine B) → IsEngineReady seen e → (seen e.base).is_clean → AreStored (site e) (world_of seen e).db
@@ -78,7 +78,7 @@ module _ {B : Type 0} (seen : B → Seen) (old new : Engine B) (event : Event) (
   pub reply_known : IsEngineStep seen old (step (site old) (world_of seen old) event) new r → new.site ≡ old.site → IsEngineReady seen old → (seen old.base).is_clean → EventFits (site old).policy (site old).schemes event
       → ReplyIsKnown (site new).policy r
   reply_known h kept ready c fits =
-      subst (λ at. ReplyIsKnown (site_of at).policy r) (sym kept)
+      subst (λ at. ReplyIsKnown (site_of_run at).policy r) (sym kept)
       (subst (ReplyIsKnown (site old).policy) (sym h.reply)
       (step_known (site old) ready.distinct ready.serves.read (world_of seen old) (stored_at seen old ready c)
       (entries_known (length (site old).policy.labels) (seen old.base).state.now.audit) event fits.level).reply)
@@ -158,15 +158,15 @@ module _ {B : Type 0} (seen : B → Seen) (audience : Audience) (es : List Event
   module _ (i : ℕ) (now : Engine B) (held : Option (List ℕ)) (r : Running seen audience es first start i now held)
       (e : Event) (within : i < length es) (is : get_or es i e ≡ e) (new : Engine B) (after : Option (List ℕ)) (clean : (seen new.base).is_clean → (seen now.base).is_clean) where
     same_site : site now ≡ site first
-    same_site = ap site_of r.kept.site
+    same_site = ap site_of_run r.kept.site
 
     pub running_more : (seen now.base).failures ≤ (seen new.base).failures → IsKept seen now new
-        → ((seen new.base).is_clean → IsAnswered (site now) audience (world_of seen now) e held after (world_of seen new))
+        → ((seen new.base).is_clean → IsEventAnswered (site now) audience (world_of seen now) e held after (world_of seen new))
         → ((seen new.base).is_clean → is_some new.notice ≡ (is_some now.notice || not (is_done (step (site now) (world_of seen now) e).reply)))
         → Running seen audience es first start (i + 1) new after
     running_more count kept answer notice =
-        let h : (seen new.base).is_clean → IsAnswered (site first) audience (at i) e held after (world_of seen new) =
-        λ c. moved (λ p v. IsAnswered p audience v e held after (world_of seen new)) (site now) (site first) (world_of seen now) (at i) same_site (r.world (clean c)) (answer c) in
+        let h : (seen new.base).is_clean → IsEventAnswered (site first) audience (at i) e held after (world_of seen new) =
+        λ c. moved (λ p v. IsEventAnswered p audience v e held after (world_of seen new)) (site now) (site first) (world_of seen now) (at i) same_site (r.world (clean c)) (answer c) in
         record {
           clean = λ c. r.clean (clean c);
           count = least r.count count;

@@ -6,7 +6,7 @@ use Rattle.mls_script.specs.declared.run_fault.RunCause.TheVariants.{Store, Memo
 use Rattle.mls_script.specs.declared.run_fault.RunFault.{RunFault}
 use Rattle.mls_sessions.specs.declared.engine.Engine.{Engine}
 use Rattle.mls_sessions.specs.Engine.{site, world_of, IsAtRest, IsEngineReady, IsKept, Continues, Leaves}
-use Rattle.mls_sessions.specs.Sessions.{site_of, sessions_of}
+use Rattle.mls_sessions.specs.Sessions.{site_of_run, sessions_of}
 use Rattle.mls_sessions.specs.World.{world_at}
 
 -- an error that is passed on
@@ -76,7 +76,7 @@ module _ {B : Type 0} (seen : B → Seen) where
 
   pub given_back : (at : Site) (first new : Engine B) (left : B) → site first ≡ at → IsKept seen first new → left ≡ new.base → GivesBack at new left
   given_back at first new left from kept to =
-      let same : site new ≡ at = ap site_of kept.site ∙ from in
+      let same : site new ≡ at = ap site_of_run kept.site ∙ from in
       record {
         rest = subst (IsAtRest seen at.policy at.schemes) (sym to) (subst (λ (x : Site). IsAtRest seen x.policy x.schemes new.base) same kept.ready.rest);
         world = λ i. world_at (same i) (sessions_of new.sessions.items) (seen (sym to i)).state.now;

@@ -35,7 +35,7 @@ module _ {Self : Type 0} (seen : Self → Seen) where
     pub spelled : OnOk result (AllByRecursion HasSpelling entries)
 
 -- a transaction was read under the policy and the schemes, and has as many arguments as parameters
-pub record MayRun (policy : Policy) (schemes : Schemes) (tx : Tx) (args : List (Option Value)) : Type 0 where
+pub record MayRunCall (policy : Policy) (schemes : Schemes) (tx : Tx) (args : List (Option Value)) : Type 0 where
   pub read : IsReadUnder policy schemes tx
   pub count : length args ≡ length tx.params
 

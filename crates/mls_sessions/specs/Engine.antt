@@ -13,13 +13,13 @@ use Rattle.mls_script.specs.declared.event.Event.{Event}
 use Rattle.mls_script.specs.declared.run_fault.RunCause.TheVariants.{Store}
 use Rattle.mls_script.specs.declared.run_fault.RunFault.{RunFault}
 use Rattle.mls_sessions.specs.declared.engine.Engine.{Engine}
-use Rattle.mls_sessions.specs.Sessions.{site_of, sessions_of, AreForUsers}
+use Rattle.mls_sessions.specs.Sessions.{site_of_run, sessions_of, AreForUsers}
 use Rattle.mls_sessions.specs.World.{world_at}
 use Rattle.mls_sessions.specs.Turns.{IsTurn}
 use Rattle.mls_queries.specs.Views.{AreViews}
 
 abbrev pub site : {B : Type 0} → Engine B → Site
-site e = site_of e.site
+site e = site_of_run e.site
 
 -- sessions may be held under a site: what is stored was read under its policy and schemes, and checked where it has a
 -- certificate

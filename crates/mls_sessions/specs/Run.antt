@@ -72,7 +72,7 @@ module _ (site : Site) (audience : Audience) (w : World) (event : Event)
   answer_text = reply_shows site audience event (step site w event).reply
 
   -- an event was answered, and its reply is written whole
-  pub record IsAnswered : Type 0 where
+  pub record IsEventAnswered : Type 0 where
     pub bytes : Appends before after answer_text
     pub world : new ≡ (step site w event).world
 

@@ -11,8 +11,8 @@ use Rattle.mls_sessions.specs.declared.site.RunSite.{RunSite}
 use Rattle.mls_sessions.specs.declared.session.Session.{Session}
 
 -- what a run is under
-abbrev pub site_of : RunSite → Site
-site_of site = record { policy = site.policy.now; schemes = site.schemes.now; stored = site.stored }
+abbrev pub site_of_run : RunSite → Site
+site_of_run site = record { policy = site.policy.now; schemes = site.schemes.now; stored = site.stored }
 
 -- ---- sessions
 

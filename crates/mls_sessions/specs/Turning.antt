@@ -39,7 +39,7 @@ module _ (policy : Policy) (reader : Option ℕ) (Wrote : List ℕ → Type 0) (
 
 module _ {Self : Type 0} (seen : Self → Seen) where
   -- a change is begun, and nothing is changed; or it is over
-  pub record IsListed {A : Type 0} (old new : Self) (result : Result A BaseFault) : Type 0 where
+  pub record BeginsList {A : Type 0} (old new : Self) (result : Result A BaseFault) : Type 0 where
     pub turn : IsTurn seen (λ b. (seen b).state.now) old new result
     pub over : OnErr result ((seen new).state.begun ≡ false)
     pub same : (seen new).is_clean → OnOk result ((seen new).state ≡ begun_change (seen old).state)

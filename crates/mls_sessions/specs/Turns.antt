@@ -47,7 +47,7 @@ pub record IsStepOver (site : Site) (step : World → Step) (s t : Content) (r :
   pub entries : AllByRecursion (IsEntryOf (length site.policy.labels)) s.audit
       → AllByRecursion (IsEntryOf (length site.policy.labels)) t.audit
 
--- ---- deeds
+-- ---- effects
 
 abbrev pub is_write : Command → Bool
 is_write (commands.Write relation wr) = true
@@ -83,20 +83,20 @@ pub record MayDo (site : Site) (event : Event) (effect : Effect) : Type 0 where
 
 module _ {Self : Type 0} (seen : Self → Seen) where
   -- a step inside a change: it goes on, over what was committed before it; or a fault has ended it
-  pub record GoesOn {A : Type 0} (old new : Self) (result : Result A BaseFault) : Type 0 where
+  pub record Steps {A : Type 0} (old new : Self) (result : Result A BaseFault) : Type 0 where
     pub call : IsCall seen old new result
     pub served : IfErr result IsServed
     pub mode : OnOk result ((seen new).state.begun ≡ true)
     pub kept : (seen new).is_clean → OnOk result ((seen new).state.kept ≡ (seen old).state.kept)
 
   -- a whole change, or none: it is over
-  pub record IsOver {A : Type 0} (old new : Self) (result : Result A BaseFault) : Type 0 where
+  pub record EndsChange {A : Type 0} (old new : Self) (result : Result A BaseFault) : Type 0 where
     pub turn : IsTurn seen (λ b. (seen b).state.now) old new result
     pub idle : (seen new).state.begun ≡ false
 
 -- what an event finds: whether a change is begun, sound content, and views of it
 module _ {Self : Type 0} (seen : Self → Seen) where
-  pub record Finds (site : Site) (begun : Bool) (base : Self) (kept : Kept) : Type 0 where
+  pub record IsOpen (site : Site) (begun : Bool) (base : Self) (kept : Kept) : Type 0 where
     pub under : AreUnder (length site.policy.labels) site.schemes
     pub mode : (seen base).state.begun ≡ begun
     pub sound : (seen base).is_clean → IsSoundContent site.policy site.schemes (seen base).state.now
@@ -106,11 +106,11 @@ module _ {Self : Type 0} (seen : Self → Seen) where
 module _ {Self : Type 0} (seen : Self → Seen)
     (site : Site) (step : World → Step) where
   pub record HasLooked (old new : Self) (result : Result Reply BaseFault) : Type 0 where
-    pub over : IsOver seen old new result
+    pub over : EndsChange seen old new result
     pub done : (seen new).is_clean → IfOk result (IsStepOver site step (seen old).state.now (seen new).state.now)
     pub known : IfOk result (HasKnownNumbers site.policy)
 
--- a effect is done, and answered by numbers of the policy
+-- an effect is done, and answered by numbers of the policy
 module _ {Self : Type 0} (seen : Self → Seen)
     (site : Site) (event : Event) (effect : Effect) where
   pub record HasDone (old new : Self) (result : Result Reply BaseFault) : Type 0 where

@@ -48,7 +48,7 @@ fn fitted_to(kind: Kind, arg: &Option<Value>) -> Result<Option<Value>, AllocErro
 }
 
 /// The arguments that a transaction takes, each of the kind of its parameter or null.
-pub fn fitted(
+pub(crate) fn fitted(
     alloc: Global,
     tx: &Tx,
     args: &[Option<Value>],

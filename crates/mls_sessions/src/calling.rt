@@ -7,13 +7,15 @@ ghost use Rattle.mls_audit.specs.declared.entry.Entry.TheVariants.{Called};
 ghost use Rattle.mls_audit.specs.Spelling.{HasSpelling, entry_spelling};
 ghost use Rattle.mls_certcheck.specs.MeaningLaws.{IsItem};
 ghost use Rattle.mls_machine.specs.Machine.{release_entry, call_entries};
-ghost use Rattle.mls_sessions.specs.Sessions.{site_of};
+ghost use Rattle.mls_sessions.specs.Sessions.{site_of_run};
 ghost use Rattle.mls_queries.specs.Views.{AreViews};
-ghost use Rattle.mls_sessions.specs.Calling.{MayEnter, HasEntered, MayRun, HasRun};
-ghost use Rattle.mls_sessions.specs.Turns.{MayDo, GoesOn, Finds, HasDone};
+ghost use Rattle.mls_sessions.specs.Calling.{MayEnter, HasEntered, MayRunCall, HasRun};
+ghost use Rattle.mls_sessions.specs.Turns.{MayDo, Steps, IsOpen, HasDone};
 
+use crate::RunSite;
+use crate::arguments::fitted;
 use crate::change::Effect;
-use crate::{RunSite, certified_named, fitted};
+use crate::finding::certified_named;
 use mls_audit::{Entry, entry_bytes};
 use mls_certcheck::{Certified, Run};
 use mls_filterview::{Base, BaseFault, settle};
@@ -64,8 +66,8 @@ fn released_bytes(
     requires session { is_name event.now.session ≡ true }
     requires item { IsItem site.now.policy.now item.now }
     ensures bytes { IfOk result (λ v. v.items ≡ entry_spelling
-        (release_entry (site_of site.now) event.now user item.now)) }
-    ensures spelled { OnOk result (HasSpelling (release_entry (site_of site.now) event.now user item.now)) }
+        (release_entry (site_of_run site.now) event.now user item.now)) }
+    ensures spelled { OnOk result (HasSpelling (release_entry (site_of_run site.now) event.now user item.now)) }
 {
     let user = Str::copy_of(site.alloc, site.policy.user_name(user))?;
     let session = Str::copy_of(site.alloc, &event.session)?;
@@ -89,7 +91,7 @@ fn enter_call<B: Base>(
 ) -> Result<(), BaseFault>
     requires may { MayEnter B.seen site.now.policy.now event.now user base.old }
     requires name { is_name name.now ≡ true }
-    ensures step { GoesOn B.seen base.old base.new result }
+    ensures step { Steps B.seen base.old base.new result }
     ensures entered { HasEntered B.seen (Called event.now.level
         (user_name site.now.policy.now.users user) event.now.session name.now ∷ []) base.old base.new result }
 {
@@ -107,9 +109,9 @@ fn enter_release<B: Base>(
 ) -> Result<(), BaseFault>
     requires may { MayEnter B.seen site.now.policy.now event.now user base.old }
     requires item { IsItem site.now.policy.now item.now }
-    ensures step { GoesOn B.seen base.old base.new result }
+    ensures step { Steps B.seen base.old base.new result }
     ensures entered { HasEntered B.seen
-        (release_entry (site_of site.now) event.now user item.now ∷ []) base.old base.new result }
+        (release_entry (site_of_run site.now) event.now user item.now ∷ []) base.old base.new result }
 {
     let bytes = settle(base, released_bytes(site, event, user, item))?;
     base.audit_add(&bytes)
@@ -125,9 +127,9 @@ fn enter_releases<B: Base>(
 ) -> Result<(), BaseFault>
     requires may { MayEnter B.seen site.now.policy.now event.now user base.old }
     requires items { AllByRecursion (IsItem site.now.policy.now) released.now }
-    ensures step { GoesOn B.seen base.old base.new result }
+    ensures step { Steps B.seen base.old base.new result }
     ensures entered { HasEntered B.seen
-        (map (release_entry (site_of site.now) event.now user) released.now) base.old base.new result }
+        (map (release_entry (site_of_run site.now) event.now user) released.now) base.old base.new result }
 {
     for item in released {
         enter_release(site, base, event, user, item)?;
@@ -147,9 +149,9 @@ fn enter_run<B: Base>(
     requires may { MayEnter B.seen site.now.policy.now event.now user base.old }
     requires name { is_name name.now ≡ true }
     requires items { AllByRecursion (IsItem site.now.policy.now) released.now }
-    ensures step { GoesOn B.seen base.old base.new result }
+    ensures step { Steps B.seen base.old base.new result }
     ensures entered { HasEntered B.seen
-        (call_entries (site_of site.now) event.now user name.now released.now) base.old base.new result }
+        (call_entries (site_of_run site.now) event.now user name.now released.now) base.old base.new result }
 {
     enter_call(site, base, event, user, name)?;
     enter_releases(site, base, event, user, released)
@@ -163,9 +165,9 @@ fn run_certified<B: Base>(
     certified: &Certified,
     args: &[Option<Value>],
 ) -> Result<Run, BaseFault>
-    requires found { Finds B.seen (site_of site.now) true base.old views.old }
-    requires may { MayRun site.now.policy.now site.now.schemes.now certified.now.tx args.now }
-    ensures step { GoesOn B.seen base.old base.new result }
+    requires found { IsOpen B.seen (site_of_run site.now) true base.old views.old }
+    requires may { MayRunCall site.now.policy.now site.now.schemes.now certified.now.tx args.now }
+    ensures step { Steps B.seen base.old base.new result }
     ensures run { HasRun B.seen site.now.policy.now site.now.schemes.now certified.now.tx args.now
         base.old base.new result }
     ensures views { OnOk result (AreViews site.now.policy.now B.seen base.new views.new) }
@@ -190,10 +192,10 @@ pub(crate) fn call<B: Base>(
     event: &Event,
     user: UserNo,
 ) -> Result<Reply, BaseFault>
-    requires found { Finds B.seen (site_of site.now) true base.old views.old }
-    requires may { MayDo (site_of site.now) event.now (Effect.Call user) }
-    ensures step { GoesOn B.seen base.old base.new result }
-    ensures done { HasDone B.seen (site_of site.now) event.now (Effect.Call user) base.old base.new
+    requires found { IsOpen B.seen (site_of_run site.now) true base.old views.old }
+    requires may { MayDo (site_of_run site.now) event.now (Effect.Call user) }
+    ensures step { Steps B.seen base.old base.new result }
+    ensures done { HasDone B.seen (site_of_run site.now) event.now (Effect.Call user) base.old base.new
         result }
     ensures views { OnOk result (AreViews site.now.policy.now B.seen base.new views.new) }
 {

@@ -3,8 +3,8 @@ ghost use Rattle.std.specs.Prelude.{◌≡◌, ◌<◌, true, false, length, IfO
 ghost use Rattle.mls_audit.specs.Spelling.{HasSpelling, entry_spelling};
 ghost use Rattle.mls_script.specs.Event.{EventFits};
 ghost use Rattle.mls_machine.specs.Machine.{denial_entry};
-ghost use Rattle.mls_sessions.specs.Sessions.{site_of};
-ghost use Rattle.mls_sessions.specs.Turns.{MayDo, GoesOn, IsOver, Finds, HasDone};
+ghost use Rattle.mls_sessions.specs.Sessions.{site_of_run};
+ghost use Rattle.mls_sessions.specs.Turns.{MayDo, Steps, EndsChange, IsOpen, HasDone};
 ghost use Rattle.mls_queries.specs.Views.{AreViews};
 
 use crate::RunSite;
@@ -38,8 +38,8 @@ fn denial_bytes(
     requires user { user < length site.now.policy.now.users }
     requires fits { EventFits site.now.policy.now site.now.schemes.now event.now }
     ensures bytes { IfOk result (λ v. v.items ≡ entry_spelling
-        (denial_entry (site_of site.now) event.now user denial)) }
-    ensures spelled { OnOk result (HasSpelling (denial_entry (site_of site.now) event.now user denial)) }
+        (denial_entry (site_of_run site.now) event.now user denial)) }
+    ensures spelled { OnOk result (HasSpelling (denial_entry (site_of_run site.now) event.now user denial)) }
 {
     let user = Str::copy_of(site.alloc, site.policy.user_name(user))?;
     let session = Str::copy_of(site.alloc, &event.session)?;
@@ -61,9 +61,9 @@ fn enter<B: Base>(
     denial: Denial,
 ) -> Result<Reply, BaseFault>
     requires begun { (B.seen base.old).state.begun ≡ true }
-    requires may { MayDo (site_of site.now) event.now (Effect.Deny user denial) }
-    ensures step { GoesOn B.seen base.old base.new result }
-    ensures done { HasDone B.seen (site_of site.now) event.now (Effect.Deny user denial) base.old base.new
+    requires may { MayDo (site_of_run site.now) event.now (Effect.Deny user denial) }
+    ensures step { Steps B.seen base.old base.new result }
+    ensures done { HasDone B.seen (site_of_run site.now) event.now (Effect.Deny user denial) base.old base.new
         result }
 {
     let bytes = settle(base, denial_bytes(site, event, user, denial))?;
@@ -78,10 +78,10 @@ fn write<B: Base>(
     views: &mut Views,
     event: &Event,
 ) -> Result<Reply, BaseFault>
-    requires found { Finds B.seen (site_of site.now) true base.old views.old }
-    requires may { MayDo (site_of site.now) event.now Effect.Write }
-    ensures step { GoesOn B.seen base.old base.new result }
-    ensures done { HasDone B.seen (site_of site.now) event.now Effect.Write base.old base.new result }
+    requires found { IsOpen B.seen (site_of_run site.now) true base.old views.old }
+    requires may { MayDo (site_of_run site.now) event.now Effect.Write }
+    ensures step { Steps B.seen base.old base.new result }
+    ensures done { HasDone B.seen (site_of_run site.now) event.now Effect.Write base.old base.new result }
     ensures views { OnOk result (AreViews site.now.policy.now B.seen base.new views.new) }
 {
     let Command::Write { relation, write } = &event.command else {
@@ -107,10 +107,10 @@ fn act<B: Base>(
     event: &Event,
     effect: Effect,
 ) -> Result<Reply, BaseFault>
-    requires found { Finds B.seen (site_of site.now) true base.old views.old }
-    requires may { MayDo (site_of site.now) event.now effect }
-    ensures step { GoesOn B.seen base.old base.new result }
-    ensures done { HasDone B.seen (site_of site.now) event.now effect base.old base.new result }
+    requires found { IsOpen B.seen (site_of_run site.now) true base.old views.old }
+    requires may { MayDo (site_of_run site.now) event.now effect }
+    ensures step { Steps B.seen base.old base.new result }
+    ensures done { HasDone B.seen (site_of_run site.now) event.now effect base.old base.new result }
     ensures views { OnOk result (AreViews site.now.policy.now B.seen base.new views.new) }
 {
     match effect {
@@ -128,10 +128,10 @@ fn carry_out<B: Base>(
     event: &Event,
     effect: Effect,
 ) -> Result<Reply, BaseFault>
-    requires found { Finds B.seen (site_of site.now) false base.old views.old }
-    requires may { MayDo (site_of site.now) event.now effect }
-    ensures over { IsOver B.seen base.old base.new result }
-    ensures done { HasDone B.seen (site_of site.now) event.now effect base.old base.new result }
+    requires found { IsOpen B.seen (site_of_run site.now) false base.old views.old }
+    requires may { MayDo (site_of_run site.now) event.now effect }
+    ensures over { EndsChange B.seen base.old base.new result }
+    ensures done { HasDone B.seen (site_of_run site.now) event.now effect base.old base.new result }
     ensures views { OnOk result (AreViews site.now.policy.now B.seen base.new views.new) }
 {
     base.begin()?;
@@ -148,10 +148,10 @@ pub(crate) fn change<B: Base>(
     event: &Event,
     effect: Effect,
 ) -> Result<Reply, BaseFault>
-    requires found { Finds B.seen (site_of site.now) false base.old views.old }
-    requires may { MayDo (site_of site.now) event.now effect }
-    ensures over { IsOver B.seen base.old base.new result }
-    ensures done { HasDone B.seen (site_of site.now) event.now effect base.old base.new result }
+    requires found { IsOpen B.seen (site_of_run site.now) false base.old views.old }
+    requires may { MayDo (site_of_run site.now) event.now effect }
+    ensures over { EndsChange B.seen base.old base.new result }
+    ensures done { HasDone B.seen (site_of_run site.now) event.now effect base.old base.new result }
     ensures views { AreViews site.now.policy.now B.seen base.new views.new }
 {
     let result = carry_out(site, base, views, event, effect);

@@ -7,7 +7,7 @@ ghost use Rattle.mls_certcheck.specs.Site.{AreRead};
 ghost use Rattle.mls_machine.specs.Denying.{first_denial, clearance_of, exceed, lacks_rights_on, lacks, access_denials};
 ghost use Rattle.mls_machine.specs.Denying.{write_denials};
 ghost use Rattle.mls_sessions.specs.Denying.{denial_in};
-ghost use Rattle.mls_sessions.specs.Sessions.{site_of};
+ghost use Rattle.mls_sessions.specs.Sessions.{site_of_run};
 
 use crate::denying_calls::call_denial;
 use crate::site::RunSite;
@@ -30,7 +30,7 @@ fn has_any(granted: Modes, modes: &[Modes]) -> bool
 
 /// Whether the matrix grants a user none of the modes on what has a name.
 pub(crate) fn lacks_rights_on(site: &RunSite, user: UserNo, object: &str, modes: &[Modes]) -> bool
-    ensures { result ≡ lacks_rights_on (site_of site.now) user object.now (map (λ m. m.0) modes.now) }
+    ensures { result ≡ lacks_rights_on (site_of_run site.now) user object.now (map (λ m. m.0) modes.now) }
 {
     !has_any(site.policy.modes(user, object), modes)
 }
@@ -38,7 +38,7 @@ pub(crate) fn lacks_rights_on(site: &RunSite, user: UserNo, object: &str, modes:
 /// Whether the matrix grants a user none of the modes on a relation.
 fn lacks(site: &RunSite, user: UserNo, relation: RelNo, modes: &[Modes]) -> bool
     requires { relation < length site.now.schemes.now }
-    ensures { result ≡ lacks (site_of site.now) user relation (map (λ m. m.0) modes.now) }
+    ensures { result ≡ lacks (site_of_run site.now) user relation (map (λ m. m.0) modes.now) }
 {
     lacks_rights_on(site, user, site.schemes.scheme(relation).name(), modes)
 }
@@ -47,7 +47,7 @@ fn lacks(site: &RunSite, user: UserNo, relation: RelNo, modes: &[Modes]) -> bool
 pub(crate) fn exceed(site: &RunSite, limit: LabelNo, labels: &[LabelNo]) -> bool
     requires limit { limit < length site.now.policy.now.labels }
     requires labels { AllByRecursion (λ l. l < length site.now.policy.now.labels) labels.now }
-    ensures { result ≡ exceed (site_of site.now) limit labels.now }
+    ensures { result ≡ exceed (site_of_run site.now) limit labels.now }
 {
     for label in labels {
         if !site.policy.dominates(limit, *label) {
@@ -80,7 +80,7 @@ fn access_denial(
     requires user { user < length site.now.policy.now.users }
     requires relation { relation < length site.now.schemes.now }
     requires labels { AllByRecursion (λ l. l < length site.now.policy.now.labels) labels.now }
-    ensures { result ≡ first_denial (access_denials (site_of site.now) level user relation
+    ensures { result ≡ first_denial (access_denials (site_of_run site.now) level user relation
         (map (λ m. m.0) modes.now) labels.now) }
 {
     if lacks(site, user, relation, modes) {
@@ -107,7 +107,7 @@ fn write_denial(
     requires user { user < length site.now.policy.now.users }
     requires relation { relation < length site.now.schemes.now }
     requires fits { IsWriteOf site.now.policy.now (scheme_of site.now.schemes.now relation) write.now }
-    ensures { result ≡ first_denial (write_denials (site_of site.now) level user relation write.now) }
+    ensures { result ≡ first_denial (write_denials (site_of_run site.now) level user relation write.now) }
 {
     match write {
         Write::Insert { .. } => {
@@ -129,12 +129,17 @@ fn write_denial(
 }
 
 /// Why a command is denied in an open session of a level and a user, if it is.
-pub fn denial_of(site: &RunSite, level: LabelNo, user: UserNo, command: &Command) -> Option<Denial>
+pub(crate) fn denial_of(
+    site: &RunSite,
+    level: LabelNo,
+    user: UserNo,
+    command: &Command,
+) -> Option<Denial>
     requires level { level < length site.now.policy.now.labels }
     requires user { user < length site.now.policy.now.users }
-    requires read { AreRead (site_of site.now) }
+    requires read { AreRead (site_of_run site.now) }
     requires fits { CommandFits site.now.policy.now site.now.schemes.now command.now }
-    ensures { result ≡ denial_in (site_of site.now) level user command.now }
+    ensures { result ≡ denial_in (site_of_run site.now) level user command.now }
 {
     match command {
         Command::Open(_) => Some(Denial::AlreadyOpen),

@@ -5,7 +5,7 @@ ghost use Rattle.mls_lattice.specs.Labels.{below};
 ghost use Rattle.mls_certcheck.specs.Site.{site_labels, AreRead};
 ghost use Rattle.mls_machine.specs.Denying.{first_denial, trusted_of, lie_outside, stored_named, call_denials};
 ghost use Rattle.mls_machine.specs.Denying.{call_denial};
-ghost use Rattle.mls_sessions.specs.Sessions.{site_of};
+ghost use Rattle.mls_sessions.specs.Sessions.{site_of_run};
 
 use crate::arguments::are_wrong;
 use crate::denying::{clearance, exceed, lacks_rights_on};
@@ -31,8 +31,8 @@ fn is_between(site: &RunSite, low: LabelNo, high: LabelNo, label: LabelNo) -> bo
     requires low { low < length site.now.policy.now.labels }
     requires high { high < length site.now.policy.now.labels }
     requires label { label < length site.now.policy.now.labels }
-    ensures { result ≡ (below (site_labels (site_of site.now)) low label
-        && below (site_labels (site_of site.now)) label high) }
+    ensures { result ≡ (below (site_labels (site_of_run site.now)) low label
+        && below (site_labels (site_of_run site.now)) label high) }
 {
     site.policy.dominates(label, low) && site.policy.dominates(high, label)
 }
@@ -42,7 +42,7 @@ fn leave(site: &RunSite, low: LabelNo, high: LabelNo, labels: &[LabelNo]) -> boo
     requires low { low < length site.now.policy.now.labels }
     requires high { high < length site.now.policy.now.labels }
     requires labels { AllByRecursion (λ l. l < length site.now.policy.now.labels) labels.now }
-    ensures { result ≡ lie_outside (site_labels (site_of site.now)) (Some (low, high)) labels.now }
+    ensures { result ≡ lie_outside (site_labels (site_of_run site.now)) (Some (low, high)) labels.now }
 {
     for label in labels {
         if !is_between(site, low, high, *label) {
@@ -58,7 +58,7 @@ fn is_untrusted(site: &RunSite, user: UserNo, tx: &Tx) -> bool
     requires lo { tx.now.lo < length site.now.policy.now.labels }
     requires hi { tx.now.hi < length site.now.policy.now.labels }
     ensures { result ≡ (not (nat_eq tx.now.hi tx.now.lo)
-        && lie_outside (site_labels (site_of site.now)) (trusted_of site.now.policy.now user)
+        && lie_outside (site_labels (site_of_run site.now)) (trusted_of site.now.policy.now user)
         (tx.now.lo ∷ tx.now.hi ∷ [])) }
 {
     if tx.hi() == tx.lo() {
@@ -82,7 +82,7 @@ fn certified_denial(
     requires user { user < length site.now.policy.now.users }
     requires lo { tx.now.lo < length site.now.policy.now.labels }
     requires hi { tx.now.hi < length site.now.policy.now.labels }
-    ensures { result ≡ first_denial (call_denials (site_of site.now) level user tx.now args.now) }
+    ensures { result ≡ first_denial (call_denials (site_of_run site.now) level user tx.now args.now) }
 {
     if lacks_rights_on(site, user, tx.name(), &[Modes::EXECUTE]) {
         return Some(Denial::Ds);
@@ -111,8 +111,8 @@ pub(crate) fn call_denial(
     args: &[Option<Value>],
 ) -> Option<Denial>
     requires user { user < length site.now.policy.now.users }
-    requires read { AreRead (site_of site.now) }
-    ensures { result ≡ call_denial (site_of site.now) level user args.now (stored_named site.now.stored name.now) }
+    requires read { AreRead (site_of_run site.now) }
+    ensures { result ≡ call_denial (site_of_run site.now) level user args.now (stored_named site.now.stored name.now) }
 {
     match stored_named(&site.stored, name) {
         None => Some(Denial::UnknownTransaction),

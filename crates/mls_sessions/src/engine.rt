@@ -9,9 +9,11 @@ ghost use Rattle.mls_sessions.specs.Engine.{site, world_of, MayServe, IsAtRest, 
 ghost use Rattle.mls_machine.specs.Known.{HasKnownNumbers};
 
 use crate::change::{Effect, change};
+use crate::denying::denial_of;
 use crate::looking::{audit, dump, look};
 use crate::notice::Notice;
-use crate::{RunSite, Session, close, denial_of, open, user_of};
+use crate::session::{close, open, user_of};
+use crate::{RunSite, Session};
 use mls_certcheck::Stored;
 use mls_filterview::{Base, BaseFault};
 use mls_lattice::{Items, LabelNo, Policy, UserNo};

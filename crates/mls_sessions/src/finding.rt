@@ -19,7 +19,7 @@ pub(crate) fn stored_named<'a>(stored: &'a [Stored], name: &str) -> Option<&'a S
 }
 
 /// The transaction with a certificate that is stored by a name.
-pub fn certified_named<'a>(stored: &'a [Stored], name: &str) -> &'a Certified
+pub(crate) fn certified_named<'a>(stored: &'a [Stored], name: &str) -> &'a Certified
     requires { (k : Checked) × (stored_named stored.now name.now ≡ Some (variants.Certified k)) }
     ensures { stored_named stored.now name.now ≡ Some (variants.Certified result.now) }
 {

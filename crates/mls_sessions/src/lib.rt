@@ -17,16 +17,13 @@ mod site;
 mod turning;
 mod writing;
 
-pub use arguments::fitted;
-pub use denying::denial_of;
 pub use engine::Engine;
-pub use finding::certified_named;
 pub use mls_certcheck::{Run, Stored};
 pub use mls_machine::{Denial, Reply};
 pub use mls_script::{Command, Event, RunCause, RunFault, ScriptCause, ScriptFault};
 pub use notice::Notice;
 pub use running::{run, run_to};
-pub use session::{Session, close, open, user_of};
+pub use session::Session;
 pub use site::RunSite;
 pub use turning::turn;
 pub use writing::write_whole;

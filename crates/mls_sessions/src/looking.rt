@@ -6,9 +6,9 @@ ghost use Rattle.mls_audit.specs.Reading.{entry_at};
 ghost use Rattle.mls_audit.specs.Sound.{IsSoundContent};
 ghost use Rattle.mls_machine.specs.Machine.{viewed, dumped, listed};
 ghost use Rattle.mls_machine.specs.Output.{EntriesAreKnown};
-ghost use Rattle.mls_sessions.specs.Sessions.{site_of};
+ghost use Rattle.mls_sessions.specs.Sessions.{site_of_run};
 ghost use Rattle.mls_sessions.specs.World.{declared, entries_in};
-ghost use Rattle.mls_sessions.specs.Turns.{Finds, HasLooked};
+ghost use Rattle.mls_sessions.specs.Turns.{IsOpen, HasLooked};
 ghost use Rattle.mls_queries.specs.Views.{AreViews};
 
 use crate::RunSite;
@@ -30,11 +30,11 @@ pub(crate) fn look<B: Base>(
     label: LabelNo,
     query: &Query,
 ) -> Result<Reply, BaseFault>
-    requires found { Finds B.seen (site_of site.now) false base.old views.old }
+    requires found { IsOpen B.seen (site_of_run site.now) false base.old views.old }
     requires relation { relation < length site.now.schemes.now }
     requires label { label < length site.now.policy.now.labels }
-    ensures looked { HasLooked B.seen (site_of site.now)
-        (λ w. viewed (site_of site.now) w relation label query.now) base.old base.new result }
+    ensures looked { HasLooked B.seen (site_of_run site.now)
+        (λ w. viewed (site_of_run site.now) w relation label query.now) base.old base.new result }
     ensures views { AreViews site.now.policy.now B.seen base.new views.new }
 {
     let found = find(
@@ -61,8 +61,8 @@ pub(crate) fn dump<B: Base>(
     requires level { level < length site.now.policy.now.labels }
     requires sound { (B.seen base.old).is_clean → IsSoundContent site.now.policy.now site.now.schemes.now
         (B.seen base.old).state.now }
-    ensures { HasLooked B.seen (site_of site.now)
-        (λ w. dumped (site_of site.now) w relation level) base.old base.new result }
+    ensures { HasLooked B.seen (site_of_run site.now)
+        (λ w. dumped (site_of_run site.now) w relation level) base.old base.new result }
 {
     let tuples = low_tuples(site.alloc, base, site.policy, relation, level)?;
     Ok(Reply::Dumped(Items::from(tuples)))
@@ -129,8 +129,8 @@ pub(crate) fn audit<B: Base>(
 ) -> Result<Reply, BaseFault>
     requires idle { (B.seen base.old).state.begun ≡ false }
     requires level { level < length site.now.policy.now.labels }
-    ensures { HasLooked B.seen (site_of site.now)
-        (λ w. listed (site_of site.now) w level) base.old base.new result }
+    ensures { HasLooked B.seen (site_of_run site.now)
+        (λ w. listed (site_of_run site.now) w level) base.old base.new result }
 {
     let strings = base.audit_all()?;
     let entries = settle(base, seen_of(site.alloc, site.policy, &strings, level))?;

@@ -6,10 +6,10 @@ ghost use Rattle.mls_machine.specs.Machine.{step};
 ghost use Rattle.mls_machine.specs.Output.{ReplyIsKnown};
 ghost use Rattle.mls_machine.specs.Observation.{EventsFit, PassesOnlyReleasesDown, reply_shows, everyone};
 ghost use Rattle.mls_machine.specs.Laws.{KeepsIntegrity};
-ghost use Rattle.mls_sessions.specs.Sessions.{site_of};
+ghost use Rattle.mls_sessions.specs.Sessions.{site_of_run};
 ghost use Rattle.mls_machine.specs.Known.{HasKnownNumbers};
 ghost use Rattle.mls_sessions.specs.Engine.{site, world_of, IsEngineReady, Continues};
-ghost use Rattle.mls_sessions.specs.Run.{is_done, are_done, IsWhole, IsStopped, IsFaultOf, IsAnswered, IsHalted};
+ghost use Rattle.mls_sessions.specs.Run.{is_done, are_done, IsWhole, IsStopped, IsFaultOf, IsEventAnswered, IsHalted};
 
 use crate::RunSite;
 use crate::cause::{cause_of, fault_at};
@@ -32,7 +32,7 @@ fn text_of(
     requires fits { EventFits site.now.policy.now site.now.schemes.now event.now }
     requires known { HasKnownNumbers site.now.policy.now reply.now }
     requires reader { IfSome audience.now.reader (λ c. c < length site.now.policy.now.labels) }
-    ensures done { IfOk result (λ v. v.items ≡ reply_shows (site_of site.now) audience.now event.now reply.now) }
+    ensures done { IfOk result (λ v. v.items ≡ reply_shows (site_of_run site.now) audience.now event.now reply.now) }
     ensures failed { ReplyIsKnown site.now.policy.now reply.now → IfErr result (λ c. c ≡ RunCause.Memory) }
     ensures write { IfErr result (λ c. c ≢ RunCause.Write) }
 {
@@ -65,7 +65,7 @@ fn answer<B: Base, W: Write>(
     requires fits { EventFits (site engine.old).policy (site engine.old).schemes event.now }
     requires reader { IfSome audience.now.reader (λ c. c < length (site engine.old).policy.labels) }
     ensures continues { Continues B.seen engine.old engine.new result }
-    ensures done { (B.seen engine.new.base).is_clean → OnOk result (IsAnswered (site engine.old) audience.now
+    ensures done { (B.seen engine.new.base).is_clean → OnOk result (IsEventAnswered (site engine.old) audience.now
         (world_of B.seen engine.old) event.now
         (W.contents out.old) (W.contents out.new) (world_of B.seen engine.new)) }
     ensures stopped { (B.seen engine.new.base).is_clean → IfErr result

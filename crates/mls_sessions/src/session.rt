@@ -3,7 +3,7 @@ ghost use Rattle.std.specs.Prelude.{◌≡◌, ◌<◌, None, length, IfOk, IfEr
 ghost use Rattle.mls_machine.specs.Denying.{user_named};
 ghost use Rattle.mls_machine.specs.Machine.{with_session, step_outside};
 ghost use Rattle.mls_machine.specs.Output.{ReplyIsKnown};
-ghost use Rattle.mls_sessions.specs.Sessions.{site_of, sessions_of, AreForUsers, IsSessionStep};
+ghost use Rattle.mls_sessions.specs.Sessions.{site_of_run, sessions_of, AreForUsers, IsSessionStep};
 
 use crate::denying::clearance;
 use crate::site::RunSite;
@@ -21,7 +21,7 @@ pub struct Session {
 }
 
 /// The user of the open session of a level and a name.
-pub fn user_of(sessions: &[Session], level: LabelNo, name: &str) -> Option<UserNo>
+pub(crate) fn user_of(sessions: &[Session], level: LabelNo, name: &str) -> Option<UserNo>
     ensures { result ≡ sessions_of sessions.now level name.now }
 {
     for session in sessions {
@@ -41,10 +41,14 @@ fn known_user(policy: &Policy, name: &str) -> Option<UserNo>
 }
 
 /// Answers an event whose session is not open: opens it, where the command is to open it and is not denied.
-pub fn open(site: &RunSite, sessions: &mut Vec<Session>, event: &Event) -> Result<Reply, BaseFault>
+pub(crate) fn open(
+    site: &RunSite,
+    sessions: &mut Vec<Session>,
+    event: &Event,
+) -> Result<Reply, BaseFault>
     requires level { event.now.level < length site.now.policy.now.labels }
     requires closed { sessions_of sessions.old.items event.now.level event.now.session ≡ None }
-    ensures done { IfOk result (IsSessionStep (λ w. step_outside (site_of site.now) w event.now event.now.command)
+    ensures done { IfOk result (IsSessionStep (λ w. step_outside (site_of_run site.now) w event.now event.now.command)
         sessions.old.items sessions.new.items) }
     ensures known { IfOk result (ReplyIsKnown site.now.policy.now) }
     ensures users { AreForUsers (length site.now.policy.now.users) sessions.old.items
@@ -74,7 +78,7 @@ pub fn open(site: &RunSite, sessions: &mut Vec<Session>, event: &Event) -> Resul
 }
 
 /// Closes the session of a level and a name. It takes no memory.
-pub fn close(sessions: &mut Vec<Session>, level: LabelNo, name: &str)
+pub(crate) fn close(sessions: &mut Vec<Session>, level: LabelNo, name: &str)
     ensures closed { sessions_of sessions.new.items
         ≡ with_session (sessions_of sessions.old.items) level name.now None }
     ensures users { (count : _) → AreForUsers count sessions.old.items → AreForUsers count sessions.new.items }

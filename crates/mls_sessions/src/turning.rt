@@ -1,7 +1,7 @@
 //! An audit list that is turned: its entries are written, and then it is empty.
 ghost use Rattle.std.specs.Prelude.{◌≡◌, ◌<◌, true, false, length, IfOk, IfSome};
 ghost use Rattle.std.specs.Io.KnownBytes.{Appends};
-ghost use Rattle.mls_sessions.specs.Turning.{turned_text, list_text, HasTurned, IsListed, IsEmptied};
+ghost use Rattle.mls_sessions.specs.Turning.{turned_text, list_text, HasTurned, BeginsList, IsEmptied};
 ghost use Rattle.mls_sessions.specs.World.{entries_in};
 
 use crate::cause::{cause_of, fault_at};
@@ -46,7 +46,7 @@ fn begin<B: Base>(
 ) -> Result<Vec<u8>, BaseFault>
     requires idle { (B.seen base.old).state.begun ≡ false }
     requires reader { IfSome reader (λ c. c < length policy.now.labels) }
-    ensures listed { IsListed B.seen base.old base.new result }
+    ensures listed { BeginsList B.seen base.old base.new result }
     ensures text { (B.seen base.new).is_clean → IfOk result
         (λ v. v.items ≡ list_text policy.now reader (B.seen base.old).state.now) }
 {

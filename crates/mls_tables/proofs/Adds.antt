@@ -19,8 +19,9 @@ use Rattle.mls_tables.specs.declared.rows.CellRow.{CellRow}
 use Rattle.mls_tables.specs.declared.rows.OwnCell.{OwnCell}
 use Rattle.mls_tables.specs.declared.rows.AuditRow.{AuditRow}
 use Rattle.mls_tables.specs.Schema.{schema, node, cell, audit, meta}
-use Rattle.mls_tables.specs.Rows.{node_of, is_node_row, node_values, cell_of, is_cell_row, cell_values, cell_beside, key_of, class_values, own_values, audit_of, is_audit_row, audit_values, meta_of, is_meta_row, first_meta}
+use Rattle.mls_tables.specs.Rows.{node_of, is_node_row, cell_of, is_cell_row, cell_beside, key_of, class_values, own_values, audit_of, is_audit_row, meta_of, is_meta_row, first_meta}
 use Rattle.mls_tables.specs.Statements.{IsSchemaReady, IsNext, Changes, AddsNode, AddsCell, AddsCells, AddsEntry, AddsMeta}
+use Rattle.mls_tables.proofs.RowValues.{node_values, cell_values, audit_values}
 use Rattle.mls_tables.proofs.Texts.{add_node, add_node_is, node_terms, add_cell, add_cell_is, cell_terms, AddsOwn, own_terms, add_entry, add_entry_is, audit_terms, add_meta, add_meta_is, meta_terms}
 use Rattle.mls_tables.proofs.PlainWrites.{adds}
 use Rattle.mls_tables.proofs.SchemaLemmas.{at_rest}

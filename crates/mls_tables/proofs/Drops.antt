@@ -24,8 +24,9 @@ use Rattle.sqlite_rules.proofs.TableLemmas.{int_is}
 use Rattle.mls_tables.specs.declared.rows.CellRow.{CellRow}
 use Rattle.mls_tables.specs.declared.rows.TupleKey.{TupleKey}
 use Rattle.mls_tables.specs.Schema.{schema, node, cell}
-use Rattle.mls_tables.specs.Rows.{node_of, is_node_row, is_node, cell_of, is_cell_row, is_cell_in, class_values, cell_values, tables_of, blob_in}
+use Rattle.mls_tables.specs.Rows.{node_of, is_node_row, is_node, cell_of, is_cell_row, is_cell_in, class_values, tables_of, blob_in}
 use Rattle.mls_tables.specs.Statements.{IsSchemaReady, IsNext, Changes, DropsNode, DropsCells, SetsCell, IsOne, has_key_of}
+use Rattle.mls_tables.proofs.RowValues.{cell_values}
 use Rattle.mls_tables.proofs.Texts.{by_class, by_cell, set_terms, drop_node, drop_node_is, drop_cells, drop_cells_is, set_cell, set_cell_is}
 use Rattle.mls_tables.proofs.PlainWrites.{drops, sets}
 use Rattle.mls_tables.proofs.QueryAnswers.{rows_by, passes, answered}

@@ -17,9 +17,10 @@ use Rattle.mls_tables.specs.declared.rows.NodeRow.{NodeRow}
 use Rattle.mls_tables.specs.declared.rows.CellRow.{CellRow}
 use Rattle.mls_tables.specs.declared.rows.AuditRow.{AuditRow}
 use Rattle.mls_tables.specs.Schema.{Others, HasTables, schema}
-use Rattle.mls_tables.specs.Rows.{tables_of, meta_columns, node_values, node_of, is_node_row, shown_node, shows_node, cell_values, cell_of, is_cell_row, shown_cell, shows_cell, audit_values, audit_columns, audit_of, is_audit_row, shown_entry, shows_entry}
+use Rattle.mls_tables.specs.Rows.{tables_of, meta_columns, node_of, is_node_row, shown_node, shows_node, cell_of, is_cell_row, shown_cell, shows_cell, audit_columns, audit_of, is_audit_row, shown_entry, shows_entry}
 use Rattle.mls_tables.specs.Adopting.{ReadsNode, ReadsCell, ReadsEntry, ShowsSome, FailsToShow}
 use Rattle.mls_tables.specs.Statements.{IsSchemaReady, IsQuery}
+use Rattle.mls_tables.proofs.RowValues.{node_values, cell_values, audit_values}
 use Rattle.mls_tables.proofs.EditParts.{alone}
 use Rattle.mls_tables.proofs.EndLemmas.{fails_ended, shown_open, shown_unchanged}
 use Rattle.mls_tables.proofs.QueryAnswers.{rows_by, rows_sorted, passes, answered}

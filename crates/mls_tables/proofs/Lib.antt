@@ -17,6 +17,7 @@ pub mod QueryAnswers
 pub mod ReadLemmas
 pub mod ReadyLemmas
 pub mod RowLists
+pub mod RowValues
 pub mod SchemaLemmas
 pub mod StreamingLemmas
 pub mod TableEdits

@@ -14,8 +14,9 @@ use Rattle.sqlite_value.specs.declared.value.Value.TheVariants.{Blob}
 use Rattle.sqlite_trees.proofs.ListLemmas.{map-map}
 use Rattle.mls_tables.specs.Adopting.{IsBytes, ShowsSome, FailsToShow}
 use Rattle.mls_tables.specs.Rows.{tables_of, is_blob, is_node, node_of, is_node_row, class_values}
-use Rattle.mls_tables.specs.Pattern.{pattern_values, shown_bytes}
+use Rattle.mls_tables.specs.Pattern.{shown_bytes}
 use Rattle.mls_tables.specs.Statements.{IsQuery}
+use Rattle.mls_tables.proofs.RowValues.{pattern_values}
 use Rattle.mls_tables.proofs.EditParts.{alone}
 use Rattle.mls_tables.proofs.QueryAnswers.{rows_by, passes}
 use Rattle.mls_tables.proofs.TableRows.{answers, read_back}

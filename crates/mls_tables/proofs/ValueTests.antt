@@ -24,8 +24,9 @@ use Rattle.sqlite_sql.specs.Ops.{shifted}
 use Rattle.sqlite_sql.specs.declared.ops.CompareOp.TheVariants.{Eq}
 use Rattle.sqlite.specs.Collation.TheVariants.{Binary}
 use Rattle.mls_tables.specs.declared.rows.TupleKey.{TupleKey}
-use Rattle.mls_tables.specs.Rows.{nat_in, blob_in, is_nat, is_blob, node_of, is_node_row, cell_of, is_cell_row, audit_of, is_audit_row, node_values, cell_values, audit_values, is_node_at, is_node_among, has_bit, is_node, is_cell_at, is_cell_among, is_cell_in, is_cell, class_values}
+use Rattle.mls_tables.specs.Rows.{nat_in, blob_in, is_nat, is_blob, node_of, is_node_row, cell_of, is_cell_row, audit_of, is_audit_row, is_node_at, is_node_among, has_bit, is_node, is_cell_at, is_cell_among, is_cell_in, is_cell, class_values}
 use Rattle.mls_tables.specs.declared.rows.CellRow.{CellRow}
+use Rattle.mls_tables.proofs.RowValues.{node_values, cell_values, audit_values}
 use Rattle.mls_tables.proofs.NumberedLemmas.{equal_ints}
 use Rattle.mls_tables.proofs.QueryAnswers.{passes, equals_int, equals_blob}
 use Rattle.mls_tables.proofs.Texts.{by_class, by_cell, by_label, by_labels, node_shown, cell_shown, audit_shown}

@@ -149,15 +149,6 @@ tables_of trees = record { nodes = map node_of (trees 0); cells = map cell_of (t
 
 -- ---- rows as queries show them
 
-abbrev pub node_values : NodeRow → Row
-node_values n = Int (pos n.rel) ∷ Blob n.ent ∷ Int (pos n.kclass) ∷ Int (pos n.label) ∷ Blob n.pattern ∷ []
-
-abbrev pub cell_values : CellRow → Row
-cell_values c = Int (pos c.rel) ∷ Blob c.ent ∷ Int (pos c.kclass) ∷ Int (pos c.label) ∷ Int (pos c.attr) ∷ Blob c.value ∷ []
-
-abbrev pub audit_values : AuditRow → Row
-audit_values a = Int a.number ∷ Blob a.bytes ∷ []
-
 -- the key of a tuple's own class
 abbrev pub class_values : TupleKey → Row
 class_values k = Int (pos k.rel) ∷ Blob k.ent ∷ Int (pos k.kclass) ∷ Int (pos k.label) ∷ []

@@ -3,7 +3,7 @@
 
 mod adopting;
 mod decode;
-mod remembered;
+mod ghost_store;
 mod rewriting;
 mod rows;
 /// The statements, each over any connection.

@@ -5,7 +5,7 @@ ghost use Rattle.sqlite.specs.Held.{state};
 ghost use Rattle.mls_tables.specs.Statements.{AreWrites, ClearsStore, Rewrites, HasSettled, IsRewritten};
 ghost use Rattle.mls_tables.specs.Store.{HasEnded};
 
-use crate::remembered::GhostStore;
+use crate::ghost_store::GhostStore;
 use crate::rows::{CellRow, NodeRow};
 use crate::statements::{cell, change, meta, node};
 use crate::store::{StoreFault, abandon_unless_ended};

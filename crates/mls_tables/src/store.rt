@@ -14,7 +14,7 @@ ghost use Rattle.mls_tables.specs.Statements.{AddsEntry, ClearsEntries, IsOne, h
 ghost use Rattle.mls_tables.specs.Store.{IsClean, IsStoreFault, IsStoreTurn, IsStoreWrite, IsStoreQuery, HasEnded};
 ghost use Rattle.mls_tables.specs.Store.{HasFallen};
 
-use crate::remembered::GhostStore;
+use crate::ghost_store::GhostStore;
 use crate::rows::{AuditRow, CellRow, NodeRow, OwnCell, TupleKey};
 use crate::statements::{audit, cell, change, creation, node};
 use mls_lattice::Items;
@@ -213,7 +213,7 @@ impl<S: Alter> TableStore<S> {
     /// Counts a failure of a store whose disk gave back other rows than were written to it, and ends the
     /// change, if one is begun. It is for a store that is not clean, so a base has no way to a `Store` of its
     /// own.
-    pub fn condemn(&mut self)
+    pub fn abandon_corrupt(&mut self)
         requires { IsClean self.old → ⊥ }
         ensures clean { IsClean self.new → ⊥ }
         ensures fault { IsStoreFault StoreFault.Store self.old self.new }

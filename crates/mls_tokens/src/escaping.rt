@@ -1,9 +1,9 @@
 //! Texts without control characters.
-ghost use Rattle.std.specs.Prelude.{◌≡◌, ◌<◌, ◌++◌, OnOk, IfOk};
-ghost use Rattle.mls_tokens.specs.Writing.{hex_digit};
+ghost use Rattle.std.specs.Prelude.{◌≡◌, ◌++◌, OnOk, IfOk};
 ghost use Rattle.mls_tokens.specs.Screen.{is_hidden, is_c1, hex_escape, pending, written, escaped};
 ghost use Rattle.mls_tokens.specs.Screen.{EscapedTextsAreHarmless};
 
+use crate::writing::hex_digit;
 use std::alloc::{AllocError, Global};
 
 /// The first of the two bytes of each character from U+0080 to U+00BF.
@@ -19,17 +19,6 @@ fn is_c1(byte: u8) -> bool
     ensures { result ≡ is_c1 byte }
 {
     byte >= 128 && byte < 160
-}
-
-fn hex_digit(number: u8) -> u8
-    requires { number < 16 }
-    ensures { result ≡ hex_digit number }
-{
-    if number < 10 {
-        b'0' + number
-    } else {
-        b'a' - 10 + number
-    }
 }
 
 fn push_escape(text: &mut Vec<u8>, byte: u8) -> Result<(), AllocError>

@@ -20,7 +20,8 @@ pub(crate) fn is_escaped(byte: u8) -> bool
     byte == b'"' || byte == b'\\'
 }
 
-fn hex_digit(number: u8) -> u8
+/// A digit of a hexadecimal number, in lower case.
+pub(crate) fn hex_digit(number: u8) -> u8
     requires { number < 16 }
     ensures { result ≡ hex_digit number }
 {

@@ -19,7 +19,7 @@ use Rattle.mls_certcheck.proofs.MeaningLemmas.{arg_kind}
 use Rattle.mls_trusted.specs.declared.call.Call.{Call}
 use Rattle.mls_trusted.specs.declared.frame.Frame.{Frame}
 use Rattle.mls_trusted.specs.Runs.{with_database, IsEvaluated, HasItems}
-use Rattle.mls_trusted.specs.Frames.{around_of, progress_of, MayRun, run_of, IsFrame, IsRun}
+use Rattle.mls_trusted.specs.Frames.{around_of, progress_of, MayRunBlock, run_of, IsFrame, IsFrameRun}
 
 outside : (f : Frame) → f.rows.items ≡ [] → [] ≡ around_of f
 outside f none = sym (ap reverse none)
@@ -30,16 +30,16 @@ all_items policy hi (x ∷ xs) h = (h.0.0, all_items policy hi xs h.1)
 
 module _ (call : Call) where
   -- outside loops the statements of a transaction may run
-  pub start_may : IsTx call.tx.now → IsReadUnder call.policy.now call.schemes.now call.tx.now → ArgsFit call.tx.now call.args.now → (f : Frame) → f.rows.items ≡ [] → MayRun call (around_of f) call.tx.now.body
+  pub start_may : IsTx call.tx.now → IsReadUnder call.policy.now call.schemes.now call.tx.now → ArgsFit call.tx.now call.args.now → (f : Frame) → f.rows.items ≡ [] → MayRunBlock call (around_of f) call.tx.now.body
   start_may valid read fits f none =
-      let m : MayRun call [] call.tx.now.body = record {
+      let m : MayRunBlock call [] call.tx.now.body = record {
         rows = [];
         own = valid.own;
         fits = read.fits;
         kinds = read.kinds;
         read = record { params = arg_kind call.tx.now.params call.args.now fits; rows = λ d. null_kinds (scheme_of call.schemes.now 0) };
       } in
-      subst (λ (around : List Tuple). MayRun call around call.tx.now.body) (outside f none) m
+      subst (λ (around : List Tuple). MayRunBlock call around call.tx.now.body) (outside f none) m
 
   pub gives_items : (g : Frame) (r : Run) → r.emitted ≡ g.emitted.items → r.released ≡ g.released.items → IsFrame call g → HasItems call.policy.now r
   gives_items g r e q i = record {
@@ -49,7 +49,7 @@ module _ (call : Call) where
 
   module _ {B : Type 0} (seen : B → Seen) where
     pub gives_run : (a c : B) (f g : Frame) (r : Run) → ((db : Database) → progress_of db f ≡ start db) → f.rows.items ≡ []
-        → IsRun call seen (run_of call call.tx.now.body (around_of f)) a c f g → r.emitted ≡ g.emitted.items → r.released ≡ g.released.items → (seen c).is_clean
+        → IsFrameRun call seen (run_of call call.tx.now.body (around_of f)) a c f g → r.emitted ≡ g.emitted.items → r.released ≡ g.released.items → (seen c).is_clean
         → (let run = run_tx (labels_of call.policy.now) call.schemes.now call.tx.now call.args.now (seen a).state.now.db in IsEvaluated run (with_database (seen a).state run.db) (seen c).state r)
     gives_run a c f g r first none ran e q k =
         let run = run_tx (labels_of call.policy.now) call.schemes.now call.tx.now call.args.now (seen a).state.now.db in

@@ -13,7 +13,7 @@ use Rattle.mls_certcheck.proofs.KindLemmas.{EnvironmentFits}
 use Rattle.mls_queries.specs.Views.{Kept}
 use Rattle.mls_trusted.specs.declared.call.Call.{Call}
 use Rattle.mls_trusted.specs.declared.frame.Frame.{Frame}
-use Rattle.mls_trusted.specs.Frames.{around_of, progress_of, env_in, inside, MayRun, HasVars, IsFrame}
+use Rattle.mls_trusted.specs.Frames.{around_of, progress_of, env_in, inside, MayRunBlock, HasVars, IsFrame}
 
 module _ (call : Call) (vars : Variables) (kept : Kept) (f g : Frame) (h : HasVars vars kept f g) where
   -- variables of their kinds, and the rest as it was
@@ -29,5 +29,5 @@ module _ (call : Call) (vars : Variables) (kept : Kept) (f g : Frame) (h : HasVa
   vars_progress db = λ k. record { db = db; vars = h.vars k; emitted = (h.emitted k).items; released = (h.released k).items }
 
 -- what expressions read in a frame is of its kinds
-pub env_fits : (call : Call) (f : Frame) (block : Block) → IsFrame call f → (m : MayRun call (around_of f) block) → EnvironmentFits call.policy.now call.schemes.now call.tx.now.hi (inside call m.rows) (env_in call.args.now f)
+pub env_fits : (call : Call) (f : Frame) (block : Block) → IsFrame call f → (m : MayRunBlock call (around_of f) block) → EnvironmentFits call.policy.now call.schemes.now call.tx.now.hi (inside call m.rows) (env_in call.args.now f)
 env_fits call f block i m = record { vars = i.vars; params = m.read.params; rows = m.read.rows }

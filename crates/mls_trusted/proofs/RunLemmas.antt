@@ -27,7 +27,7 @@ use Rattle.mls_queries.specs.Views.{Kept, AreViews}
 use Rattle.mls_trusted.specs.declared.call.Call.{Call}
 use Rattle.mls_trusted.specs.declared.frame.Frame.{Frame}
 use Rattle.mls_trusted.specs.Runs.{with_database}
-use Rattle.mls_trusted.specs.Frames.{around_of, progress_of, env_in, inside, MayRun, MayLoop, run_of, rows_of, loop_of, IsFrame, IsStep, IsCallReady, IsRun}
+use Rattle.mls_trusted.specs.Frames.{around_of, progress_of, env_in, inside, MayRunBlock, MayLoop, run_of, rows_of, loop_of, IsFrame, IsFrameStep, IsCallReady, IsFrameRun}
 
 -- ---- the first statement and the rest
 
@@ -60,7 +60,7 @@ for_each_last f (r ∷ rs) row s = for_each_last f rs row (f r s)
 -- ---- what may be run
 
 module _ (call : Call) (around : List Tuple) where
-  may_more : (x : Stmt) (rest : List Stmt) → MayRun call around (block_of (x ∷ rest)) → MayRun call around (block_of (x ∷ [])) × MayRun call around (block_of rest)
+  may_more : (x : Stmt) (rest : List Stmt) → MayRunBlock call around (block_of (x ∷ rest)) → MayRunBlock call around (block_of (x ∷ [])) × MayRunBlock call around (block_of rest)
   may_more x rest m =
       let s = inside call m.rows in
       let o = own_more s x rest m.own in
@@ -69,13 +69,13 @@ module _ (call : Call) (around : List Tuple) where
       (record { rows = m.rows; own = o.0; fits = f.0; kinds = k.0; read = m.read }, record { rows = m.rows; own = o.1; fits = f.1; kinds = k.1; read = m.read })
 
   -- the statement at a place, and those behind it
-  pub may_here : (xs : List Stmt) (i : ℕ) (x : Stmt) → x ≡ get_or xs i x → i < length xs → MayRun call around (block_of (drop i xs)) → MayRun call around (block_of (x ∷ [])) × MayRun call around (block_of (drop (i + 1) xs))
+  pub may_here : (xs : List Stmt) (i : ℕ) (x : Stmt) → x ≡ get_or xs i x → i < length xs → MayRunBlock call around (block_of (drop i xs)) → MayRunBlock call around (block_of (x ∷ [])) × MayRunBlock call around (block_of (drop (i + 1) xs))
   may_here xs i x is within m =
       let here : drop i xs ≡ x ∷ drop (i + 1) xs = drop_more xs i x within ∙ ap (λ y. y ∷ drop (i + 1) xs) (sym is) in
-      may_more x (drop (i + 1) xs) (subst (λ l. MayRun call around (block_of l)) here m)
+      may_more x (drop (i + 1) xs) (subst (λ l. MayRunBlock call around (block_of l)) here m)
 
   -- a body at each of some rows
-  pub may_each : (relation label : ℕ) (body : Block) → MayLoop call relation label around body → (rs : List Tuple) → AllByRecursion (RowKinds (scheme_of call.schemes.now relation)) rs → AllByRecursion (λ row. MayRun call (row ∷ around) body) rs
+  pub may_each : (relation label : ℕ) (body : Block) → MayLoop call relation label around body → (rs : List Tuple) → AllByRecursion (RowKinds (scheme_of call.schemes.now relation)) rs → AllByRecursion (λ row. MayRunBlock call (row ∷ around) body) rs
   may_each relation label body m [] k = tt
   may_each relation label body m (row ∷ rest) k = (m.each row k.0, may_each relation label body m rest k.1)
 
@@ -98,7 +98,7 @@ loop_same call name relation label body around s = refl
 
 module _ (call : Call) {B : Type 0} (seen : B → Seen) where
   abbrev Ran : (Progress → Progress) → B → B → Frame → Frame → Type 0
-  Ran = IsRun call seen
+  Ran = IsFrameRun call seen
 
   -- nothing
   pub run_start : (run : Progress → Progress) (base : B) (f : Frame) → ((s : Progress) → s ≡ run s) → IsCallReady call seen base f → Ran run base base f f
@@ -118,7 +118,7 @@ module _ (call : Call) {B : Type 0} (seen : B → Seen) where
   run_same one other a b f g e p = record { ready = p.ready; rows = p.rows; rest = p.rest; progress = λ k. p.progress k ∙ e (seen a).state.now.db }
 
   -- a part that leaves the base
-  run_step : (run : Progress → Progress) (a b : B) (f g : Frame) → b ≡ a → IsCallReady call seen a f → IsStep call run f g → Ran run a b f g
+  run_step : (run : Progress → Progress) (a b : B) (f g : Frame) → b ≡ a → IsCallReady call seen a f → IsFrameStep call run f g → Ran run a b f g
   run_step run a b f g same h p = subst (λ (x : B). Ran run a x f g) (sym same) (record {
     ready = record { under = h.under; begun = h.begun; content = h.content; frame = p.frame; views = subst (AreViews call.policy.now seen a) (sym p.views) h.views };
     rows = p.rows;
@@ -176,6 +176,6 @@ module _ (call : Call) {B : Type 0} (seen : B → Seen) where
 
   -- a part that only takes memory
   pub ok_step : {A E : Type 0} (r : Result A BaseFault) (growth : Result A E) (run : Progress → Progress) (a b : B) (f g : Frame) → IsCallReady call seen a f
-      → IfOk r (λ x. growth ≡ Ok x) → OnOk r (b ≡ a) → OnOk growth (IsStep call run f g) → OnOk r (Ran run a b f g)
-  ok_step (Ok x) growth run a b f g h is same p = run_step run a b f g same h (subst (λ q. OnOk q (IsStep call run f g)) is p)
+      → IfOk r (λ x. growth ≡ Ok x) → OnOk r (b ≡ a) → OnOk growth (IsFrameStep call run f g) → OnOk r (Ran run a b f g)
+  ok_step (Ok x) growth run a b f g h is same p = run_step run a b f g same h (subst (λ q. OnOk q (IsFrameStep call run f g)) is p)
   ok_step (Err e) growth run a b f g h is same p = is

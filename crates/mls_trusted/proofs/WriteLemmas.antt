@@ -21,7 +21,7 @@ use Rattle.mls_queries.proofs.WrittenLemmas.{kept_written}
 use Rattle.mls_trusted.specs.declared.call.Call.{Call}
 use Rattle.mls_trusted.specs.declared.frame.Frame.{Frame}
 use Rattle.mls_trusted.specs.Runs.{with_database}
-use Rattle.mls_trusted.specs.Frames.{around_of, vars_of, progress_of, env_in, inside, MayRun, run_of, IsFrame, HasVars, IsCallReady, IsRun}
+use Rattle.mls_trusted.specs.Frames.{around_of, vars_of, progress_of, env_in, inside, MayRunBlock, run_of, IsFrame, HasVars, IsCallReady, IsFrameRun}
 use Rattle.mls_trusted.proofs.FrameLemmas.{vars_frame, env_fits}
 
 module _ (call : Call) (f : Frame) (relation w : ℕ) (outcome : Option ℕ) where
@@ -38,18 +38,18 @@ module _ (call : Call) (f : Frame) (relation w : ℕ) (outcome : Option ℕ) whe
   scheme = scheme_of call.schemes.now relation
 
   -- the class of its key is declared
-  pub key_class_declared : (writing : Writing) → MayRun call (around_of f) (block_of writing) → key_class_of w (value writing) < length call.policy.now.labels
+  pub key_class_declared : (writing : Writing) → MayRunBlock call (around_of f) (block_of writing) → key_class_of w (value writing) < length call.policy.now.labels
   key_class_declared (Insert key values) m = m.fits.0.1
   key_class_declared (Update key key_class from sets) m = m.fits.0.2.1
   key_class_declared (Delete key key_class) m = m.fits.0.2.1
 
   module _ (i : IsFrame call f) {B : Type 0} (seen : B → Seen) (b : B) (under : AreUnder (length call.policy.now.labels) call.schemes.now)
       (stored : (seen b).is_clean → IsContent (labels_of call.policy.now) scheme ((seen b).state.now.db relation)) where
-    kinds_of : (writing : Writing) → MayRun call (around_of f) (block_of writing) → WriteKinds scheme (value writing)
+    kinds_of : (writing : Writing) → MayRunBlock call (around_of f) (block_of writing) → WriteKinds scheme (value writing)
     kinds_of writing m = write_kinds call.policy.now call.schemes.now call.tx.now.hi (inside call m.rows) env (env_fits call f (block_of writing) i m) scheme writing m.kinds.0.0
 
     -- with its operands' values it may be made
-    pub can_write : (writing : Writing) → MayRun call (around_of f) (block_of writing) → CanWrite seen b call.policy.now call.schemes.now relation w (value writing)
+    pub can_write : (writing : Writing) → MayRunBlock call (around_of f) (block_of writing) → CanWrite seen b call.policy.now call.schemes.now relation w (value writing)
     can_write (Insert key values) m = record { label = m.fits.0.1; declared = m.fits.0.0; under = under; kinds = kinds_of (Insert key values) m; stored = stored }
     can_write (Update key key_class from sets) m =
         let wr = Update key key_class from sets in
@@ -84,7 +84,7 @@ module _ (call : Call) (f : Frame) (relation w : ℕ) (writing : Writing) (outco
   abbrev scheme_here : Scheme
   scheme_here = scheme_of call.schemes.now relation
 
-  module _ {B : Type 0} (seen : B → Seen) (a c : B) (g : Frame) (o : Outcome) (h : IsCallReady call seen a f) (m : MayRun call (around_of f) block)
+  module _ {B : Type 0} (seen : B → Seen) (a c : B) (g : Frame) (o : Outcome) (h : IsCallReady call seen a f) (m : MayRunBlock call (around_of f) block)
       (d : HasWritten seen call.policy.now call.schemes.now relation w (write_in (env_in call.args.now f) writing) a c (Ok o))
       (v : HasVars (set_outcome outcome o (vars_of f)) g.views f g) (within : (named w (write_in (env_in call.args.now f) writing)).key_class < length call.policy.now.labels)
       (left : AreLeftBy (labels_of call.policy.now) relation w (named w (write_in (env_in call.args.now f) writing)) o f.views g.views) where
@@ -111,7 +111,7 @@ module _ (call : Call) (f : Frame) (relation w : ℕ) (writing : Writing) (outco
         kept_written call.policy.now seen scheme_here (length scheme_here.others) relation w (write_in (env_in call.args.now f) writing) a c o f.views g.views back (λ k. (h.content (back k) relation).stored) d.done within h.views left
 
     -- a write that was made, and its outcome kept
-    run_write : IsRun call seen (run_of call block (around_of f)) a c f g
+    run_write : IsFrameRun call seen (run_of call block (around_of f)) a c f g
     run_write = record {
       ready = record {
         under = h.under;
@@ -134,9 +134,9 @@ module _ (call : Call) (f : Frame) (relation w : ℕ) (writing : Writing) (outco
 
   -- the same, where the base was lent before, and the operands were copied
   pub run_written : {B : Type 0} (seen : B → Seen) (a b c : B) (g : Frame) (o : Outcome) (wr : Write) → b ≡ a → wr ≡ write_in (env_in call.args.now f) writing
-      → IsCallReady call seen a f → MayRun call (around_of f) block → HasWritten seen call.policy.now call.schemes.now relation w wr b c (Ok o)
+      → IsCallReady call seen a f → MayRunBlock call (around_of f) block → HasWritten seen call.policy.now call.schemes.now relation w wr b c (Ok o)
       → HasVars (set_outcome outcome o (vars_of f)) g.views f g → (named w wr).key_class < length call.policy.now.labels → AreLeftBy (labels_of call.policy.now) relation w (named w wr) o f.views g.views
-      → IsRun call seen (run_of call block (around_of f)) a c f g
+      → IsFrameRun call seen (run_of call block (around_of f)) a c f g
   run_written {B = B} seen a b c g o wr same is h m d v within left =
       let wrote : B → Write → Type 0 = λ x y. HasWritten seen call.policy.now call.schemes.now relation w y x c (Ok o) in
       run_write seen a c g o h m (subst (λ x. wrote x (write_in (env_in call.args.now f) writing)) same (subst (wrote b) is d)) v

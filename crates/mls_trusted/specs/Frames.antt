@@ -69,7 +69,7 @@ module _ (call : Call) where
   inside rows = record { params = call.tx.now.params; vars = call.tx.now.vars; rows = rows }
 
   -- a block that stands in loops over such rows
-  pub record MayRun (around : List Tuple) (block : Block) : Type 0 where
+  pub record MayRunBlock (around : List Tuple) (block : Block) : Type 0 where
     pub rows : List LoopRow
     pub own : BlockIsOwn (inside rows) block
     pub fits : BlockFits call.policy.now call.schemes.now call.tx.now.hi (inside rows) block
@@ -80,7 +80,7 @@ module _ (call : Call) where
   pub record MayLoop (relation level : ℕ) (around : List Tuple) (body : Block) : Type 0 where
     pub declared : relation < length call.schemes.now
     pub label : IsLabel call.policy.now level
-    pub each : (row : Tuple) → RowKinds (scheme_of call.schemes.now relation) row → MayRun (row ∷ around) body
+    pub each : (row : Tuple) → RowKinds (scheme_of call.schemes.now relation) row → MayRunBlock (row ∷ around) body
 
   abbrev pub run_of : Block → List Tuple → Progress → Progress
   run_of = run_block labels call.schemes.now call.args.now
@@ -95,7 +95,7 @@ module _ (call : Call) where
   -- ---- what it does
 
   -- a part of a run that leaves the database
-  pub record IsStep (run : Progress → Progress) (f g : Frame) : Type 0 where
+  pub record IsFrameStep (run : Progress → Progress) (f g : Frame) : Type 0 where
     pub frame : IsFrame g
     pub rows : g.rows.items ≡ f.rows.items
     pub views : g.views ≡ f.views
@@ -118,7 +118,7 @@ module _ (call : Call) where
       pub views : AreViews call.policy.now seen base kept
 
     -- a part of a run: all but the database stays
-    pub record IsRun (run : Progress → Progress) (old new : B) (f g : Frame) : Type 0 where
+    pub record IsFrameRun (run : Progress → Progress) (old new : B) (f g : Frame) : Type 0 where
       pub ready : IsCallReady new g
       pub rows : g.rows.items ≡ f.rows.items
       pub rest : (seen new).is_clean → (seen new).state ≡ with_database (seen old).state (seen new).state.now.db

@@ -4,7 +4,7 @@ ghost use Rattle.std.specs.List.{AllByRecursion};
 ghost use Rattle.mls_filterview.specs.Calls.{IsCall, IsServed};
 ghost use Rattle.mls_translang.specs.Tree.{If, End};
 ghost use Rattle.mls_translang.specs.Blocks.{block_of};
-ghost use Rattle.mls_trusted.specs.Frames.{around_of, MayRun, MayLoop, run_of, rows_of, loop_of, IsCallReady, IsRun};
+ghost use Rattle.mls_trusted.specs.Frames.{around_of, MayRunBlock, MayLoop, run_of, rows_of, loop_of, IsCallReady, IsFrameRun};
 
 use crate::call::Call;
 use crate::fitting::rows_at;
@@ -25,10 +25,10 @@ pub(crate) fn run_block<B: Base>(
     block: &Block,
 ) -> Result<(), BaseFault>
     requires ready { IsCallReady call.now B.seen base.old frame.old }
-    requires may { MayRun call.now (around_of frame.old) block.now }
+    requires may { MayRunBlock call.now (around_of frame.old) block.now }
     ensures call { IsCall B.seen base.old base.new result }
     ensures served { IfErr result IsServed }
-    ensures ran { OnOk result (IsRun call.now B.seen
+    ensures ran { OnOk result (IsFrameRun call.now B.seen
         (run_of call.now block.now (around_of frame.old)) base.old base.new frame.old frame.new) }
 {
     for stmt in &block.stmts {
@@ -48,10 +48,10 @@ fn run_branch<B: Base>(
     other: &Block,
 ) -> Result<(), BaseFault>
     requires ready { IsCallReady call.now B.seen base.old frame.old }
-    requires may { MayRun call.now (around_of frame.old) (If guard.now one.now other.now End) }
+    requires may { MayRunBlock call.now (around_of frame.old) (If guard.now one.now other.now End) }
     ensures call { IsCall B.seen base.old base.new result }
     ensures served { IfErr result IsServed }
-    ensures ran { OnOk result (IsRun call.now B.seen
+    ensures ran { OnOk result (IsFrameRun call.now B.seen
         (run_of call.now (If guard.now one.now other.now End) (around_of frame.old)) base.old base.new frame.old
         frame.new) }
 {
@@ -72,10 +72,10 @@ fn run_row<B: Base>(
     body: &Block,
 ) -> Result<(), BaseFault>
     requires ready { IsCallReady call.now B.seen base.old frame.old }
-    requires may { MayRun call.now (row ∷ around_of frame.old) body.now }
+    requires may { MayRunBlock call.now (row ∷ around_of frame.old) body.now }
     ensures call { IsCall B.seen base.old base.new result }
     ensures served { IfErr result IsServed }
-    ensures ran { OnOk result (IsRun call.now B.seen
+    ensures ran { OnOk result (IsFrameRun call.now B.seen
         (run_of call.now body.now (row ∷ around_of frame.old)) base.old base.new frame.old frame.new) }
 {
     settle(base, frame.enter(row))?;
@@ -94,10 +94,10 @@ fn run_rows<B: Base>(
     body: &Block,
 ) -> Result<(), BaseFault>
     requires ready { IsCallReady call.now B.seen base.old frame.old }
-    requires may { AllByRecursion (λ row. MayRun call.now (row ∷ around_of frame.old) body.now) rows.now }
+    requires may { AllByRecursion (λ row. MayRunBlock call.now (row ∷ around_of frame.old) body.now) rows.now }
     ensures call { IsCall B.seen base.old base.new result }
     ensures served { IfErr result IsServed }
-    ensures ran { OnOk result (IsRun call.now B.seen
+    ensures ran { OnOk result (IsFrameRun call.now B.seen
         (rows_of call.now body.now (around_of frame.old) rows.now) base.old base.new frame.old frame.new) }
 {
     for place in 0..rows.as_slice().len() {
@@ -121,7 +121,7 @@ fn run_loop<B: Base>(
     requires may { MayLoop call.now relation label (around_of frame.old) body.now }
     ensures call { IsCall B.seen base.old base.new result }
     ensures served { IfErr result IsServed }
-    ensures ran { OnOk result (IsRun call.now B.seen
+    ensures ran { OnOk result (IsFrameRun call.now B.seen
         (loop_of call.now relation label body.now (around_of frame.old)) base.old base.new frame.old frame.new) }
 {
     let rows = rows_at(call, base, &mut frame.views, relation, label)?;
@@ -137,10 +137,10 @@ fn run_stmt<B: Base>(
     stmt: &Stmt,
 ) -> Result<(), BaseFault>
     requires ready { IsCallReady call.now B.seen base.old frame.old }
-    requires may { MayRun call.now (around_of frame.old) (block_of (stmt.now ∷ [])) }
+    requires may { MayRunBlock call.now (around_of frame.old) (block_of (stmt.now ∷ [])) }
     ensures call { IsCall B.seen base.old base.new result }
     ensures served { IfErr result IsServed }
-    ensures ran { OnOk result (IsRun call.now B.seen
+    ensures ran { OnOk result (IsFrameRun call.now B.seen
         (run_of call.now (block_of (stmt.now ∷ [])) (around_of frame.old)) base.old base.new frame.old frame.new) }
 {
     match stmt {

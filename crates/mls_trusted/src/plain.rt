@@ -1,7 +1,7 @@
 //! Statements that leave the database.
 ghost use Rattle.std.specs.Prelude.{OnOk};
 ghost use Rattle.mls_translang.specs.Tree.{Do, Assign, Release, Emit, End};
-ghost use Rattle.mls_trusted.specs.Frames.{around_of, IsFrame, MayRun, run_of, IsStep};
+ghost use Rattle.mls_trusted.specs.Frames.{around_of, IsFrame, MayRunBlock, run_of, IsFrameStep};
 
 use crate::call::Call;
 use crate::frame::Frame;
@@ -19,8 +19,8 @@ pub(crate) fn assign(
     value: &Expr,
 ) -> Result<(), AllocError>
     requires frame { IsFrame call.now frame.old }
-    requires may { MayRun call.now (around_of frame.old) (Do (Assign variable value.now) End) }
-    ensures { OnOk result (IsStep call.now (run_of call.now (Do (Assign variable value.now) End) (around_of frame.old))
+    requires may { MayRunBlock call.now (around_of frame.old) (Do (Assign variable value.now) End) }
+    ensures { OnOk result (IsFrameStep call.now (run_of call.now (Do (Assign variable value.now) End) (around_of frame.old))
         frame.old frame.new) }
 {
     let value = value_of(&frame.environment(call.args), value)?;
@@ -37,8 +37,8 @@ pub(crate) fn release(
     into: u8,
 ) -> Result<(), AllocError>
     requires frame { IsFrame call.now frame.old }
-    requires may { MayRun call.now (around_of frame.old) (Do (Release value.now to into) End) }
-    ensures { OnOk result (IsStep call.now (run_of call.now (Do (Release value.now to into) End) (around_of frame.old))
+    requires may { MayRunBlock call.now (around_of frame.old) (Do (Release value.now to into) End) }
+    ensures { OnOk result (IsFrameStep call.now (run_of call.now (Do (Release value.now to into) End) (around_of frame.old))
         frame.old frame.new) }
 {
     let value = value_of(&frame.environment(call.args), value)?;
@@ -55,8 +55,8 @@ pub(crate) fn emit(
     label: LabelNo,
 ) -> Result<(), AllocError>
     requires frame { IsFrame call.now frame.old }
-    requires may { MayRun call.now (around_of frame.old) (Do (Emit value.now label) End) }
-    ensures { OnOk result (IsStep call.now (run_of call.now (Do (Emit value.now label) End) (around_of frame.old))
+    requires may { MayRunBlock call.now (around_of frame.old) (Do (Emit value.now label) End) }
+    ensures { OnOk result (IsFrameStep call.now (run_of call.now (Do (Emit value.now label) End) (around_of frame.old))
         frame.old frame.new) }
 {
     let value = value_of(&frame.environment(call.args), value)?;

@@ -9,7 +9,7 @@ use Rattle.mls_scheme.specs.Spelling.{HasSpelling, IsSpelledKey}
 use Rattle.mls_scheme.specs.Scheme.{Attribute, Scheme, IsScheme, other_of}
 use Rattle.mls_scheme.specs.Value.{is_kind, fits_kind}
 use Rattle.mls_scheme.specs.Fits.{HaveKinds}
-use Rattle.mls_scheme.proofs.KindLemmas.{fits-spelled, key_of-spelled, key_of-kinds}
+use Rattle.mls_scheme.proofs.KindLemmas.{fits-spelled, key-spelled}
 use Rattle.mls_filterview.specs.declared.fragment.Node.{Node}
 use Rattle.mls_filterview.specs.Fragment.{node_of, cells_of, cells_from, IsCellOf}
 use Rattle.mls_updates.specs.Writes.{Key, Sets, has_null, root, set_element}
@@ -76,4 +76,4 @@ kinds_known (a ∷ as') (None ∷ vs) e h = absurd (true≢false e)
 kinds_known (a ∷ as') (Some v ∷ vs) e h = (h.0, kinds_known as' vs e h.1)
 
 pub key_spelled : (scheme : Scheme) → IsScheme scheme → (key : Key) → has_null key ≡ false → HaveKinds scheme.keys key → IsSpelledKey (filter_map (λ v. v) key)
-key_spelled scheme is key e h = key_of-spelled scheme _ (key_of-kinds scheme _ is (kinds_known scheme.keys key e h))
+key_spelled scheme is key e h = key-spelled scheme _ is (kinds_known scheme.keys key e h)

@@ -1,4 +1,4 @@
--- Tuples of relations, whole.
+-- Inner: no public contract names these. Tuples of relations, whole.
 use Rattle.std.specs.Prelude.{List}
 use Rattle.mls_scheme.specs.declared.tuple.Element.{Element}
 use Rattle.mls_scheme.specs.declared.place.Place.{Place}

@@ -1,4 +1,4 @@
--- Writes in steps, as the calls of a base take them.
+-- Inner: no public contract names these. Writes in steps, as the calls of a base take them.
 use Rattle.std.specs.Prelude.{◌≡◌, ◌≢◌, ℕ, suc, ◌<◌, true, false, List, [], ◌∷◌, length, IfSome, None, ⊤}
 use Rattle.std.specs.List.{AllByRecursion}
 use Rattle.std.specs.FinMap.{get, remove}

@@ -31,7 +31,11 @@ fn parts_of(alloc: Global, tuple: &NewTuple) -> Result<Parts, AllocError>
 }
 
 /// Adds a tuple; its elements of other classes are those that the entity's tuples of these classes have.
-pub(crate) fn add_tuple<B: Base>(alloc: Global, base: &mut B, tuple: &NewTuple) -> Result<(), BaseFault>
+pub(crate) fn add_tuple<B: Base>(
+    alloc: Global,
+    base: &mut B,
+    tuple: &NewTuple,
+) -> Result<(), BaseFault>
     requires { CanAddTuple B.seen base.old tuple.now }
     ensures step { IsStep B.seen base.old base.new result }
     ensures done { (B.seen base.new).is_clean → (es : List SpecElement)

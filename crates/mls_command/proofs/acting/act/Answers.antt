@@ -4,7 +4,7 @@ use Rattle.clap.specs.Words.{Text}
 use Rattle.mls_host.specs.Hosting.{hosted, IsAppended, IsTold}
 use Rattle.mls_host.specs.Words.{texts_of}
 use Rattle.mls_command.specs.Accounting.{IsAccountOf}
-use Rattle.mls_command.specs.Answering.{Answers, IsAnsweredAs}
+use Rattle.mls_command.specs.Answering.{AnswersWords, IsAnsweredAs}
 use Rattle.mls_command.specs.Explained.{explained_of}
 use Rattle.mls_host.proofs.StoppingLemmas.{untouched}
 use Rattle.mls_command.proofs.ActingLemmas.{lacks_memory, noted}
@@ -20,7 +20,7 @@ returns-in-Ok-Some g c =
     (subst (λ (other : Option (List Text)). IsAnsweredAs h other (texts_of c.args.words.now) wrote told c.explain_inputs.result)
     is (
       untouched (g.H.Host.hosting c.args.host.now),
-      subst (λ words. Answers h (IsAccountOf (g.H.Host.hosting c.args.host.now)) (texts_of words) wrote told c.explain_inputs.result) c.deref.ensures.value c.explain_inputs.ensures,
+      subst (λ words. AnswersWords h (IsAccountOf (g.H.Host.hosting c.args.host.now)) (texts_of words) wrote told c.explain_inputs.result) c.deref.ensures.value c.explain_inputs.ensures,
     ))
 
 pub returns-in-Ok-None : goal.returns-in-Ok-None

@@ -17,7 +17,7 @@ returns-clause-low g c = λ clean.
     let low : List ℕ = filter (λ m. below ls m c.args.label) (numbers n) in
     let labels : c.deref.result.now ≡ low =
     c.deref.ensures.value ∙ subst (λ r. IfOk r (λ v. v.items ≡ low)) c.in_ok-labels.ensures.value c.low_labels.ensures.labels in
-    let here = ap B.seen c.in_ok-labels.ensures.same in
+    let here = ap (λ b. (B.seen b).state) c.in_ok-labels.ensures.same in
     IfOk-weaker c.fragments.result _ _
     (λ f found. low_fragments ls T c.args.label n f
     (subst (λ ms. AreFragments T ms f) labels (subst (λ (s : State). AreFragments (s.now.db c.args.relation) c.deref.result.now f) here found)))

@@ -7,8 +7,7 @@ use Rattle.mls_filterview.specs.Stored.{IsStored}
 use Rattle.mls_filterview.specs.Assembly.{AreOf}
 use Rattle.mls_filterview.proofs.CallLemmas.{fault_read}
 use Rattle.mls_filterview.specs.Entities.{IsOfEntity}
-use Rattle.mls_queries.specs.Parts.{IsOfKey}
-use Rattle.mls_queries.proofs.PartLemmas.{key_skipped, key_more, key_parts_low}
+use Rattle.mls_queries.proofs.PartLemmas.{IsOfKey, key_skipped, key_more, key_parts_low}
 use Rattle.mls_queries.proofs.parts.key_parts.Goals as goal
 
 pub entity_parts-requires-clause-see : goal.entity_parts-requires-clause-see
@@ -41,7 +40,7 @@ loop-number-preserved g c =
     let B = g.B.Base in
     let inv = c.loop-number.invariant in
     let f = c.in_ok-parts in
-    let here = ap B.seen c.in_ok-settle.ensures.same in
+    let here = ap (λ b. (B.seen b).state) c.in_ok-settle.ensures.same in
     let put = c.in_ok-settle.ensures.value in
     let ls = labels_of c.args.policy.now in
     record {

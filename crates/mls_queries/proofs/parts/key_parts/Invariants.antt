@@ -1,7 +1,7 @@
 use Rattle.std.proofs.Common.{◌≡◌, ◌≤◌}
 use Rattle.mls_lattice.specs.Policy.{labels_of}
 use Rattle.mls_filterview.specs.Assembly.{AreOf}
-use Rattle.mls_queries.specs.Parts.{IsOfKey}
+use Rattle.mls_queries.proofs.PartLemmas.{IsOfKey}
 use Rattle.mls_queries.proofs.parts.key_parts.Given as goal
 
 abbrev pub invariant-loop-number : goal.invariant-loop-number

@@ -21,5 +21,5 @@ mend_each-requires-clause-see g c = record {
   label = c.requires.see.label;
   stored = λ clean.
       let stored = c.requires.see.stored (c.in_ok-tuples.ensures.call.clean clean) in
-      (stored.0, subst (λ (s : State). IsStored (labels_of c.args.policy.now) stored.0 (s.now.db c.args.relation)) (sym (ap g.B.Base.seen c.in_ok-tuples.ensures.same)) stored.1);
+      (stored.0, subst (λ (s : State). IsStored (labels_of c.args.policy.now) stored.0 (s.now.db c.args.relation)) (sym (ap (λ b. (g.B.Base.seen b).state) c.in_ok-tuples.ensures.same)) stored.1);
 }

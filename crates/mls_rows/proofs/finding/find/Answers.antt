@@ -78,7 +78,7 @@ pub returns-then-not-branch-clause-only : goal.returns-then-not-branch-clause-on
 returns-then-not-branch-clause-only c t all content holds sound =
     let tables = map (λ t. t.entries) c.in_ok-tables.tables.items in
     let made = subst₂ (λ nodes cells. AreAssembled nodes cells tables) c.deref-2.ensures.value c.deref-3.ensures.value c.in_ok-tables.ensures.assembled in
-    let count = length-map c.in_ok-tables.tables.items (λ t. t.entries) ∙ c.in_ok-tables.ensures.count ∙ c.count.ensures.count in
+    let count = length-map c.in_ok-tables.tables.items (λ t. t.entries) ∙ c.in_ok-tables.ensures.count ∙ c.count.ensures in
     let are = tables_are (labels_of c.args.policy.now) (few_labels c.args.policy.now c.use_invariant.ensures.few_labels) c.args.schemes.now t c.args.rows all content holds sound.content tables count made in
     absurd (true≢false (sym (c.in_ok-are_content.ensures.1 (subst (λ ts. AreTables (labels_of c.args.policy.now) c.args.schemes.now (map (λ t. t.entries) ts)) (sym c.deref-4.ensures.value) are)) ∙ c.if-not-branch.true))
 
@@ -86,7 +86,7 @@ pub returns-then-not-branch-2-clause-only : goal.returns-then-not-branch-2-claus
 returns-then-not-branch-2-clause-only c t all content holds sound =
     let tables = map (λ t. t.entries) c.in_ok-tables.tables.items in
     let made = subst₂ (λ nodes cells. AreAssembled nodes cells tables) c.deref-2.ensures.value c.deref-3.ensures.value c.in_ok-tables.ensures.assembled in
-    let count = length-map c.in_ok-tables.tables.items (λ t. t.entries) ∙ c.in_ok-tables.ensures.count ∙ c.count.ensures.count in
+    let count = length-map c.in_ok-tables.tables.items (λ t. t.entries) ∙ c.in_ok-tables.ensures.count ∙ c.count.ensures in
     let nodes = same_node_rows (labels_of c.args.policy.now) (few_labels c.args.policy.now c.use_invariant.ensures.few_labels) c.args.schemes.now t c.args.rows all content holds sound.content tables count made in
     let cells = same_cell_rows (labels_of c.args.policy.now) (few_labels c.args.policy.now c.use_invariant.ensures.few_labels) c.args.schemes.now t c.args.rows all content holds sound.content tables count made in
     let same = c.in_ok-have_rows.ensures.only

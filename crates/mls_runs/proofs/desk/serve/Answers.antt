@@ -1,5 +1,5 @@
 use Rattle.std.proofs.Common.{Ok, refl, sym, ap, ◌∙◌, subst}
-use Rattle.mls_sessions.specs.Sessions.{site_of}
+use Rattle.mls_sessions.specs.Sessions.{site_of_run}
 use Rattle.mls_sessions.specs.Engine.{site, world_of, Continues}
 use Rattle.mls_host.specs.Ending.{ending_if}
 use Rattle.mls_host.specs.Hosting.{IsAppended}
@@ -21,7 +21,7 @@ follow-requires-clause-ready g c = c.loop.invariant.1.heard.kept.ready
 
 pub follow-requires-clause-line : goal.follow-requires-clause-line
 follow-requires-clause-line g c = record {
-  fits = fits_at (site c.loop.engine) (site c.args.engine.now) c.args.policy.now c.args.schemes.now (ap site_of c.loop.invariant.1.heard.kept.site) c.requires.policy c.requires.schemes _ c.next_fate-fate.ensures.fits;
+  fits = fits_at (site c.loop.engine) (site c.args.engine.now) c.args.policy.now c.args.schemes.now (ap site_of_run c.loop.invariant.1.heard.kept.site) c.requires.policy c.requires.schemes _ c.next_fate-fate.ensures.fits;
   one = one_event g.L.TypedLines.echo c.args.policy.now c.args.schemes.now _ _ _ _ _ _ c.next_fate-fate.ensures.read;
 }
 

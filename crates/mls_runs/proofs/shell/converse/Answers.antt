@@ -1,5 +1,5 @@
 use Rattle.std.proofs.Common.{◌≡◌, ◌+◌, false, ◌||◌, Ok, Err, not, refl, sym, ap, ◌∙◌, subst, rules, is_some}
-use Rattle.mls_sessions.specs.Sessions.{site_of}
+use Rattle.mls_sessions.specs.Sessions.{site_of_run}
 use Rattle.mls_sessions.specs.Engine.{site, world_of, Continues}
 use Rattle.mls_host.specs.Ending.{ending_if}
 use Rattle.mls_host.specs.Hosting.{IsTold}
@@ -48,11 +48,11 @@ follow-requires-clause-ready g c = c.loop-before.invariant.1.heard.kept.ready
 
 pub follow-requires-clause-fits : goal.follow-requires-clause-fits
 follow-requires-clause-fits g c =
-    fits_at (site c.loop-before.engine) (site c.args.engine.now) c.args.policy.now c.args.schemes.now (ap site_of c.loop-before.invariant.1.heard.kept.site) c.requires.policy c.requires.schemes _ c.next_fate-fate.ensures.fits
+    fits_at (site c.loop-before.engine) (site c.args.engine.now) c.args.policy.now c.args.schemes.now (ap site_of_run c.loop-before.invariant.1.heard.kept.site) c.requires.policy c.requires.schemes _ c.next_fate-fate.ensures.fits
 
 pub follow-requires-clause-level : goal.follow-requires-clause-level
 follow-requires-clause-level g c =
-    level_at (site c.loop-before.engine) (site c.args.engine.now) c.args.policy.now (ap site_of c.loop-before.invariant.1.heard.kept.site) c.requires.policy c.args.session.now.level c.requires.level
+    level_at (site c.loop-before.engine) (site c.args.engine.now) c.args.policy.now (ap site_of_run c.loop-before.invariant.1.heard.kept.site) c.requires.policy c.args.session.now.level c.requires.level
 
 pub returns-in_err-follow-clause-continues : goal.returns-in_err-follow-clause-continues
 returns-in_err-follow-clause-continues g c =

@@ -8,7 +8,7 @@ use Rattle.mls_certcheck.specs.Site.{site_labels}
 use Rattle.mls_machine.specs.Denying.{stored_named, fitted}
 use Rattle.mls_machine.specs.Machine.{call_entries}
 use Rattle.mls_trusted.specs.Runs.{with_database, IsEvaluated}
-use Rattle.mls_sessions.specs.Sessions.{site_of}
+use Rattle.mls_sessions.specs.Sessions.{site_of_run}
 use Rattle.mls_sessions.specs.Calling.{with_entries}
 use Rattle.mls_sessions.proofs.StoredLemmas.{found_read}
 use Rattle.mls_sessions.proofs.CallLemmas.{certified_found, counted, items_known, call_allowed, call_over}
@@ -16,14 +16,14 @@ use Rattle.mls_sessions.proofs.calling.call.Goals as goal
 
 pub certified_named-certified-requires : goal.certified_named-certified-requires
 certified_named-certified-requires g c =
-    let site = site_of c.args.site.now in
+    let site = site_of_run c.args.site.now in
     let e = c.args.event.now in
     let found = certified_found site e.level c.args.user c.in-Call.tx c.in-Call.args (call_allowed site e c.args.user c.in-Call.tx c.in-Call.args c.in-Call.is c.requires.may.asked.2) in
     (found.0, ap (λ xs. stored_named xs c.deref-2.result.now) c.deref.ensures ∙ ap (stored_named c.args.site.now.stored) c.deref-2.ensures ∙ found.1)
 
 pub run_certified-requires-clause-may : goal.run_certified-requires-clause-may
 run_certified-requires-clause-may g c =
-    let site = site_of c.args.site.now in
+    let site = site_of_run c.args.site.now in
     let e = c.args.event.now in
     let k = c.certified_named-certified.result.now in
     let stored = sym (ap (λ xs. stored_named xs c.deref-2.result.now) c.deref.ensures ∙ ap (stored_named c.args.site.now.stored) c.deref-2.ensures) ∙ c.certified_named-certified.ensures in
@@ -36,7 +36,7 @@ run_certified-requires-clause-may g c =
 pub returns-clause-done : goal.returns-clause-done
 returns-clause-done g c = record {
   done = λ clean.
-      let site = site_of c.args.site.now in
+      let site = site_of_run c.args.site.now in
       let e = c.args.event.now in
       let k = c.certified_named-certified.result.now in
       let s = (g.B.Base.seen c.args.base.now).state in

@@ -1,7 +1,7 @@
 use Rattle.std.proofs.Common.{arith}
 use Rattle.mls_audit.specs.Spelling.{HasSpelling}
 use Rattle.mls_machine.specs.Machine.{release_entry}
-use Rattle.mls_sessions.specs.Sessions.{site_of}
+use Rattle.mls_sessions.specs.Sessions.{site_of_run}
 use Rattle.mls_sessions.proofs.EnteringLemmas.{none_entered, entered_more, each_more, entered_all, each_all}
 use Rattle.mls_sessions.proofs.calling.enter_releases.Goals as goal
 
@@ -16,7 +16,7 @@ loop-item-init g c = record {
 
 pub loop-item-preserved : goal.loop-item-preserved
 loop-item-preserved g c =
-    let f = release_entry (site_of c.args.site.now) c.args.event.now c.args.user in
+    let f = release_entry (site_of_run c.args.site.now) c.args.event.now c.args.user in
     let inv = c.loop-item.invariant in
     let one = c.in_ok-enter_release.ensures in
     record {
@@ -30,7 +30,7 @@ loop-item-preserved g c =
 
 pub returns-clause-entered : goal.returns-clause-entered
 returns-clause-entered g c =
-    let f = release_entry (site_of c.args.site.now) c.args.event.now c.args.user in
+    let f = release_entry (site_of_run c.args.site.now) c.args.event.now c.args.user in
     record {
       done = λ clean. entered_all f c.args.released.now c.loop-item.item-index c.loop-item-test.false (g.B.Base.seen c.args.base.now).state (g.B.Base.seen c.loop-item.base).state (c.loop-item.invariant.way clean);
       spelled = each_all f c.args.released.now c.loop-item.item-index c.loop-item-test.false HasSpelling c.loop-item.invariant.spelled;

@@ -2,7 +2,7 @@ use Rattle.std.proofs.Common.{◌≡◌, ◌≤◌, true, take, map}
 use Rattle.std.specs.List.{AllByRecursion}
 use Rattle.mls_audit.specs.Spelling.{HasSpelling}
 use Rattle.mls_machine.specs.Machine.{release_entry}
-use Rattle.mls_sessions.specs.Sessions.{site_of}
+use Rattle.mls_sessions.specs.Sessions.{site_of_run}
 use Rattle.mls_sessions.specs.Calling.{with_entries}
 use Rattle.mls_sessions.proofs.calling.enter_releases.Given as goal
 
@@ -10,7 +10,7 @@ abbrev pub invariant-loop-item : goal.invariant-loop-item
 invariant-loop-item g l =
     let s = (g.B.Base.seen l.fn.base).state in
     let t = (g.B.Base.seen l.base).state in
-    let es = map (release_entry (site_of l.site) l.event l.user) (take l.item-index l.released) in
+    let es = map (release_entry (site_of_run l.site) l.event l.user) (take l.item-index l.released) in
     record {
       clean : (g.B.Base.seen l.base).is_clean → (g.B.Base.seen l.fn.base).is_clean;
       count : (g.B.Base.seen l.fn.base).failures ≤ (g.B.Base.seen l.base).failures;

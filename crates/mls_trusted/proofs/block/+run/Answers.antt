@@ -10,7 +10,7 @@ use Rattle.mls_translang.specs.Blocks.{block_of}
 use Rattle.mls_translang.proofs.BlockLemmas.{size_step}
 use Rattle.mls_lattice.proofs.EachLemmas.{all_at}
 use Rattle.mls_certcheck.specs.Expressions.{is_true, eval}
-use Rattle.mls_trusted.specs.Frames.{around_of, progress_of, MayRun, run_of, rows_of, loop_of, IsCallReady, IsRun}
+use Rattle.mls_trusted.specs.Frames.{around_of, progress_of, MayRunBlock, run_of, rows_of, loop_of, IsCallReady, IsFrameRun}
 use Rattle.mls_trusted.proofs.RunLemmas.{run_none, run_start, run_stmts, may_here, branch_one, branch_other, loop_same, run_rows_more, ok_same, ok_step, ready_read, may_each, entered, entered_around}
 use Rattle.mls_trusted.proofs.block.+run.Goals as goal
 
@@ -23,7 +23,7 @@ run_block-loop-stmt-init g t c =
       count = omega arith;
       ran = run_start call g.B.Base.seen (run_of call End around) c.args.base.now c.args.frame.now
           (run_none (labels_of call.policy.now) call.schemes.now call.args.now around) c.requires.ready;
-      may = subst (MayRun call around) (sym (ap block_of c.deref-stmt-items.ensures.value ∙ c.block.view_is)) c.requires.may;
+      may = subst (MayRunBlock call around) (sym (ap block_of c.deref-stmt-items.ensures.value ∙ c.block.view_is)) c.requires.may;
       size = omega arith;
     }
 
@@ -86,7 +86,7 @@ run_row-run_block-requires g t c κs within =
     let rest = subst (λ r. OnOk r (into ≡ record f { rows = into.rows })) is c.enter.ensures.rest in
     let rows = subst (λ r. OnOk r (into.rows.items ≡ f.rows.items ++ c.args.row ∷ [])) is c.enter.ensures.rows in
     let ready = subst (λ b. IsCallReady call g.B.Base.seen b into) (sym c.in_ok-settle.ensures.same) (entered call g.B.Base.seen c.args.base.now f into rest c.requires.ready) in
-    let may = subst (λ around. MayRun call around body) (entered_around call g.B.Base.seen f into c.args.row rows) c.requires.may in
+    let may = subst (λ around. MayRunBlock call around body) (entered_around call g.B.Base.seen f into c.args.row rows) c.requires.may in
     (omega arith, (within, (ready, may)))
 
 pub run_rows-run_row-requires : goal.run_rows-run_row-requires
@@ -100,8 +100,8 @@ run_rows-run_row-requires g t c κs within =
     let ready = subst (λ b. IsCallReady call g.B.Base.seen b c.loop-place.frame) (sym c.in_ok-row.ensures.same) inv.ran.ready in
     let is = subst (λ r. IfOk r (λ x. x ≡ get_or xs i no_tuple)) c.in_ok-row.ensures.value c.tuple.ensures in
     let lt = subst (λ (l : List Tuple). i < length l) c.as_slice-place-end.ensures c.loop-place-test.true in
-    let here = all_at (λ r. MayRun call (r ∷ around_of f) body) xs i no_tuple lt c.requires.may in
-    let may = subst (λ (around : List Tuple). MayRun call (c.in_ok-row.row ∷ around) body) (sym (ap reverse inv.ran.rows)) (subst (λ r. MayRun call (r ∷ around_of f) body) (sym is) here) in
+    let here = all_at (λ r. MayRunBlock call (r ∷ around_of f) body) xs i no_tuple lt c.requires.may in
+    let may = subst (λ (around : List Tuple). MayRunBlock call (c.in_ok-row.row ∷ around) body) (sym (ap reverse inv.ran.rows)) (subst (λ r. MayRunBlock call (r ∷ around_of f) body) (sym is) here) in
     (omega arith, (within, (ready, may)))
 
 pub run_rows-loop-place-preserved : goal.run_rows-loop-place-preserved
@@ -120,10 +120,10 @@ run_rows-loop-place-preserved g t c =
     record {
       clean = λ h. inv.clean (subst (λ b. (g.B.Base.seen b).is_clean) same (one.call.clean h));
       count = (let a = inv.count in let b = one.call.count in let d = ap (λ b. (g.B.Base.seen b).failures) same in omega (arith, a, b, d));
-      ran = subst (λ rows. IsRun call g.B.Base.seen (rows_of call body (around_of f) rows) c.args.base.now c.run_row.new.base f c.run_row.new.frame) (sym more)
+      ran = subst (λ rows. IsFrameRun call g.B.Base.seen (rows_of call body (around_of f) rows) c.args.base.now c.run_row.new.base f c.run_row.new.frame) (sym more)
           (run_rows_more call g.B.Base.seen body (take i xs) c.in_ok-row.row
           c.args.base.now c.settle.new.base c.run_row.new.base f c.loop-place.frame c.run_row.new.frame one.call.clean
-          (subst (λ b. IsRun call g.B.Base.seen (rows_of call body (around_of f) (take i xs)) c.args.base.now b f c.loop-place.frame) (sym same) inv.ran) one.ran);
+          (subst (λ b. IsFrameRun call g.B.Base.seen (rows_of call body (around_of f) (take i xs)) c.args.base.now b f c.loop-place.frame) (sym same) inv.ran) one.ran);
     }
 
 pub run_stmt-returns-in-For-clause-ran : goal.run_stmt-returns-in-For-clause-ran
@@ -131,7 +131,7 @@ run_stmt-returns-in-For-clause-ran g t c =
     let call = c.args.call.now in
     let f = c.args.frame.now in
     let x = c.in-For in
-    subst (λ (s : Stmt). OnOk c.run_loop.result (IsRun call g.B.Base.seen (run_of call (block_of (s ∷ [])) (around_of f)) c.args.base.now c.run_loop.new.base f c.run_loop.new.frame)) (sym x.is)
+    subst (λ (s : Stmt). OnOk c.run_loop.result (IsFrameRun call g.B.Base.seen (run_of call (block_of (s ∷ [])) (around_of f)) c.args.base.now c.run_loop.new.base f c.run_loop.new.frame)) (sym x.is)
     (ok_same call g.B.Base.seen c.run_loop.result (loop_of call x.relation x.label x.body (around_of f)) (run_of call (For x.row x.relation x.label x.body End) (around_of f))
     c.args.base.now c.run_loop.new.base f c.run_loop.new.frame (λ db. loop_same call x.row x.relation x.label x.body (around_of f) (progress_of db f)) c.run_loop.ensures.ran)
 
@@ -140,7 +140,7 @@ run_stmt-returns-in-Assign-clause-ran g t c =
     let call = c.args.call.now in
     let f = c.args.frame.now in
     let x = c.in-Assign in
-    subst (λ (s : Stmt). OnOk c.settle.result (IsRun call g.B.Base.seen (run_of call (block_of (s ∷ [])) (around_of f)) c.args.base.now c.settle.new.base f c.assign.new.frame)) (sym x.is)
+    subst (λ (s : Stmt). OnOk c.settle.result (IsFrameRun call g.B.Base.seen (run_of call (block_of (s ∷ [])) (around_of f)) c.args.base.now c.settle.new.base f c.assign.new.frame)) (sym x.is)
     (ok_step call g.B.Base.seen c.settle.result c.assign.result (run_of call (Do (Assign x.variable x.value) End) (around_of f)) c.args.base.now c.settle.new.base f c.assign.new.frame
     c.requires.ready c.settle.ensures.value c.settle.ensures.same c.assign.ensures)
 
@@ -150,7 +150,7 @@ run_stmt-returns-in-Release-clause-ran g t c =
     let f = c.args.frame.now in
     let x = c.in-Release in
     let m = c.settle-in-Release in
-    subst (λ (s : Stmt). OnOk m.result (IsRun call g.B.Base.seen (run_of call (block_of (s ∷ [])) (around_of f)) c.args.base.now m.new.base f c.release.new.frame)) (sym x.is)
+    subst (λ (s : Stmt). OnOk m.result (IsFrameRun call g.B.Base.seen (run_of call (block_of (s ∷ [])) (around_of f)) c.args.base.now m.new.base f c.release.new.frame)) (sym x.is)
     (ok_step call g.B.Base.seen m.result c.release.result (run_of call (Do (Release x.value x.to x.into) End) (around_of f)) c.args.base.now m.new.base f c.release.new.frame
     c.requires.ready m.ensures.value m.ensures.same c.release.ensures)
 
@@ -160,6 +160,6 @@ run_stmt-returns-in-Emit-clause-ran g t c =
     let f = c.args.frame.now in
     let x = c.in-Emit in
     let m = c.settle-in-Emit in
-    subst (λ (s : Stmt). OnOk m.result (IsRun call g.B.Base.seen (run_of call (block_of (s ∷ [])) (around_of f)) c.args.base.now m.new.base f c.emit.new.frame)) (sym x.is)
+    subst (λ (s : Stmt). OnOk m.result (IsFrameRun call g.B.Base.seen (run_of call (block_of (s ∷ [])) (around_of f)) c.args.base.now m.new.base f c.emit.new.frame)) (sym x.is)
     (ok_step call g.B.Base.seen m.result c.emit.result (run_of call (Do (Emit x.value x.label) End) (around_of f)) c.args.base.now m.new.base f c.emit.new.frame
     c.requires.ready m.ensures.value m.ensures.same c.emit.ensures)

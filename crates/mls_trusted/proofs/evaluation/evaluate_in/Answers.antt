@@ -12,7 +12,7 @@ use Rattle.mls_queries.specs.Views.{AreViews}
 use Rattle.mls_trusted.specs.declared.call.Call.{Call}
 use Rattle.mls_trusted.specs.declared.frame.Frame.{Frame}
 use Rattle.mls_trusted.specs.Runs.{with_database, IsEvaluated}
-use Rattle.mls_trusted.specs.Frames.{around_of, progress_of, MayRun, run_of, IsFrame, IsRun}
+use Rattle.mls_trusted.specs.Frames.{around_of, progress_of, MayRunBlock, run_of, IsFrame, IsFrameRun}
 use Rattle.mls_trusted.proofs.EvaluationLemmas.{start_may, gives_items, gives_run}
 use Rattle.mls_trusted.proofs.evaluation.evaluate_in.Goals as goal
 
@@ -35,7 +35,7 @@ run_block-requires-clause-may g c =
     let call : Call = record { alloc = c.args.alloc; policy = c.args.policy; schemes = c.args.schemes; tx = c.tx.result; args = c.args.args } in
     let f = c.in_ok-frame.frame in
     let none = IfOk-at_ok (λ (x : Frame). x.rows.items ≡ []) c.in_ok-frame.ensures.value c.new.ensures.rows in
-    subst (MayRun call (around_of f)) (sym c.body.ensures.body)
+    subst (MayRunBlock call (around_of f)) (sym c.body.ensures.body)
     (start_may call c.body.ensures.valid (subst (IsReadUnder c.args.policy.now c.args.schemes.now) (sym c.tx.ensures) c.requires.call.read) (subst (λ (x : Tx). ArgsFit x c.args.args.now) (sym c.tx.ensures) c.requires.call.args) f none)
 
 pub returns-clause-called : goal.returns-clause-called
@@ -49,8 +49,8 @@ returns-clause-called g c =
       done = λ clean.
           let none = IfOk-at_ok (λ (x : Frame). x.rows.items ≡ []) c.in_ok-frame.ensures.value c.new.ensures.rows in
           let first = IfOk-at_ok (λ (x : Frame). (db : Database) → progress_of db x ≡ start db) c.in_ok-frame.ensures.value c.new.ensures.start in
-          let ran = subst (λ (x : Block). IsRun call (λ b. (g.B.Base.seen b).is_clean) seen (run_of call x (around_of f)) c.settle.new.base c.run_block.new.base f c.run_block.new.frame) c.body.ensures.body c.in_ok-run_block.ensures.ran in
-          let evaluated = gives_run call (λ b. (g.B.Base.seen b).is_clean) seen c.settle.new.base c.run_block.new.base f c.run_block.new.frame c.into_parts-run.result.0 first none ran c.into_parts-run.ensures.emitted c.into_parts-run.ensures.released clean in
+          let ran = subst (λ (x : Block). IsFrameRun call seen (run_of call x (around_of f)) c.settle.new.base c.run_block.new.base f c.run_block.new.frame) c.body.ensures.body c.in_ok-run_block.ensures.ran in
+          let evaluated = gives_run call seen c.settle.new.base c.run_block.new.base f c.run_block.new.frame c.into_parts-run.result.0 first none ran c.into_parts-run.ensures.emitted c.into_parts-run.ensures.released clean in
           subst (λ (x : Tx). let run = run_tx ls c.args.schemes.now x c.args.args.now (seen c.args.base.now).state.now.db in IsEvaluated run (with_database (seen c.args.base.now).state run.db) (seen c.run_block.new.base).state c.into_parts-run.result.0) c.tx.ensures
           (subst (λ b. let run = run_tx ls c.args.schemes.now c.tx.result.now c.args.args.now (seen b).state.now.db in IsEvaluated run (with_database (seen b).state run.db) (seen c.run_block.new.base).state c.into_parts-run.result.0) c.in_ok-frame.ensures.same evaluated);
       content = λ clean. c.in_ok-run_block.ensures.ran.ready.content clean;

@@ -16,7 +16,7 @@ returns-clause-done g c = λ clean es is.
     let T = (g.B.Base.seen c.args.base.now).state.now.db relation in
     let node : c.in_ok-parts.parts.node ≡ n = subst (λ r. IfOk r (λ x. x.node ≡ n)) c.in_ok-parts.ensures.value c.parts_of.ensures.node in
     let own = subst (λ r. IfOk r (λ x. x.cells.items ≡ cells_of (entry_of c.args.tuple.now))) c.in_ok-parts.ensures.value c.parts_of.ensures.cells in
-    let same : (g.B.Base.seen c.settle.new.base).state ≡ (g.B.Base.seen c.args.base.now).state = ap g.B.Base.seen c.in_ok-parts.ensures.same in
+    let same : (g.B.Base.seen c.settle.new.base).state ≡ (g.B.Base.seen c.args.base.now).state = ap (λ b. (g.B.Base.seen b).state) c.in_ok-parts.ensures.same in
     on_ok_weaker c.add.result (λ e. e ∙ (λ i. with_relation (same i) relation (insert ((same i).now.db relation) (place_of_node (node i)) es)))
     (c.add.ensures.done clean es
     (made_same ((g.B.Base.seen c.settle.new.base).state.now.db relation) T c.in_ok-parts.parts.node n c.deref.result.now _ es (ap (λ x. x.now.db relation) same) node (c.deref.ensures.value ∙ own) is))

@@ -19,7 +19,7 @@ returns-then-has_null g c =
 pub delete_at-requires-clause-stored : goal.delete_at-requires-clause-stored
 delete_at-requires-clause-stored g c = λ clean.
     let scheme = scheme_of c.args.schemes.now c.args.relation in
-    let same : (g.B.Base.seen c.settle.new.base).state ≡ (g.B.Base.seen c.args.base.now).state = ap g.B.Base.seen c.in_ok-place.ensures.same in
+    let same : (g.B.Base.seen c.settle.new.base).state ≡ (g.B.Base.seen c.args.base.now).state = ap (λ b. (g.B.Base.seen b).state) c.in_ok-place.ensures.same in
     (length scheme.others, subst (λ x. IsStored (labels_of c.args.policy.now) (length scheme.others) (x.now.db c.args.relation)) (sym same) (c.requires.stored (c.in_ok-place.ensures.call.clean clean)).stored)
 
 pub returns : goal.returns
@@ -31,7 +31,7 @@ returns g c =
     let u = (g.B.Base.seen c.delete_at.new.base).state in
     let p = place c.args.key.now c.args.key_class c.args.w in
     let here : c.in_ok-place.place ≡ p = subst (λ r. IfOk r (λ q. q ≡ p)) c.in_ok-place.ensures.value c.place_of.ensures in
-    let same : (g.B.Base.seen c.settle.new.base).state ≡ s = ap g.B.Base.seen c.in_ok-place.ensures.same in
+    let same : (g.B.Base.seen c.settle.new.base).state ≡ s = ap (λ b. (g.B.Base.seen b).state) c.in_ok-place.ensures.same in
     step_written g.B.Base.seen c.args.policy.now c.args.schemes.now c.args.relation c.args.w wr c.args.base.now (sym c.if-not-is_begun.ensures) c.requires.stored
     c.use_invariant.ensures.distinct tt tt c.settle.new.base c.delete_at.new.base c.delete_at.result c.in_ok-place.ensures.same c.delete_at.ensures.step
     (λ clean. IfOk-weaker c.delete_at.result (λ o. (x : Scheme) → IsDeleted ls x c.args.relation c.in_ok-place.place (g.B.Base.seen c.settle.new.base).state u o) _

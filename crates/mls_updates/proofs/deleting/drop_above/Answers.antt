@@ -13,7 +13,7 @@ pub drop_each-requires-clause-alone : goal.drop_each-requires-clause-alone
 drop_each-requires-clause-alone g c = λ clean.
     let ls = labels_of c.args.policy.now in
     let t = (g.B.Base.seen c.settle.new.base).state in
-    let same : t ≡ (g.B.Base.seen c.args.base.now).state = ap g.B.Base.seen c.in_ok-order.ensures.same in
+    let same : t ≡ (g.B.Base.seen c.args.base.now).state = ap (λ b. (g.B.Base.seen b).state) c.in_ok-order.ensures.same in
     let above : AreAbove ls c.args.place.class c.in_ok-order.order.items = subst (λ r. IfOk r (λ o. AreAbove ls c.args.place.class o.items)) c.in_ok-order.ensures.value c.downwards.ensures in
     let stored = c.requires.stored (c.in_ok-order.ensures.call.clean clean) in
     dropped_alone ls stored.0 (t.now.db c.args.relation) (subst (λ x. IsStored ls stored.0 (x.now.db c.args.relation)) (sym same) stored.1) c.args.place c.deref.result.now
@@ -23,7 +23,7 @@ pub returns-clause-done : goal.returns-clause-done
 returns-clause-done g c = λ clean.
     let ls = labels_of c.args.policy.now in
     let t = (g.B.Base.seen c.settle.new.base).state in
-    let same : t ≡ (g.B.Base.seen c.args.base.now).state = ap g.B.Base.seen c.in_ok-order.ensures.same in
+    let same : t ≡ (g.B.Base.seen c.args.base.now).state = ap (λ b. (g.B.Base.seen b).state) c.in_ok-order.ensures.same in
     let above : AreAbove ls c.args.place.class c.in_ok-order.order.items = subst (λ r. IfOk r (λ o. AreAbove ls c.args.place.class o.items)) c.in_ok-order.ensures.value c.downwards.ensures in
     let stored = c.requires.stored (c.in_ok-order.ensures.call.clean (c.drop_each.ensures.step.call.clean clean)) in
     on_ok_weaker c.drop_each.result (λ e. e

@@ -32,7 +32,7 @@ returns g c =
     let u = (g.B.Base.seen c.insert_at.new.base).state in
     let p = place c.args.key.now w w in
     let here : c.in_ok-place.place ≡ p = subst (λ r. IfOk r (λ q. q ≡ p)) c.in_ok-place.ensures.value c.place_of.ensures in
-    let same : (g.B.Base.seen c.settle.new.base).state ≡ s = ap g.B.Base.seen c.in_ok-place.ensures.same in
+    let same : (g.B.Base.seen c.settle.new.base).state ≡ s = ap (λ b. (g.B.Base.seen b).state) c.in_ok-place.ensures.same in
     let declared = subst (λ n. w < n) (sym (length-map policy.labels (λ l. l.value))) c.requires.label in
     step_written g.B.Base.seen policy c.args.schemes.now c.args.relation w wr c.args.base.now (sym c.if-not-is_begun.ensures) c.requires.stored
     c.use_invariant.ensures.distinct (declared, AllZip-long _ scheme.others values c.requires.kinds.1) c.requires.kinds c.settle.new.base c.insert_at.new.base c.insert_at.result

@@ -12,7 +12,7 @@ pub returns-clause-done : goal.returns-clause-done
 returns-clause-done g c = λ clean es is.
     let it : NewTuple = record { relation = c.args.relation; place = c.args.place; elements = outline c.args.place.class c.args.sets.now 0 c.args.pattern.now } in
     let tuple : c.in_ok-tuple.tuple ≡ it = subst (λ r. IfOk r (λ x. x ≡ it)) c.in_ok-tuple.ensures.value c.outline_tuple.ensures in
-    let same : (g.B.Base.seen c.settle.new.base).state ≡ (g.B.Base.seen c.args.base.now).state = ap g.B.Base.seen c.in_ok-tuple.ensures.same in
+    let same : (g.B.Base.seen c.settle.new.base).state ≡ (g.B.Base.seen c.args.base.now).state = ap (λ b. (g.B.Base.seen b).state) c.in_ok-tuple.ensures.same in
     let here = subst (λ x. IsMadeOf (x.now.db c.args.relation) (node_of (entry_of it)) (cells_of (entry_of it)) es) (sym same) is in
     on_ok_weaker c.add_tuple.result (λ e. e ∙ (λ i. with_relation (same i) (tuple i).relation (insert ((same i).now.db (tuple i).relation) (tuple i).place es)))
     (c.add_tuple.ensures.done clean es (subst (λ (r : NewTuple). IsMadeOf ((g.B.Base.seen c.settle.new.base).state.now.db r.relation) (node_of (entry_of r)) (cells_of (entry_of r)) es) (sym tuple) here))

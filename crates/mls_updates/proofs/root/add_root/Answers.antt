@@ -14,7 +14,7 @@ pub returns-clause-done : goal.returns-clause-done
 returns-clause-done g c = λ clean.
     let it : NewTuple = record { relation = c.args.relation; place = c.args.place; elements = root c.args.place.class c.args.values.now } in
     let tuple : c.in_ok-tuple.tuple ≡ it = subst (λ r. IfOk r (λ x. x ≡ it)) c.in_ok-tuple.ensures.value c.root_at.ensures in
-    let same : (g.B.Base.seen c.settle.new.base).state ≡ (g.B.Base.seen c.args.base.now).state = ap g.B.Base.seen c.in_ok-tuple.ensures.same in
+    let same : (g.B.Base.seen c.settle.new.base).state ≡ (g.B.Base.seen c.args.base.now).state = ap (λ b. (g.B.Base.seen b).state) c.in_ok-tuple.ensures.same in
     let t = (g.B.Base.seen c.settle.new.base).state in
     let es = root c.args.place.class c.args.values.now in
     on_ok_weaker c.add_tuple.result (λ e. e ∙ (λ i. with_relation (same i) (tuple i).relation (insert ((same i).now.db (tuple i).relation) (tuple i).place es)))

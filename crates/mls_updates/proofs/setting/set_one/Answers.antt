@@ -11,7 +11,7 @@ pub returns-clause-done : goal.returns-clause-done
 returns-clause-done g c = λ clean.
     let relation = c.args.relation in
     let value : c.in_ok-value.value ≡ c.args.value.now = subst (λ r. IfOk r (λ v. v ≡ c.args.value.now)) c.in_ok-value.ensures.value c.copy_value.ensures in
-    let same : (g.B.Base.seen c.settle.new.base).state ≡ (g.B.Base.seen c.args.base.now).state = ap g.B.Base.seen c.in_ok-value.ensures.same in
+    let same : (g.B.Base.seen c.settle.new.base).state ≡ (g.B.Base.seen c.args.base.now).state = ap (λ b. (g.B.Base.seen b).state) c.in_ok-value.ensures.same in
     on_ok_weaker c.set.result (λ e. e ∙ (λ i. with_relation (same i) relation (change (set_in c.args.place.now c.args.attr (value i)) ((same i).now.db relation)))) (c.set.ensures.done clean)
 
 pub returns-clause-step : goal.returns-clause-step

@@ -24,7 +24,7 @@ update_own-requires-clause-sets g c = sets_spelled (scheme_of c.args.schemes.now
 
 pub update_own-requires-clause-fits : goal.update_own-requires-clause-fits
 update_own-requires-clause-fits g c = λ clean es found.
-    let same : (g.B.Base.seen c.settle.new.base).state ≡ (g.B.Base.seen c.args.base.now).state = ap g.B.Base.seen c.in_ok-place.ensures.same in
+    let same : (g.B.Base.seen c.settle.new.base).state ≡ (g.B.Base.seen c.args.base.now).state = ap (λ b. (g.B.Base.seen b).state) c.in_ok-place.ensures.same in
     let stored = (c.requires.stored (c.in_ok-place.ensures.call.clean clean)).stored in
     subst (λ n. AllByRecursion (λ s. s.0 < n) c.args.sets.now) (sym (stored c.in_ok-place.place es (subst (λ x. get (x.now.db c.args.relation) c.in_ok-place.place ≡ Some es) same found)).count) c.requires.fits
 
@@ -43,7 +43,7 @@ returns-then-eq g c =
     let q = place key kc c.args.from in
     let here : c.in_ok-place.place ≡ q = subst (λ r. IfOk r (λ x. x ≡ q)) c.in_ok-place.ensures.value c.place_of.ensures in
     let there : c.in_ok-place.place ≡ place key kc c.args.w = here ∙ ap (place key kc) e in
-    let same : (g.B.Base.seen c.settle.new.base).state ≡ s = ap g.B.Base.seen c.in_ok-place.ensures.same in
+    let same : (g.B.Base.seen c.settle.new.base).state ≡ s = ap (λ b. (g.B.Base.seen b).state) c.in_ok-place.ensures.same in
     let declared = subst (λ n. c.args.w < n) (sym (length-map policy.labels (λ l. l.value))) c.requires.label in
     step_written g.B.Base.seen policy c.args.schemes.now c.args.relation c.args.w wr c.args.base.now (sym c.if-not-is_begun.ensures) c.requires.stored
     c.use_invariant.ensures.distinct (declared, c.requires.named, c.requires.fits) c.requires.kinds c.settle.new.base c.update_own.new.base c.update_own.result
@@ -68,7 +68,7 @@ returns g c =
     let u = (g.B.Base.seen c.update_below.new.base).state in
     let q = place key kc c.args.from in
     let here : c.in_ok-place.place ≡ q = subst (λ r. IfOk r (λ x. x ≡ q)) c.in_ok-place.ensures.value c.place_of.ensures in
-    let same : (g.B.Base.seen c.settle.new.base).state ≡ s = ap g.B.Base.seen c.in_ok-place.ensures.same in
+    let same : (g.B.Base.seen c.settle.new.base).state ≡ s = ap (λ b. (g.B.Base.seen b).state) c.in_ok-place.ensures.same in
     let declared = subst (λ n. w < n) (sym (length-map policy.labels (λ l. l.value))) c.requires.label in
     step_written g.B.Base.seen policy c.args.schemes.now c.args.relation w wr c.args.base.now (sym c.if-not-is_begun.ensures) c.requires.stored
     c.use_invariant.ensures.distinct (declared, c.requires.named, c.requires.fits) c.requires.kinds c.settle.new.base c.update_below.new.base c.update_below.result

@@ -2,7 +2,7 @@ use Rattle.std.proofs.Common.{take, get_or, ◌∷◌, [], sym, subst, arith, ta
 use Rattle.std.specs.List.{AllByRecursion}
 use Rattle.std.proofs.lemmas.List.{take_more}
 use Rattle.mls_lattice.specs.Lattice.{Dominates, pair_of}
-use Rattle.mls_certcheck.specs.Rules.{Claim, slot_label, IsOver}
+use Rattle.mls_certcheck.specs.Rules.{Claim, slot_label, IsAbove}
 use Rattle.mls_certcheck.specs.declared.flow.Slot.{Slot}
 use Rattle.mls_certcheck.specs.declared.flow.Slot.TheVariants.{Variable}
 use Rattle.mls_lattice.proofs.EachLemmas.{all_at, all_append}
@@ -15,7 +15,7 @@ raise-rose-requires-clause-due c =
     let k = c.args.self.now in
     let ss = c.args.sources.now in
     join_due k ss (pair_of c.joined-low.result) (rows_of c.args.labels.now) c.joined-low.ensures _ c.requires.stands
-    (λ other m. all_at (λ t. IsOver (claim_at k other) (slot_label (claim_at k other) t) ss) c.args.targets.now c.loop-slot.slot-index (Variable 0 0) c.loop-slot-test.true (c.requires.due other m))
+    (λ other m. all_at (λ t. IsAbove (claim_at k other) (slot_label (claim_at k other) t) ss) c.args.targets.now c.loop-slot.slot-index (Variable 0 0) c.loop-slot-test.true (c.requires.due other m))
 
 pub loop-slot-preserved : goal.loop-slot-preserved
 loop-slot-preserved c =

@@ -8,7 +8,7 @@ use Rattle.mls_translang.specs.declared.operator.Operator.{Operator}
 use Rattle.mls_certcheck.specs.Expressions.{Datum, value_of, calculate, apply}
 use Rattle.mls_labeller.specs.declared.bounds.Bounds.{Bounds}
 use Rattle.mls_labeller.specs.declared.range.Range.{Range}
-use Rattle.mls_labeller.specs.Ranges.{Within, IsBetween, Holds, arithmetic, IsArithmetic}
+use Rattle.mls_labeller.specs.Ranges.{Within, IsBetween, Admits, arithmetic, IsArithmetic}
 use Rattle.mls_labeller.proofs.range.Range.apply.Goals.{then-self, else-self}
 use Rattle.mls_labeller.proofs.range.Range.apply.Goals as goal
 
@@ -21,24 +21,24 @@ module _ (op : Operator) (is : IsArithmetic op) (r q : Range) (left right b : Bo
   abbrev given : Range
   given = record { null = null; listed = None; bounds = Some b }
 
-  within_holds : (n : ℤ) → Within b n → Holds given (cond (is_signed n) (Some (Int n)) None)
-  within_holds n h = subst (λ t. Holds given (cond t (Some (Int n)) None)) (sym (signed-from n (fits_between b.low n b.high low high h.0 h.1))) (tt, h)
+  within_holds : (n : ℤ) → Within b n → Admits given (cond (is_signed n) (Some (Int n)) None)
+  within_holds n h = subst (λ t. Admits given (cond t (Some (Int n)) None)) (sym (signed-from n (fits_between b.low n b.high low high h.0 h.1))) (tt, h)
 
-  in_left : (v : Value) → Holds r (Some v) → IsBetween (Some left) v
+  in_left : (v : Value) → Admits r (Some v) → IsBetween (Some left) v
   in_left v h = subst (λ o. IsBetween o v) is_left h.1
 
-  in_right : (v : Value) → Holds q (Some v) → IsBetween (Some right) v
+  in_right : (v : Value) → Admits q (Some v) → IsBetween (Some right) v
   in_right v h = subst (λ o. IsBetween o v) is_right h.1
 
-  calculated_holds : (x y : Option Value) → Holds r x → Holds q y → Holds given (calculate (arithmetic op) x y)
+  calculated_holds : (x y : Option Value) → Admits r x → Admits q y → Admits given (calculate (arithmetic op) x y)
   calculated_holds None y h k = null_left h
   calculated_holds (Some (Text s)) y h k = absurd (in_left (Text s) h)
   calculated_holds (Some (Int m)) None h k = null_right k
   calculated_holds (Some (Int m)) (Some (Text s)) h k = absurd (in_right (Text s) k)
   calculated_holds (Some (Int m)) (Some (Int n)) h k = within_holds (arithmetic op m n) (inside m n (in_left (Int m) h) (in_right (Int n) k))
 
-  applied_holds : (x y : Datum) → Holds r (value_of x) → Holds q (value_of y) → Holds given (value_of (apply op x y))
-  applied_holds x y h k = subst (Holds given) (sym (is x y)) (calculated_holds (value_of x) (value_of y) h k)
+  applied_holds : (x y : Datum) → Admits r (value_of x) → Admits q (value_of y) → Admits given (value_of (apply op x y))
+  applied_holds x y h k = subst (Admits given) (sym (is x y)) (calculated_holds (value_of x) (value_of y) h k)
 
 pub returns-after-self : goal.returns-after-self
 returns-after-self c =

@@ -1,6 +1,6 @@
 use Rattle.std.proofs.Common.{◌≡◌, ℕ, zero, suc, ◌+◌, List, [], ◌∷◌, ◌++◌, sym, ap, ◌∙◌, subst, length, length-append, slice_index_or}
 use Rattle.mls_labeller.specs.declared.range.Range.{Range}
-use Rattle.mls_labeller.specs.Ranges.{Holds, Includes, any_value, Wider}
+use Rattle.mls_labeller.specs.Ranges.{Admits, Includes, any_value, Wider}
 use Rattle.mls_labeller.proofs.ranges.Ranges.joined.Goals as goal
 
 -- one more range
@@ -14,7 +14,7 @@ wider_push f (q ∷ rs) r h k (suc x) = wider_push (λ y. f (suc y)) rs r (λ y.
 wider_next : (rs old new : List Range) (r this : Range) (i : ℕ) → length old ≡ i → new ≡ old ++ r ∷ [] → this ≡ slice_index_or rs i any_value → Includes r this → Wider rs old → Wider rs new
 wider_next rs old new r this i count is at h k =
     let here : slice_index_or rs (length old) any_value ≡ this = ap (λ n. slice_index_or rs n any_value) count ∙ sym at in
-    subst (Wider rs) (sym is) (wider_push (λ x. slice_index_or rs x any_value) old r k (λ v e. h v (subst (λ (q : Range). Holds q v) here e)))
+    subst (Wider rs) (sym is) (wider_push (λ x. slice_index_or rs x any_value) old r k (λ v e. h v (subst (λ (q : Range). Admits q v) here e)))
 
 pub loop-place-preserved : goal.loop-place-preserved
 loop-place-preserved c =

@@ -14,7 +14,7 @@ use Rattle.mls_certcheck.specs.Expressions.{value_in, holds_in}
 use Rattle.mls_certcheck.specs.Meaning.{Item, Variables, Progress, set_var, set_outcome, environment, perform, for_each, run_block}
 use Rattle.mls_labeller.specs.declared.told.Told.{Told}
 use Rattle.mls_labeller.specs.declared.range.Range.{Range}
-use Rattle.mls_labeller.specs.Ranges.{Holds, AreHeld, Wider, Gives}
+use Rattle.mls_labeller.specs.Ranges.{Admits, AreHeld, Wider, Gives}
 use Rattle.mls_labeller.specs.Releases.{CanRelease, Over, Silent, Gives as Released, Either, Never, Again, Goes, Covers, Reaches}
 use Rattle.mls_labeller.proofs.walking.Walk.+walk.Goals as goal
 
@@ -89,13 +89,13 @@ module _ {looped : Bool} {before : List Range} where
         (g.0, Again more _ x.1 g.1)
 
 reaches_release : {before after : List Range} (e : Expr) (this : Told) (rest : Block) (r : Range) → r ≡ this.range → Gives before e this.range
-    → ((vars : Variables) (v : Option Value) → AreHeld before vars → Holds r v → AreHeld after (set_var this.into v vars))
+    → ((vars : Variables) (v : Option Value) → AreHeld before vars → Admits r v → AreHeld after (set_var this.into v vars))
     → Reaches this.looped before (Do (Release e this.to this.into) rest) after rest (this ∷ [])
 unfolding perform
 reaches_release {before} {after} e this rest r same gives put = reaches_do _ rest after (this ∷ []) (λ ls schemes args around s held.
     let v = value_in (environment args around s) e in
-    let value : Holds this.range v = gives (environment args around s) held in
-    (put s.vars v held (subst (λ (q : Range). Holds q v) (sym same) value), λ more zs. Released v value))
+    let value : Admits this.range v = gives (environment args around s) held in
+    (put s.vars v held (subst (λ (q : Range). Admits q v) (sym same) value), λ more zs. Released v value))
 
 reaches_for : {looped : Bool} {before now : List Range} {told : List Told} (name : List ℕ) (relation label : ℕ) (body rest : Block) → Wider before now → Covers true now body now told
     → Reaches looped before (For name relation label body rest) now rest told

@@ -13,11 +13,11 @@ use denote.Signature.{plain}
 use denote.Steps.{nothing, opens, closes}
 use denote.Triple.Walked.{says, Stays, stay_ref, Goes-ref, ends_at}
 use Rattle.mls_rows.specs.Changes.{Change}
-use Rattle.mls_fragments.specs.declared.recalled.GhostContent.{GhostContent}
-use Rattle.mls_fragments.specs.contracts.recalled.GhostContent as T
-use Rattle.mls_fragments.specs.contracts.recalled.GhostContent.keep as f
-use Rattle.mls_fragments.proofs.recalled.GhostContent.keep.Statement.{statement}
-use Rattle.mls_fragments.proofs.recalled.GhostContent.keep.Code as code
+use Rattle.mls_fragments.specs.declared.ghost_content.GhostContent.{GhostContent}
+use Rattle.mls_fragments.specs.contracts.ghost_content.GhostContent as T
+use Rattle.mls_fragments.specs.contracts.ghost_content.GhostContent.keep as f
+use Rattle.mls_fragments.proofs.ghost_content.GhostContent.keep.Statement.{statement}
+use Rattle.mls_fragments.proofs.ghost_content.GhostContent.keep.Code as code
 
 abbrev stayed : Stays f.ended.signature.params f.ended.kept
 stayed = (stay_ref (0 ∷ []) tt (plain (λ _. T.the_row)), tt)

@@ -1,4 +1,4 @@
--- `new` makes a value of no bytes, at no changes.
+-- `new` makes a value of no bytes, at nothing.
 use mathlib.Core.Path.{refl}
 use mathlib.Core.List.{[], ◌∷◌}
 use seplogic.Ra.Ura.{Ura}
@@ -21,18 +21,19 @@ use denote.Triple.Entry.{on_entry}
 use denote.Triple.Spec.{Meets, triple_of}
 use denote.Triple.Table.{entered}
 use denote.Triple.Walked.{says, ends_at, walked, walk_Meets}
-use Rattle.mls_fragments.specs.declared.recalled.GhostContent.{GhostContent}
-use Rattle.mls_fragments.specs.contracts.recalled.GhostContent as T
-use Rattle.mls_fragments.specs.contracts.recalled.GhostContent.new.Key.{name as #it}
-use Rattle.mls_fragments.specs.contracts.recalled.GhostContent.new as it
-use Rattle.mls_fragments.proofs.recalled.GhostContent.new.Statement as stated
-use Rattle.mls_fragments.proofs.recalled.GhostContent.new.Code as code
+use Rattle.mls_tables.specs.Rows.{no_notes}
+use Rattle.mls_tables.specs.declared.ghost_store.GhostStore.{GhostStore}
+use Rattle.mls_tables.specs.contracts.ghost_store.GhostStore as T
+use Rattle.mls_tables.specs.contracts.ghost_store.GhostStore.new.Key.{name as #it}
+use Rattle.mls_tables.specs.contracts.ghost_store.GhostStore.new as it
+use Rattle.mls_tables.proofs.ghost_store.GhostStore.new.Statement as stated
+use Rattle.mls_tables.proofs.ghost_store.GhostStore.new.Code as code
 
 abbrev v : Val
 v = vstruct (vcons (vstruct vnil) vnil)
 
-abbrev r : GhostContent
-r = record { marker = record {}; changes = [] }
+abbrev r : GhostStore
+r = record { marker = record {}; noted = no_notes }
 
 meets : {M : Type 1} {𝓤 : Ura M} (𝓛 : Logic 𝓤) → (at_mem : Memory → SProp 𝓤) (run : Routine → Fun 𝓤) (𝓣 : Tables 𝓤 𝓛.H)
     → Meets 𝓛 it.signature (WpFn 𝓤 𝓛.H 𝓣.C 𝓣.Λ code.function) (it.spec 𝓛 at_mem run)

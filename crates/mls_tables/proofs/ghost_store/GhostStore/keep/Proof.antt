@@ -13,11 +13,11 @@ use denote.Signature.{plain}
 use denote.Steps.{nothing, opens, closes}
 use denote.Triple.Walked.{says, Stays, stay_ref, Goes-ref, ends_at}
 use Rattle.mls_tables.specs.Rows.{StoreNotes}
-use Rattle.mls_tables.specs.declared.remembered.GhostStore.{GhostStore}
-use Rattle.mls_tables.specs.contracts.remembered.GhostStore as T
-use Rattle.mls_tables.specs.contracts.remembered.GhostStore.keep as f
-use Rattle.mls_tables.proofs.remembered.GhostStore.keep.Statement.{statement}
-use Rattle.mls_tables.proofs.remembered.GhostStore.keep.Code as code
+use Rattle.mls_tables.specs.declared.ghost_store.GhostStore.{GhostStore}
+use Rattle.mls_tables.specs.contracts.ghost_store.GhostStore as T
+use Rattle.mls_tables.specs.contracts.ghost_store.GhostStore.keep as f
+use Rattle.mls_tables.proofs.ghost_store.GhostStore.keep.Statement.{statement}
+use Rattle.mls_tables.proofs.ghost_store.GhostStore.keep.Code as code
 
 abbrev stayed : Stays f.ended.signature.params f.ended.kept
 stayed = (stay_ref (0 ∷ []) tt (plain (λ _. T.the_row)), tt)

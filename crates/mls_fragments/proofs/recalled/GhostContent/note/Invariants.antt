@@ -1,4 +1,0 @@
-use Rattle.mls_fragments.proofs.recalled.GhostContent.note.Given as goal
-
-abbrev pub ghost-keep : goal.ghost-keep
-ghost-keep g a = g.changes

@@ -63,8 +63,7 @@ stored_at seen e ready c relation = ((ready.rest.sound c).content relation).stor
 module _ {B : Type 0} (seen : B → Seen) where
   ready_noted : (e : Engine B) (notice : Option Notice) → IsEngineReady seen e → IsEngineReady seen (record e { notice = notice })
   ready_noted e notice ready = record {
-    serves = ready.serves;
-    distinct = ready.distinct;
+    read = ready.read;
     users = ready.users;
     rest = record { idle = ready.rest.idle; sound = ready.rest.sound };
     views = ready.views;
@@ -80,7 +79,7 @@ module _ {B : Type 0} (seen : B → Seen) (old new : Engine B) (event : Event) (
   reply_known h kept ready c fits =
       subst (λ at. ReplyIsKnown (site_of_run at).policy r) (sym kept)
       (subst (ReplyIsKnown (site old).policy) (sym h.reply)
-      (step_known (site old) ready.distinct ready.serves.read (world_of seen old) (stored_at seen old ready c)
+      (step_known (site old) old.site.distinct ready.read (world_of seen old) (stored_at seen old ready c)
       (entries_known (length (site old).policy.labels) (seen old.base).state.now.audit) event fits.level).reply)
 
 -- ---- the cause of the store

@@ -148,7 +148,7 @@ module _ {B : Type 0} (seen : B → Seen) (old : Engine B) (ready : IsEngineRead
     over_sound : (r : Result Reply BaseFault) → IsTurn seen now old.base b r → (seen b).is_clean → Over r → IsSoundContent (site old).policy (site old).schemes (now b)
     over_sound (Ok r) t c h = record {
       content = subst (AreContent (site_labels (site old)) (site old).schemes) (sym (ap (λ (x : World). x.db) (over_world r h)))
-          (step_content (site old) ready.distinct ready.serves.read w event (ready.rest.sound (t.clean c)).content fits);
+          (step_content (site old) old.site.distinct ready.read w event (ready.rest.sound (t.clean c)).content fits);
       entries = h.entries (ready.rest.sound (t.clean c)).entries;
     }
     over_sound (Err e) t c h = subst (IsSoundContent (site old).policy (site old).schemes) (sym (t.fault.same c)) (ready.rest.sound (t.clean c))
@@ -168,8 +168,7 @@ module _ {B : Type 0} (seen : B → Seen) (old : Engine B) (ready : IsEngineRead
       kept = record {
         site = refl;
         ready = record {
-          serves = ready.serves;
-          distinct = ready.distinct;
+          read = ready.read;
           users = ready.users;
           rest = record { idle = idle; sound = λ c. over_sound r t c (h c) };
           views = are;
@@ -190,7 +189,7 @@ module _ {B : Type 0} (seen : B → Seen) (old : Engine B) (ready : IsEngineRead
     with_them = record old { sessions = sessions }
 
     them_kept : IsKept seen old with_them
-    them_kept = record { site = refl; ready = record { serves = ready.serves; distinct = ready.distinct; users = users; rest = ready.rest; views = ready.views } }
+    them_kept = record { site = refl; ready = record { read = ready.read; users = users; rest = ready.rest; views = ready.views } }
 
     pub answers_closed : sessions_of sessions.items ≡ with_session (sessions_of old.sessions.items) event.level event.session None → s ≡ closed w event → Answered with_them (Ok Closed)
     answers_closed h is = record {

@@ -1,13 +1,12 @@
 -- The world that an engine holds, and what an engine keeps to.
 use Rattle.std.specs.Prelude.{◌≡◌, ◌<◌, ◌≤◌, false, length, IfOk, IfErr, Result}
-use Rattle.mls_lattice.specs.Labels.{AreDistinct}
 use Rattle.mls_lattice.specs.Policy.{Policy}
 use Rattle.mls_scheme.specs.Scheme.{Schemes, AreUnder}
 use Rattle.mls_filterview.specs.declared.base.BaseFault.{BaseFault}
 use Rattle.mls_filterview.specs.Content.{Seen}
 use Rattle.mls_audit.specs.Sound.{IsSoundContent}
 use Rattle.mls_machine.specs.declared.reply.Reply.{Reply}
-use Rattle.mls_certcheck.specs.Site.{Site, site_labels, AreRead, AreCertified}
+use Rattle.mls_certcheck.specs.Site.{Site, AreRead, AreCertified}
 use Rattle.mls_machine.specs.Machine.{World, Step, step}
 use Rattle.mls_script.specs.declared.event.Event.{Event}
 use Rattle.mls_script.specs.declared.run_fault.RunCause.TheVariants.{Store}
@@ -41,8 +40,7 @@ module _ {B : Type 0} (seen : B → Seen) where
   -- (no invariant of its type: that needs a code for the value, and a stored transaction keeps a proof, which
   -- has none)
   pub record IsEngineReady (e : Engine B) : Type 0 where
-    pub serves : MayServe (site e)
-    pub distinct : AreDistinct (site_labels (site e))
+    pub read : AreRead (site e)
     pub users : AreForUsers (length (site e).policy.users) e.sessions.items
     pub rest : IsAtRest (site e).policy (site e).schemes e.base
     pub views : AreViews (site e).policy seen e.base e.views

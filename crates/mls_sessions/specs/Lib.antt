@@ -8,3 +8,4 @@ pub mod Run
 pub mod Turning
 pub mod Denying
 pub mod Sessions
+pub mod Sites

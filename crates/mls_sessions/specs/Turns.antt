@@ -1,7 +1,6 @@
 -- What the calls of one event promise.
 use Rattle.std.specs.Prelude.{◌≡◌, ℕ, ◌<◌, ◌≤◌, true, false, Bool, IfErr, IfOk, OnOk, length, None, Result}
 use Rattle.std.specs.List.{AllByRecursion}
-use Rattle.mls_scheme.specs.Scheme.{AreUnder}
 use Rattle.mls_filterview.specs.declared.base.BaseFault.{BaseFault}
 use Rattle.mls_filterview.specs.declared.base.BaseFault.TheVariants as faults
 use Rattle.mls_filterview.specs.Calls.{IsCall, IsServed}
@@ -97,7 +96,6 @@ module _ {Self : Type 0} (seen : Self → Seen) where
 -- what an event finds: whether a change is begun, sound content, and views of it
 module _ {Self : Type 0} (seen : Self → Seen) where
   pub record IsOpen (site : Site) (begun : Bool) (base : Self) (kept : Kept) : Type 0 where
-    pub under : AreUnder (length site.policy.labels) site.schemes
     pub mode : (seen base).state.begun ≡ begun
     pub sound : (seen base).is_clean → IsSoundContent site.policy site.schemes (seen base).state.now
     pub views : AreViews site.policy seen base kept

@@ -13,7 +13,7 @@ evaluate_in-requires g c =
     subst (λ b. MayCallInside g.B.Base.seen c.args.site.now.policy.now c.args.site.now.schemes.now c.args.certified.now.tx c.deref.result.now c.args.views.now b)
     (sym c.in_ok-args.ensures.same) (record {
       call = record {
-        under = c.requires.found.under;
+        under = c.args.site.now.under;
         read = c.requires.may.read;
         args = subst (ArgsFit c.args.certified.now.tx) (sym (c.deref.ensures.value ∙ made ∙ ap (λ (t : Tx). fitted t.params c.args.args.now) c.tx.ensures))
             (fitted_fit c.args.certified.now.tx c.args.args.now c.requires.may.count);

@@ -11,7 +11,7 @@ write-requires g c =
     let schemes = c.args.site.now.schemes.now in
     let relation = c.in-Write.relation in
     let fits = subst (CommandFits policy schemes) c.in-Write.is c.requires.may.fits.command in
-    can_write g.B.Base.seen c.args.base.now policy schemes relation c.args.event.now.level c.requires.may.fits.level fits.0 c.requires.found.under
+    can_write g.B.Base.seen c.args.base.now policy schemes relation c.args.event.now.level c.requires.may.fits.level fits.0 c.args.site.now.under
     (λ h. (c.requires.found.sound h).content relation) c.in-Write.write fits.1
 
 pub returns-clause-views : goal.returns-clause-views

@@ -26,17 +26,17 @@ loop-place-preserved g c = running_more g.B.Base.seen c.args.audience c.args.eve
     c.answer.new.engine (g.W.Write.contents c.answer.new.out) c.answer.ensures.continues.clean c.answer.ensures.continues.count c.answer.ensures.continues.kept (search rules) (search rules)
 
 pub returns-in_err-answer-clause-integrity : goal.returns-in_err-answer-clause-integrity
-returns-in_err-answer-clause-integrity g c = λ h. keep_integrity (site c.args.engine.now) c.requires.ready.distinct c.requires.ready.serves.read (world_of g.B.Base.seen c.args.engine.now) c.args.events.now
+returns-in_err-answer-clause-integrity g c = λ h. keep_integrity (site c.args.engine.now) c.args.engine.now.site.distinct c.requires.ready.read (world_of g.B.Base.seen c.args.engine.now) c.args.events.now
     (stored_at g.B.Base.seen c.args.engine.now c.requires.ready (c.loop-place.invariant.clean (c.answer.ensures.continues.clean h))) c.requires.fits
 
 pub returns-clause-integrity : goal.returns-clause-integrity
-returns-clause-integrity g c = λ h. keep_integrity (site c.args.engine.now) c.requires.ready.distinct c.requires.ready.serves.read (world_of g.B.Base.seen c.args.engine.now) c.args.events.now
+returns-clause-integrity g c = λ h. keep_integrity (site c.args.engine.now) c.args.engine.now.site.distinct c.requires.ready.read (world_of g.B.Base.seen c.args.engine.now) c.args.events.now
     (stored_at g.B.Base.seen c.args.engine.now c.requires.ready (c.loop-place.invariant.clean h)) c.requires.fits
 
 pub returns-clause-secret : goal.returns-clause-secret
-returns-clause-secret g c = λ h. first_accepted_alike (site c.args.engine.now) c.requires.ready.distinct c.requires.ready.serves.read c.requires.ready.serves.certified (world_of g.B.Base.seen c.args.engine.now) c.args.events.now
+returns-clause-secret g c = λ h. first_accepted_alike (site c.args.engine.now) c.args.engine.now.site.distinct c.requires.ready.read c.args.engine.now.site.certified (world_of g.B.Base.seen c.args.engine.now) c.args.events.now
     (stored_at g.B.Base.seen c.args.engine.now c.requires.ready (c.loop-place.invariant.clean h)) c.requires.fits
 
 pub returns-in_err-answer-clause-secret : goal.returns-in_err-answer-clause-secret
-returns-in_err-answer-clause-secret g c = λ h. first_accepted_alike (site c.args.engine.now) c.requires.ready.distinct c.requires.ready.serves.read c.requires.ready.serves.certified (world_of g.B.Base.seen c.args.engine.now) c.args.events.now
+returns-in_err-answer-clause-secret g c = λ h. first_accepted_alike (site c.args.engine.now) c.args.engine.now.site.distinct c.requires.ready.read c.args.engine.now.site.certified (world_of g.B.Base.seen c.args.engine.now) c.args.events.now
     (stored_at g.B.Base.seen c.args.engine.now c.requires.ready (c.loop-place.invariant.clean (c.answer.ensures.continues.clean h))) c.requires.fits

@@ -14,7 +14,7 @@ denial_of-requires-clause-user g c = user_known _ c.args.self.now.sessions.items
 pub change-requires-clause-may : goal.change-requires-clause-may
 change-requires-clause-may g c = record {
   fits = c.requires.fits;
-  read = c.requires.ready.serves.read;
+  read = c.requires.ready.read;
   asked = user_known _ c.args.self.now.sessions.items c.args.event.now.level c.args.event.now.session c.args.user c.requires.ready.users c.requires.held;
 }
 
@@ -51,7 +51,7 @@ returns-in-Close-clause-answers g c =
 pub change-requires-in-Call-clause-may : goal.change-requires-in-Call-clause-may
 change-requires-in-Call-clause-may g c = record {
   fits = c.requires.fits;
-  read = c.requires.ready.serves.read;
+  read = c.requires.ready.read;
   asked = (
     user_known _ c.args.self.now.sessions.items c.args.event.now.level c.args.event.now.session c.args.user c.requires.ready.users c.requires.held,
     ap is_call c.in-Call.is,

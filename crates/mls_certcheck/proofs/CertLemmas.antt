@@ -1,9 +1,11 @@
 -- A certificate is read exactly where the text is its own.
-use Rattle.std.proofs.Common.{◌≡◌, ℕ, zero, suc, ◌+◌, List, [], ◌∷◌, ◌++◌, length, get_or, codes, Result, Ok, Err, refl, sym, ap, subst, ◌∙◌, append_assoc, arith, IfOk, flat_map, append-nil}
+use Rattle.std.proofs.Common.{◌≡◌, ℕ, zero, suc, ◌+◌, List, [], ◌∷◌, ◌++◌, length, get_or, codes, Result, Ok, Err, refl, sym, ap, subst, ◌∙◌, append_assoc, arith, IsErrAnd, flat_map, append-nil}
 use Rattle.std.specs.List.{AllByRecursion}
 use Rattle.std.proofs.lemmas.List.Splits.{join_with_byte-slice_split}
+use Rattle.mls_lattice.specs.declared.failed.Failed.{Failed}
+use Rattle.mls_lattice.specs.declared.failed.Failed.TheVariants as failed
 use Rattle.mls_lattice.specs.declared.label.Label.{Label}
-use Rattle.mls_lattice.specs.Reading.{◌>>=◌}
+use Rattle.mls_lattice.specs.Reading.{◌>>=◌, Gives}
 use Rattle.mls_lattice.proofs.ReadingLemmas.{bind_ok, ok_is}
 use Rattle.mls_certcheck.proofs.AgainLemmas.{done, Above}
 use Rattle.mls_certcheck.proofs.LinesLemmas.{left_at, Stands, labels_found_at, labels_again_at, ended_found, ended_again}
@@ -11,7 +13,8 @@ use Rattle.mls_certcheck.specs.declared.cert.Cert.{Cert}
 use Rattle.mls_certcheck.specs.declared.cert.Cert2.{Cert2}
 use Rattle.mls_certcheck.specs.declared.cert.Certificate.TheVariants.{One, Two}
 use Rattle.mls_certcheck.specs.declared.fault.CertFault.{CertFault}
-use Rattle.mls_certcheck.specs.Reading.{Gives, pieces, line_at, cert_at, rows_at, cert2_at, ended_at, lines_in, lines2_in, text_in, text2_in}
+use Rattle.mls_certcheck.specs.Fault.{failed_fault_of}
+use Rattle.mls_certcheck.specs.Reading.{GivesCert, pieces, line_at, cert_at, rows_at, cert2_at, ended_at, lines_in, lines2_in, text_in, text2_in}
 use Rattle.mls_certcheck.specs.Spelling.{labels_line, row_line, cert_text, cert2_text, AreLabels, IsCert, IsCert2, AreUnambiguous}
 
 vars_above : Above 32 (codes "vars")
@@ -170,7 +173,8 @@ unambiguous (Two c) (Two d) p q same = ap (λ x. Two x) (ok_is c d (sym (cert2_a
 unambiguous (One c) (Two d) p q same = let e : 118 ≡ 112 = ap (λ (xs : List ℕ). get_or xs 0 0) same in absurd (omega (arith, e))
 unambiguous (Two c) (One d) p q same = let e : 112 ≡ 118 = ap (λ (xs : List ℕ). get_or xs 0 0) same in absurd (omega (arith, e))
 
--- what a reader returned has a property, where that follows from what is read
-pub is_found : {V C : Type 0} (view : V → C) (Found : C → Type 0) (read : Result C CertFault) (r : Result V CertFault) → ((c : C) → read ≡ Ok c → Found c) → Gives view r read → IfOk r (λ v. Found (view v))
-is_found view Found read (Ok v) found given = found (view v) given
-is_found view Found read (Err e) found given = tt
+-- a fault is told as it is, and want of memory as one that says nothing of what is read
+pub is_told : {V C : Type 0} (view : V → C) (read : Result C CertFault) (r : Result V CertFault) (failed : Failed CertFault) → IsErrAnd r (λ e. e ≡ failed_fault_of failed) → Gives view (Err failed) read → GivesCert view r read
+is_told view read (Ok v) failed is given = absurd is
+is_told view read (Err e) failed.Memory is given = λ other. absurd (other (ap (λ f. f.cause) is))
+is_told view read (Err e) (failed.Fault fault) is given = λ other. given fault refl ∙ ap Err (sym is)

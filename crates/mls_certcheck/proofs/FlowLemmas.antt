@@ -28,11 +28,11 @@ use Rattle.mls_certcheck.specs.Meaning.{Item, Variables, Progress, set_var, set_
 use Rattle.mls_certcheck.specs.Secure.{AreStored, seen_items, Split}
 use Rattle.mls_certcheck.proofs.KeepingLemmas.{Extends, cond_kept, for_each_kept, perform_stored, block_stored, block_extends}
 use Rattle.mls_certcheck.specs.declared.cert.Certificate.{Certificate}
-use Rattle.mls_certcheck.specs.Place.{Plain, directs, last, places}
+use Rattle.mls_certcheck.specs.Points.{Plain, directs, last, points}
 use Rattle.mls_certcheck.specs.Lines.{target}
 use Rattle.mls_certcheck.specs.Rules.{Claim, claim, hi, pc, after, param_label}
 use Rattle.mls_certcheck.proofs.LineLemmas.{lab, Keeps, Obeys, assigned, write_operands, release_value, release_target, emit_value, branch_body, branch_one, branch_other, loop_body, loop_begin, loop_turn}
-use Rattle.mls_certcheck.proofs.PlaceLemmas.{unseen_above, seen_under, below-⊑, BlockObeys, HasNoMore}
+use Rattle.mls_certcheck.proofs.PointLemmas.{unseen_above, seen_under, below-⊑, BlockObeys, HasNoMore}
 use Rattle.mls_certcheck.proofs.QuietLemmas.{Agrees, Quiet, agrees_on, quiet_then, quiet_both, quiet_keeps, keeps_seen, seen_not, rest_seen, quiet_write, quiet_block}
 use Rattle.mls_certcheck.proofs.ScopeLemmas.{EnvironmentsAgree, eval_same, value_same, write_same}
 
@@ -98,13 +98,13 @@ module _ (policy : Policy) (distinct : AreDistinct (labels_of policy)) (tx : Tx)
   level = label_of ls c
 
   -- a variable but the target
-  rest_same : (n a b : ℕ) (loops : List ℕ) (stmt : Stmt) (s t : Progress) → Obeys k (record { number = n; around = a; before = b; rows = loops; node = Plain stmt }) → Agrees k c b s t
+  rest_same : (n a b : ℕ) (loops : List ℕ) (stmt : Stmt) (s t : Progress) → Obeys k (record { number = n; around = a; before = b; rows = loops; shape = Plain stmt }) → Agrees k c b s t
       → (i : ℕ) → (target stmt ≡ Some i → ⊥) → after k n i ⊑ level ≡ true → s.vars i ≡ t.vars i
   rest_same n a b loops stmt s t h g i other l = g.values i (rest_seen policy distinct tx cert none schemes args c n a b loops stmt h i other l)
 
   -- a write of equal operands at a label that c sees
   seen_write : (n a b : ℕ) (loops : List ℕ) (relation w : ℕ) (writing : Writing) (v wr : Write) (outcome : Option ℕ) (s t : Progress)
-      → Obeys k (record { number = n; around = a; before = b; rows = loops; node = Plain (Write_at relation w writing outcome) }) → v ≡ wr → label_of ls w ⊑ level ≡ true → Agrees k c b s t
+      → Obeys k (record { number = n; around = a; before = b; rows = loops; shape = Plain (Write_at relation w writing outcome) }) → v ≡ wr → label_of ls w ⊑ level ≡ true → Agrees k c b s t
       → Agrees k c n (do_write ls schemes args relation w v outcome s) (do_write ls schemes brgs relation w wr outcome t)
   seen_write n at b loops relation w writing v wr outcome s t h e seen a = record {
     tables = λ r. elim (nat_eq r relation) as (λ b. low ls c (cond b (new v s).table (s.db r)) ≡ low ls c (cond b (new wr t).table (t.db r))) [
@@ -149,7 +149,7 @@ module _ (policy : Policy) (distinct : AreDistinct (labels_of policy)) (tx : Tx)
   -- ---- releases
 
   module _ (n a b : ℕ) (loops : List ℕ) (rs qs : List Tuple) (e : Expr) (to into : ℕ) (s t : Progress)
-      (h : Obeys (claim policy tx cert) (record { number = n; around = a; before = b; rows = loops; node = Plain (Release e to into) }))
+      (h : Obeys (claim policy tx cert) (record { number = n; around = a; before = b; rows = loops; shape = Plain (Release e to into) }))
       (envs : EnvironmentsAgree (claim policy tx cert) c b loops (environment args rs s) (environment brgs qs t)) (g : Agrees (claim policy tx cert) c b s t) where
     abbrev v : Option Value
     v = value_in (environment args rs s) e
@@ -203,7 +203,7 @@ module _ (policy : Policy) (distinct : AreDistinct (labels_of policy)) (tx : Tx)
 
   -- ---- statements
 
-  related_stmt : (n a b : ℕ) (loops : List ℕ) (rs qs : List Tuple) (stmt : Stmt) (s t : Progress) → Obeys k (record { number = n; around = a; before = b; rows = loops; node = Plain stmt })
+  related_stmt : (n a b : ℕ) (loops : List ℕ) (rs qs : List Tuple) (stmt : Stmt) (s t : Progress) → Obeys k (record { number = n; around = a; before = b; rows = loops; shape = Plain stmt })
       → EnvironmentsAgree k c b loops (environment args rs s) (environment brgs qs t) → AreStored ls schemes s.db → AreStored ls schemes t.db → Agrees k c b s t
       → Related k c n (perform ls schemes args rs stmt s) (perform ls schemes brgs qs stmt t)
   unfolding perform
@@ -264,10 +264,10 @@ module _ (policy : Policy) (distinct : AreDistinct (labels_of policy)) (tx : Tx)
   related_block scope (If guard one other rest) n a b loops h f rs qs ar s t p q g =
       let l = lab k b loops guard in
       let m : Pair = join (pc k n) l in
-      let later = every_back (Obeys k) _ (places (n + 1) n b loops one) _ h.1 refl in
-      let obeys_1 = every_front (Obeys k) _ (places (n + 1) n b loops one) _ h.1 refl in
-      let obeys_2 = every_front (Obeys k) _ (places (n + 1 + statements one) n b loops other) _ later refl in
-      let obeys_3 = every_back (Obeys k) _ (places (n + 1 + statements one) n b loops other) _ later refl in
+      let later = every_back (Obeys k) _ (points (n + 1) n b loops one) _ h.1 refl in
+      let obeys_1 = every_front (Obeys k) _ (points (n + 1) n b loops one) _ h.1 refl in
+      let obeys_2 = every_front (Obeys k) _ (points (n + 1 + statements one) n b loops other) _ later refl in
+      let obeys_3 = every_back (Obeys k) _ (points (n + 1 + statements one) n b loops other) _ later refl in
       let above_1 = every_front (λ j. Dominates (pc k j) m) _ (directs (n + 1) one) _ (branch_body k n a b loops guard one other h.0) refl in
       let above_2 = every_back (λ j. Dominates (pc k j) m) _ (directs (n + 1) one) _ (branch_body k n a b loops guard one other h.0) refl in
       let v = holds_in (environment args rs s) guard in
@@ -299,8 +299,8 @@ module _ (policy : Policy) (distinct : AreDistinct (labels_of policy)) (tx : Tx)
       (related_block scope rest (n + (1 + statements one + statements other)) a n loops obeys_3 f.3 rs qs ar s' t' p' q') middle
   related_block scope (For name relation label body rest) n a b loops h f rs qs ar s t p q g =
       let m : Pair = join (pc k n) (label_of ls label) in
-      let obeys_1 = every_front (Obeys k) _ (places (n + 1) n n (label ∷ loops) body) _ h.1 refl in
-      let obeys_2 = every_back (Obeys k) _ (places (n + 1) n n (label ∷ loops) body) _ h.1 refl in
+      let obeys_1 = every_front (Obeys k) _ (points (n + 1) n n (label ∷ loops) body) _ h.1 refl in
+      let obeys_2 = every_back (Obeys k) _ (points (n + 1) n n (label ∷ loops) body) _ h.1 refl in
       let rows_1 = rows ls label (s.db relation) in
       let rows_2 = rows ls label (t.db relation) in
       let inside = in_loop scope name relation in

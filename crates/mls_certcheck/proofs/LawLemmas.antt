@@ -14,7 +14,7 @@ use Rattle.mls_certcheck.proofs.KeepingLemmas.{block_stored}
 use Rattle.mls_certcheck.specs.Rules.{claim, pc}
 use Rattle.mls_certcheck.specs.Laws.{RulesMakeSecure}
 use Rattle.mls_certcheck.proofs.LineLemmas.{rules_everywhere}
-use Rattle.mls_certcheck.proofs.PlaceLemmas.{below-⊑, ⊑-below, around_above, has_no_more}
+use Rattle.mls_certcheck.proofs.PointLemmas.{below-⊑, ⊑-below, around_above, has_no_more}
 use Rattle.mls_certcheck.proofs.QuietLemmas.{Agrees, quiet_block}
 use Rattle.mls_certcheck.proofs.FlowLemmas.{Around, related_block}
 

@@ -4,7 +4,7 @@ pub mod WalkLemmas
 pub mod RulesLemmas
 pub mod CheckLemmas
 pub mod LineLemmas
-pub mod PlaceLemmas
+pub mod PointLemmas
 pub mod QuietLemmas
 pub mod ScopeLemmas
 pub mod FlowLemmas

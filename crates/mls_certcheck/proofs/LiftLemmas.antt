@@ -14,8 +14,8 @@ use Rattle.mls_translang.specs.Tx.{Tx}
 use Rattle.mls_certcheck.specs.declared.cert.Cert.{Cert}
 use Rattle.mls_certcheck.specs.declared.cert.Cert2.{Cert2}
 use Rattle.mls_certcheck.specs.declared.cert.Certificate.TheVariants.{One, Two}
-use Rattle.mls_certcheck.specs.Place.{Node, Plain, Branching, Looping, Place, places}
-use Rattle.mls_certcheck.specs.Lines.{Line, by, outcome_flows, write, order, rest, within_ends, stmt_lines, own_lines, lines_at, tx_lines, all_places, lines}
+use Rattle.mls_certcheck.specs.Points.{Shape, Plain, Branching, Looping, Point, points}
+use Rattle.mls_certcheck.specs.Lines.{Line, by, outcome_flows, write, order, rest, within_ends, stmt_lines, own_lines, lines_at, tx_lines, all_points, lines}
 use Rattle.mls_certcheck.specs.Rules.{Claim, claim, hi, after, pc, slot_label, source_label, IsAbove, IsObeyed}
 use Rattle.mls_certcheck.specs.Laws.{IsLift, FlatCertificatesLift}
 use Rattle.mls_certcheck.specs.declared.flow.Slot.{Slot}
@@ -84,35 +84,35 @@ module _ (count : ℕ) where
     stmt_bounds b rows (Release e to into) = (tt, (tt, ((is, tt), tt)))
     stmt_bounds b rows (Emit e label) = (tt, (tt, tt))
 
-    own_bounds : (b : ℕ) (rows : List ℕ) (node : Node) → AllByRecursion BoundsOf (own_lines n b rows node)
+    own_bounds : (b : ℕ) (rows : List ℕ) (shape : Shape) → AllByRecursion BoundsOf (own_lines n b rows shape)
     own_bounds b rows (Plain stmt) = all_append BoundsOf (stmt_lines n b rows stmt) (rest n b stmt) (stmt_bounds b rows stmt) (is, tt)
     own_bounds b rows (Branching guard inner ends) = (statements_after inner, by_each n _ (map (λ m. Kept m n None) ends) (ends_bound ends))
     own_bounds b rows (Looping label inner ends) = (tt, (statements_after inner, by_each n _ (map (λ m. Kept m n None) ends) (ends_bound ends)))
 
-  abbrev IsPlace : Place → Type 0
-  IsPlace p = IsNumber count p.number
+  abbrev IsNumbered : Point → Type 0
+  IsNumbered p = IsNumber count p.number
 
-  are_places : (block : Block) (n a b : ℕ) (rows : List ℕ) → 1 ≤ n → n + statements block ≤ count + 1 → AllByRecursion IsPlace (places n a b rows block)
-  are_places End n a b rows least most = tt
-  are_places (Do stmt rest) n a b rows least most = (record { least = least; most = omega (arith, most) }, are_places rest (n + 1) a n rows (omega (arith, least)) (omega (arith, most)))
-  are_places (If guard one other rest) n a b rows least most = (
+  are_numbered : (block : Block) (n a b : ℕ) (rows : List ℕ) → 1 ≤ n → n + statements block ≤ count + 1 → AllByRecursion IsNumbered (points n a b rows block)
+  are_numbered End n a b rows least most = tt
+  are_numbered (Do stmt rest) n a b rows least most = (record { least = least; most = omega (arith, most) }, are_numbered rest (n + 1) a n rows (omega (arith, least)) (omega (arith, most)))
+  are_numbered (If guard one other rest) n a b rows least most = (
     record { least = least; most = omega (arith, most) },
-    all_append IsPlace (places (n + 1) n b rows one) _ (are_places one (n + 1) n b rows (omega (arith, least)) (omega (arith, most)))
-        (all_append IsPlace (places (n + 1 + statements one) n b rows other) _ (are_places other (n + 1 + statements one) n b rows (omega (arith, least)) (omega (arith, most)))
-        (are_places rest (n + (1 + statements one + statements other)) a n rows (omega (arith, least)) (omega (arith, most)))),
+    all_append IsNumbered (points (n + 1) n b rows one) _ (are_numbered one (n + 1) n b rows (omega (arith, least)) (omega (arith, most)))
+        (all_append IsNumbered (points (n + 1 + statements one) n b rows other) _ (are_numbered other (n + 1 + statements one) n b rows (omega (arith, least)) (omega (arith, most)))
+        (are_numbered rest (n + (1 + statements one + statements other)) a n rows (omega (arith, least)) (omega (arith, most)))),
   )
-  are_places (For row relation label body rest) n a b rows least most = (
+  are_numbered (For row relation label body rest) n a b rows least most = (
     record { least = least; most = omega (arith, most) },
-    all_append IsPlace (places (n + 1) n n (label ∷ rows) body) _ (are_places body (n + 1) n n (label ∷ rows) (omega (arith, least)) (omega (arith, most)))
-        (are_places rest (n + (1 + statements body)) a n rows (omega (arith, least)) (omega (arith, most))),
+    all_append IsNumbered (points (n + 1) n n (label ∷ rows) body) _ (are_numbered body (n + 1) n n (label ∷ rows) (omega (arith, least)) (omega (arith, most)))
+        (are_numbered rest (n + (1 + statements body)) a n rows (omega (arith, least)) (omega (arith, most))),
   )
 
   lines_bound : (tx : Tx) → statements tx.body ≡ count → AllByRecursion BoundsOf (lines tx)
   lines_bound tx all =
-      all_append BoundsOf (tx_lines tx) (flat_map (lines_at (length tx.vars)) (all_places tx))
+      all_append BoundsOf (tx_lines tx) (flat_map (lines_at (length tx.vars)) (all_points tx))
       (tt, by_each 0 _ (flat_map (λ p. within_ends p.1.label) tx.params) (each_flat (Bounds count) (λ p. within_ends p.1.label) tx.params (ends tx.params)))
-      (each_flat BoundsOf (lines_at (length tx.vars)) (all_places tx) (all_if IsPlace (λ p. AllByRecursion BoundsOf (lines_at (length tx.vars) p)) (λ p is. (tt, ((tt, tt), own_bounds p.number is p.before p.rows p.node)))
-      (all_places tx) (are_places tx.body 1 0 0 [] (omega arith) (omega (arith, all)))))
+      (each_flat BoundsOf (lines_at (length tx.vars)) (all_points tx) (all_if IsNumbered (λ p. AllByRecursion BoundsOf (lines_at (length tx.vars) p)) (λ p is. (tt, ((tt, tt), own_bounds p.number is p.before p.rows p.shape)))
+      (all_points tx) (are_numbered tx.body 1 0 0 [] (omega arith) (omega (arith, all)))))
     where
       ends : (ps : List (Name × Given)) → AllByRecursion (λ p. AllByRecursion (Bounds count) (within_ends p.1.label)) ps
       ends [] = tt

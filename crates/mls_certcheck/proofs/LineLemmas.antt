@@ -5,9 +5,9 @@ use Rattle.mls_lattice.specs.Lattice.{Pair, Dominates, join, bottom}
 use Rattle.mls_lattice.specs.Labels.{label_of}
 use Rattle.mls_lattice.proofs.LatticeLemmas.{join-least}
 use Rattle.mls_translang.specs.Tree.{Expr, Known, Null, Var, Param, Field, No, Op, Writing, Stmt, Assign, Write_at, Release, Emit, Block, statements}
-use Rattle.mls_certcheck.specs.Place.{Node, Plain, Place, directs, last, branching, looping}
+use Rattle.mls_certcheck.specs.Points.{Shape, Plain, Point, directs, last, branching, looping}
 use Rattle.mls_scheme.specs.Writes.{operands}
-use Rattle.mls_certcheck.specs.Lines.{names, target, stmt_lines, rest, lines_at, tx_lines, all_places}
+use Rattle.mls_certcheck.specs.Lines.{names, target, stmt_lines, rest, lines_at, tx_lines, all_points}
 use Rattle.mls_certcheck.specs.Rules.{Claim, hi, after, pc, param_label, source_label, IsAbove, IsObeyed, Rules}
 use Rattle.mls_certcheck.specs.declared.flow.Slot.TheVariants.{Statement}
 use Rattle.mls_certcheck.specs.declared.flow.Source.{Source}
@@ -45,7 +45,7 @@ module _ (c : Claim) where
   keeps m n h x lt = h x lt (λ e. absurd cc)
 
   -- the lines of a statement hold
-  abbrev pub Obeys : Place → Type 0
+  abbrev pub Obeys : Point → Type 0
   Obeys p = AllByRecursion (λ l. IsObeyed c l.flow) (lines_at (length c.tx.vars) p)
 
   -- a pair that is under the labels of statements inside
@@ -54,15 +54,15 @@ module _ (c : Claim) where
   body_over sources l f (m ∷ ms) h = (f (pc c m) h.0, body_over sources l f ms h.1)
 
   module _ (n a b : ℕ) (rows : List ℕ) where
-    abbrev ObeysAt : Node → Type 0
-    ObeysAt node = Obeys (record { number = n; around = a; before = b; rows = rows; node = node })
+    abbrev ObeysAt : Shape → Type 0
+    ObeysAt shape = Obeys (record { number = n; around = a; before = b; rows = rows; shape = shape })
 
     -- that the statement runs, and an expression
     both_over : (e : Expr) (p : Pair) → IsAbove c p (Held (Statement n) ∷ names b rows e) → Dominates p (join (pc c n) (lab b rows e))
     both_over e p h = join-least (pc c n) (lab b rows e) p h.0 (over_names b rows e p h.1)
 
-    pub runs_in : (node : Node) → ObeysAt node → Dominates (pc c n) (pc c a)
-    runs_in node h = h.1.0.0.0
+    pub runs_in : (shape : Shape) → ObeysAt shape → Dominates (pc c n) (pc c a)
+    runs_in shape h = h.1.0.0.0
 
     pub rests : (stmt : Stmt) → ObeysAt (Plain stmt) → IsObeyed c (Kept b n (target stmt))
     rests stmt h = (all_back (λ l. IsObeyed c l.flow) (stmt_lines n b rows stmt) (rest n b stmt) h.1.1).0
@@ -122,6 +122,6 @@ module _ (c : Claim) where
       loop_turn = keeps (last n (n + 1) body) n h.1.1.1.1.1.0
 
   -- the rules hold at each statement
-  pub rules_everywhere : Rules c → AllByRecursion Obeys (all_places c.tx)
+  pub rules_everywhere : Rules c → AllByRecursion Obeys (all_points c.tx)
   rules_everywhere r =
-      flat_each (λ l. IsObeyed c l.flow) (lines_at (length c.tx.vars)) (all_places c.tx) (all_back (λ l. IsObeyed c l.flow) (tx_lines c.tx) (flat_map (lines_at (length c.tx.vars)) (all_places c.tx)) r.lines)
+      flat_each (λ l. IsObeyed c l.flow) (lines_at (length c.tx.vars)) (all_points c.tx) (all_back (λ l. IsObeyed c l.flow) (tx_lines c.tx) (flat_map (lines_at (length c.tx.vars)) (all_points c.tx)) r.lines)

@@ -22,11 +22,11 @@ use Rattle.mls_certcheck.specs.Meaning.{Item, Variables, Progress, set_var, set_
 use Rattle.mls_certcheck.specs.Secure.{AreStored, seen_items}
 use Rattle.mls_certcheck.proofs.KeepingLemmas.{cond_kept, for_each_kept, perform_stored, block_stored}
 use Rattle.mls_certcheck.specs.declared.cert.Certificate.{Certificate}
-use Rattle.mls_certcheck.specs.Place.{Plain, directs, last, places}
+use Rattle.mls_certcheck.specs.Points.{Plain, directs, last, points}
 use Rattle.mls_certcheck.specs.Lines.{target}
 use Rattle.mls_certcheck.specs.Rules.{Claim, claim, pc, after}
 use Rattle.mls_certcheck.proofs.LineLemmas.{lab, Keeps, Obeys, rests, assigned, write_context, write_into, release_context, release_target, emit_context, branch_body, branch_one, branch_other, loop_body, loop_begin, loop_turn}
-use Rattle.mls_certcheck.proofs.PlaceLemmas.{unseen_above, seen_under, below-⊑, BlockObeys, AreAbove, HasNoMore, keeps_all}
+use Rattle.mls_certcheck.proofs.PointLemmas.{unseen_above, seen_under, below-⊑, BlockObeys, AreAbove, HasNoMore, keeps_all}
 
 -- two runs look alike to c so far: the low tuples, the variables of labels that it dominates after the statement n, and the items
 pub record Agrees (k : Claim) (c n : ℕ) (s t : Progress) : Type 0 where
@@ -104,7 +104,7 @@ module _ (policy : Policy) (distinct : AreDistinct (labels_of policy)) (tx : Tx)
   level = label_of ls c
 
   -- a variable but the target, after a statement
-  pub rest_seen : (n a b : ℕ) (loops : List ℕ) (stmt : Stmt) → Obeys k (record { number = n; around = a; before = b; rows = loops; node = Plain stmt })
+  pub rest_seen : (n a b : ℕ) (loops : List ℕ) (stmt : Stmt) → Obeys k (record { number = n; around = a; before = b; rows = loops; shape = Plain stmt })
       → (i : ℕ) → (target stmt ≡ Some i → ⊥) → after k n i ⊑ level ≡ true → after k b i ⊑ level ≡ true
   rest_seen n a b loops stmt h i other v = seen_under level (after k b i) (after k n i) (keeps_all k none b n i (λ lt. rests k n a b loops stmt h i lt other)) v
 
@@ -114,7 +114,7 @@ module _ (policy : Policy) (distinct : AreDistinct (labels_of policy)) (tx : Tx)
   not_target n (Some x) h i v e = let same : x ≡ i = cc in true≢false (sym v ∙ ap (λ j. after k n j ⊑ level) (sym same) ∙ h)
 
   -- so all variables that are seen stay
-  stays : (n a b : ℕ) (loops : List ℕ) (stmt : Stmt) → Obeys k (record { number = n; around = a; before = b; rows = loops; node = Plain stmt })
+  stays : (n a b : ℕ) (loops : List ℕ) (stmt : Stmt) → Obeys k (record { number = n; around = a; before = b; rows = loops; shape = Plain stmt })
       → IfSome (target stmt) (λ x. after k n x ⊑ level ≡ false) → IsSeenBefore k c b n
   stays n a b loops stmt h out i v = rest_seen n a b loops stmt h i (not_target n (target stmt) out i v) v
 
@@ -123,7 +123,7 @@ module _ (policy : Policy) (distinct : AreDistinct (labels_of policy)) (tx : Tx)
   outcome_out n w (Some x) h out = unseen_above level (label_of ls w) (after k n x) h out
 
   pub quiet_write : (n a b : ℕ) (loops : List ℕ) (relation w : ℕ) (writing : Writing) (wr : Write) (outcome : Option ℕ) (s : Progress)
-      → Obeys k (record { number = n; around = a; before = b; rows = loops; node = Plain (Write_at relation w writing outcome) }) → label_of ls w ⊑ level ≡ false → AreStored ls schemes s.db
+      → Obeys k (record { number = n; around = a; before = b; rows = loops; shape = Plain (Write_at relation w writing outcome) }) → label_of ls w ⊑ level ≡ false → AreStored ls schemes s.db
       → Quiet k c b n s (do_write ls schemes args relation w wr outcome s)
   quiet_write n a b loops relation w writing wr outcome s h out stored =
       let hidden = outcome_out n w outcome (write_into k n a b loops relation w writing outcome h) out in
@@ -141,7 +141,7 @@ module _ (policy : Policy) (distinct : AreDistinct (labels_of policy)) (tx : Tx)
       }
 
   -- a statement whose label c does not dominate
-  quiet_stmt : (n a b : ℕ) (loops : List ℕ) (around : List Tuple) (stmt : Stmt) (s : Progress) → Obeys k (record { number = n; around = a; before = b; rows = loops; node = Plain stmt }) → pc k n ⊑ level ≡ false → AreStored ls schemes s.db
+  quiet_stmt : (n a b : ℕ) (loops : List ℕ) (around : List Tuple) (stmt : Stmt) (s : Progress) → Obeys k (record { number = n; around = a; before = b; rows = loops; shape = Plain stmt }) → pc k n ⊑ level ≡ false → AreStored ls schemes s.db
       → Quiet k c b n s (perform ls schemes args around stmt s)
   unfolding perform
   quiet_stmt n a b loops around (Assign x e) s h out stored =
@@ -185,10 +185,10 @@ module _ (policy : Policy) (distinct : AreDistinct (labels_of policy)) (tx : Tx)
   quiet_block scope (If guard one other rest) n a b loops l h above f out around s stored =
       let m : Pair = join (pc k n) (lab k b loops guard) in
       let inner : m ⊑ level ≡ false = unseen_above level (pc k n) m (join-left (pc k n) (lab k b loops guard)) (unseen_above level l (pc k n) above.0 out) in
-      let later = every_back (Obeys k) _ (places (n + 1) n b loops one) _ h.1 refl in
-      let obeys_1 = every_front (Obeys k) _ (places (n + 1) n b loops one) _ h.1 refl in
-      let obeys_2 = every_front (Obeys k) _ (places (n + 1 + statements one) n b loops other) _ later refl in
-      let obeys_3 = every_back (Obeys k) _ (places (n + 1 + statements one) n b loops other) _ later refl in
+      let later = every_back (Obeys k) _ (points (n + 1) n b loops one) _ h.1 refl in
+      let obeys_1 = every_front (Obeys k) _ (points (n + 1) n b loops one) _ h.1 refl in
+      let obeys_2 = every_front (Obeys k) _ (points (n + 1 + statements one) n b loops other) _ later refl in
+      let obeys_3 = every_back (Obeys k) _ (points (n + 1 + statements one) n b loops other) _ later refl in
       let above_1 = every_front (λ j. Dominates (pc k j) m) _ (directs (n + 1) one) _ (branch_body k n a b loops guard one other h.0) refl in
       let above_2 = every_back (λ j. Dominates (pc k j) m) _ (directs (n + 1) one) _ (branch_body k n a b loops guard one other h.0) refl in
       let d = holds_in (environment args around s) guard in
@@ -201,8 +201,8 @@ module _ (policy : Policy) (distinct : AreDistinct (labels_of policy)) (tx : Tx)
   quiet_block scope (For name relation label body rest) n a b loops l h above f out around s stored =
       let m : Pair = join (pc k n) (label_of ls label) in
       let inner : m ⊑ level ≡ false = unseen_above level (pc k n) m (join-left (pc k n) (label_of ls label)) (unseen_above level l (pc k n) above.0 out) in
-      let obeys_1 = every_front (Obeys k) _ (places (n + 1) n n (label ∷ loops) body) _ h.1 refl in
-      let obeys_2 = every_back (Obeys k) _ (places (n + 1) n n (label ∷ loops) body) _ h.1 refl in
+      let obeys_1 = every_front (Obeys k) _ (points (n + 1) n n (label ∷ loops) body) _ h.1 refl in
+      let obeys_2 = every_back (Obeys k) _ (points (n + 1) n n (label ∷ loops) body) _ h.1 refl in
       let looped = for_each_kept (λ t. Quiet k c b n s t × AreStored ls schemes t.db) (λ row t. run_block ls schemes args body (row ∷ around) t)
       (λ row t p. (
         quiet_then p.0

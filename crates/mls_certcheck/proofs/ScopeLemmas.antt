@@ -12,7 +12,7 @@ use Rattle.mls_certcheck.specs.Meaning.{values_set, write_in}
 use Rattle.mls_scheme.specs.Writes.{operands}
 use Rattle.mls_certcheck.specs.Rules.{Claim, after, param_label}
 use Rattle.mls_certcheck.proofs.LineLemmas.{lab}
-use Rattle.mls_certcheck.proofs.PlaceLemmas.{seen_under}
+use Rattle.mls_certcheck.proofs.PointLemmas.{seen_under}
 
 -- two environments agree at the names that c sees, after the statement m
 pub record EnvironmentsAgree (k : Claim) (c m : ℕ) (loops : List ℕ) (a b : Environment) : Type 0 where

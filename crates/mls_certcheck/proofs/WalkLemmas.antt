@@ -8,7 +8,7 @@ use Rattle.mls_translang.specs.Blocks.{block_of}
 use Rattle.mls_translang.specs.declared.block.Stmt.{Stmt}
 use Rattle.mls_translang.specs.declared.block.Stmt.TheVariants as stmt
 use Rattle.mls_translang.proofs.BlockLemmas.{statements_more}
-use Rattle.mls_certcheck.specs.Place.{Place, Plain, branching, looping, last, places}
+use Rattle.mls_certcheck.specs.Points.{Point, Plain, branching, looping, last, points}
 use Rattle.mls_certcheck.specs.Lines.{Line, lines_at, body_lines}
 use Rattle.mls_certcheck.specs.Loops.{loops_of}
 use Rattle.mls_certcheck.specs.Walk.{walked_lines, here_lines, inner_of, block_lines}
@@ -41,38 +41,38 @@ depth-then (For row relation label body rest) d = let h = depth-then rest d in (
 abbrev pub turn : ℕ → ℕ → ℕ
 turn n before = n
 
-places-then : (n around before : ℕ) (rows : List ℕ) (b d : Block) → places n around before rows (then b d) ≡ places n around before rows b ++ places (n + statements b) around (last before n b) rows d
-places-then n around before rows End d = λ i. places (sym (add-zero n) i) around before rows d
-places-then n around before rows (Do s rest) d =
+points-then : (n around before : ℕ) (rows : List ℕ) (b d : Block) → points n around before rows (then b d) ≡ points n around before rows b ++ points (n + statements b) around (last before n b) rows d
+points-then n around before rows End d = λ i. points (sym (add-zero n) i) around before rows d
+points-then n around before rows (Do s rest) d =
     let e : n + 1 + statements rest ≡ n + (1 + statements rest) = omega arith in
-    ap (λ (ps : List Place). record { number = n; around = around; before = before; rows = rows; node = Plain s } ∷ ps) (places-then (n + 1) around n rows rest d ∙ (λ i. places (n + 1) around n rows rest ++ places (e i) around (last n (n + 1) rest) rows d))
-places-then n around before rows (If guard one other rest) d =
+    ap (λ (ps : List Point). record { number = n; around = around; before = before; rows = rows; shape = Plain s } ∷ ps) (points-then (n + 1) around n rows rest d ∙ (λ i. points (n + 1) around n rows rest ++ points (e i) around (last n (n + 1) rest) rows d))
+points-then n around before rows (If guard one other rest) d =
     let m = n + (1 + statements one + statements other) in
-    let a = places (n + 1) n before rows one in
-    let b = places (n + 1 + statements one) n before rows other in
-    let r = places m around n rows rest in
+    let a = points (n + 1) n before rows one in
+    let b = points (n + 1 + statements one) n before rows other in
+    let r = points m around n rows rest in
     let k = last n m rest in
     let e : m + statements rest ≡ n + (1 + statements one + statements other + statements rest) = omega arith in
-    let after : places m around n rows (then rest d) ≡ r ++ places (n + (1 + statements one + statements other + statements rest)) around k rows d = places-then m around n rows rest d ∙ (λ i. r ++ places (e i) around k rows d) in
-    let z = places (n + (1 + statements one + statements other + statements rest)) around k rows d in
-    ap (λ (ps : List Place). record { number = n; around = around; before = before; rows = rows; node = branching n before guard one other } ∷ ps) (
-    ap (λ (ps : List Place). a ++ (b ++ ps)) after ∙ ap (λ (ps : List Place). a ++ ps) (sym (append_assoc b r z)) ∙ sym (append_assoc a (b ++ r) z)
+    let after : points m around n rows (then rest d) ≡ r ++ points (n + (1 + statements one + statements other + statements rest)) around k rows d = points-then m around n rows rest d ∙ (λ i. r ++ points (e i) around k rows d) in
+    let z = points (n + (1 + statements one + statements other + statements rest)) around k rows d in
+    ap (λ (ps : List Point). record { number = n; around = around; before = before; rows = rows; shape = branching n before guard one other } ∷ ps) (
+    ap (λ (ps : List Point). a ++ (b ++ ps)) after ∙ ap (λ (ps : List Point). a ++ ps) (sym (append_assoc b r z)) ∙ sym (append_assoc a (b ++ r) z)
     )
-places-then n around before rows (For row relation label body rest) d =
+points-then n around before rows (For row relation label body rest) d =
     let m = n + (1 + statements body) in
-    let a = places (n + 1) n (turn n before) (label ∷ rows) body in
-    let r = places m around n rows rest in
+    let a = points (n + 1) n (turn n before) (label ∷ rows) body in
+    let r = points m around n rows rest in
     let k = last n m rest in
     let e : m + statements rest ≡ n + (1 + statements body + statements rest) = omega arith in
-    let after : places m around n rows (then rest d) ≡ r ++ places (n + (1 + statements body + statements rest)) around k rows d = places-then m around n rows rest d ∙ (λ i. r ++ places (e i) around k rows d) in
-    let z = places (n + (1 + statements body + statements rest)) around k rows d in
-    ap (λ (ps : List Place). record { number = n; around = around; before = before; rows = rows; node = looping n before label body } ∷ ps) (ap (λ (ps : List Place). a ++ ps) after ∙ sym (append_assoc a r z))
+    let after : points m around n rows (then rest d) ≡ r ++ points (n + (1 + statements body + statements rest)) around k rows d = points-then m around n rows rest d ∙ (λ i. r ++ points (e i) around k rows d) in
+    let z = points (n + (1 + statements body + statements rest)) around k rows d in
+    ap (λ (ps : List Point). record { number = n; around = around; before = before; rows = rows; shape = looping n before label body } ∷ ps) (ap (λ (ps : List Point). a ++ ps) after ∙ sym (append_assoc a r z))
 
 -- the first statement of a block, and the rest
-pub places_first : (n around before : ℕ) (rows : List ℕ) (s : Stmt) (rest : List Stmt) → places n around before rows (block_of (s ∷ rest)) ≡ places n around before rows (block_of (s ∷ [])) ++ places (n + statements (block_of (s ∷ []))) around n rows (block_of rest)
-places_first n around before rows s rest =
-    ap (places n around before rows) (first_then s rest) ∙ places-then n around before rows (block_of (s ∷ [])) (block_of rest)
-    ∙ ap (λ (k : ℕ). places n around before rows (block_of (s ∷ [])) ++ places (n + statements (block_of (s ∷ []))) around k rows (block_of rest)) (last_one before n s)
+pub points_first : (n around before : ℕ) (rows : List ℕ) (s : Stmt) (rest : List Stmt) → points n around before rows (block_of (s ∷ rest)) ≡ points n around before rows (block_of (s ∷ [])) ++ points (n + statements (block_of (s ∷ []))) around n rows (block_of rest)
+points_first n around before rows s rest =
+    ap (points n around before rows) (first_then s rest) ∙ points-then n around before rows (block_of (s ∷ [])) (block_of rest)
+    ∙ ap (λ (k : ℕ). points n around before rows (block_of (s ∷ [])) ++ points (n + statements (block_of (s ∷ []))) around k rows (block_of rest)) (last_one before n s)
 
 pub depth_first : (s : Stmt) (rest : List Stmt) → (depth (block_of (s ∷ [])) ≤ depth (block_of (s ∷ rest))) × (depth (block_of rest) ≤ depth (block_of (s ∷ rest)))
 depth_first s rest =
@@ -102,14 +102,14 @@ module _ (items : List Stmt) (i : ℕ) (s : Stmt) (within : i < length items) (i
   unfolding walked_lines
   split_lines vars n around before rows =
       sym (
-      ap (λ (ss : List Stmt). flat_map (lines_at vars) (places n around before rows (block_of ss))) (drop_here items i s within is)
-      ∙ ap (flat_map (lines_at vars)) (places_first n around before rows s (drop (i + 1) items)) ∙ flat_map-append (lines_at vars) _ _
+      ap (λ (ss : List Stmt). flat_map (lines_at vars) (points n around before rows (block_of ss))) (drop_here items i s within is)
+      ∙ ap (flat_map (lines_at vars)) (points_first n around before rows s (drop (i + 1) items)) ∙ flat_map-append (lines_at vars) _ _
       )
 
 -- of the whole transaction
 pub whole_lines : (vars : ℕ) (rows : List ℕ) (body : Block) (tx : Tx) → vars ≡ length tx.vars → rows ≡ [] → body ≡ tx.body → walked_lines vars 1 0 0 rows body ≡ body_lines tx
 unfolding walked_lines
-whole_lines vars rows body tx v r b = λ i. flat_map (lines_at (v i)) (places 1 0 0 (r i) (b i))
+whole_lines vars rows body tx v r b = λ i. flat_map (lines_at (v i)) (points 1 0 0 (r i) (b i))
 
 -- a visitor was shown the same lines
 pub same_lines : {S E : Type 0} {v w : S} {ls ms : List Line} {r : Result (Unit {0}) E} (visits : S → List Line → Result (Unit {0}) E → S → Type 0) → ls ≡ ms → visits v ls r w → visits v ms r w
@@ -126,14 +126,14 @@ module _ (h : Here) where
   unfolding walked_lines
   if_whole guard one other =
       let f = lines_at h.vars in
-      let p = places (h.number + 1) h.number h.before (loops_of h.loops) one in
-      let q = places (h.number + 1 + statements one) h.number h.before (loops_of h.loops) other in
-      ap (λ (l : List Line). here_lines h (If guard one other End) ++ l) (sym (flat_map-append f p q) ∙ ap (λ (ps : List Place). flat_map f (p ++ ps)) (sym (append-nil q)))
+      let p = points (h.number + 1) h.number h.before (loops_of h.loops) one in
+      let q = points (h.number + 1 + statements one) h.number h.before (loops_of h.loops) other in
+      ap (λ (l : List Line). here_lines h (If guard one other End) ++ l) (sym (flat_map-append f p q) ∙ ap (λ (ps : List Point). flat_map f (p ++ ps)) (sym (append-nil q)))
 
   for_whole : (row : List ℕ) (relation label : ℕ) (body : Block) → here_lines h (For row relation label body End) ++ inner_of h (For row relation label body End) ≡ block_lines h (For row relation label body End)
   unfolding walked_lines
   for_whole row relation label body =
-      ap (λ (ps : List Place). here_lines h (For row relation label body End) ++ flat_map (lines_at h.vars) ps) (sym (append-nil (places (h.number + 1) h.number (turn h.number h.before) (label ∷ loops_of h.loops) body)))
+      ap (λ (ps : List Point). here_lines h (For row relation label body End) ++ flat_map (lines_at h.vars) ps) (sym (append-nil (points (h.number + 1) h.number (turn h.number h.before) (label ∷ loops_of h.loops) body)))
 
   do_whole : (s : Simple) → here_lines h (Do s End) ++ [] ≡ block_lines h (Do s End)
   unfolding walked_lines

@@ -2,7 +2,7 @@
 use Rattle.std.specs.Prelude.{List, [], ◌∷◌, ◌++◌, map, Option, Some, None, flat_map}
 use Rattle.mls_scheme.specs.Writes.{operands}
 use Rattle.mls_translang.specs.Tree.{Expr}
-use Rattle.mls_certcheck.specs.Place.{directs}
+use Rattle.mls_certcheck.specs.Points.{directs}
 use Rattle.mls_certcheck.specs.Lines.{Line, names, variables}
 use Rattle.mls_certcheck.specs.Loops.{loops_of}
 use Rattle.mls_certcheck.specs.declared.flow.Slot.{Slot}

@@ -1,6 +1,6 @@
 -- The definitions of certificates: `Rules` says when one holds, and `Laws` what follows.
 pub mod Refusal
-pub mod Place
+pub mod Points
 pub mod Lines
 pub mod Rules
 pub mod Checks

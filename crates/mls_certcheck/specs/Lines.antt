@@ -4,7 +4,7 @@ use Rattle.mls_scheme.specs.Writes.{operands}
 use Rattle.mls_translang.specs.Tree.{Expr, Known, Null, Var, Param, Field, No, Op, Writing, Insert, Update, Delete}
 use Rattle.mls_translang.specs.Tree.{Stmt, Assign, Write_at, Release, Emit}
 use Rattle.mls_translang.specs.Tx.{Tx}
-use Rattle.mls_certcheck.specs.Place.{Node, Plain, Branching, Looping, Place, places}
+use Rattle.mls_certcheck.specs.Points.{Shape, Plain, Branching, Looping, Point, points}
 use Rattle.mls_certcheck.specs.declared.flow.Slot.TheVariants.{Variable, Statement}
 use Rattle.mls_certcheck.specs.declared.flow.Source.{Source}
 use Rattle.mls_certcheck.specs.declared.flow.Source.TheVariants.{Held, Parameter, Declared}
@@ -117,14 +117,14 @@ stmt_lines n b rows (Write_at relation w writing outcome) = write n b rows w wri
 stmt_lines n b rows (Release e to into) = release n b rows e to into
 stmt_lines n b rows (Emit e label) = emit n b rows e label
 
-abbrev pub own_lines : ℕ → ℕ → List ℕ → Node → List Line
+abbrev pub own_lines : ℕ → ℕ → List ℕ → Shape → List Line
 own_lines n b rows (Plain stmt) = stmt_lines n b rows stmt ++ rest n b stmt
 own_lines n b rows (Branching guard inner ends) = branch n b rows guard inner ends
 own_lines n b rows (Looping label inner ends) = row_loop n label inner ends
 
 -- at a statement, of so many variables
-abbrev pub lines_at : ℕ → Place → List Line
-lines_at vars p = ceiling vars p.number ++ (context p.number p.around ++ own_lines p.number p.before p.rows p.node)
+abbrev pub lines_at : ℕ → Point → List Line
+lines_at vars p = ceiling vars p.number ++ (context p.number p.around ++ own_lines p.number p.before p.rows p.shape)
 
 -- of the transaction itself
 abbrev pub tx_lines : Tx → List Line
@@ -132,12 +132,12 @@ tx_lines tx =
     by 0 rule.AboveCeiling (Under (variables 0 (length tx.vars)) ∷ [])
     ++ by 0 rule.Context (flat_map (λ p. within_ends p.1.label) tx.params)
 
-abbrev pub all_places : Tx → List Place
-all_places tx = places 1 0 0 [] tx.body
+abbrev pub all_points : Tx → List Point
+all_points tx = points 1 0 0 [] tx.body
 
 -- all but those of the transaction itself
 abbrev pub body_lines : Tx → List Line
-body_lines tx = flat_map (lines_at (length tx.vars)) (all_places tx)
+body_lines tx = flat_map (lines_at (length tx.vars)) (all_points tx)
 
 abbrev pub lines : Tx → List Line
 lines tx = tx_lines tx ++ body_lines tx

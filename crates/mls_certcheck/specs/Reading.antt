@@ -22,8 +22,8 @@ use Rattle.mls_certcheck.specs.declared.fault.CertCause.TheVariants.{Line, Label
 use Rattle.mls_certcheck.specs.declared.fault.CertCause.TheVariants.{Repeated, Memory}
 
 -- What a function returned, seen by view, is what reading gives, unless memory ran out.
-abbrev pub Gives : {X Y : Type 0} → (X → Y) → Result X CertFault → Result Y CertFault → Type 0
-Gives = GivesUnless (λ e. e.cause ≡ Memory)
+abbrev pub GivesCert : {X Y : Type 0} → (X → Y) → Result X CertFault → Result Y CertFault → Type 0
+GivesCert = GivesUnless (λ e. e.cause ≡ Memory)
 
 abbrev pub refused : {A : Type 0} → ℕ → CertCause → Result A CertFault
 refused line cause = Err (record { line = line; cause = cause })

@@ -3,7 +3,7 @@ use Rattle.std.specs.Prelude.{◌≡◌, ℕ, ◌+◌, List, [], ◌∷◌, ◌+
 use Rattle.mls_lattice.specs.Lattice.{Pair, ◌⊑◌}
 use Rattle.mls_lattice.specs.Policy.{labels_of}
 use Rattle.mls_translang.specs.Tree.{Block, End, Do, If, For, statements}
-use Rattle.mls_certcheck.specs.Place.{Plain, branching, looping, places}
+use Rattle.mls_certcheck.specs.Points.{Plain, branching, looping, points}
 use Rattle.mls_certcheck.specs.Lines.{Line, ceiling, context, own_lines, lines_at}
 use Rattle.mls_certcheck.specs.Rules.{Claim}
 use Rattle.mls_certcheck.specs.Loops.{loops_of}
@@ -31,7 +31,7 @@ Checked k ls answer m = (claim_of m ≡ claim_of k) × Says answer (verdict (cla
 
 -- the lines of the statements of a block, the first of which is n, among so many variables
 unfoldable pub walked_lines : ℕ → ℕ → ℕ → ℕ → List ℕ → Block → List Line
-walked_lines vars n around before rows block = flat_map (lines_at vars) (places n around before rows block)
+walked_lines vars n around before rows block = flat_map (lines_at vars) (points n around before rows block)
 
 module _ (h : Here) where
   -- of every statement

@@ -1,10 +1,9 @@
 //! Why a text is no certificate, and in which line.
 ghost use Rattle.std.specs.Prelude.{◌≡◌};
-ghost use Rattle.mls_certcheck.specs.declared.fault.CertCause.TheVariants.{Memory};
-ghost use Rattle.mls_certcheck.specs.Fault.{code_of, word_of};
+ghost use Rattle.mls_lattice.specs.declared.failed.Failed.TheVariants.{Fault};
+ghost use Rattle.mls_certcheck.specs.Fault.{code_of, word_of, failed_fault_of};
 
-use mls_lattice::words;
-use std::alloc::{AllocError, AllocFailed};
+use mls_lattice::{Failed, words};
 use std::fmt;
 use thiserror::Error;
 
@@ -59,24 +58,24 @@ pub struct CertFault {
     pub cause: CertCause,
 }
 
-impl From<AllocError> for CertFault {
-    ghost from_gives = { λ _ e. e.cause ≡ Memory };
+impl From<CertFault> for Failed<CertFault> {
+    ghost from_gives = { λ fault failed. failed ≡ Fault fault };
 
-    fn from(_e: AllocError) -> CertFault {
-        CertFault {
-            line: 1,
-            cause: CertCause::Memory,
-        }
+    fn from(fault: CertFault) -> Failed<CertFault> {
+        Failed::Fault(fault)
     }
 }
 
-impl<T: Drop> From<AllocFailed<T>> for CertFault {
-    ghost from_gives = { λ _ e. e.cause ≡ Memory };
+impl From<Failed<CertFault>> for CertFault {
+    ghost from_gives = { λ failed fault. fault ≡ failed_fault_of failed };
 
-    fn from(_e: AllocFailed<T>) -> CertFault {
-        CertFault {
-            line: 1,
-            cause: CertCause::Memory,
+    fn from(failed: Failed<CertFault>) -> CertFault {
+        match failed {
+            Failed::Memory => CertFault {
+                line: 1,
+                cause: CertCause::Memory,
+            },
+            Failed::Fault(fault) => fault,
         }
     }
 }

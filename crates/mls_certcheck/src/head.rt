@@ -1,7 +1,8 @@
 //! The first line of a block: a word, the version, and the name of a transaction.
 ghost use Rattle.std.specs.Prelude.{◌≡◌, bytes_eq};
 ghost use Rattle.std.specs.List.{list_any};
-ghost use Rattle.mls_certcheck.specs.Reading.{Gives, fresh_in, proper_in, version_in, versioned_in, named_in, head_in};
+ghost use Rattle.mls_lattice.specs.Reading.{Shows};
+ghost use Rattle.mls_certcheck.specs.Reading.{fresh_in, proper_in, version_in, versioned_in, named_in, head_in};
 
 use crate::cert::{Certificate, Version};
 use crate::fault::{CertCause, CertFault};
@@ -19,7 +20,7 @@ fn fresh_of<'a>(
     line: usize,
     name: &'a str,
 ) -> Result<&'a str, CertFault>
-    ensures { Gives (λ s. s.now) result (fresh_in blocks.now line name.now) }
+    ensures { Shows (λ s. s.now) result (fresh_in blocks.now line name.now) }
 {
     if contains(blocks, name) {
         return Err(CertFault {
@@ -32,7 +33,7 @@ fn fresh_of<'a>(
 
 #[tactic(auto, using(crate::proofs::NameLemmas::proper), unfolding(crate::specs::Reading::proper_in))]
 fn proper_of(line: usize, name: &[u8]) -> Result<&str, CertFault>
-    ensures { Gives (λ s. s.now) result (proper_in line name.now) }
+    ensures { Shows (λ s. s.now) result (proper_in line name.now) }
 {
     match std::str::from_utf8(name) {
         Ok(name) if is_name(name) => Ok(name),
@@ -45,7 +46,7 @@ fn proper_of(line: usize, name: &[u8]) -> Result<&str, CertFault>
 
 #[tactic(auto, unfolding(crate::specs::Reading::version_in))]
 fn version_of(line: usize, text: &[u8]) -> Result<Version, CertFault>
-    ensures { Gives (λ v. v) result (version_in line text.now) }
+    ensures { Shows (λ v. v) result (version_in line text.now) }
 {
     if text == b"1".as_slice() {
         return Ok(Version::First);
@@ -66,7 +67,7 @@ fn versioned_of<'a>(
     version: &[u8],
     name: &'a [u8],
 ) -> Result<(Version, &'a str), CertFault>
-    ensures { Gives (λ h. (h.0, h.1.now)) result (versioned_in blocks.now line version.now name.now) }
+    ensures { Shows (λ h. (h.0, h.1.now)) result (versioned_in blocks.now line version.now name.now) }
 {
     let name = proper_of(line, name)?;
     let version = version_of(line, version)?;
@@ -80,7 +81,7 @@ fn named_of<'a>(
     line: usize,
     text: &'a [u8],
 ) -> Result<(Version, &'a str), CertFault>
-    ensures { Gives (λ h. (h.0, h.1.now)) result (named_in blocks.now line text.now) }
+    ensures { Shows (λ h. (h.0, h.1.now)) result (named_in blocks.now line text.now) }
 {
     let bad = CertFault {
         line,
@@ -106,7 +107,7 @@ pub(crate) fn head_of<'a>(
     line: usize,
     text: &'a [u8],
 ) -> Result<(Version, &'a str), CertFault>
-    ensures { Gives (λ h. (h.0, h.1.now)) result (head_in blocks.now line text.now) }
+    ensures { Shows (λ h. (h.0, h.1.now)) result (head_in blocks.now line text.now) }
 {
     match text.strip_prefix(b"certificate ") {
         Some(rest) => named_of(blocks, line, rest),

@@ -4,7 +4,7 @@ ghost use Rattle.std.specs.List.{list_all};
 ghost use Rattle.mls_lattice.specs.Lattice.{pair_of, ◌⊑◌};
 ghost use Rattle.mls_scheme.specs.Writes.{operands};
 ghost use Rattle.mls_translang.specs.Tree.{statements};
-ghost use Rattle.mls_certcheck.specs.Place.{directs};
+ghost use Rattle.mls_certcheck.specs.Points.{directs};
 ghost use Rattle.mls_certcheck.specs.Lines.{variables};
 ghost use Rattle.mls_certcheck.specs.Rules.{slot_label, source_label};
 ghost use Rattle.mls_certcheck.specs.Checks.{holds};

@@ -2,7 +2,7 @@
 ghost use Rattle.std.specs.Prelude.{◌≡◌, ◌<◌, ◌+◌, ◌^◌, ◌||◌};
 ghost use Rattle.mls_lattice.specs.Lattice.{◌⊑◌};
 ghost use Rattle.mls_translang.specs.Tree.{statements};
-ghost use Rattle.mls_certcheck.specs.Place.{last};
+ghost use Rattle.mls_certcheck.specs.Points.{last};
 ghost use Rattle.mls_certcheck.specs.Rules.{after};
 ghost use Rattle.mls_certcheck.specs.Checks.{holds, is_target};
 ghost use Rattle.mls_certcheck.specs.Walk.{claim_of};

@@ -1,7 +1,8 @@
 //! A label: the rank in decimal, a colon, and the categories as eight hexadecimal digits.
 ghost use Rattle.std.specs.Prelude.{◌≡◌, ◌<◌, length, true, IfOk};
+ghost use Rattle.mls_lattice.specs.Reading.{Shows};
 ghost use Rattle.mls_certcheck.specs.declared.fault.CertCause.TheVariants.{Label as BadLabel};
-ghost use Rattle.mls_certcheck.specs.Reading.{Gives, are_digits, is_decimal, number_in, rank_in, digit_in, byte_in};
+ghost use Rattle.mls_certcheck.specs.Reading.{are_digits, is_decimal, number_in, rank_in, digit_in, byte_in};
 ghost use Rattle.mls_certcheck.specs.Reading.{bytes_in, cats_in, label_in};
 
 use crate::fault::{CertCause, CertFault};
@@ -37,7 +38,7 @@ fn bad_label(line: usize) -> CertFault
 
 fn number_of(line: usize, text: &str) -> Result<u8, CertFault>
     requires { is_decimal text.now ≡ true }
-    ensures { Gives (λ n. n) result (number_in line text.now) }
+    ensures { Shows (λ n. n) result (number_in line text.now) }
 {
     match text.parse::<u8>() {
         Ok(number) => Ok(number),
@@ -47,7 +48,7 @@ fn number_of(line: usize, text: &str) -> Result<u8, CertFault>
 
 #[tactic(auto, using(crate::proofs::CertificateLabelLemmas::decimal_ascii), unfolding(crate::specs::Reading::rank_in))]
 fn rank_of(line: usize, text: &[u8]) -> Result<u8, CertFault>
-    ensures { Gives (λ n. n) result (rank_in line text.now) }
+    ensures { Shows (λ n. n) result (rank_in line text.now) }
 {
     if !is_decimal(text) {
         return Err(bad_label(line));
@@ -57,7 +58,7 @@ fn rank_of(line: usize, text: &[u8]) -> Result<u8, CertFault>
 
 #[tactic(auto, unfolding(crate::specs::Reading::digit_in))]
 fn digit_of(line: usize, byte: u8) -> Result<u8, CertFault>
-    ensures reads { Gives (λ d. d) result (digit_in line byte) }
+    ensures reads { Shows (λ d. d) result (digit_in line byte) }
     ensures within { IfOk result (λ d. d < 16) }
 {
     match byte {
@@ -69,7 +70,7 @@ fn digit_of(line: usize, byte: u8) -> Result<u8, CertFault>
 
 #[tactic(auto, unfolding(crate::specs::Reading::byte_in))]
 fn byte_of(line: usize, high: u8, low: u8) -> Result<u8, CertFault>
-    ensures { Gives (λ b. b) result (byte_in line high low) }
+    ensures { Shows (λ b. b) result (byte_in line high low) }
 {
     let high = digit_of(line, high)?;
     let low = digit_of(line, low)?;
@@ -79,7 +80,7 @@ fn byte_of(line: usize, high: u8, low: u8) -> Result<u8, CertFault>
 #[tactic(auto, unfolding(crate::specs::Reading::bytes_in))]
 fn bytes_of(line: usize, text: &[u8]) -> Result<[u8; 4], CertFault>
     requires { length text.now ≡ 8 }
-    ensures { Gives (λ bs. bs) result (bytes_in line text.now) }
+    ensures { Shows (λ bs. bs) result (bytes_in line text.now) }
 {
     let a = byte_of(line, text[0], text[1])?;
     let b = byte_of(line, text[2], text[3])?;
@@ -90,7 +91,7 @@ fn bytes_of(line: usize, text: &[u8]) -> Result<[u8; 4], CertFault>
 
 #[tactic(auto, unfolding(crate::specs::Reading::cats_in))]
 fn cats_of(line: usize, text: &[u8]) -> Result<u32, CertFault>
-    ensures { Gives (λ n. n) result (cats_in line text.now) }
+    ensures { Shows (λ n. n) result (cats_in line text.now) }
 {
     if text.len() != 8 {
         return Err(bad_label(line));
@@ -102,7 +103,7 @@ fn cats_of(line: usize, text: &[u8]) -> Result<u32, CertFault>
 /// The label that a text in a line spells.
 #[tactic(auto, unfolding(crate::specs::Reading::label_in))]
 pub(crate) fn label_of(line: usize, text: &[u8]) -> Result<Label, CertFault>
-    ensures { Gives (λ l. l) result (label_in line text.now) }
+    ensures { Shows (λ l. l) result (label_in line text.now) }
 {
     if text.len() < 9 {
         return Err(bad_label(line));

@@ -1,11 +1,12 @@
 //! The lines of a certificate whose variables have a label after each statement.
 ghost use Rattle.std.specs.Prelude.{◌<◌, ◌≤◌, ◌+◌, ◌^◌, IfOk, map, length, []};
-ghost use Rattle.mls_certcheck.specs.Reading.{Gives, rows_at, cert2_at};
+ghost use Rattle.mls_lattice.specs.Reading.{Gives};
+ghost use Rattle.mls_certcheck.specs.Reading.{rows_at, cert2_at};
 
 use crate::cert::Cert2;
 use crate::fault::CertFault;
 use crate::lines::labels_of;
-use mls_lattice::{Items, Label};
+use mls_lattice::{Failed, Items, Label};
 use std::alloc::Global;
 
 fn rows_of(
@@ -13,7 +14,7 @@ fn rows_of(
     lines: &[&[u8]],
     place: usize,
     count: usize,
-) -> Result<Vec<Items<Label>>, CertFault>
+) -> Result<Vec<Items<Label>>, Failed<CertFault>>
     requires inside { place < length lines.now }
     requires short { length lines.now < 2 ^ 62 }
     ensures reads { Gives (λ v. v.items) result (rows_at [] count (map (λ x. x.now) lines.now) place) }
@@ -33,7 +34,11 @@ fn rows_of(
 
 /// The certificate at a place: a line of labels for the statements, and a row for each of them.
 #[tactic(auto, unfolding(crate::specs::Reading::cert2_at))]
-pub(crate) fn cert2_of(alloc: Global, lines: &[&[u8]], place: usize) -> Result<Cert2, CertFault>
+pub(crate) fn cert2_of(
+    alloc: Global,
+    lines: &[&[u8]],
+    place: usize,
+) -> Result<Cert2, Failed<CertFault>>
     requires inside { place ≤ length lines.now }
     requires short { length lines.now < 2 ^ 62 }
     ensures reads { Gives (λ c. c) result (cert2_at (map (λ x. x.now) lines.now) place) }

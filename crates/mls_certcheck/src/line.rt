@@ -1,10 +1,11 @@
 //! A line is words between spaces.
 ghost use Rattle.std.specs.Prelude.{◌≡◌, ◌==◌, ◌<◌, IfOk, map, [], Ok};
-ghost use Rattle.mls_certcheck.specs.Reading.{Gives, pieces, labels_in, worded_in, line_in};
+ghost use Rattle.mls_lattice.specs.Reading.{Gives};
+ghost use Rattle.mls_certcheck.specs.Reading.{pieces, labels_in, worded_in, line_in};
 
 use crate::fault::{CertCause, CertFault};
 use crate::label::label_of;
-use mls_lattice::Label;
+use mls_lattice::{Failed, Label};
 use std::alloc::{AllocError, Global};
 
 /// What stands between bytes of a value: one piece more than there are of these.
@@ -14,7 +15,7 @@ pub(crate) fn pieces_of(alloc: Global, bytes: &[u8], mark: u8) -> Result<Vec<&[u
     bytes.split(|byte| *byte == mark).collect(alloc)
 }
 
-fn labels_of(alloc: Global, line: usize, words: &[&[u8]]) -> Result<Vec<Label>, CertFault>
+fn labels_of(alloc: Global, line: usize, words: &[&[u8]]) -> Result<Vec<Label>, Failed<CertFault>>
     ensures { Gives (λ v. v.items) result (labels_in line [] (map (λ x. x.now) words.now)) }
 {
     let mut labels = Vec::new(alloc);
@@ -30,15 +31,15 @@ fn worded_of(
     word: &[u8],
     line: usize,
     words: &[&[u8]],
-) -> Result<Vec<Label>, CertFault>
+) -> Result<Vec<Label>, Failed<CertFault>>
     ensures { Gives (λ v. v.items) result (worded_in word.now line (map (λ x. x.now) words.now)) }
 {
     match words {
         [first, words @ ..] if *first == word => labels_of(alloc, line, words),
-        _ => Err(CertFault {
+        _ => Err(Failed::Fault(CertFault {
             line,
             cause: CertCause::Line,
-        }),
+        })),
     }
 }
 
@@ -48,7 +49,7 @@ pub(crate) fn line_of(
     word: &[u8],
     line: usize,
     text: &[u8],
-) -> Result<Vec<Label>, CertFault>
+) -> Result<Vec<Label>, Failed<CertFault>>
     ensures { Gives (λ v. v.items) result (line_in word.now line text.now) }
 {
     let words = pieces_of(alloc, text, b' ')?;

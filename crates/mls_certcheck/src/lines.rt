@@ -1,11 +1,12 @@
 //! The lines of a text, each by its place.
 ghost use Rattle.std.specs.Prelude.{◌≡◌, ◌<◌, ◌≤◌, ◌+◌, ◌^◌, IfOk, map, drop, length, true};
+ghost use Rattle.mls_lattice.specs.Reading.{Gives, Shows};
 ghost use Rattle.mls_certcheck.specs.declared.fault.CertCause.TheVariants.{Line};
-ghost use Rattle.mls_certcheck.specs.Reading.{Gives, whole_in, text_at, line_at, is_past_end, ended_at};
+ghost use Rattle.mls_certcheck.specs.Reading.{whole_in, text_at, line_at, is_past_end, ended_at};
 
 use crate::fault::{CertCause, CertFault};
 use crate::line::line_of;
-use mls_lattice::Label;
+use mls_lattice::{Failed, Label};
 use std::alloc::Global;
 
 fn missing(line: usize) -> CertFault
@@ -19,7 +20,7 @@ fn missing(line: usize) -> CertFault
 
 #[tactic(auto, unfolding(crate::specs::Reading::whole_in))]
 fn whole_of<'a>(line: usize, lines: &[&'a [u8]]) -> Result<&'a [u8], CertFault>
-    ensures reads { Gives (λ x. x.now) result (whole_in line (map (λ x. x.now) lines.now)) }
+    ensures reads { Shows (λ x. x.now) result (whole_in line (map (λ x. x.now) lines.now)) }
     ensures more { IfOk result (λ _. 1 < length lines.now) }
 {
     match lines {
@@ -32,7 +33,7 @@ fn whole_of<'a>(line: usize, lines: &[&'a [u8]]) -> Result<&'a [u8], CertFault>
 pub(crate) fn text_of<'a>(lines: &[&'a [u8]], place: usize) -> Result<&'a [u8], CertFault>
     requires inside { place ≤ length lines.now }
     requires short { length lines.now < 2 ^ 62 }
-    ensures reads { Gives (λ x. x.now) result (text_at (map (λ x. x.now) lines.now) place) }
+    ensures reads { Shows (λ x. x.now) result (text_at (map (λ x. x.now) lines.now) place) }
     ensures within { IfOk result (λ _. place + 1 < length lines.now) }
 {
     whole_of(place + 1, &lines[place..])
@@ -45,7 +46,7 @@ pub(crate) fn labels_of(
     word: &[u8],
     lines: &[&[u8]],
     place: usize,
-) -> Result<Vec<Label>, CertFault>
+) -> Result<Vec<Label>, Failed<CertFault>>
     requires inside { place ≤ length lines.now }
     requires short { length lines.now < 2 ^ 62 }
     ensures reads { Gives (λ v. v.items) result (line_at word.now (map (λ x. x.now) lines.now) place) }
@@ -78,7 +79,7 @@ pub(crate) fn is_past_end(lines: &[&[u8]], place: usize) -> bool
 pub(crate) fn ended_of<T: Drop>(lines: &[&[u8]], place: usize, value: T) -> Result<T, CertFault>
     requires inside { place ≤ length lines.now }
     requires short { length lines.now < 2 ^ 62 }
-    ensures { Gives (λ x. x) result (ended_at (map (λ x. x.now) lines.now) place value) }
+    ensures { Shows (λ x. x) result (ended_at (map (λ x. x.now) lines.now) place value) }
 {
     if !is_past_end(lines, place) {
         return Err(missing(place + 1));

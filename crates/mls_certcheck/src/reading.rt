@@ -1,8 +1,9 @@
 //! Certificates, and files of them.
 ghost use Rattle.std.specs.Prelude.{◌≡◌, ◌<◌, ◌≤◌, ◌+◌, IfOk, List, Ok, ◌^◌, map, length, []};
+ghost use Rattle.mls_lattice.specs.Reading.{Gives};
 ghost use Rattle.mls_certcheck.specs.declared.cert.Cert.{Cert as SpecCert};
 ghost use Rattle.mls_certcheck.specs.declared.cert.Cert2.{Cert2 as SpecCert2};
-ghost use Rattle.mls_certcheck.specs.Reading.{Block, Gives, cert_at, certificate_at, lines_of, block_at, blocks_at};
+ghost use Rattle.mls_certcheck.specs.Reading.{Block, GivesCert, cert_at, certificate_at, lines_of, block_at, blocks_at};
 ghost use Rattle.mls_certcheck.specs.Reading.{lines_in, lines2_in, file_in, text_in, text2_in};
 ghost use Rattle.mls_certcheck.specs.Spelling.{IsCert, IsCert2, IsFile, cert_text, cert2_text, file_text};
 
@@ -12,11 +13,11 @@ use crate::head::head_of;
 use crate::labels_after::cert2_of;
 use crate::line::pieces_of;
 use crate::lines::{ended_of, is_past_end, labels_of, text_of};
-use mls_lattice::{Items, Str};
+use mls_lattice::{Failed, Items, Str};
 use std::alloc::Global;
 
 #[tactic(auto, unfolding(crate::specs::Reading::cert_at))]
-fn cert_of(alloc: Global, lines: &[&[u8]], place: usize) -> Result<Cert, CertFault>
+fn cert_of(alloc: Global, lines: &[&[u8]], place: usize) -> Result<Cert, Failed<CertFault>>
     requires inside { place ≤ length lines.now }
     requires short { length lines.now < 2 ^ 62 }
     ensures reads { Gives (λ c. c) result (cert_at (map (λ x. x.now) lines.now) place) }
@@ -36,7 +37,7 @@ fn certificate_of(
     version: Version,
     lines: &[&[u8]],
     place: usize,
-) -> Result<Certificate, CertFault>
+) -> Result<Certificate, Failed<CertFault>>
     requires inside { place ≤ length lines.now }
     requires short { length lines.now < 2 ^ 62 }
     ensures reads { Gives (λ c. c) result (certificate_at version (map (λ x. x.now) lines.now) place) }
@@ -60,7 +61,7 @@ fn block_of(
     blocks: &[(Str, Certificate)],
     lines: &[&[u8]],
     place: usize,
-) -> Result<(Str, Certificate), CertFault>
+) -> Result<(Str, Certificate), Failed<CertFault>>
     requires inside { place ≤ length lines.now }
     requires short { length lines.now < 2 ^ 62 }
     ensures reads { Gives (λ b. b) result (block_at blocks.now (map (λ x. x.now) lines.now) place) }
@@ -82,7 +83,7 @@ fn lines_of(cert: &Certificate) -> usize
     }
 }
 
-fn blocks_of(alloc: Global, lines: &[&[u8]]) -> Result<Vec<(Str, Certificate)>, CertFault>
+fn blocks_of(alloc: Global, lines: &[&[u8]]) -> Result<Vec<(Str, Certificate)>, Failed<CertFault>>
     requires { length lines.now < 2 ^ 62 }
     ensures { Gives (λ v. v.items) result (blocks_at (length lines.now) [] (map (λ x. x.now) lines.now) 0) }
 {
@@ -97,32 +98,32 @@ fn blocks_of(alloc: Global, lines: &[&[u8]]) -> Result<Vec<(Str, Certificate)>, 
 }
 
 #[tactic(auto, unfolding(crate::specs::Reading::lines_in))]
-fn whole_of(alloc: Global, lines: &[&[u8]]) -> Result<Cert, CertFault>
+fn whole_of(alloc: Global, lines: &[&[u8]]) -> Result<Cert, Failed<CertFault>>
     requires { length lines.now < 2 ^ 62 }
     ensures { Gives (λ c. c) result (lines_in (map (λ x. x.now) lines.now)) }
 {
     let cert = cert_of(alloc, lines, 0)?;
-    ended_of(lines, 2, cert)
+    Ok(ended_of(lines, 2, cert)?)
 }
 
 #[tactic(auto, unfolding(crate::specs::Reading::lines2_in))]
-fn cert2_of_lines(alloc: Global, lines: &[&[u8]]) -> Result<Cert2, CertFault>
+fn cert2_of_lines(alloc: Global, lines: &[&[u8]]) -> Result<Cert2, Failed<CertFault>>
     requires { length lines.now < 2 ^ 62 }
     ensures { Gives (λ c. c) result (lines2_in (map (λ x. x.now) lines.now)) }
 {
     let cert = cert2_of(alloc, lines, 0)?;
     let count = cert.pc_labels.len();
-    ended_of(lines, 1 + count, cert)
+    Ok(ended_of(lines, 1 + count, cert)?)
 }
 
-fn cert_of_text(alloc: Global, bytes: &[u8]) -> Result<Cert, CertFault>
+fn cert_of_text(alloc: Global, bytes: &[u8]) -> Result<Cert, Failed<CertFault>>
     ensures { Gives (λ c. c) result (text_in bytes.now) }
 {
     let lines = pieces_of(alloc, bytes, b'\n')?;
     whole_of(alloc, &lines)
 }
 
-fn cert2_of_text(alloc: Global, bytes: &[u8]) -> Result<Cert2, CertFault>
+fn cert2_of_text(alloc: Global, bytes: &[u8]) -> Result<Cert2, Failed<CertFault>>
     ensures { Gives (λ c. c) result (text2_in bytes.now) }
 {
     let lines = pieces_of(alloc, bytes, b'\n')?;
@@ -135,11 +136,11 @@ impl Cert {
         // What is read is a certificate, and the bytes are its text.
         ensures found { IfOk result (λ c. IsCert c × (bytes.now ≡ cert_text c)) }
         // The text of a certificate is read, unless memory runs out.
-        ensures only { (c : SpecCert) → IsCert c → bytes.now ≡ cert_text c → Gives (λ x. x) result (Ok c) }
+        ensures only { (c : SpecCert) → IsCert c → bytes.now ≡ cert_text c → GivesCert (λ x. x) result (Ok c) }
         // The first fault, or what is read.
-        ensures exact { Gives (λ c. c) result (text_in bytes.now) }
+        ensures exact { GivesCert (λ c. c) result (text_in bytes.now) }
     {
-        cert_of_text(alloc, bytes)
+        Ok(cert_of_text(alloc, bytes)?)
     }
 }
 
@@ -149,15 +150,15 @@ impl Cert2 {
         // What is read is a certificate, and the bytes are its text.
         ensures found { IfOk result (λ c. IsCert2 c × (bytes.now ≡ cert2_text c)) }
         // The text of a certificate is read, unless memory runs out.
-        ensures only { (c : SpecCert2) → IsCert2 c → bytes.now ≡ cert2_text c → Gives (λ x. x) result (Ok c) }
+        ensures only { (c : SpecCert2) → IsCert2 c → bytes.now ≡ cert2_text c → GivesCert (λ x. x) result (Ok c) }
         // The first fault, or what is read.
-        ensures exact { Gives (λ c. c) result (text2_in bytes.now) }
+        ensures exact { GivesCert (λ c. c) result (text2_in bytes.now) }
     {
-        cert2_of_text(alloc, bytes)
+        Ok(cert2_of_text(alloc, bytes)?)
     }
 }
 
-fn file_of(alloc: Global, bytes: &[u8]) -> Result<Vec<(Str, Certificate)>, CertFault>
+fn file_of(alloc: Global, bytes: &[u8]) -> Result<Vec<(Str, Certificate)>, Failed<CertFault>>
     ensures { Gives (λ v. v.items) result (file_in bytes.now) }
 {
     let lines = pieces_of(alloc, bytes, b'\n')?;
@@ -171,9 +172,9 @@ pub fn certs_read(alloc: Global, bytes: &[u8]) -> Result<Vec<(Str, Certificate)>
     ensures found { IfOk result (λ v. IsFile v.items × (bytes.now ≡ file_text v.items)) }
     // The text of certificates with names that differ is read, unless memory runs out.
     ensures only { (blocks : List Block) → IsFile blocks → bytes.now ≡ file_text blocks
-        → Gives (λ v. v.items) result (Ok blocks) }
+        → GivesCert (λ v. v.items) result (Ok blocks) }
     // The first fault, or what is read.
-    ensures exact { Gives (λ v. v.items) result (file_in bytes.now) }
+    ensures exact { GivesCert (λ v. v.items) result (file_in bytes.now) }
 {
-    file_of(alloc, bytes)
+    Ok(file_of(alloc, bytes)?)
 }

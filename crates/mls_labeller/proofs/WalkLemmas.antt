@@ -5,7 +5,7 @@ use Rattle.mls_translang.specs.Tree.{Block, End, statements}
 use Rattle.mls_translang.specs.Blocks.{block_of}
 use Rattle.mls_translang.specs.declared.block.Stmt.{Stmt}
 use Rattle.mls_translang.specs.declared.block.Stmt.TheVariants as stmt
-use Rattle.mls_certcheck.specs.Place.{directs}
+use Rattle.mls_certcheck.specs.Points.{directs}
 use Rattle.mls_certcheck.specs.Lines.{variables}
 use Rattle.mls_certcheck.proofs.WalkLemmas.{drop_here}
 use Rattle.mls_certcheck.specs.declared.flow.Slot.{Slot}

@@ -1,7 +1,7 @@
 -- What sets lower bounds on the labels of a certificate: of the lines of the statements, those by which something flows into variables and statements.
 use Rattle.std.specs.Prelude.{ℕ, List, map}
 use Rattle.mls_translang.specs.Tree.{Block}
-use Rattle.mls_certcheck.specs.Place.{directs}
+use Rattle.mls_certcheck.specs.Points.{directs}
 pub use Rattle.mls_certcheck.specs.Lines.{body_lines}
 use Rattle.mls_certcheck.specs.Rules.{Claim, IsObeyed}
 use Rattle.mls_certcheck.specs.declared.flow.Slot.{Slot}

@@ -56,5 +56,5 @@ abbrev pub Wider : List Range → List Range → Type 0
 Wider before after = (x : ℕ) → Includes (slice_index_or after x any_value) (slice_index_or before x any_value)
 
 -- an expression has values of the range
-abbrev pub Gives : List Range → Expr → Range → Type 0
-Gives ranges e r = (env : Environment) → AreHeld ranges env.vars → Admits r (value_in env e)
+abbrev pub HasRange : List Range → Expr → Range → Type 0
+HasRange ranges e r = (env : Environment) → AreHeld ranges env.vars → Admits r (value_in env e)

@@ -26,7 +26,7 @@ pub data CanRelease : Bool → Block → List Told → List Item → List Item �
   -- a release gives its label and a value of its range, and other statements give nothing
   Silent : {looped : Bool} {stmt : Simple} {rest : Block} {told : List Told} {xs zs : List Item} → is_release stmt ≡ false
       → CanRelease looped rest told xs zs → CanRelease looped (Do stmt rest) told xs zs
-  Gives : {e : Expr} {into : ℕ} {rest : Block} {this : Told} {told : List Told} {xs zs : List Item} (v : Option Value)
+  Released : {e : Expr} {into : ℕ} {rest : Block} {this : Told} {told : List Told} {xs zs : List Item} (v : Option Value)
       → Admits this.range v → CanRelease this.looped rest told (xs ++ (this.to, v) ∷ []) zs
       → CanRelease this.looped (Do (Release e this.to into) rest) (this ∷ told) xs zs
   -- a branch gives what one of its blocks can give

@@ -5,7 +5,7 @@ ghost use Rattle.mls_scheme.specs.declared.value.Value.TheVariants.{Int};
 ghost use Rattle.mls_updates.specs.declared.outcome.Outcome.{Outcome};
 ghost use Rattle.mls_updates.specs.Outcome.{code_of};
 ghost use Rattle.mls_certcheck.specs.Meaning.{Variables, set_var, set_outcome};
-ghost use Rattle.mls_labeller.specs.Ranges.{Admits, any_value, AreHeld, Wider, Gives};
+ghost use Rattle.mls_labeller.specs.Ranges.{Admits, any_value, AreHeld, Wider, HasRange};
 
 use crate::bounds::Bounds;
 use crate::range::Range;
@@ -66,7 +66,7 @@ impl Ranges {
     /// What values an expression can have.
     #[tactic(auto, unfolding(mls_certcheck::specs::Expressions::eval))]
     pub fn range_of(&self, alloc: Global, expr: &Expr) -> Result<Range, AllocError>
-        ensures { IfOk result (Gives self.now.vars.items expr.now) }
+        ensures { IfOk result (HasRange self.now.vars.items expr.now) }
     {
         match &expr.term {
             Term::Known(value) => Range::one(alloc, value),

@@ -1,7 +1,7 @@
 use Rattle.std.proofs.Common.{◌≡◌, ◌+◌, drop}
 use Rattle.mls_translang.specs.Tree.{statements}
 use Rattle.mls_translang.specs.Blocks.{block_of}
-use Rattle.mls_certcheck.specs.Place.{last}
+use Rattle.mls_certcheck.specs.Points.{last}
 use Rattle.mls_certcheck.proofs.keeping.last_number.Given as goal
 
 -- the last of what is left, from here, is the last of all

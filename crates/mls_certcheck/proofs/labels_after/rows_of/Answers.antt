@@ -7,7 +7,7 @@ pub returns-in_err-row-clause-reads : goal.returns-in_err-row-clause-reads
 returns-in_err-row-clause-reads c =
     let p = err_from_is_err_and c.from_residual.result c.from_residual.ensures.1 in
     let left = c.loop-left.left in
-    rw (p.1, p.2) (λ m. sym c.loop-left.invariant.read ∙ rows_err left (left - 1) _ _ _ _ (omega (arith, c.loop-left-test.true)) (c.in_err-row.ensures.reads m))
+    rw (p.1, p.2) (λ fault is. sym c.loop-left.invariant.read ∙ rows_err left (left - 1) _ _ _ _ (omega (arith, c.loop-left-test.true)) (c.in_err-row.ensures.reads fault is))
 
 pub loop-left-preserved : goal.loop-left-preserved
 loop-left-preserved c =

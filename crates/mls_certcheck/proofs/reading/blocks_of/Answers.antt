@@ -10,7 +10,7 @@ returns-in_err-block c =
     let n = length c.args.lines.now - length c.loop-alloc.blocks.items in
     let left : is_past_end (drop c.loop-alloc.place (map (λ x. x.now) c.args.lines.now)) ≡ false = search rules in
     let some : length c.args.lines.now - length c.loop-alloc.blocks.items ≡ suc (length c.args.lines.now - length c.loop-alloc.blocks.items - 1) = omega (arith, left_some c.args.lines.now c.loop-alloc.place left, c.loop-alloc.invariant.fewer) in
-    rw (p.1, p.2) (λ m. sym c.loop-alloc.invariant.read ∙ blocks_err n (n - 1) c.deref.result.now c.loop-alloc.blocks.items _ c.loop-alloc.place _ some c.deref.ensures.value left (c.in_err-block.ensures.reads m))
+    rw (p.1, p.2) (λ fault is. sym c.loop-alloc.invariant.read ∙ blocks_err n (n - 1) c.deref.result.now c.loop-alloc.blocks.items _ c.loop-alloc.place _ some c.deref.ensures.value left (c.in_err-block.ensures.reads fault is))
 
 pub loop-alloc-preserved : goal.loop-alloc-preserved
 loop-alloc-preserved c =

@@ -3,7 +3,7 @@ use Rattle.std.specs.List.{list_all}
 use Rattle.mls_lattice.specs.Lattice.{pair_of, ◌⊑◌}
 use Rattle.mls_translang.specs.Tree.{statements}
 use Rattle.mls_translang.specs.Blocks.{block_of}
-use Rattle.mls_certcheck.specs.Place.{directs}
+use Rattle.mls_certcheck.specs.Points.{directs}
 use Rattle.mls_certcheck.specs.Rules.{slot_label}
 use Rattle.mls_certcheck.specs.Walk.{claim_of}
 use Rattle.mls_certcheck.specs.declared.flow.Slot.TheVariants.{Statement}

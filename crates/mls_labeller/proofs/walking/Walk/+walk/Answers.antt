@@ -14,8 +14,8 @@ use Rattle.mls_certcheck.specs.Expressions.{value_in, holds_in}
 use Rattle.mls_certcheck.specs.Meaning.{Item, Variables, Progress, set_var, set_outcome, environment, perform, for_each, run_block}
 use Rattle.mls_labeller.specs.declared.told.Told.{Told}
 use Rattle.mls_labeller.specs.declared.range.Range.{Range}
-use Rattle.mls_labeller.specs.Ranges.{Admits, AreHeld, Wider, Gives}
-use Rattle.mls_labeller.specs.Releases.{CanRelease, Over, Silent, Gives as Released, Either, Never, Again, Goes, Covers, Reaches}
+use Rattle.mls_labeller.specs.Ranges.{Admits, AreHeld, Wider, HasRange}
+use Rattle.mls_labeller.specs.Releases.{CanRelease, Over, Silent, Released, Either, Never, Again, Goes, Covers, Reaches}
 use Rattle.mls_labeller.proofs.walking.Walk.+walk.Goals as goal
 
 module _ {looped : Bool} {before : List Range} where
@@ -88,7 +88,7 @@ module _ {looped : Bool} {before : List Range} where
         let g = for_goes rs _ x.0 in
         (g.0, Again more _ x.1 g.1)
 
-reaches_release : {before after : List Range} (e : Expr) (this : Told) (rest : Block) (r : Range) → r ≡ this.range → Gives before e this.range
+reaches_release : {before after : List Range} (e : Expr) (this : Told) (rest : Block) (r : Range) → r ≡ this.range → HasRange before e this.range
     → ((vars : Variables) (v : Option Value) → AreHeld before vars → Admits r v → AreHeld after (set_var this.into v vars))
     → Reaches this.looped before (Do (Release e this.to this.into) rest) after rest (this ∷ [])
 unfolding perform

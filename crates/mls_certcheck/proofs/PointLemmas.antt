@@ -11,7 +11,7 @@ use Rattle.mls_lattice.proofs.LatticeLemmas.{⊑-Dominates, Dominates-⊑, Domin
 use Rattle.mls_translang.specs.Tree.{Block, End, Do, If, For, statements}
 use Rattle.mls_certcheck.specs.declared.cert.Certificate.{Certificate}
 use Rattle.mls_certcheck.specs.declared.cert.Certificate.TheVariants.{One, Two}
-use Rattle.mls_certcheck.specs.Place.{Plain, directs, branching, looping, places}
+use Rattle.mls_certcheck.specs.Points.{Plain, directs, branching, looping, points}
 use Rattle.mls_certcheck.specs.Rules.{Claim, pc, after, var_rows, row_after}
 use Rattle.mls_certcheck.proofs.LabelLemmas.{above_bottom}
 use Rattle.mls_certcheck.proofs.LineLemmas.{Obeys, runs_in}
@@ -37,7 +37,7 @@ unfolding below
 module _ (k : Claim) where
   -- the rules hold at each statement of a block, the first of which is n, in the statement a, after the statement b, and in these loops
   abbrev pub BlockObeys : ℕ → ℕ → ℕ → List ℕ → Block → Type 0
-  BlockObeys n a b rows block = AllByRecursion (Obeys k) (places n a b rows block)
+  BlockObeys n a b rows block = AllByRecursion (Obeys k) (points n a b rows block)
 
   -- the label of each of its own statements dominates l
   abbrev pub AreAbove : Pair → ℕ → Block → Type 0
@@ -50,10 +50,10 @@ module _ (k : Claim) where
   around_above (If guard one other rest) n a b rows h = (
     runs_in k n a b rows (branching n b guard one other) h.0,
     around_above rest (n + (1 + statements one + statements other)) a n rows
-        (every_back (Obeys k) _ (places (n + 1 + statements one) n b rows other) _ (every_back (Obeys k) _ (places (n + 1) n b rows one) _ h.1 refl) refl),
+        (every_back (Obeys k) _ (points (n + 1 + statements one) n b rows other) _ (every_back (Obeys k) _ (points (n + 1) n b rows one) _ h.1 refl) refl),
   )
   around_above (For row relation label body rest) n a b rows h =
-      (runs_in k n a b rows (looping n b label body) h.0, around_above rest (n + (1 + statements body)) a n rows (every_back (Obeys k) _ (places (n + 1) n n (label ∷ rows) body) _ h.1 refl))
+      (runs_in k n a b rows (looping n b label body) h.0, around_above rest (n + (1 + statements body)) a n rows (every_back (Obeys k) _ (points (n + 1) n n (label ∷ rows) body) _ h.1 refl))
 
 -- ---- variables
 

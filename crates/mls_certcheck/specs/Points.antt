@@ -3,18 +3,19 @@ use Rattle.std.specs.Prelude.{ℕ, ◌+◌, List, [], ◌∷◌, ◌++◌}
 use Rattle.mls_translang.specs.Tree.{Expr, Stmt, Block, End, Do, If, For, statements}
 
 -- a statement, with the numbers of those directly inside, and of those after which it may end
-pub data Node : Type 0 where
-  Plain : (stmt : Stmt) → Node
-  Branching : (guard : Expr) (inner ends : List ℕ) → Node
-  Looping : (label : ℕ) (inner ends : List ℕ) → Node
+pub data Shape : Type 0 where
+  Plain : (stmt : Stmt) → Shape
+  Branching : (guard : Expr) (inner ends : List ℕ) → Shape
+  Looping : (label : ℕ) (inner ends : List ℕ) → Shape
 
--- its number, that of what is around it, that after which it begins, and the labels of the loops around it, the innermost first
-pub record Place : Type 0 where
+-- A point of a transaction: a statement, with its number, that of what is around it, that after which it begins, and the labels of
+-- the loops around it, the innermost first
+pub record Point : Type 0 where
   pub number : ℕ
   pub around : ℕ
   pub before : ℕ
   pub rows : List ℕ
-  pub node : Node
+  pub shape : Shape
 
 -- the numbers of a block's own statements, the first of which is n
 abbrev pub directs : ℕ → Block → List ℕ
@@ -31,22 +32,22 @@ last before n (If guard one other rest) = last n (n + (1 + statements one + stat
 last before n (For row relation label body rest) = last n (n + (1 + statements body)) rest
 
 -- a branch begins both blocks after what it begins after itself, and ends after one of them
-abbrev pub branching : ℕ → ℕ → Expr → Block → Block → Node
+abbrev pub branching : ℕ → ℕ → Expr → Block → Block → Shape
 branching n before guard one other =
     Branching guard (directs (n + 1) one ++ directs (n + 1 + statements one) other) (last before (n + 1) one ∷ last before (n + 1 + statements one) other ∷ [])
 
 -- each turn of a loop begins after the loop itself, so it ends after what it begins after, and after a turn
-abbrev pub looping : ℕ → ℕ → ℕ → Block → Node
+abbrev pub looping : ℕ → ℕ → ℕ → Block → Shape
 looping n before label body = Looping label (directs (n + 1) body) (before ∷ last n (n + 1) body ∷ [])
 
 -- all statements of a block, the first of which is n
-abbrev pub places : ℕ → ℕ → ℕ → List ℕ → Block → List Place
-places n around before rows End = []
-places n around before rows (Do stmt rest) =
-    record { number = n; around = around; before = before; rows = rows; node = Plain stmt } ∷ places (n + 1) around n rows rest
-places n around before rows (If guard one other rest) =
-    record { number = n; around = around; before = before; rows = rows; node = branching n before guard one other }
-    ∷ (places (n + 1) n before rows one ++ (places (n + 1 + statements one) n before rows other ++ places (n + (1 + statements one + statements other)) around n rows rest))
-places n around before rows (For row relation label body rest) =
-    record { number = n; around = around; before = before; rows = rows; node = looping n before label body }
-    ∷ (places (n + 1) n n (label ∷ rows) body ++ places (n + (1 + statements body)) around n rows rest)
+abbrev pub points : ℕ → ℕ → ℕ → List ℕ → Block → List Point
+points n around before rows End = []
+points n around before rows (Do stmt rest) =
+    record { number = n; around = around; before = before; rows = rows; shape = Plain stmt } ∷ points (n + 1) around n rows rest
+points n around before rows (If guard one other rest) =
+    record { number = n; around = around; before = before; rows = rows; shape = branching n before guard one other }
+    ∷ (points (n + 1) n before rows one ++ (points (n + 1 + statements one) n before rows other ++ points (n + (1 + statements one + statements other)) around n rows rest))
+points n around before rows (For row relation label body rest) =
+    record { number = n; around = around; before = before; rows = rows; shape = looping n before label body }
+    ∷ (points (n + 1) n n (label ∷ rows) body ++ points (n + (1 + statements body)) around n rows rest)

@@ -4,6 +4,8 @@ use Rattle.sqlite.specs.Files.{AreFoundIn}
 use Rattle.sqlite.specs.Recovery.{Image}
 use Rattle.sqlite.specs.State.{State, Opens, IsLive, HasCleanDisk}
 use Rattle.sqlite.specs.Start.{FindsIn}
+use Rattle.mls_lattice.specs.declared.failed.Failed.{Failed}
+use Rattle.mls_lattice.specs.declared.failed.Failed.TheVariants as failed
 use Rattle.mls_lattice.specs.Policy.{Policy}
 use Rattle.mls_scheme.specs.declared.file.SchemesFile.{SchemesFile}
 use Rattle.mls_filterview.specs.Content.{Content}
@@ -14,8 +16,7 @@ use Rattle.mls_tables.specs.Adopting.{Blames, HasDescription, HasReadRows, IsAdo
 use Rattle.mls_tables.specs.Store.{HasEnded}
 use Rattle.mls_fragments.specs.declared.open_fault.OpenFault.{OpenFault}
 use Rattle.mls_fragments.specs.declared.open_fault.OpenFault.TheVariants.{OtherPolicy, BadRows}
-use Rattle.mls_rows.specs.declared.reading.RowFault.{RowFault}
-use Rattle.mls_rows.specs.declared.reading.RowFault.TheVariants as row
+use Rattle.mls_rows.specs.declared.reading.BadRow.{BadRow}
 use Rattle.mls_fragments.specs.Creating.{IsBlankImage}
 use Rattle.mls_fragments.specs.OpenFault.{adopting_fault, finding_fault}
 use Rattle.mls_fragments.specs.Opening.{HoldsSound, IsFoundIn, IsRefused, IsStoreOrMemory, IsUnopened, IsUntaken, not_described}
@@ -35,9 +36,9 @@ never_adopted adopt.Store e = absurd (cc)
 never_adopted adopt.Memory e = absurd (cc)
 never_adopted adopt.BadRows e = absurd (cc)
 
-pub never_found : (f : RowFault) → finding_fault f ≢ OtherPolicy
-never_found row.BadRow e = absurd (cc)
-never_found row.Memory e = absurd (cc)
+pub never_found : (f : Failed BadRow) → finding_fault f ≢ OtherPolicy
+never_found (failed.Fault row) e = absurd (cc)
+never_found failed.Memory e = absurd (cc)
 
 adopted_bad : (f : AdoptFault) → adopting_fault f ≡ BadRows → f ≡ adopt.BadRows
 adopted_bad adopt.Store e = absurd (cc)
@@ -80,8 +81,8 @@ module _ (old new : State) where
   }
 
   -- rows that hold nothing sound
-  pub unfound : (Sound : Content → Type 0) (rows : AllRows) (f : RowFault) (e : OpenFault) → (HasCleanDisk new → HasCleanDisk old) → (HasCleanDisk new → IsTrue old.is_open)
-      → (HasCleanDisk new → IsAdopted old new rows) → e ≡ finding_fault f → (HasCleanDisk new → HoldsSound Sound old.now → f ≡ row.Memory) → IsUntaken Sound old new e
+  pub unfound : (Sound : Content → Type 0) (rows : AllRows) (f : Failed BadRow) (e : OpenFault) → (HasCleanDisk new → HasCleanDisk old) → (HasCleanDisk new → IsTrue old.is_open)
+      → (HasCleanDisk new → IsAdopted old new rows) → e ≡ finding_fault f → (HasCleanDisk new → HoldsSound Sound old.now → f ≡ failed.Memory) → IsUntaken Sound old new e
   unfound Sound rows f e clean was_open adopted is memory = record {
     refused = λ disk. let read = adopted disk in record {
       clean = clean disk;

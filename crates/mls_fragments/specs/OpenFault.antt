@@ -1,11 +1,12 @@
 -- The numbers and names of the causes for which stores are not opened.
 use Rattle.std.specs.Prelude.{ℕ, List, ◌-◌, [], map, get_or}
+use Rattle.mls_lattice.specs.declared.failed.Failed.{Failed}
+use Rattle.mls_lattice.specs.declared.failed.Failed.TheVariants as failed
 use Rattle.mls_tables.specs.declared.store.StoreFault.{StoreFault}
 use Rattle.mls_tables.specs.declared.store.StoreFault.TheVariants as store
 use Rattle.mls_tables.specs.declared.adopting.AdoptFault.{AdoptFault}
 use Rattle.mls_tables.specs.declared.adopting.AdoptFault.TheVariants as adopt
-use Rattle.mls_rows.specs.declared.reading.RowFault.{RowFault}
-use Rattle.mls_rows.specs.declared.reading.RowFault.TheVariants as row
+use Rattle.mls_rows.specs.declared.reading.BadRow.{BadRow}
 use Rattle.mls_fragments.specs.declared.open_fault.OpenFault.{OpenFault}
 use Rattle.mls_fragments.specs.declared.open_fault.OpenFault.TheVariants.{Store, OtherPolicy, BadRows, Memory}
 use Rattle.mls_fragments.specs.declared.open_fault.TheConstants.{WORDS}
@@ -31,6 +32,6 @@ adopting_fault adopt.Memory = Memory
 adopting_fault adopt.BadRows = BadRows
 
 -- why rows hold nothing
-abbrev pub finding_fault : RowFault → OpenFault
-finding_fault row.BadRow = BadRows
-finding_fault row.Memory = Memory
+abbrev pub finding_fault : Failed BadRow → OpenFault
+finding_fault (failed.Fault row) = BadRows
+finding_fault failed.Memory = Memory

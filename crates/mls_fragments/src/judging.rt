@@ -14,7 +14,7 @@ ghost use Rattle.mls_fragments.specs.Parts.{IsJudged, rows_in};
 use crate::design::Design;
 use crate::ghost_content::GhostContent;
 use crate::noted::Noted;
-use mls_lattice::Items;
+use mls_lattice::{Failed, Items};
 use mls_rows::{RowFault, Where, entries_of, find};
 use mls_tables::{AllRows, CellRow, NodeRow};
 use std::alloc::{AllocError, Global};
@@ -139,7 +139,7 @@ pub(crate) fn judge(
     design.policy.use_invariant();
     let entries = entries_of(alloc, labels, entries, &mut Where::start())?;
     let Ok(last) = i64::try_from(entries.len()) else {
-        return Err(RowFault::Memory);
+        return Err(Failed::Memory);
     };
     nodes.sort()?;
     cells.sort()?;

@@ -27,7 +27,6 @@ pub use laws::{
 };
 pub use memory_base::MemoryBase;
 pub use memory_file::MemoryFile;
-pub use migrating::{Lineage, Older, lineage_of};
 pub use open_fault::OpenFault;
 pub use opening::texts_of;
 pub use refusing::bad_row;

@@ -1,5 +1,5 @@
 //! A base over a store in memory: its files, and how it is opened and closed.
-ghost use Rattle.std.specs.Prelude.{◌≡◌, false, length, IfOk, IfErr};
+ghost use Rattle.std.specs.Prelude.{◌≡◌, false, length, IfOk};
 ghost use Rattle.sqlite.specs.Files.{file_state};
 ghost use Rattle.mls_lattice.specs.Version.{version_number, later};
 ghost use Rattle.mls_scheme.specs.Scheme.{AreUnder};
@@ -13,11 +13,10 @@ use crate::base::SqlBase;
 use crate::connecting::connected;
 use crate::in_memory::InMemory;
 use crate::memory_file::MemoryFile;
-use crate::open_fault::OpenFault;
 use mls_lattice::Policy;
 use mls_scheme::SchemesFile;
 use sqlite::{Connection, FileStore, Files, Options};
-use std::alloc::Global;
+use std::alloc::{AllocError, Global};
 
 /// How many pages are kept. To keep one spares one copy of it.
 const CACHE_PAGES: usize = 64;
@@ -27,10 +26,9 @@ const CACHE_PAGES: usize = 64;
 pub type MemoryBase = InMemory<SqlBase<FileStore<MemoryFile>>>;
 
 /// A connection to an empty store in memory.
-fn empty_store(alloc: Global) -> Result<Connection<FileStore<MemoryFile>>, OpenFault>
+fn empty_store(alloc: Global) -> Result<Connection<FileStore<MemoryFile>>, AllocError>
     ensures empty { IfOk result (λ c. (file_state c).now.schema ≡ no_schema) }
     ensures idle { IfOk result (λ c. c.in_transaction ≡ false) }
-    ensures fault { IfErr result (λ e. e ≡ OpenFault.Memory) }
 {
     let files = Files {
         log: MemoryFile::new(alloc),
@@ -40,24 +38,27 @@ fn empty_store(alloc: Global) -> Result<Connection<FileStore<MemoryFile>>, OpenF
     options.cache_pages = CACHE_PAGES;
     match connected(alloc, files, options) {
         Ok(conn) => Ok(conn),
-        Err(_) => Err(OpenFault::Memory),
+        Err(_) => Err(AllocError),
     }
 }
 
 impl InMemory<SqlBase<FileStore<MemoryFile>>> {
     /// An empty base, which policy and schemes describe. Nothing but want of memory refuses it.
-    pub fn open(alloc: Global, policy: &Policy, file: &SchemesFile) -> Result<MemoryBase, OpenFault>
+    pub fn open(
+        alloc: Global,
+        policy: &Policy,
+        file: &SchemesFile,
+    ) -> Result<MemoryBase, AllocError>
         requires under { AreUnder (length policy.now.labels) file.now.schemes }
         ensures content { IfOk result (λ b. state_of b.base
             ≡ record { now = no_content; kept = no_content; begun = false }) }
         ensures described { IfOk result (λ b. IsClean b.base.tables
             → HasRow b.base (row_of policy.now file.now (version_number (later policy.now.version file.now.version)))) }
-        ensures fault { IfErr result (λ e. e ≡ OpenFault.Memory) }
     {
         let conn = empty_store(alloc)?;
         match SqlBase::adopt(alloc, conn, policy, file) {
             Ok(base) => Ok(InMemory { base }),
-            Err(_) => Err(OpenFault::Memory),
+            Err(_) => Err(AllocError),
         }
     }
 

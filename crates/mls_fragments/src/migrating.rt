@@ -24,7 +24,7 @@ use std::alloc::{AllocError, Global};
 
 /// What a store of an older policy or older schemes has.
 #[derive(Drop)]
-pub struct Older {
+pub(crate) struct Older {
     /// How many of the policy's labels it knows: the first ones.
     pub labels: usize,
     /// How many attributes outside the key each of its relations has: the first ones.
@@ -33,7 +33,7 @@ pub struct Older {
 
 /// How a store stands to a policy and schemes.
 #[derive(Drop)]
-pub enum Lineage {
+pub(crate) enum Lineage {
     /// It is of them.
     Same,
     /// It is of older ones, which they extend.
@@ -67,7 +67,7 @@ fn older_of(
 /// How a store stands to a policy and schemes with these texts, if it is not of others. The texts decide that,
 /// and not the version that the store tells: the first line of schemes has their version, so the same schemes
 /// in version 2 are another text, and the lines of a policy that a store keeps have none.
-pub fn lineage_of(
+pub(crate) fn lineage_of(
     alloc: Global,
     design: &Design<'_>,
     texts: &(String, String),

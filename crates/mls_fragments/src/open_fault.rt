@@ -3,8 +3,8 @@ ghost use Rattle.std.specs.Prelude.{◌≡◌};
 ghost use Rattle.mls_fragments.specs.OpenFault.{code_of, word_of};
 ghost use Rattle.mls_fragments.specs.declared.open_fault.OpenFault.TheVariants.{Memory};
 
-use mls_lattice::words;
-use mls_rows::RowFault;
+use mls_lattice::{Failed, words};
+use mls_rows::{BadRow, RowFault};
 use mls_tables::{AdoptFault, StoreFault};
 use std::alloc::AllocError;
 use std::fmt;
@@ -93,8 +93,8 @@ impl From<RowFault> for OpenFault {
 
     fn from(fault: RowFault) -> OpenFault {
         match fault {
-            RowFault::BadRow => OpenFault::BadRows,
-            RowFault::Memory => OpenFault::Memory,
+            Failed::Fault(BadRow) => OpenFault::BadRows,
+            Failed::Memory => OpenFault::Memory,
         }
     }
 }

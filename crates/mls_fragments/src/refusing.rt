@@ -10,7 +10,8 @@ use crate::design::Design;
 use crate::migrating::{Lineage, find_widened, lineage_of};
 use crate::open_fault::OpenFault;
 use crate::opening::texts_of;
-use mls_rows::{RowFault, Where, find};
+use mls_lattice::Failed;
+use mls_rows::{BadRow, Where, find};
 use mls_tables::{AllRows, MetaRow, read_store};
 use sqlite::{Alter, Connection};
 use std::alloc::{AllocError, Global};
@@ -47,8 +48,8 @@ fn stop_of(
     };
     match found {
         Ok(_) => Ok(None),
-        Err(RowFault::BadRow) => Ok(Some(at)),
-        Err(RowFault::Memory) => Err(AllocError),
+        Err(Failed::Fault(BadRow)) => Ok(Some(at)),
+        Err(Failed::Memory) => Err(AllocError),
     }
 }
 

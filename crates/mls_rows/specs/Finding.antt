@@ -6,6 +6,8 @@ use Rattle.std.specs.List.Sorted.{IsStrictlySortedBy}
 use Rattle.std.specs.FinMap.{get}
 use Rattle.std.specs.Map.{lookup, keys_of}
 use Rattle.std.specs.BTreeMap.{is_at}
+use Rattle.mls_lattice.specs.declared.failed.Failed.{Failed}
+use Rattle.mls_lattice.specs.declared.failed.Failed.TheVariants.{Memory}
 use Rattle.mls_lattice.specs.Labels.{Labels}
 use Rattle.mls_lattice.specs.Policy.{Policy, labels_of}
 use Rattle.mls_scheme.specs.declared.value.Value.{Value}
@@ -26,15 +28,14 @@ use Rattle.mls_tables.specs.declared.rows.CellRow.{CellRow}
 use Rattle.mls_tables.specs.declared.adopting.AllRows.{AllRows}
 use Rattle.mls_tables.specs.Adopting.{AreAll}
 use Rattle.mls_tables.specs.Rows.{Tables}
-use Rattle.mls_rows.specs.declared.reading.RowFault.{RowFault}
-use Rattle.mls_rows.specs.declared.reading.RowFault.TheVariants.{Memory}
+use Rattle.mls_rows.specs.declared.reading.BadRow.{BadRow}
 use Rattle.mls_rows.specs.declared.finding.Found.{Found}
 use Rattle.mls_rows.specs.Changes.{Entries, table_in, found}
 use Rattle.mls_rows.specs.Holding.{Holds, node_row, cell_row, IsSpelledNode, IsSpelledCell}
 
 -- ---- rows that can be read
 
-abbrev pub IsMemory : RowFault → Type 0
+abbrev pub IsMemory : Failed BadRow → Type 0
 IsMemory e = e ≡ Memory
 
 -- the row of a node with a spelled key and classes of one byte

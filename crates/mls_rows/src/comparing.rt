@@ -1,12 +1,11 @@
 //! The rows that tables have, compared with those of a store.
-ghost use Rattle.std.specs.Prelude.{◌≡◌, ◌≤◌, ◌++◌, length, map, flat_map, IsTrue, IfOk, IfErr, OnOk, IsPermutation};
+ghost use Rattle.std.specs.Prelude.{◌≡◌, ◌≤◌, ◌++◌, length, map, flat_map, IsTrue, IfOk, OnOk, IsPermutation};
 ghost use Rattle.std.specs.List.{AllByRecursion};
 ghost use Rattle.mls_filterview.specs.Fragment.{node_of, cells_of};
-ghost use Rattle.mls_rows.specs.Finding.{IsMemory, IsSpelledEntry, AreAlike, node_rows, cell_rows};
+ghost use Rattle.mls_rows.specs.Finding.{IsSpelledEntry, AreAlike, node_rows, cell_rows};
 ghost use Rattle.mls_rows.specs.Holding.{node_row, cell_row};
 
 use crate::place::{Step, Where};
-use crate::reading::RowFault;
 use crate::writing::{row_of_cell, row_of_node};
 use mls_filterview::{TupleMap, cells_of, nodes_of};
 use mls_scheme::RelNo;
@@ -19,11 +18,10 @@ fn push_nodes(
     rows: &mut Vec<NodeRow>,
     relation: RelNo,
     table: &TupleMap,
-) -> Result<(), RowFault>
+) -> Result<(), AllocError>
     requires spelled { AllByRecursion IsSpelledEntry table.now.entries }
     ensures pushed { OnOk result (rows.new.items ≡ rows.old.items
         ++ map (node_row relation) (map node_of table.now.entries)) }
-    ensures fault { IfErr result IsMemory }
 {
     let nodes = nodes_of(alloc, table)?;
     for node in &nodes {
@@ -38,11 +36,10 @@ fn push_cells(
     rows: &mut Vec<CellRow>,
     relation: RelNo,
     table: &TupleMap,
-) -> Result<(), RowFault>
+) -> Result<(), AllocError>
     requires spelled { AllByRecursion IsSpelledEntry table.now.entries }
     ensures pushed { OnOk result (rows.new.items ≡ rows.old.items
         ++ map (cell_row relation) (flat_map cells_of table.now.entries)) }
-    ensures fault { IfErr result IsMemory }
 {
     let cells = cells_of(alloc, table)?;
     for cell in &cells {
@@ -52,11 +49,10 @@ fn push_cells(
 }
 
 /// The rows of the nodes of tables.
-pub fn node_rows(alloc: Global, tables: &[TupleMap]) -> Result<Vec<NodeRow>, RowFault>
+pub fn node_rows(alloc: Global, tables: &[TupleMap]) -> Result<Vec<NodeRow>, AllocError>
     requires few { length tables.now ≤ 256 }
     requires spelled { AllByRecursion (λ t. AllByRecursion IsSpelledEntry t.entries) tables.now }
     ensures rows { IfOk result (λ rows. rows.items ≡ node_rows 0 (map (λ t. t.entries) tables.now)) }
-    ensures fault { IfErr result IsMemory }
 {
     let mut rows = Vec::new(alloc);
     for (relation, table) in tables.iter().enumerate() {
@@ -66,11 +62,10 @@ pub fn node_rows(alloc: Global, tables: &[TupleMap]) -> Result<Vec<NodeRow>, Row
 }
 
 /// The rows of the cells of tables.
-pub fn cell_rows(alloc: Global, tables: &[TupleMap]) -> Result<Vec<CellRow>, RowFault>
+pub fn cell_rows(alloc: Global, tables: &[TupleMap]) -> Result<Vec<CellRow>, AllocError>
     requires few { length tables.now ≤ 256 }
     requires spelled { AllByRecursion (λ t. AllByRecursion IsSpelledEntry t.entries) tables.now }
     ensures rows { IfOk result (λ rows. rows.items ≡ cell_rows 0 (map (λ t. t.entries) tables.now)) }
-    ensures fault { IfErr result IsMemory }
 {
     let mut rows = Vec::new(alloc);
     for (relation, table) in tables.iter().enumerate() {
@@ -122,7 +117,7 @@ pub(crate) fn have_rows(
     nodes: Vec<NodeRow>,
     cells: Vec<CellRow>,
     at: &mut Where,
-) -> Result<bool, RowFault>
+) -> Result<bool, AllocError>
     requires few { length tables.now ≤ 256 }
     requires spelled { AllByRecursion (λ t. AllByRecursion IsSpelledEntry t.entries) tables.now }
     ensures same { IfOk result (λ b. IsTrue b
@@ -130,10 +125,9 @@ pub(crate) fn have_rows(
         × IsPermutation (cell_rows 0 (map (λ t. t.entries) tables.now)) cells.items) }
     ensures only { AreAlike (λ r. r.rel) (node_rows 0 (map (λ t. t.entries) tables.now)) nodes.items
         → AreAlike (λ r. r.rel) (cell_rows 0 (map (λ t. t.entries) tables.now)) cells.items → IfOk result IsTrue }
-    ensures fault { IfErr result IsMemory }
 {
     if !have_same_nodes(node_rows(alloc, tables)?, nodes, at)? {
         return Ok(false);
     }
-    Ok(have_same_cells(cell_rows(alloc, tables)?, cells, at)?)
+    have_same_cells(cell_rows(alloc, tables)?, cells, at)
 }

@@ -1,22 +1,22 @@
 //! What the tables hold of one entity.
-ghost use Rattle.std.specs.Prelude.{◌≡◌, [], slice_get, IfOk, IfErr, option_map};
+ghost use Rattle.std.specs.Prelude.{◌≡◌, [], slice_get, IfOk, option_map};
 ghost use Rattle.std.specs.FinMap.{get};
 ghost use Rattle.mls_scheme.specs.Spelling.{IsSpelledKey};
 ghost use Rattle.mls_filterview.specs.Content.{Content};
 ghost use Rattle.mls_filterview.specs.Fragment.{IsEntityPart, classes};
 ghost use Rattle.mls_tables.specs.Store.{IsClean};
 ghost use Rattle.mls_rows.specs.Calls.{IsRowRead};
-ghost use Rattle.mls_rows.specs.Finding.{IsMemory, AreReadable};
+ghost use Rattle.mls_rows.specs.Finding.{AreReadable};
 ghost use Rattle.mls_rows.specs.Holding.{Holds};
 
-use crate::reading::{RowFault, abandon_at_row, decoded_pattern, fragment_of_relation};
+use crate::reading::{abandon_at_row, abandon_for_memory, decoded_pattern, fragment_of_relation};
 use crate::writing::key_of_place;
 use mls_filterview::Fragment;
 use mls_lattice::{Items, LabelNo};
 use mls_scheme::{Place, RelNo};
 use mls_tables::{StoreFault, TableStore};
 use sqlite::Alter;
-use std::alloc::Global;
+use std::alloc::{AllocError, Global};
 
 /// Nothing.
 fn nothing(alloc: Global) -> Fragment
@@ -43,7 +43,7 @@ pub fn read_entity<S: Alter>(
 {
     let key = match key_of_place(alloc, relation, place) {
         Ok(key) => key,
-        Err(fault) => return Err(abandon_at_row(store, fault)),
+        Err(AllocError) => return Err(abandon_for_memory(store)),
     };
     let nodes = store.nodes_of_key(&key)?;
     if nodes.is_empty() {
@@ -57,9 +57,11 @@ pub fn read_entity<S: Alter>(
 }
 
 /// The classes that the first of these patterns names.
-fn first_pattern(alloc: Global, patterns: &[Items<u8>]) -> Result<Option<Items<LabelNo>>, RowFault>
-    ensures first { IfOk result (λ pattern. pattern ≡ slice_get patterns.now 0) }
-    ensures only { IfErr result IsMemory }
+fn first_pattern(
+    alloc: Global,
+    patterns: &[Items<u8>],
+) -> Result<Option<Items<LabelNo>>, AllocError>
+    ensures { IfOk result (λ pattern. pattern ≡ slice_get patterns.now 0) }
 {
     match patterns.first() {
         Some(first) => Ok(Some(decoded_pattern(alloc, first)?)),
@@ -81,11 +83,11 @@ pub fn read_pattern<S: Alter>(
 {
     let key = match key_of_place(alloc, relation, place) {
         Ok(key) => key,
-        Err(fault) => return Err(abandon_at_row(store, fault)),
+        Err(AllocError) => return Err(abandon_for_memory(store)),
     };
     let patterns = store.patterns_of_key(&key)?;
     match first_pattern(alloc, &patterns) {
         Ok(pattern) => Ok(pattern),
-        Err(fault) => Err(abandon_at_row(store, fault)),
+        Err(AllocError) => Err(abandon_for_memory(store)),
     }
 }

@@ -14,10 +14,12 @@ ghost use Rattle.mls_rows.specs.Holding.{Holds};
 
 use crate::comparing::have_rows;
 use crate::place::{Step, Where};
-use crate::reading::{RowFault, cells_of_relation, decoded_entries, nodes_of_relation};
+use crate::reading::{
+    BadRow, RowFault, cells_of_relation, decoded_entries, nodes_of_relation, undecoded,
+};
 use mls_audit::entry_of;
 use mls_filterview::{TupleMap, is_content, rows_of, values_of};
-use mls_lattice::{Items, Policy};
+use mls_lattice::{Failed, Items, Policy};
 use mls_scheme::{RelNo, Schemes};
 use mls_tables::{AllRows, AuditRow, CellRow, NodeRow, are_numbered};
 use std::alloc::{AllocError, Global};
@@ -88,11 +90,11 @@ fn check_entry(alloc: Global, labels: usize, bytes: &[u8]) -> Result<(), RowFaul
     ensures found { OnOk result (IsEntryOf labels bytes.now) }
     ensures only { IsEntryOf labels bytes.now → IfErr result IsMemory }
 {
-    let label = entry_of(alloc, bytes)?.label();
+    let label = entry_of(alloc, bytes).map_err(undecoded)?.label();
     if label.index() < labels {
         Ok(())
     } else {
-        Err(RowFault::BadRow)
+        Err(Failed::Fault(BadRow))
     }
 }
 
@@ -142,10 +144,10 @@ pub fn entries_of(
     rows.sort()?;
     if !are_numbered(&rows) {
         pass_numbered(&rows, at);
-        return Err(RowFault::BadRow);
+        return Err(Failed::Fault(BadRow));
     }
     check_entries(alloc, labels, &rows, at)?;
-    decoded_entries(alloc, rows)
+    Ok(decoded_entries(alloc, rows)?)
 }
 
 /// Whether classes are among the first labels.
@@ -215,18 +217,18 @@ pub fn find(
     policy.use_invariant();
     schemes.use_invariant();
     if !are_within(labels, &nodes, at) {
-        return Err(RowFault::BadRow);
+        return Err(Failed::Fault(BadRow));
     }
     let tables = tables_of(alloc, schemes.count(), &nodes, &cells, at)?;
     if !are_content(alloc, policy, schemes, &tables, at)? {
-        return Err(RowFault::BadRow);
+        return Err(Failed::Fault(BadRow));
     }
     if !have_rows(alloc, &tables, nodes, cells, at)? {
-        return Err(RowFault::BadRow);
+        return Err(Failed::Fault(BadRow));
     }
     let entries = entries_of(alloc, labels, entries, at)?;
     let Ok(last) = i64::try_from(entries.len()) else {
-        return Err(RowFault::Memory);
+        return Err(Failed::Memory);
     };
     Ok(Found {
         tables,

@@ -2,6 +2,7 @@
 ghost use Rattle.std.specs.Prelude.{◌≡◌, ◌↔◌, ◌<◌, ◌≤◌, ℕ, List, map, filter, nat_eq, Option, IsOk, IfOk, IfErr};
 ghost use Rattle.std.specs.Prelude.{IfSome, IsPermutation};
 ghost use Rattle.std.specs.List.{AllByRecursion, list_any};
+ghost use Rattle.mls_lattice.specs.declared.failed.Failed.TheVariants.{Memory};
 ghost use Rattle.mls_scheme.specs.declared.value.Value.{Value as SpecValue};
 ghost use Rattle.mls_scheme.specs.declared.key_fault.KeyFault.TheVariants.{Memory as KeyMemory};
 ghost use Rattle.mls_scheme.specs.Spelling.{HasSpelling, IsSpelledKey, key_spelling};
@@ -10,71 +11,58 @@ ghost use Rattle.mls_filterview.specs.Fragment.{IsFragment, AreFragments};
 ghost use Rattle.mls_tables.specs.Rows.{numbered, has_bit};
 ghost use Rattle.mls_tables.specs.Store.{IsClean, IsStoreFault};
 ghost use Rattle.mls_rows.specs.Calls.{IsRowRead};
-ghost use Rattle.mls_rows.specs.declared.reading.RowFault.TheVariants.{Memory};
 ghost use Rattle.mls_rows.specs.Finding.{IsMemory, IsNodeRow, IsCellRow, AreReadable};
 ghost use Rattle.mls_rows.specs.Holding.{Holds, node_row, cell_row, value_bytes, IsSpelledNode, IsSpelledCell};
 
 use crate::place::{Step, Where};
 use mls_filterview::{Cell, Fragment, Node};
-use mls_lattice::{Items, LabelNo};
+use mls_lattice::{Failed, Items, LabelNo};
 use mls_scheme::{KeyFault, RelNo, Value, key_of, value_of};
 use mls_tables::{AuditRow, CellRow, NodeRow, StoreFault, TableStore, are_numbered};
 use sqlite::Alter;
-use std::alloc::{AllocError, AllocFailed, Global};
+use std::alloc::{AllocError, Global};
+
+/// A row that stands for nothing.
+#[derive(Clone, Copy)]
+pub struct BadRow;
 
 /// Why a row can't be read, or made.
-#[derive(Clone, Copy)]
-pub enum RowFault {
-    /// The row stands for nothing.
-    BadRow,
-    /// A growth was refused.
-    Memory,
-}
+pub type RowFault = Failed<BadRow>;
 
-impl From<AllocError> for RowFault {
-    ghost from_gives = { λ _ e. e ≡ Memory };
-
-    fn from(_e: AllocError) -> RowFault {
-        RowFault::Memory
+/// Why bytes of a row are no key, no value and no entry.
+pub(crate) fn undecoded(fault: KeyFault) -> RowFault
+    ensures { (fault ≡ KeyMemory) ↔ (result ≡ Memory) }
+{
+    match fault {
+        KeyFault::Memory => Failed::Memory,
+        _ => Failed::Fault(BadRow),
     }
 }
 
-impl<T: Drop> From<AllocFailed<T>> for RowFault {
-    ghost from_gives = { λ _ e. e ≡ Memory };
-
-    fn from(_e: AllocFailed<T>) -> RowFault {
-        RowFault::Memory
-    }
-}
-
-impl From<KeyFault> for RowFault {
-    ghost from_gives = { λ f e. (f ≡ KeyMemory) ↔ (e ≡ Memory) };
-
-    fn from(fault: KeyFault) -> RowFault {
-        match fault {
-            KeyFault::Memory => RowFault::Memory,
-            _ => RowFault::BadRow,
-        }
-    }
+/// Ends the change, if one is begun, for want of memory.
+pub(crate) fn abandon_for_memory<S: Alter>(store: &mut TableStore<S>) -> StoreFault
+    ensures clean { IsClean store.new → IsClean store.old }
+    ensures fault { IsStoreFault result store.old store.new }
+    ensures count { store.old.failures ≤ store.new.failures }
+{
+    store.abandon();
+    StoreFault::Memory
 }
 
 /// Ends the change, if one is begun, after a row that can't be read or made. A row that can't be read is a failure of a store
 /// that gives back other rows than were written.
 pub(crate) fn abandon_at_row<S: Alter>(store: &mut TableStore<S>, fault: RowFault) -> StoreFault
-    requires { fault ≡ RowFault.BadRow → IsClean store.old → ⊥ }
+    requires { (fault ≡ Memory → ⊥) → IsClean store.old → ⊥ }
     ensures clean { IsClean store.new → IsClean store.old }
     ensures fault { IsStoreFault result store.old store.new }
     ensures count { store.old.failures ≤ store.new.failures }
 {
     match fault {
-        RowFault::BadRow => {
+        Failed::Fault(BadRow) => {
             store.abandon_corrupt();
             StoreFault::Store
         }
-        RowFault::Memory => {
-            store.abandon();
-            StoreFault::Memory
-        }
+        Failed::Memory => abandon_for_memory(store),
     }
 }
 
@@ -84,7 +72,7 @@ fn decoded_label(number: u32) -> Result<LabelNo, RowFault>
 {
     match u8::try_from(number) {
         Ok(byte) => Ok(LabelNo::new(byte)),
-        Err(_) => Err(RowFault::BadRow),
+        Err(_) => Err(Failed::Fault(BadRow)),
     }
 }
 
@@ -92,12 +80,11 @@ fn decoded_key(alloc: Global, bytes: &[u8]) -> Result<Items<Value>, RowFault>
     ensures found { IfOk result (λ key. IsSpelledKey key × (key_spelling key ≡ bytes.now)) }
     ensures only { (key : List SpecValue) → IsSpelledKey key → bytes.now ≡ key_spelling key → IfErr result IsMemory }
 {
-    Ok(Items::from(key_of(alloc, bytes)?))
+    Ok(Items::from(key_of(alloc, bytes).map_err(undecoded)?))
 }
 
-pub(crate) fn decoded_pattern(alloc: Global, bytes: &[u8]) -> Result<Items<LabelNo>, RowFault>
-    ensures found { IfOk result (λ pattern. pattern ≡ bytes.now) }
-    ensures only { IfErr result IsMemory }
+pub(crate) fn decoded_pattern(alloc: Global, bytes: &[u8]) -> Result<Items<LabelNo>, AllocError>
+    ensures { IfOk result (λ pattern. pattern ≡ bytes.now) }
 {
     let mut labels = Vec::new(alloc);
     for byte in bytes {
@@ -148,9 +135,9 @@ fn decoded_value(alloc: Global, bytes: &[u8]) -> Result<Option<Value>, RowFault>
     if let [0] = bytes {
         return Ok(None);
     }
-    let (value, taken) = value_of(alloc, bytes)?;
+    let (value, taken) = value_of(alloc, bytes).map_err(undecoded)?;
     if taken < bytes.len() {
-        return Err(RowFault::BadRow);
+        return Err(Failed::Fault(BadRow));
     }
     Ok(Some(value))
 }
@@ -265,9 +252,8 @@ pub fn read_fragments<S: Alter>(
 pub(crate) fn decoded_entries(
     alloc: Global,
     rows: Vec<AuditRow>,
-) -> Result<Items<Items<u8>>, RowFault>
-    ensures found { IfOk result (λ entries. entries ≡ map (λ r. r.bytes) rows.items) }
-    ensures only { IfErr result IsMemory }
+) -> Result<Items<Items<u8>>, AllocError>
+    ensures { IfOk result (λ entries. entries ≡ map (λ r. r.bytes) rows.items) }
 {
     let mut entries = Vec::new(alloc);
     for row in rows {
@@ -284,9 +270,9 @@ fn entries_in_order(alloc: Global, mut rows: Vec<AuditRow>) -> Result<Items<Item
 {
     rows.sort()?;
     if !are_numbered(&rows) {
-        return Err(RowFault::BadRow);
+        return Err(Failed::Fault(BadRow));
     }
-    decoded_entries(alloc, rows)
+    Ok(decoded_entries(alloc, rows)?)
 }
 
 /// The entries of the audit list.

@@ -1,26 +1,24 @@
 //! The rows of a tuple, of a value and of an entry, written.
-ghost use Rattle.std.specs.Prelude.{◌≡◌, ◌<◌, ◌+ℤ◌, pos, true, map, IfOk, IfErr, IfSome, OnOk};
+ghost use Rattle.std.specs.Prelude.{◌≡◌, ◌<◌, ◌+ℤ◌, pos, true, map, IfOk, IfSome, OnOk};
 ghost use Rattle.std.specs.List.{AllByRecursion};
 ghost use Rattle.mls_scheme.specs.Spelling.{HasSpelling, IsSpelledKey, key_spelling};
 ghost use Rattle.mls_tables.specs.Rows.{cell_beside};
 ghost use Rattle.mls_tables.specs.Statements.{SetsCell, AddsEntry};
 ghost use Rattle.mls_tables.specs.Store.{IsClean, Writes};
 ghost use Rattle.mls_rows.specs.Calls.{IsRowStep, IsSpelledTuple, CanSetValue};
-ghost use Rattle.mls_rows.specs.Finding.{IsMemory};
 ghost use Rattle.mls_rows.specs.Holding.{node_row, cell_row, value_bytes, IsSpelledCell, value_row, own_cell};
 ghost use Rattle.mls_rows.specs.Holding.{tuple_key, AddsTuple, DropsTuple};
 
-use crate::reading::{RowFault, abandon_at_row};
+use crate::reading::abandon_for_memory;
 use mls_filterview::{Cell, Node};
 use mls_lattice::{Items, LabelNo};
 use mls_scheme::{Place, RelNo, Value, key_bytes, value_bytes};
 use mls_tables::{AuditRow, CellRow, NodeRow, OwnCell, StoreFault, TableStore, TupleKey};
 use sqlite::Alter;
-use std::alloc::Global;
+use std::alloc::{AllocError, Global};
 
-fn bytes_of(alloc: Global, pattern: &[LabelNo]) -> Result<Items<u8>, RowFault>
+fn bytes_of(alloc: Global, pattern: &[LabelNo]) -> Result<Items<u8>, AllocError>
     ensures made { IfOk result (λ bytes. bytes ≡ pattern.now) }
-    ensures fault { IfErr result IsMemory }
 {
     let mut bytes = Vec::new(alloc);
     for label in pattern {
@@ -30,10 +28,9 @@ fn bytes_of(alloc: Global, pattern: &[LabelNo]) -> Result<Items<u8>, RowFault>
 }
 
 /// The bytes of a value, and 0 for null.
-fn bytes_of_value(alloc: Global, value: &Option<Value>) -> Result<Items<u8>, RowFault>
+fn bytes_of_value(alloc: Global, value: &Option<Value>) -> Result<Items<u8>, AllocError>
     requires { IfSome value.now HasSpelling }
     ensures made { IfOk result (λ bytes. bytes ≡ value_bytes value.now) }
-    ensures fault { IfErr result IsMemory }
 {
     match value {
         Some(value) => Ok(Items::from(value_bytes(alloc, value)?)),
@@ -45,10 +42,9 @@ fn bytes_of_value(alloc: Global, value: &Option<Value>) -> Result<Items<u8>, Row
     }
 }
 
-fn ent_of(alloc: Global, key: &[Value]) -> Result<Items<u8>, RowFault>
+fn ent_of(alloc: Global, key: &[Value]) -> Result<Items<u8>, AllocError>
     requires { IsSpelledKey key.now }
     ensures made { IfOk result (λ bytes. bytes ≡ key_spelling key.now) }
-    ensures fault { IfErr result IsMemory }
 {
     Ok(Items::from(key_bytes(alloc, key)?))
 }
@@ -58,10 +54,9 @@ pub(crate) fn key_of_place(
     alloc: Global,
     relation: RelNo,
     place: &Place,
-) -> Result<TupleKey, RowFault>
+) -> Result<TupleKey, AllocError>
     requires { IsSpelledKey place.now.key }
     ensures made { IfOk result (λ key. key ≡ tuple_key relation place.now) }
-    ensures fault { IfErr result IsMemory }
 {
     Ok(TupleKey {
         rel: u32::from(relation.byte()),
@@ -72,21 +67,23 @@ pub(crate) fn key_of_place(
 }
 
 /// The number of an attribute. No memory is left for a tuple that has so many that one's would not fit.
-fn number_of(attr: usize) -> Result<u32, RowFault>
+fn number_of(attr: usize) -> Result<u32, AllocError>
     ensures made { IfOk result (λ number. number ≡ attr) }
-    ensures fault { IfErr result IsMemory }
 {
     match u32::try_from(attr) {
         Ok(number) => Ok(number),
-        Err(_) => Err(RowFault::Memory),
+        Err(_) => Err(AllocError),
     }
 }
 
-pub(crate) fn row_of_node(alloc: Global, relation: RelNo, node: &Node) -> Result<NodeRow, RowFault>
+pub(crate) fn row_of_node(
+    alloc: Global,
+    relation: RelNo,
+    node: &Node,
+) -> Result<NodeRow, AllocError>
     requires { IsSpelledKey node.now.key }
     ensures made { IfOk result (λ row. row ≡ node_row relation node.now) }
     ensures classes { OnOk result ((node.now.key_class < 256) × (node.now.label < 256)) }
-    ensures fault { IfErr result IsMemory }
 {
     Ok(NodeRow {
         rel: u32::from(relation.byte()),
@@ -97,10 +94,13 @@ pub(crate) fn row_of_node(alloc: Global, relation: RelNo, node: &Node) -> Result
     })
 }
 
-pub(crate) fn row_of_cell(alloc: Global, relation: RelNo, cell: &Cell) -> Result<CellRow, RowFault>
+pub(crate) fn row_of_cell(
+    alloc: Global,
+    relation: RelNo,
+    cell: &Cell,
+) -> Result<CellRow, AllocError>
     requires { IsSpelledCell cell.now }
     ensures made { IfOk result (λ row. row ≡ cell_row relation cell.now) }
-    ensures fault { IfErr result IsMemory }
 {
     Ok(CellRow {
         rel: u32::from(relation.byte()),
@@ -118,11 +118,10 @@ fn row_of_value(
     place: &Place,
     attr: usize,
     value: &Option<Value>,
-) -> Result<CellRow, RowFault>
+) -> Result<CellRow, AllocError>
     requires key { IsSpelledKey place.now.key }
     requires value { IfSome value.now HasSpelling }
     ensures made { IfOk result (λ row. row ≡ value_row relation place.now attr value.now) }
-    ensures fault { IfErr result IsMemory }
 {
     Ok(CellRow {
         rel: u32::from(relation.byte()),
@@ -135,10 +134,9 @@ fn row_of_value(
 }
 
 /// A cell of a tuple's own class, beside the tuple's node.
-fn own_of(alloc: Global, cell: &Cell) -> Result<OwnCell, RowFault>
+fn own_of(alloc: Global, cell: &Cell) -> Result<OwnCell, AllocError>
     requires { IfSome cell.now.value HasSpelling }
     ensures made { IfOk result (λ own. own ≡ own_cell cell.now) }
-    ensures fault { IfErr result IsMemory }
 {
     Ok(OwnCell {
         attr: number_of(cell.attr)?,
@@ -147,10 +145,9 @@ fn own_of(alloc: Global, cell: &Cell) -> Result<OwnCell, RowFault>
 }
 
 /// The cells of a tuple's own class, beside its node.
-fn own_cells(alloc: Global, cells: &[Cell]) -> Result<Vec<OwnCell>, RowFault>
+fn own_cells(alloc: Global, cells: &[Cell]) -> Result<Vec<OwnCell>, AllocError>
     requires { AllByRecursion (λ c. IfSome c.value HasSpelling) cells.now }
     ensures made { IfOk result (λ own. own.items ≡ map own_cell cells.now) }
-    ensures fault { IfErr result IsMemory }
 {
     let mut own = Vec::new(alloc);
     for cell in cells {
@@ -171,12 +168,11 @@ fn rows_of_tuple(
     relation: RelNo,
     node: &Node,
     cells: &[Cell],
-) -> Result<TupleRows, RowFault>
+) -> Result<TupleRows, AllocError>
     requires { IsSpelledTuple node.now cells.now }
     ensures node { IfOk result (λ rows. rows.node ≡ node_row relation node.now) }
     ensures own { IfOk result (λ rows. map (cell_beside rows.node) rows.own.items ≡ map (cell_row relation) cells.now) }
     ensures classes { OnOk result ((node.now.key_class < 256) × (node.now.label < 256)) }
-    ensures fault { IfErr result IsMemory }
 {
     Ok(TupleRows {
         node: row_of_node(alloc, relation, node)?,
@@ -204,7 +200,7 @@ pub fn add_tuple<S: Alter>(
             store.add_node(&rows.node)?;
             store.add_cells(&rows.node, &rows.own)
         }
-        Err(fault) => Err(abandon_at_row(store, fault)),
+        Err(AllocError) => Err(abandon_for_memory(store)),
     }
 }
 
@@ -225,7 +221,7 @@ pub fn set_value<S: Alter>(
 {
     match row_of_value(alloc, relation, place, attr, value) {
         Ok(row) => store.set_cell(&row),
-        Err(fault) => Err(abandon_at_row(store, fault)),
+        Err(AllocError) => Err(abandon_for_memory(store)),
     }
 }
 
@@ -243,15 +239,14 @@ pub fn drop_tuple<S: Alter>(
 {
     let key = match key_of_place(alloc, relation, place) {
         Ok(key) => key,
-        Err(fault) => return Err(abandon_at_row(store, fault)),
+        Err(AllocError) => return Err(abandon_for_memory(store)),
     };
     store.drop_node(&key)?;
     store.drop_cells(&key)
 }
 
-fn entry_of(alloc: Global, bytes: &[u8]) -> Result<Items<u8>, RowFault>
+fn entry_of(alloc: Global, bytes: &[u8]) -> Result<Items<u8>, AllocError>
     ensures made { IfOk result (λ entry. entry ≡ bytes.now) }
-    ensures fault { IfErr result IsMemory }
 {
     let mut entry = Vec::new(alloc);
     entry.extend_from_slice(bytes)?;
@@ -259,12 +254,11 @@ fn entry_of(alloc: Global, bytes: &[u8]) -> Result<Items<u8>, RowFault>
 }
 
 /// The row of the entry after the last one. No memory is left for one whose number would not fit.
-fn row_of_entry(alloc: Global, last: i64, bytes: &[u8]) -> Result<AuditRow, RowFault>
+fn row_of_entry(alloc: Global, last: i64, bytes: &[u8]) -> Result<AuditRow, AllocError>
     ensures made { IfOk result (λ row. row ≡ record { number = last +ℤ pos 1; bytes = bytes.now }) }
-    ensures fault { IfErr result IsMemory }
 {
     let Some(number) = last.checked_add(1) else {
-        return Err(RowFault::Memory);
+        return Err(AllocError);
     };
     let bytes = entry_of(alloc, bytes)?;
     Ok(AuditRow { number, bytes })
@@ -288,6 +282,6 @@ pub fn add_entry<S: Alter>(
             store.add_entry(&row)?;
             Ok(row.number)
         }
-        Err(fault) => Err(abandon_at_row(store, fault)),
+        Err(AllocError) => Err(abandon_for_memory(store)),
     }
 }

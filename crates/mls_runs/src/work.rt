@@ -17,7 +17,7 @@ use mls_host::{Host, Reason, Setting, Stop, ended};
 use mls_lattice::{Items, Policy};
 use mls_scheme::Schemes;
 use mls_sessions::{RunFault, Stored};
-use std::alloc::Global;
+use std::alloc::{AllocError, Global};
 
 /// What is done over a base. It holds the streams that it reads and writes.
 pub(crate) trait Work {
@@ -69,7 +69,7 @@ fn in_memory<K: Work>(
 {
     let base = match MemoryBase::open(alloc, &setting.policy, &setting.file) {
         Ok(base) => base,
-        Err(fault) => return Err(Stop::Before(Reason::Store(fault))),
+        Err(AllocError) => return Err(Stop::Before(Reason::Store(OpenFault::Memory))),
     };
     let (outcome, left) = work.over(alloc, &setting.policy, &setting.file.schemes, stored, base);
     left.close();

@@ -1,4 +1,4 @@
--- The pattern of a node, as a query shows it alone.
+-- What a row of one column shows.
 use Rattle.std.specs.Prelude.{ℕ, List}
 use Rattle.sqlite_value.specs.Order.{Row, column}
 use Rattle.mls_tables.specs.Rows.{blob_in}

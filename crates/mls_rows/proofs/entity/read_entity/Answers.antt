@@ -37,8 +37,8 @@ returns-then-is_empty-clause-found g c clean content holds =
     let some = subst (λ k. IsPermutation (filter (is_node k) c.args.store.now.now.nodes) c.in_ok-nodes.nodes.items) key (c.in_ok-nodes.ensures.found clean) in
     shows_nothing c.args.store.now.now content c.args.relation p c.nothing.result holds c.requires.key (subst (IsPermutation (filter (is_node (tuple_key c.args.relation p)) c.args.store.now.now.nodes)) none some) c.nothing.ensures.0 c.nothing.ensures.1
 
-pub abandon_at_row-requires-in-Err-fragment_of_relation : goal.abandon_at_row-requires-in-Err-fragment_of_relation
-abandon_at_row-requires-in-Err-fragment_of_relation g c bad clean =
+pub abandon_at_row-requires : goal.abandon_at_row-requires
+abandon_at_row-requires g c bad clean =
     let p = c.args.place.now in
     let t = c.args.store.now.now in
     let nodes = c.in_ok-nodes.nodes.items in
@@ -51,4 +51,4 @@ abandon_at_row-requires-in-Err-fragment_of_relation g c bad clean =
     let memory = c.in-Err-fragment_of_relation.ensures.only
     (subst (AllByRecursion IsNodeRow) (sym c.deref.ensures.value) (read_nodes t held.0 held.1 held.2 _ nodes some_nodes))
     (subst (AllByRecursion IsCellRow) (sym c.deref-2.ensures.value) (read_cells t held.0 held.1 held.2 _ cells some_cells)) in
-    (let e = sym bad ∙ memory in cc)
+    bad memory

@@ -1,6 +1,5 @@
 use Rattle.std.proofs.Common.{◌≡◌, true, true≢false, sym, ap, subst, ◌∙◌, pos, rules, IsPermutation}
 use Rattle.std.specs.List.{AllByRecursion}
-use Rattle.std.proofs.lemmas.Result.{IfOk-weaker}
 use Rattle.mls_audit.specs.Spelling.{IsEntryOf}
 use Rattle.mls_tables.specs.Rows.{numbered, are_numbered}
 use Rattle.mls_tables.proofs.NumberedLemmas.{rising}
@@ -22,13 +21,10 @@ returns-in_err-check_entries-clause-only c list same all =
 pub returns-clause-numbered : goal.returns-clause-numbered
 returns-clause-numbered c =
     let sorted = subst (λ l. are_numbered (pos 1) l ≡ true) c.deref.ensures.value (sym c.are_numbered.ensures ∙ c.if-not-are_numbered.false) in
-    IfOk-weaker c.decoded_entries.result _ _ (λ entries is. subst (λ l. IsPermutation (numbered 1 l) c.args.rows.items) (sym is) (numbered_texts _ _ c.in_ok-sort.ensures.permutation sorted)) c.decoded_entries.ensures.found
+    subst (λ l. IsPermutation (numbered 1 l) c.args.rows.items) (sym c.in_ok-decoded_entries.ensures) (numbered_texts _ _ c.in_ok-sort.ensures.permutation sorted)
 
 pub returns-clause-entries : goal.returns-clause-entries
 returns-clause-entries c =
     let declared = IsEntryOf c.args.labels in
     let each = subst (AllByRecursion (λ r. declared r.bytes)) c.deref-2.ensures.value c.in_ok-check_entries.ensures.found in
-    IfOk-weaker c.decoded_entries.result _ _ (λ entries is. subst (AllByRecursion declared) (sym is) (each_row declared _ each)) c.decoded_entries.ensures.found
-
-pub returns-clause-only : goal.returns-clause-only
-returns-clause-only c list same all = c.decoded_entries.ensures.only
+    subst (AllByRecursion declared) (sym c.in_ok-decoded_entries.ensures) (each_row declared _ each)

@@ -4,6 +4,3 @@ use Rattle.mls_rows.proofs.reading.decoded_pattern.Goals as goal
 
 pub loop-byte-preserved : goal.loop-byte-preserved
 loop-byte-preserved c = grind (arith, common_steps)
-
-pub returns-in_err-push-clause-only : goal.returns-in_err-push-clause-only
-returns-in_err-push-clause-only c = grind (arith, common_steps)

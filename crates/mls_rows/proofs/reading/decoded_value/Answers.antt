@@ -10,5 +10,5 @@ not_null c is =
 pub returns-in_err-value-clause-only : goal.returns-in_err-value-clause-only
 returns-in_err-value-clause-only c None spelled is = absurd (not_null c is)
 returns-in_err-value-clause-only c (Some v) spelled is =
-    let gives = c.in_err-value.ensures.only v [] spelled (is ∙ sym (append-nil (value_spelling v))) in
+    let gives = c.value_of.ensures.only v [] spelled (is ∙ sym (append-nil (value_spelling v))) in
     search rules

@@ -1,5 +1,4 @@
 use Rattle.std.proofs.Common.{true≢false, sym, ap, ◌∙◌, pos, map}
-use Rattle.std.proofs.lemmas.Result.{IfOk-weaker}
 use Rattle.mls_tables.specs.Rows.{are_numbered}
 use Rattle.mls_tables.proofs.NumberedLemmas.{rising}
 use Rattle.mls_rows.proofs.RowLemmas.{texts_of}
@@ -14,4 +13,4 @@ returns-then-not-are_numbered-clause-only c list same =
 pub returns-clause-found : goal.returns-clause-found
 returns-clause-found c list same =
     let rows = sorted_entries list _ _ same c.in_ok-sort.ensures.permutation c.in_ok-sort.ensures.sorted in
-    IfOk-weaker c.decoded_entries.result _ _ (λ entries is. is ∙ ap (map (λ r. r.bytes)) rows ∙ texts_of 1 list) c.decoded_entries.ensures.found
+    c.in_ok-decoded_entries.ensures ∙ ap (map (λ r. r.bytes)) rows ∙ texts_of 1 list

@@ -1,4 +1,3 @@
-use Rattle.std.proofs.Common.{sym, ◌∙◌}
 use Rattle.std.proofs.lemmas.List.Sorted.{IsPermutation-trans}
 use Rattle.mls_rows.proofs.reading.read_entries.Goals as goal
 
@@ -9,4 +8,4 @@ pub abandon_at_row-requires : goal.abandon_at_row-requires
 abandon_at_row-requires g c bad clean =
     let held = c.requires.readable (c.in_ok-rows.ensures.call.clean clean) in
     let memory = c.in-Err.ensures.only held.0.audit (IsPermutation-trans _ _ _ held.1.audit (c.in_ok-rows.ensures.found clean)) in
-    (let e = sym bad ∙ memory in cc)
+    bad memory

@@ -36,4 +36,4 @@ abandon_at_row-requires g c bad clean =
     let memory = c.in-Err.ensures.only
     (subst (AllByRecursion IsNodeRow) (sym c.deref.ensures.value) (read_nodes t held.0 held.1 held.2 _ nodes some_nodes))
     (subst (AllByRecursion IsCellRow) (sym c.deref-2.ensures.value) (read_cells t held.0 held.1 held.2 _ cells some_cells)) in
-    (let e = sym bad ∙ memory in cc)
+    bad memory

@@ -4,6 +4,3 @@ use Rattle.mls_rows.proofs.writing.bytes_of.Goals as goal
 
 pub loop-label-preserved : goal.loop-label-preserved
 loop-label-preserved c = grind (arith, common_steps)
-
-pub returns-in_err-push-clause-fault : goal.returns-in_err-push-clause-fault
-returns-in_err-push-clause-fault c = grind (arith, common_steps)

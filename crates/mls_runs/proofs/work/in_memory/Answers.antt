@@ -18,7 +18,7 @@ pub over-outcome-requires-clause-rest : goal.over-outcome-requires-clause-rest
 over-outcome-requires-clause-rest g c = record { idle = ap (λ (s : State). s.begun) c.in-Ok.ensures.content; sound = λ _. none_sound c.args.setting.now.policy c.args.setting.now.file.schemes _ c.in-Ok.ensures.content }
 
 pub returns-in-Err-clause-ends : goal.returns-in-Err-clause-ends
-returns-in-Err-clause-ends g c = (ap Store c.in-Err.ensures.fault, refl)
+returns-in-Err-clause-ends g c = (refl, refl)
 
 pub returns-clause-ends : goal.returns-clause-ends
 returns-clause-ends g c =

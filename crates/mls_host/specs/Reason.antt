@@ -58,8 +58,12 @@ input_reason r host.Memory = memory_reason r
 abbrev pub input_text : Role → List ℕ → List ℕ
 input_text r word = codes "mldb: " ++ role_word r ++ codes ": " ++ word ++ codes "\n"
 
-abbrev pub fault_text : Role → ℕ → List ℕ → List ℕ
-fault_text r code word = codes "mldb: " ++ role_word r ++ codes ": " ++ decimal code ++ codes " " ++ word ++ codes "\n"
+-- with the number and the name of a fault
+abbrev pub fault_text : List ℕ → ℕ → List ℕ → List ℕ
+fault_text what code word = codes "mldb: " ++ what ++ codes ": " ++ decimal code ++ codes " " ++ word ++ codes "\n"
+
+abbrev pub cause_text : List ℕ → TextCause → List ℕ
+cause_text what cause = fault_text what (text_faults.code_of cause) (text_faults.word_of cause)
 
 -- with the line
 abbrev pub line_text : Role → ℕ → List ℕ → ℕ → List ℕ
@@ -93,16 +97,16 @@ script_fault_text f =
 abbrev pub reason_text : Reason → List ℕ
 reason_text (Unreadable r) = input_text r (codes "unreadable")
 reason_text (TooLong r) = input_text r (codes "too long")
-reason_text (Policy f) = fault_text role.Policy (policy_faults.code_of f) (policy_faults.word_of f)
-reason_text Reader = codes "mldb: at: 23 UnknownName\n"
-reason_text Label = codes "mldb: label: 23 UnknownName\n"
-reason_text User = codes "mldb: user: 22 Expected\n"
-reason_text Name = codes "mldb: name: 23 UnknownName\n"
-reason_text (Schemes f) = fault_text role.Schemes (scheme_faults.code_of f) (scheme_faults.word_of f)
+reason_text (Policy f) = fault_text (role_word role.Policy) (policy_faults.code_of f) (policy_faults.word_of f)
+reason_text Reader = cause_text (codes "at") texts.UnknownName
+reason_text Label = cause_text (codes "label") texts.UnknownName
+reason_text User = cause_text (codes "user") texts.Expected
+reason_text Name = cause_text (codes "name") texts.UnknownName
+reason_text (Schemes f) = fault_text (role_word role.Schemes) (scheme_faults.code_of f) (scheme_faults.word_of f)
 reason_text (Transactions f) = text_fault_text f
 reason_text (Certificates f) = cert_fault_text f
 reason_text (Script f) = script_fault_text f
-reason_text (Store f) = fault_text role.Store (store_faults.code_of f) (store_faults.word_of f)
+reason_text (Store f) = fault_text (role_word role.Store) (store_faults.code_of f) (store_faults.word_of f)
 reason_text Memory = memory_text
 
 -- ---- statuses: 2 where an input is refused, 3 for store and memory

@@ -12,7 +12,7 @@ use Rattle.mls_host.specs.declared.stop.Stop.{Stop}
 use Rattle.mls_host.specs.declared.stop.Stop.TheVariants.{Before, Run, NotClosed, Output, Served, Unread, Turned}
 use Rattle.mls_host.specs.declared.ending.Ending.{Ending}
 use Rattle.mls_host.specs.declared.ending.Ending.TheVariants.{Well, Refused}
-use Rattle.mls_host.specs.Reason.{fault_text, reason_text, reason_status}
+use Rattle.mls_host.specs.Reason.{role_word, fault_text, reason_text, reason_status}
 
 abbrev pub run_text : RunFault → List ℕ
 run_text f = codes "mldb: run: " ++ cause_word f.cause ++ codes " at " ++ decimal f.event ++ codes "\n"
@@ -27,7 +27,8 @@ turned_text cause = codes "mldb: turn: " ++ cause_word cause ++ codes "\n"
 abbrev pub stop_text : Stop → List ℕ
 stop_text (Before reason) = reason_text reason
 stop_text (Run f) = run_text f
-stop_text NotClosed = fault_text role.Store (store_faults.code_of stores.Store) (store_faults.word_of stores.Store)
+stop_text NotClosed =
+    fault_text (role_word role.Store) (store_faults.code_of stores.Store) (store_faults.word_of stores.Store)
 stop_text Output = codes "mldb: output: Write\n"
 stop_text (Served cause) = served_text cause
 stop_text Unread = codes "mldb: serve: Unreadable\n"

@@ -1,9 +1,9 @@
 //! Why a command is given up before anything is written, and how that is told.
 ghost use Rattle.std.specs.Prelude.{◌≡◌, OnOk};
 ghost use Rattle.std.specs.Io.KnownBytes.{Appends};
-ghost use Rattle.mls_host.specs.Reason.{role_word, input_reason, input_text, fault_text, line_text, front_text};
-ghost use Rattle.mls_host.specs.Reason.{spot_text, place_text, text_fault_text, cert_fault_text, script_fault_text};
-ghost use Rattle.mls_host.specs.Reason.{reason_text, reason_status};
+ghost use Rattle.mls_host.specs.Reason.{role_word, input_reason, input_text, fault_text, cause_text, line_text};
+ghost use Rattle.mls_host.specs.Reason.{front_text, spot_text, place_text, text_fault_text, cert_fault_text};
+ghost use Rattle.mls_host.specs.Reason.{script_fault_text, reason_text, reason_status};
 
 use crate::host::HostFault;
 use crate::usage::tell_memory;
@@ -14,7 +14,7 @@ use mls_parser::{TextCause, TextFault};
 use mls_scheme::SchemeFault;
 use mls_script::{ScriptCause, ScriptFault};
 use mls_tokens::Piece::{Number, Text};
-use mls_tokens::{WriteFault, write_bytes, write_pieces};
+use mls_tokens::{WriteFault, write_pieces};
 use std::alloc::AllocError;
 use std::io::Write;
 
@@ -30,7 +30,7 @@ pub enum Role {
 }
 
 impl Role {
-    fn word(self) -> &'static str
+    pub(crate) fn word(self) -> &'static str
         ensures { result.now ≡ role_word self }
     {
         match self {
@@ -83,17 +83,17 @@ fn tell_input<W: Write>(err: &mut W, role: Role, word: &str) -> Result<(), Write
     write_pieces(err, &pieces)
 }
 
-pub(crate) fn tell_fault<W: Write>(
+pub(crate) fn tell_fault<'a, W: Write>(
     err: &mut W,
-    role: Role,
+    what: &'a str,
     code: u8,
-    word: &str,
+    word: &'a str,
 ) -> Result<(), WriteFault<W>>
-    ensures { OnOk result (Appends (W.contents err.old) (W.contents err.new) (fault_text role code word.now)) }
+    ensures { OnOk result (Appends (W.contents err.old) (W.contents err.new) (fault_text what.now code word.now)) }
 {
     let pieces = [
         Text("mldb: "),
-        Text(role.word()),
+        Text(what),
         Text(": "),
         Number(usize::from(code)),
         Text(" "),
@@ -101,6 +101,12 @@ pub(crate) fn tell_fault<W: Write>(
         Text("\n"),
     ];
     write_pieces(err, &pieces)
+}
+
+fn tell_cause<W: Write>(err: &mut W, what: &str, cause: TextCause) -> Result<(), WriteFault<W>>
+    ensures { OnOk result (Appends (W.contents err.old) (W.contents err.new) (cause_text what.now cause)) }
+{
+    tell_fault(err, what, cause.code(), cause.word())
 }
 
 fn tell_line<W: Write>(
@@ -241,16 +247,26 @@ impl Reason {
         match self {
             Reason::Unreadable(role) => tell_input(err, *role, "unreadable"),
             Reason::TooLong(role) => tell_input(err, *role, "too long"),
-            Reason::Policy(fault) => tell_fault(err, Role::Policy, fault.code(), fault.word()),
-            Reason::Reader => write_bytes(err, b"mldb: at: 23 UnknownName\n"),
-            Reason::Label => write_bytes(err, b"mldb: label: 23 UnknownName\n"),
-            Reason::User => write_bytes(err, b"mldb: user: 22 Expected\n"),
-            Reason::Name => write_bytes(err, b"mldb: name: 23 UnknownName\n"),
-            Reason::Schemes(fault) => tell_fault(err, Role::Schemes, fault.code(), fault.word()),
+            Reason::Policy(fault) => tell_fault(
+                err,
+                Role::Policy.word(),
+                fault.code(),
+                fault.word(),
+            ),
+            Reason::Reader => tell_cause(err, "at", TextCause::UnknownName),
+            Reason::Label => tell_cause(err, "label", TextCause::UnknownName),
+            Reason::User => tell_cause(err, "user", TextCause::Expected),
+            Reason::Name => tell_cause(err, "name", TextCause::UnknownName),
+            Reason::Schemes(fault) => tell_fault(
+                err,
+                Role::Schemes.word(),
+                fault.code(),
+                fault.word(),
+            ),
             Reason::Transactions(fault) => tell_text(err, fault),
             Reason::Certificates(fault) => tell_cert(err, fault),
             Reason::Script(fault) => tell_script(err, fault),
-            Reason::Store(fault) => tell_fault(err, Role::Store, fault.code(), fault.word()),
+            Reason::Store(fault) => tell_fault(err, Role::Store.word(), fault.code(), fault.word()),
             Reason::Memory => tell_memory(err),
         }
     }

@@ -81,7 +81,7 @@ impl Stop {
             Stop::Run(fault) => tell_run(err, fault),
             Stop::NotClosed => tell_fault(
                 err,
-                Role::Store,
+                Role::Store.word(),
                 OpenFault::Store.code(),
                 OpenFault::Store.word(),
             ),

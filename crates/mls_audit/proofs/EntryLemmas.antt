@@ -9,7 +9,7 @@ use Rattle.mls_scheme.specs.declared.key_fault.KeyFault.{KeyFault}
 use Rattle.mls_scheme.specs.Spelling as values
 use Rattle.mls_lattice.specs.Reading.{◌>>=◌}
 use Rattle.mls_lattice.proofs.ReadingLemmas.{ok_is, bind_ok, guard_ok, pass_ok}
-use Rattle.mls_scheme.specs.KeyReading.{Gives, utf8_at, value_at}
+use Rattle.mls_scheme.specs.KeyReading.{GivesKey, utf8_at, value_at}
 use Rattle.mls_scheme.proofs.KeyLemmas.{IsBytes, Takes, Takes-then, value_takes, value_again}
 use Rattle.mls_audit.specs.declared.entry.Entry.{Entry}
 use Rattle.mls_audit.specs.declared.entry.Entry.TheVariants.{Called, Denied, Released}
@@ -198,7 +198,7 @@ entry_again e fits =
     ap (λ (bs : List ℕ). front_at bs >>= (λ front. cond (length front.1 == 0) (Ok front.0) (Err Trailing))) (sym (append-nil (entry_spelling e)))
     ∙ rw (front_again e [] fits) refl
 
-pub is_found : (bytes : List ℕ) (r : Result Entry KeyFault) → IsBytes bytes → Gives (λ e. e) r (entry_at bytes) → IfOk r (λ e. HasSpelling e × (bytes ≡ entry_spelling e))
+pub is_found : (bytes : List ℕ) (r : Result Entry KeyFault) → IsBytes bytes → GivesKey (λ e. e) r (entry_at bytes) → IfOk r (λ e. HasSpelling e × (bytes ≡ entry_spelling e))
 is_found bytes (Ok e) fits given = entry_found bytes e fits given
 is_found bytes (Err d) fits given = tt
 

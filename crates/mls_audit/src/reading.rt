@@ -1,6 +1,6 @@
 //! Entries from bytes, which are read from left to right.
 ghost use Rattle.std.specs.Prelude.{◌≡◌, IfOk, Ok};
-ghost use Rattle.mls_scheme.specs.KeyReading.{Gives, utf8_at, value_at};
+ghost use Rattle.mls_scheme.specs.KeyReading.{GivesKey, utf8_at, value_at};
 ghost use Rattle.mls_audit.specs.declared.entry.Entry.{Entry as SpecEntry};
 ghost use Rattle.mls_audit.specs.Spelling.{entry_spelling, HasSpelling};
 ghost use Rattle.mls_audit.specs.Reading.{byte_at, name_at, head_at, nullable_at, called_at, denied_at, released_at};
@@ -20,7 +20,7 @@ struct Head {
 }
 
 fn byte_of(bytes: &[u8]) -> Result<(u8, &[u8]), EntryFault>
-    ensures { Gives (λ x. (x.0, x.1.now)) result (byte_at bytes.now) }
+    ensures { GivesKey (λ x. (x.0, x.1.now)) result (byte_at bytes.now) }
 {
     match bytes {
         [] => Err(EntryFault::Short),
@@ -30,7 +30,7 @@ fn byte_of(bytes: &[u8]) -> Result<(u8, &[u8]), EntryFault>
 
 #[tactic(auto, using(crate::proofs::ReadingSteps::utf8_steps))]
 fn utf8_of(bytes: &[u8]) -> Result<&str, EntryFault>
-    ensures { Gives (λ s. s.now) result (utf8_at bytes.now) }
+    ensures { GivesKey (λ s. s.now) result (utf8_at bytes.now) }
 {
     match std::str::from_utf8(bytes) {
         Ok(text) => Ok(text),
@@ -40,7 +40,7 @@ fn utf8_of(bytes: &[u8]) -> Result<&str, EntryFault>
 
 #[tactic(auto, unfolding(crate::specs::Reading::name_at))]
 fn name_of(alloc: Global, bytes: &[u8]) -> Result<(Str, &[u8]), EntryFault>
-    ensures { Gives (λ x. (x.0, x.1.now)) result (name_at bytes.now) }
+    ensures { GivesKey (λ x. (x.0, x.1.now)) result (name_at bytes.now) }
 {
     let (len, rest) = byte_of(bytes)?;
     let len = len as usize;
@@ -53,7 +53,7 @@ fn name_of(alloc: Global, bytes: &[u8]) -> Result<(Str, &[u8]), EntryFault>
 
 #[tactic(auto, unfolding(crate::specs::Reading::head_at))]
 fn head_of(alloc: Global, bytes: &[u8]) -> Result<(Head, &[u8]), EntryFault>
-    ensures { Gives (λ x. (x.0, x.1.now)) result (head_at bytes.now) }
+    ensures { GivesKey (λ x. (x.0, x.1.now)) result (head_at bytes.now) }
 {
     let (label, rest) = byte_of(bytes)?;
     let (user, rest) = name_of(alloc, rest)?;
@@ -67,7 +67,7 @@ fn head_of(alloc: Global, bytes: &[u8]) -> Result<(Head, &[u8]), EntryFault>
 }
 
 fn some_of(alloc: Global, bytes: &[u8]) -> Result<(Value, &[u8]), EntryFault>
-    ensures { Gives (λ x. (x.0, x.1.now)) result (value_at bytes.now) }
+    ensures { GivesKey (λ x. (x.0, x.1.now)) result (value_at bytes.now) }
 {
     let (value, count) = value_of(alloc, bytes)?;
     Ok((value, &bytes[count..]))
@@ -75,7 +75,7 @@ fn some_of(alloc: Global, bytes: &[u8]) -> Result<(Value, &[u8]), EntryFault>
 
 #[tactic(auto, unfolding(crate::specs::Reading::nullable_at))]
 fn nullable_of(alloc: Global, bytes: &[u8]) -> Result<(Option<Value>, &[u8]), EntryFault>
-    ensures { Gives (λ x. (x.0, x.1.now)) result (nullable_at bytes.now) }
+    ensures { GivesKey (λ x. (x.0, x.1.now)) result (nullable_at bytes.now) }
 {
     match bytes {
         [] => Err(EntryFault::Short),
@@ -89,7 +89,7 @@ fn nullable_of(alloc: Global, bytes: &[u8]) -> Result<(Option<Value>, &[u8]), En
 
 #[tactic(auto, unfolding(crate::specs::Reading::called_at))]
 fn called_of(alloc: Global, bytes: &[u8]) -> Result<(Entry, &[u8]), EntryFault>
-    ensures { Gives (λ x. (x.0, x.1.now)) result (called_at bytes.now) }
+    ensures { GivesKey (λ x. (x.0, x.1.now)) result (called_at bytes.now) }
 {
     let (head, rest) = head_of(alloc, bytes)?;
     let (transaction, rest) = name_of(alloc, rest)?;
@@ -104,7 +104,7 @@ fn called_of(alloc: Global, bytes: &[u8]) -> Result<(Entry, &[u8]), EntryFault>
 
 #[tactic(auto, unfolding(crate::specs::Reading::denied_at))]
 fn denied_of(alloc: Global, bytes: &[u8]) -> Result<(Entry, &[u8]), EntryFault>
-    ensures { Gives (λ x. (x.0, x.1.now)) result (denied_at bytes.now) }
+    ensures { GivesKey (λ x. (x.0, x.1.now)) result (denied_at bytes.now) }
 {
     let (head, rest) = head_of(alloc, bytes)?;
     let (code, rest) = byte_of(rest)?;
@@ -119,7 +119,7 @@ fn denied_of(alloc: Global, bytes: &[u8]) -> Result<(Entry, &[u8]), EntryFault>
 
 #[tactic(auto, unfolding(crate::specs::Reading::released_at))]
 fn released_of(alloc: Global, bytes: &[u8]) -> Result<(Entry, &[u8]), EntryFault>
-    ensures { Gives (λ x. (x.0, x.1.now)) result (released_at bytes.now) }
+    ensures { GivesKey (λ x. (x.0, x.1.now)) result (released_at bytes.now) }
 {
     let (head, rest) = head_of(alloc, bytes)?;
     let (value, rest) = nullable_of(alloc, rest)?;
@@ -134,7 +134,7 @@ fn released_of(alloc: Global, bytes: &[u8]) -> Result<(Entry, &[u8]), EntryFault
 
 #[tactic(auto, unfolding(crate::specs::Reading::front_at))]
 fn front_of(alloc: Global, bytes: &[u8]) -> Result<(Entry, &[u8]), EntryFault>
-    ensures { Gives (λ x. (x.0, x.1.now)) result (front_at bytes.now) }
+    ensures { GivesKey (λ x. (x.0, x.1.now)) result (front_at bytes.now) }
 {
     match bytes {
         [] => Err(EntryFault::Short),
@@ -147,7 +147,7 @@ fn front_of(alloc: Global, bytes: &[u8]) -> Result<(Entry, &[u8]), EntryFault>
 
 #[tactic(auto, unfolding(crate::specs::Reading::entry_at))]
 fn all_of(alloc: Global, bytes: &[u8]) -> Result<Entry, EntryFault>
-    ensures { Gives (λ e. e) result (entry_at bytes.now) }
+    ensures { GivesKey (λ e. e) result (entry_at bytes.now) }
 {
     let (entry, rest) = front_of(alloc, bytes)?;
     if !rest.is_empty() {
@@ -163,9 +163,9 @@ pub fn entry_of(alloc: Global, bytes: &[u8]) -> Result<Entry, EntryFault>
     // What is read is spelled so.
     ensures found { IfOk result (λ e. HasSpelling e × (bytes.now ≡ entry_spelling e)) }
     // What is spelled so is read, unless memory runs out.
-    ensures only { (e : SpecEntry) → HasSpelling e → bytes.now ≡ entry_spelling e → Gives (λ x. x) result (Ok e) }
+    ensures only { (e : SpecEntry) → HasSpelling e → bytes.now ≡ entry_spelling e → GivesKey (λ x. x) result (Ok e) }
     // Which fault it is.
-    ensures exact { Gives (λ e. e) result (entry_at bytes.now) }
+    ensures exact { GivesKey (λ e. e) result (entry_at bytes.now) }
 {
     all_of(alloc, bytes)
 }

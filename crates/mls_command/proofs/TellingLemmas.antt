@@ -1,18 +1,18 @@
 -- What is told of a file.
 use Rattle.std.proofs.Common.{ℕ, List, ◌++◌, append_assoc, Option, Some, None, Result, Ok, Err, IfOk, inl, inr, ap, ◌∙◌}
 use Rattle.mls_advice.specs.Excerpt.{Begins}
-use Rattle.mls_command.specs.declared.paths.Place.{Place}
-use Rattle.mls_command.specs.Telling.{IsPlaceTold}
+use Rattle.mls_command.specs.declared.paths.Location.{Location}
+use Rattle.mls_command.specs.Telling.{IsLocationTold}
 
 -- a text that begins so still does with more behind it
 pub begins_more : (front text more : List ℕ) → Begins front text → Begins front (text ++ more)
 begins_more front text more b = (b.0 ++ more, ap (λ t. t ++ more) b.1 ∙ append_assoc front b.0 more)
 
-pub place_told_more : (source : Option (List ℕ)) (place : Option Place) (lines more : List ℕ) → IsPlaceTold source place lines → IsPlaceTold source place (lines ++ more)
-place_told_more None place lines more is = tt
-place_told_more (Some path) None lines more is = tt
-place_told_more (Some path) (Some place) lines more (inl b) = inl (begins_more _ lines more b)
-place_told_more (Some path) (Some place) lines more (inr b) = inr (begins_more _ lines more b)
+pub location_told_more : (source : Option (List ℕ)) (location : Option Location) (lines more : List ℕ) → IsLocationTold source location lines → IsLocationTold source location (lines ++ more)
+location_told_more None location lines more is = tt
+location_told_more (Some path) None lines more is = tt
+location_told_more (Some path) (Some location) lines more (inl b) = inl (begins_more _ lines more b)
+location_told_more (Some path) (Some location) lines more (inr b) = inr (begins_more _ lines more b)
 
 -- ---- answers
 

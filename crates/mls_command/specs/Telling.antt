@@ -10,14 +10,14 @@ use Rattle.mls_host.specs.declared.reason.Reason.TheVariants.{Unreadable, TooLon
 use Rattle.mls_host.specs.declared.reason.Reason.TheVariants.{Certificates, Script}
 use Rattle.mls_host.specs.Reason.{reason_text}
 use Rattle.mls_advice.specs.Excerpt.{Begins, place_line, file_line}
-use Rattle.mls_command.specs.declared.paths.Place.{Place}
+use Rattle.mls_command.specs.declared.paths.Location.{Location}
 
 -- texts are refused at a column, certificates at a line
-abbrev pub place_of : Reason → Option Place
-place_of (Transactions f) = Some (record { line = f.line; column = Some f.column })
-place_of (Certificates f) = Some (record { line = f.line; column = None })
-place_of (Script f) = Some (record { line = f.line; column = Some f.column })
-place_of reason = None
+abbrev pub location_of : Reason → Option Location
+location_of (Transactions f) = Some (record { line = f.line; column = Some f.column })
+location_of (Certificates f) = Some (record { line = f.line; column = None })
+location_of (Script f) = Some (record { line = f.line; column = Some f.column })
+location_of reason = None
 
 -- which input it is
 abbrev pub role_of : Reason → Option Role
@@ -54,14 +54,14 @@ abbrev pub source_of : Job → Reason → Option (List ℕ)
 source_of job reason = path_if job (role_of reason)
 
 -- the lines of a file begin with the place of the fault in it, or, where the file is not given once more, with its name
-abbrev pub IsPlaceTold : Option (List ℕ) → Option Place → List ℕ → Type 0
-IsPlaceTold None place lines = ⊤
-IsPlaceTold (Some path) None lines = ⊤
-IsPlaceTold (Some path) (Some place) lines =
-    Begins (place_line path place.line place.column) lines ⊎ Begins (file_line path) lines
+abbrev pub IsLocationTold : Option (List ℕ) → Option Location → List ℕ → Type 0
+IsLocationTold None location lines = ⊤
+IsLocationTold (Some path) None lines = ⊤
+IsLocationTold (Some path) (Some location) lines =
+    Begins (place_line path location.line location.column) lines ⊎ Begins (file_line path) lines
 
 -- all that is told: the line that the command tells; and lines that begin with the place of the fault
 pub record IsToldOf (job : Job) (reason : Reason) (text : List ℕ) : Type 0 where
   pub lines : List ℕ
-  pub lines_are : IsPlaceTold (source_of job reason) (place_of reason) lines
+  pub lines_are : IsLocationTold (source_of job reason) (location_of reason) lines
   pub text_is : text ≡ reason_text reason ++ lines

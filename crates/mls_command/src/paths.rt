@@ -1,31 +1,31 @@
 //! Which file of a command is refused, and at which place.
 ghost use Rattle.std.specs.Prelude.{◌≡◌};
 ghost use Rattle.mls_host.specs.Words.{named};
-ghost use Rattle.mls_command.specs.Telling.{place_of, role_of, policy_of, schemes_of, path_of, source_of};
+ghost use Rattle.mls_command.specs.Telling.{location_of, role_of, policy_of, schemes_of, path_of, source_of};
 
 use mls_host::{Job, Reason, Role};
 
 /// A line of an input, and a place in it.
 #[derive(Clone, Copy)]
-pub(crate) struct Place {
+pub(crate) struct Location {
     pub line: usize,
     pub column: Option<usize>,
 }
 
 /// Where a fault says that it stands, if it says so.
-pub(crate) fn place_of(reason: &Reason) -> Option<Place>
-    ensures { result ≡ place_of reason.now }
+pub(crate) fn location_of(reason: &Reason) -> Option<Location>
+    ensures { result ≡ location_of reason.now }
 {
     match reason {
-        Reason::Transactions(fault) => Some(Place {
+        Reason::Transactions(fault) => Some(Location {
             line: fault.line,
             column: Some(fault.column),
         }),
-        Reason::Certificates(fault) => Some(Place {
+        Reason::Certificates(fault) => Some(Location {
             line: fault.line,
             column: None,
         }),
-        Reason::Script(fault) => Some(Place {
+        Reason::Script(fault) => Some(Location {
             line: fault.line,
             column: Some(fault.column),
         }),

@@ -4,12 +4,12 @@
 ghost use Rattle.std.specs.Prelude.{◌≡◌, ◌++◌, string_bytes, IfOk, OnOk};
 ghost use Rattle.mls_host.specs.Hosting.{IsTold};
 ghost use Rattle.mls_host.specs.Reason.{reason_text};
-ghost use Rattle.mls_command.specs.Telling.{place_of, source_of, IsPlaceTold, IsToldOf};
+ghost use Rattle.mls_command.specs.Telling.{location_of, source_of, IsLocationTold, IsToldOf};
 ghost use Rattle.mls_host.specs.Telling.{IsMore};
 
 use crate::documents::ignored_of;
 use crate::looking::store_lines;
-use crate::paths::{place_of, source_of};
+use crate::paths::{location_of, source_of};
 use mls_advice::{
     advice_of, declared_names, excerpt, file_line, form_at, kinds_at, nearest_line, refused_lines,
     token_at,
@@ -117,11 +117,11 @@ fn lines_of_file<H: Host>(
     path: &str,
     bytes: &[u8],
 ) -> Result<String, AllocError>
-    ensures { IfOk result (λ s. IsPlaceTold (Some path.now) (place_of reason.now) (string_bytes s)) }
+    ensures { IfOk result (λ s. IsLocationTold (Some path.now) (location_of reason.now) (string_bytes s)) }
 {
-    match (reason, place_of(reason)) {
-        (_, Some(place)) => {
-            let mut text = excerpt(alloc, path, place.line, place.column, true, bytes)?;
+    match (reason, location_of(reason)) {
+        (_, Some(location)) => {
+            let mut text = excerpt(alloc, path, location.line, location.column, true, bytes)?;
             text.push_str(&hint_of(alloc, host, job, reason, bytes)?)?;
             Ok(text)
         }
@@ -139,7 +139,8 @@ fn file_lines<H: Host>(
     job: Job,
     reason: &Reason,
 ) -> Result<String, AllocError>
-    ensures { IfOk result (λ s. IsPlaceTold (source_of job.entry reason.now) (place_of reason.now) (string_bytes s)) }
+    ensures { IfOk result
+        (λ s. IsLocationTold (source_of job.entry reason.now) (location_of reason.now) (string_bytes s)) }
 {
     match source_of(job, reason) {
         None => Ok(String::new(alloc)),
@@ -157,7 +158,8 @@ fn lines_of<H: Host>(
     job: Job,
     reason: &Reason,
 ) -> Result<String, AllocError>
-    ensures { IfOk result (λ s. IsPlaceTold (source_of job.entry reason.now) (place_of reason.now) (string_bytes s)) }
+    ensures { IfOk result
+        (λ s. IsLocationTold (source_of job.entry reason.now) (location_of reason.now) (string_bytes s)) }
 {
     let mut text = file_lines(alloc, host, job, reason)?;
     text.push_str(advice(reason))?;

@@ -38,11 +38,11 @@ pub record AreStoredOf (transactions certificates : List ℕ) (policy : Policy) 
   pub certified : IsFile blocks × (certificates ≡ file_text blocks)
   pub each : AreStoredWith policy blocks txs stored
 
--- `Gives source bytes`: the host gives these bytes for the file at a path, or, with no path, for the standard input
-module _ (Gives : Option (List ℕ) → List ℕ → Type 0) where
+-- `Supplies source bytes`: the host gives these bytes for the file at a path, or, with no path, for the standard input
+module _ (Supplies : Option (List ℕ) → List ℕ → Type 0) where
   -- the host gives bytes there that say so
   abbrev pub IsFrom : Option (List ℕ) → (List ℕ → Type 0) → Type 0
-  IsFrom source Says = (bytes : List ℕ) × Gives source bytes × Says bytes
+  IsFrom source Says = (bytes : List ℕ) × Supplies source bytes × Says bytes
 
   -- the policy and the schemes: those of the samples, or of files
   abbrev pub IsPolicyOf : Option Documents → Policy → Type 0

@@ -1,5 +1,5 @@
 -- Steps and runs keep what writes keep: the stored form, and with it integrity.
-use Rattle.std.proofs.Common.{◌≡◌, ℕ, zero, suc, ◌<◌, Bool, true, false, cond, List, [], ◌∷◌, length, take, Option, Some, None, Ok, Err, Result, refl, sym, ap, subst, eqb-true, nat_eq, IfSome}
+use Rattle.std.proofs.Common.{◌≡◌, ℕ, zero, suc, ◌<◌, Bool, true, false, cond, List, [], ◌∷◌, length, take, Option, Some, None, Ok, Err, Result, refl, sym, subst, eqb-true, nat_eq, IfSome}
 use Rattle.std.specs.List.{AllByRecursion}
 use Rattle.std.proofs.lemmas.List.{length-map}
 use Rattle.std.proofs.lemmas.Slice.Zip.{AllZip-long}
@@ -14,7 +14,6 @@ use Rattle.mls_updates.proofs.LawLemmas.{keep_form, keep_content}
 use Rattle.mls_translang.specs.Tx.{Tx}
 use Rattle.mls_translang.specs.Fits.{IsReadUnder}
 use Rattle.mls_certcheck.specs.Meaning.{run_tx}
-use Rattle.mls_certcheck.specs.Throughout.{Throughout}
 use Rattle.mls_certcheck.proofs.MeaningLemmas.{keep_form as call_form, keep_content as call_content}
 use Rattle.mls_certcheck.proofs.ThroughoutLemmas.{form_throughout}
 use Rattle.mls_script.specs.declared.event.Event.{Event}
@@ -171,18 +170,3 @@ module _ (site : Site) (distinct : AreDistinct (site_labels site)) (read : AreRe
 
 pub keep_integrity : RunsKeepIntegrity
 keep_integrity site distinct read w es stored fits = integrity_kept site distinct read w es stored fits
-
--- the first of the first events are first ones
-firsts : (m n : ℕ) (es : List Event) → (k : ℕ) × (take m (take n es) ≡ take k es)
-firsts zero n es = (zero, refl)
-firsts (suc m) zero es = (zero, refl)
-firsts (suc m) (suc n) [] = (zero, refl)
-firsts (suc m) (suc n) (e ∷ es) = let f = firsts m n es in (suc f.0, ap (λ l. e ∷ l) f.1)
-
-pub first_integrity : (site : Site) (w : World) (es : List Event) → KeepsIntegrity site w es → (n : ℕ) → KeepsIntegrity site w (take n es)
-first_integrity site w es k n = record {
-  after = λ m. subst (λ l. AreWhole site (end_of site w l).db) (sym (firsts m n es).1) (k.after (firsts m n es).0);
-  within = λ m name args s found.
-      subst (λ l. Throughout (site_labels site) site.schemes (tx_of s) (fitted (tx_of s).params args) (end_of site w l).db (AreWhole site)) (sym (firsts m n es).1)
-      (k.within (firsts m n es).0 name args s found);
-}

@@ -20,7 +20,7 @@ use Rattle.mls_translang.specs.Fits.{IsLabel, ExprFits, WritingFits, StmtFits, B
 use Rattle.mls_translang.specs.Kinds.{Truth, HasSort, WritingKinds, StmtKinds, BlockKinds}
 use Rattle.mls_translang.specs.Scope.{IsFresh}
 use Rattle.mls_translang.specs.Tells.{TellsOther, TellsBlock}
-use Rattle.mls_translang.specs.Tokens.{Place, at_row, name_at as name_of, label_token, rel_token, var_token, expr_tokens, list_tokens, class_tokens, update_end, write_end, stmt_end, write_tokens, stmt_tokens, for_tokens, braced as braced_tokens}
+use Rattle.mls_translang.specs.Tokens.{Context, at_row, name_at as name_of, label_token, rel_token, var_token, expr_tokens, list_tokens, class_tokens, update_end, write_end, stmt_end, write_tokens, stmt_tokens, for_tokens, braced as braced_tokens}
 use Rattle.mls_translang.specs.Tree.{Expr, Writing, Insert, Update, Delete, Stmt, Assign, Write_at, Release, Emit, Block, End, Do, If, For, statements, is_end}
 use Rattle.mls_translang.specs.Tx.{IsOwn, WritingIsOwn, StmtIsOwn, BlockIsOwn, depth}
 use Rattle.mls_parser.specs.declared.fault.PlacedFault.{PlacedFault}
@@ -83,7 +83,7 @@ name_opening s named =
       named,
     ) refl
 
-module _ (inner : Place → ℕ → State → Counted Block) (p : Place) where
+module _ (inner : Context → ℕ → State → Counted Block) (p : Context) where
   opening_gets : (o : Opening) (t : Token) (us : List Token) (count : ℕ) (s : State) (P : Form × ℕ → Type 0) (vs : List Token) → opening_of t ≡ Some o → count < 1000 → without_places s.1.placed ≡ t ∷ us
       → ((at : ℕ) (m : Left) → without_places m.placed ≡ us → Gets (content_at inner p o at (count + 1) (s.0, m)) (s.0, m) P vs) → Gets (stmt_with inner p count s) s P vs
   opening_gets o t us count s P vs found less k next =
@@ -129,7 +129,7 @@ module _ (inner : Place → ℕ → State → Counted Block) (p : Place) where
 
 -- ---- guards and heads of loops
 
-module _ (p : Place) (n : HasNames p) where
+module _ (p : Context) (n : HasNames p) where
   guard_gets : (e : Expr) (us : List Token) (s : State) → IsOwn p.scope e → ExprFits p.schemes p.scope e → HasSort p.schemes p.scope Truth e → NoDot us → without_places s.1.placed ≡ expr_tokens p e ++ us → Gets (guard_at p s) s (Same e) us
   unfolding guard_at
   guard_gets e us s o f h off k =
@@ -150,7 +150,7 @@ module _ (p : Place) (n : HasNames p) where
       (λ m3 t3. gets_then (λ y. Ok ((row, relation, y.0), y.1)) (label_gets p n (codes "at") l us (s.0, m3) hl t3) (λ m4 t4. gets_done (row, relation, l) s.0 m4 (Same (row, relation, l)) us refl t4)))))
 
 -- inside one loop more
-names_more : (p : Place) (row : Name) (relation : ℕ) → HasNames p → IsFresh p.scope row → relation < length p.schemes → HasNames (at_row p row relation)
+names_more : (p : Context) (row : Name) (relation : ℕ) → HasNames p → IsFresh p.scope row → relation < length p.schemes → HasNames (at_row p row relation)
 names_more p row relation h fresh within = record {
   policy = h.policy;
   schemes = h.schemes;
@@ -170,7 +170,7 @@ abbrev pub Closed : List Token → List Token
 Closed us = Sign sign.RightBrace ∷ us
 
 -- a block of these tokens is read up to its brace
-abbrev pub BlockReads : ℕ → Place → Block → List Token → Type 0
+abbrev pub BlockReads : ℕ → Context → Block → List Token → Type 0
 BlockReads d p b ts = (count : ℕ) (us : List Token) (s : State) → count + statements b ≤ 1000 → without_places s.1.placed ≡ ts ++ Closed us → Gets (stmts_at d p count s) s (Same (b, count + statements b)) us
 
 no_other : (b : Block) (count : ℕ) → is_end b ≡ true → ◌≡◌ {A = Block × ℕ} (End, count) (b, count + statements b)
@@ -180,11 +180,11 @@ no_other End count e = λ i. (End, same count i)
     same count = omega arith
 no_other _ count e = absurd cc
 
-module _ (d : ℕ) (p : Place) where
-  abbrev reads : Place → ℕ → State → Counted Block
+module _ (d : ℕ) (p : Context) where
+  abbrev reads : Context → ℕ → State → Counted Block
   reads q c r = stmts_at d q c r
 
-  braced_gets : (q : Place) (b : Block) (ts : List Token) (count : ℕ) (us : List Token) (s : State) → BlockReads d q b ts → count + statements b ≤ 1000 → without_places s.1.placed ≡ braced_tokens ts ++ us
+  braced_gets : (q : Context) (b : Block) (ts : List Token) (count : ℕ) (us : List Token) (s : State) → BlockReads d q b ts → count + statements b ≤ 1000 → without_places s.1.placed ≡ braced_tokens ts ++ us
       → Gets (braced reads q count s) s (Same (b, count + statements b)) us
   braced_gets q b ts count us s read few k =
       gets_more (λ brace. reads q count brace.1) (sign_gets sign.LeftBrace ((ts ++ Sign sign.RightBrace ∷ []) ++ us) s k)
@@ -235,7 +235,7 @@ module _ (d : ℕ) (p : Place) where
 
 -- ---- what a statement begins with
 
-no_brace : (p : Place) (s : Stmt) (us : List Token) → NotNext (is_sign sign.RightBrace) (stmt_tokens p s ++ us)
+no_brace : (p : Context) (s : Stmt) (us : List Token) → NotNext (is_sign sign.RightBrace) (stmt_tokens p s ++ us)
 no_brace p (Assign x e) us = refl
 no_brace p (Write_at relation w (Insert key values) o) us = refl
 no_brace p (Write_at relation w (Update key c f sets) o) us = refl
@@ -254,7 +254,7 @@ pub record IsOther (w : Name) : Type 0 where
   pub no_release : bytes_eq (codes "release") w ≡ false
   pub no_emit : bytes_eq (codes "emit") w ≡ false
 
-module _ (w : Name) (h : IsOther w) (p : Place) (n : HasNames p) where
+module _ (w : Name) (h : IsOther w) (p : Context) (n : HasNames p) where
   stmt_begins : (s : Stmt) (us : List Token) → StmtIsOwn p.scope s → NotNext (is_word w) (stmt_tokens p s ++ us)
   stmt_begins (Assign x e) us o = differs w (name_of p.scope.vars x) h.reserved (variable_is_name p n x o.0)
   stmt_begins (Write_at relation x (Insert key values) out) us o = h.no_insert
@@ -277,22 +277,22 @@ is_else = record { reserved = refl; no_if = refl; no_for = refl; no_insert = ref
 
 -- ---- blocks
 
-abbrev reader : ℕ → Place → ℕ → State → Counted Form
+abbrev reader : ℕ → Context → ℕ → State → Counted Form
 reader zero p count s = deep_stmt count s
 reader (suc d) p count s = stmt_with (λ q c r. stmts_at d q c r) p count s
 
 -- a block of these tokens is read behind some statements
-abbrev ManyRead : ℕ → Place → Block → List Token → Type 0
+abbrev ManyRead : ℕ → Context → Block → List Token → Type 0
 ManyRead d p b ts =
     (n : ℕ) (front : List Form) (count : ℕ) (us : List Token) (s : State) → statements b < n → count + statements b ≤ 1000 → without_places s.1.placed ≡ ts ++ Closed us
     → Gets (stmts_from (reader d p) n front count s) s (Same (block_of (front ++ forms_of b), count + statements b)) us
 
-block_reads : (d : ℕ) (p : Place) (b : Block) (ts : List Token) → ManyRead d p b ts → BlockReads d p b ts
+block_reads : (d : ℕ) (p : Context) (b : Block) (ts : List Token) → ManyRead d p b ts → BlockReads d p b ts
 unfolding stmts_at stmts_with
 block_reads zero p b ts many count us s few k = gets_same (λ i. (forms_block b i, count + statements b)) (many (suc (1000 - count)) [] count us s (omega (arith, few)) few k)
 block_reads (suc d) p b ts many count us s few k = gets_same (λ i. (forms_block b i, count + statements b)) (many (suc (1000 - count)) [] count us s (omega (arith, few)) few k)
 
-module _ (d : ℕ) (p : Place) where
+module _ (d : ℕ) (p : Context) where
   -- a statement, and those behind it
   step : (f : Form) (rest : Block) (r : List Token) (n : ℕ) (front : List Form) (c total : ℕ) (us : List Token) (count : ℕ) (s : State) → ManyRead d p rest r → c + statements rest ≡ total → 1 + statements rest < n → total ≤ 1000
       → takes_sign sign.RightBrace s ≡ None → Gets (reader d p count s) s (Same (f, c)) (r ++ Closed us) → Gets (stmts_from (reader d p) n front count s) s (Same (block_of (front ++ f ∷ forms_of rest), total)) us
@@ -318,7 +318,7 @@ module _ (d : ℕ) (p : Place) where
 regroup : (g m q r b : List Token) → (g ++ (m ++ (q ++ r))) ++ b ≡ g ++ (m ++ (q ++ (r ++ b)))
 regroup g m q r b = append_assoc g (m ++ (q ++ r)) b ∙ ap (λ t. g ++ t) (append_assoc m (q ++ r) b ∙ ap (λ t. m ++ t) (append_assoc q r b))
 
-pub many_read : (b : Block) (d : ℕ) (p : Place) (ts : List Token) → HasNames p → depth b ≤ d → BlockIsOwn p.scope b → BlockFits p.policy p.schemes p.hi p.scope b → BlockKinds p.schemes p.scope b → TellsBlock p b ts → ManyRead d p b ts
+pub many_read : (b : Block) (d : ℕ) (p : Context) (ts : List Token) → HasNames p → depth b ≤ d → BlockIsOwn p.scope b → BlockFits p.policy p.schemes p.hi p.scope b → BlockKinds p.schemes p.scope b → TellsBlock p b ts → ManyRead d p b ts
 many_read End d p ts n deep o f h t = end_read d p ts t
 many_read (Do stmt rest) (suc d) p ts n deep o f h t = λ m front count us s less few k.
     let behind : List Token = t.0 ++ Closed us in
@@ -344,7 +344,7 @@ many_read (For row relation label body rest) (suc d) p ts n deep o f h t = λ m 
     (for_gets d p n row relation label body t.0 count behind s o.0 f.0 f.1 (block_reads d q body t.0 (many_read body d q t.0 (names_more p row relation n o.0 f.0) (omega (arith, deep)) o.1 f.2 h.0 t.3)) (omega (arith, few)) here)
 many_read _ zero p ts n deep o f h t = λ m front count us s less few k. absurd (omega (arith, deep))
 
-pub block_again : (p : Place) (b : Block) (ts us : List Token) (s : State) → HasNames p → depth b ≤ 16 → statements b ≤ 1000 → BlockIsOwn p.scope b → BlockFits p.policy p.schemes p.hi p.scope b → BlockKinds p.schemes p.scope b
+pub block_again : (p : Context) (b : Block) (ts us : List Token) (s : State) → HasNames p → depth b ≤ 16 → statements b ≤ 1000 → BlockIsOwn p.scope b → BlockFits p.policy p.schemes p.hi p.scope b → BlockKinds p.schemes p.scope b
     → TellsBlock p b ts → without_places s.1.placed ≡ ts ++ Closed us → Gets (stmts_at 16 p 0 s) s (Same (b, statements b)) us
 block_again p b ts us s n deep few o f h t k =
     let total : 0 + statements b ≡ statements b = omega arith in

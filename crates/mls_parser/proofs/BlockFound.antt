@@ -15,7 +15,7 @@ use Rattle.mls_translang.specs.Fits.{IsLabel, ExprFits, BlockFits}
 use Rattle.mls_translang.specs.Kinds.{Truth, HasSort, BlockKinds}
 use Rattle.mls_translang.specs.Scope.{IsFresh}
 use Rattle.mls_translang.specs.Tells.{TellsOther, TellsBlock}
-use Rattle.mls_translang.specs.Tokens.{Place, at_row, label_token, rel_token, expr_tokens, braced as braced_tokens, for_tokens}
+use Rattle.mls_translang.specs.Tokens.{Context, at_row, label_token, rel_token, expr_tokens, braced as braced_tokens, for_tokens}
 use Rattle.mls_translang.specs.Tree.{Expr, Block, End, statements, is_end}
 use Rattle.mls_translang.specs.Tx.{IsOwn, BlockIsOwn, depth}
 use Rattle.mls_parser.specs.declared.fault.PlacedFault.{PlacedFault}
@@ -44,7 +44,7 @@ use Rattle.mls_parser.proofs.WriteFound.{insert_read, update_read, delete_read}
 
 -- ---- guards and heads of loops
 
-module _ (p : Place) where
+module _ (p : Context) where
   record IsGuard (ts : List Token) (e : Expr) : Type 0 where
     tokens : ts ≡ expr_tokens p e
     own : IsOwn p.scope e
@@ -121,7 +121,7 @@ module _ (p : Place) where
 -- ---- what a block is
 
 -- as many statements are counted with it, no more than 1,000, and no deeper
-pub record IsGood (p : Place) (d count : ℕ) (y : Block × ℕ) : Type 0 where
+pub record IsGood (p : Context) (d count : ℕ) (y : Block × ℕ) : Type 0 where
   pub counted : y.1 ≡ count + statements y.0
   pub few : count ≤ 1000 → y.1 ≤ 1000
   pub deep : depth y.0 ≤ d
@@ -130,24 +130,24 @@ pub record IsGood (p : Place) (d count : ℕ) (y : Block × ℕ) : Type 0 where
   pub kinds : BlockKinds p.schemes p.scope y.0
 
 -- up to the brace that closes it
-pub record IsClosed (p : Place) (d count : ℕ) (ts : List Token) (y : Block × ℕ) : Type 0 where
+pub record IsClosed (p : Context) (d count : ℕ) (ts : List Token) (y : Block × ℕ) : Type 0 where
   pub inner : List Token
   pub tokens : ts ≡ inner ++ Sign sign.RightBrace ∷ []
   pub told : TellsBlock p y.0 inner
   pub good : IsGood p d count y
 
-record IsBraced (p : Place) (d count : ℕ) (ts : List Token) (y : Block × ℕ) : Type 0 where
+record IsBraced (p : Context) (d count : ℕ) (ts : List Token) (y : Block × ℕ) : Type 0 where
   inner : List Token
   tokens : ts ≡ braced_tokens inner
   told : TellsBlock p y.0 inner
   good : IsGood p d count y
 
-record IsOther (p : Place) (d count : ℕ) (ts : List Token) (y : Block × ℕ) : Type 0 where
+record IsOther (p : Context) (d count : ℕ) (ts : List Token) (y : Block × ℕ) : Type 0 where
   told : TellsOther (is_end y.0) (λ inner. TellsBlock p y.0 inner) ts
   good : IsGood p d count y
 
 -- a statement before others, of these tokens
-record IsOne (p : Place) (d count : ℕ) (ts : List Token) (x : Form × ℕ) : Type 0 where
+record IsOne (p : Context) (d count : ℕ) (ts : List Token) (x : Form × ℕ) : Type 0 where
   few : x.1 ≤ 1000
   told : (rest : List Form) (us : List Token) → TellsBlock p (block_of rest) us → TellsBlock p (block_of (x.0 ∷ rest)) (ts ++ us)
   counted : (rest : List Form) → x.1 + statements (block_of rest) ≡ count + statements (block_of (x.0 ∷ rest))
@@ -158,15 +158,15 @@ record IsOne (p : Place) (d count : ℕ) (ts : List Token) (x : Form × ℕ) : T
 
 -- ---- statements with blocks inside
 
-module _ (d : ℕ) (inner : Place → ℕ → State → Counted Block)
-    (sound : (q : Place) (count : ℕ) (s : State) (y : (Block × ℕ) × State) → inner q count s ≡ Ok y → Found (IsClosed q d count) s y) where
-  braced_read : (p : Place) (count : ℕ) (s : State) (y : (Block × ℕ) × State) → braced inner p count s ≡ Ok y → Found (IsBraced p d count) s y
+module _ (d : ℕ) (inner : Context → ℕ → State → Counted Block)
+    (sound : (q : Context) (count : ℕ) (s : State) (y : (Block × ℕ) × State) → inner q count s ≡ Ok y → Found (IsClosed q d count) s y) where
+  braced_read : (p : Context) (count : ℕ) (s : State) (y : (Block × ℕ) × State) → braced inner p count s ≡ Ok y → Found (IsBraced p d count) s y
   braced_read p count s y =
       found_next (IsBraced p d count) (λ at ts z. IsClosed p d count ts z) s (sign_at sign.LeftBrace s) (λ brace. inner p count brace.1) (sign_read sign.LeftBrace s)
       (λ brace z e. sound p count brace.1 z e)
       (λ at z ts us brace c. record { inner = c.inner; tokens = λ i. brace i ++ c.tokens i; told = c.told; good = c.good }) y
 
-  other_read : (p : Place) (count : ℕ) (s : State) (o : Option (ℕ × State)) (y : (Block × ℕ) × State) → takes_word (codes "else") s ≡ o → other_of inner p count s o ≡ Ok y → Found (IsOther p d count) s y
+  other_read : (p : Context) (count : ℕ) (s : State) (o : Option (ℕ × State)) (y : (Block × ℕ) × State) → takes_word (codes "else") s ≡ o → other_of inner p count s o ≡ Ok y → Found (IsOther p d count) s y
   other_read p count s None y is e =
       subst (Found (IsOther p d count) s) (same_ok (other_of inner p count s None) ((End, count), s) y refl e)
       (found_none (IsOther p d count) (End, count) s (record {
@@ -185,7 +185,7 @@ module _ (d : ℕ) (inner : Place → ℕ → State → Counted Block)
       }
 
   -- the blocks of an `if`
-  record AreBlocks (p : Place) (count : ℕ) (ts : List Token) (y : (Block × Block) × ℕ) : Type 0 where
+  record AreBlocks (p : Context) (count : ℕ) (ts : List Token) (y : (Block × Block) × ℕ) : Type 0 where
     middle : ℕ
     one : List Token
     other : List Token
@@ -194,10 +194,10 @@ module _ (d : ℕ) (inner : Place → ℕ → State → Counted Block)
     good_one : IsGood p d count (y.0.0, middle)
     second : IsOther p d middle other (y.0.1, y.1)
 
-  abbrev IsSecond : Place → Block × ℕ → List Token → (Block × Block) × ℕ → Type 0
+  abbrev IsSecond : Context → Block × ℕ → List Token → (Block × Block) × ℕ → Type 0
   IsSecond p one ts y = (y.0.0 ≡ one.0) × IsOther p d one.1 ts (y.0.1, y.1)
 
-  blocks_read : (p : Place) (count : ℕ) (s : State) (y : ((Block × Block) × ℕ) × State) → blocks_at inner p count s ≡ Ok y → Found (AreBlocks p count) s y
+  blocks_read : (p : Context) (count : ℕ) (s : State) (y : ((Block × Block) × ℕ) × State) → blocks_at inner p count s ≡ Ok y → Found (AreBlocks p count) s y
   unfolding blocks_at
   blocks_read p count s =
       found_next (AreBlocks p count) (IsSecond p) s (braced inner p count s) (λ one. other_at inner p one.0.1 one.1 >>= λ other. Ok (((one.0.0, other.0.0), other.0.1), other.1)) (braced_read p count s)
@@ -209,10 +209,10 @@ module _ (d : ℕ) (inner : Place → ℕ → State → Counted Block)
       subst F (sym r.0) (record { middle = one.1; one = b.inner; other = us; tokens = ap (λ l. l ++ us) b.tokens; told_one = b.told; good_one = b.good; second = r.1 }))
 
   -- behind the guard
-  abbrev IsIf : Place → ℕ → Expr → List Token → Form × ℕ → Type 0
+  abbrev IsIf : Context → ℕ → Expr → List Token → Form × ℕ → Type 0
   IsIf p count guard ts x = (blocks : Block × Block) × (x.0 ≡ forms.If guard blocks.0 blocks.1) × AreBlocks p count ts (blocks, x.1)
 
-  if_read : (p : Place) (count : ℕ) (s : State) (x : (Form × ℕ) × State) → count + 1 ≤ 1000 → if_at inner p (count + 1) s ≡ Ok x → Found (λ ts y. IsOne p (suc d) count (Word (codes "if") ∷ ts) y) s x
+  if_read : (p : Context) (count : ℕ) (s : State) (x : (Form × ℕ) × State) → count + 1 ≤ 1000 → if_at inner p (count + 1) s ≡ Ok x → Found (λ ts y. IsOne p (suc d) count (Word (codes "if") ∷ ts) y) s x
   if_read p count s x few =
       found_next (λ ts y. IsOne p (suc d) count (Word (codes "if") ∷ ts) y) (IsIf p (count + 1)) s (guard_at p s)
       (λ guard. blocks_at inner p (count + 1) guard.1 >>= λ b. Ok ((forms.If guard.0 b.0.0.0 b.0.0.1, b.0.1), b.1)) (guard_read p s)
@@ -245,10 +245,10 @@ module _ (d : ℕ) (inner : Place → ℕ → State → Counted Block)
       x
 
   -- behind the head of a loop
-  abbrev IsFor : Place → ℕ → List ℕ × ℕ × ℕ → List Token → Form × ℕ → Type 0
+  abbrev IsFor : Context → ℕ → List ℕ × ℕ × ℕ → List Token → Form × ℕ → Type 0
   IsFor p count h ts x = (body : Block) × (x.0 ≡ forms.For h.0 h.1 h.2 body) × IsBraced (at_row p h.0 h.1) d count ts (body, x.1)
 
-  for_read : (p : Place) (count : ℕ) (s : State) (x : (Form × ℕ) × State) → count + 1 ≤ 1000 → for_at inner p (count + 1) s ≡ Ok x → Found (λ ts y. IsOne p (suc d) count (Word (codes "for") ∷ ts) y) s x
+  for_read : (p : Context) (count : ℕ) (s : State) (x : (Form × ℕ) × State) → count + 1 ≤ 1000 → for_at inner p (count + 1) s ≡ Ok x → Found (λ ts y. IsOne p (suc d) count (Word (codes "for") ∷ ts) y) s x
   for_read p count s x few =
       found_next (λ ts y. IsOne p (suc d) count (Word (codes "for") ∷ ts) y) (IsFor p (count + 1)) s (loop_head_at p s)
       (λ head. braced inner (at_row p head.0.0 head.0.1) (count + 1) head.1 >>= λ b. Ok ((forms.For head.0.0 head.0.1 head.0.2 b.0.0, b.0.1), b.1)) (loop_head_read p s)
@@ -276,7 +276,7 @@ module _ (d : ℕ) (inner : Place → ℕ → State → Counted Block)
 
   -- ---- any statement
 
-  plain_read : (p : Place) (t : Token) (form : Plain) (at : ℕ) (s : State) (x : Form × State) → PlainIs t form → plain_at p form at s ≡ Ok x → Found (IsPlain p t) s x
+  plain_read : (p : Context) (t : Token) (form : Plain) (at : ℕ) (s : State) (x : Form × State) → PlainIs t form → plain_at p form at s ≡ Ok x → Found (IsPlain p t) s x
   plain_read p t (plains.Assign n) at s x is e = subst (λ u. Found (IsPlain p u) s x) (sym is) (assign_read p (n, at) s x e)
   plain_read p t plains.Insert at s x is e = subst (λ u. Found (IsPlain p u) s x) (sym is) (insert_read p s x e)
   plain_read p t plains.Update at s x is e = subst (λ u. Found (IsPlain p u) s x) (sym is) (update_read p s x e)
@@ -284,7 +284,7 @@ module _ (d : ℕ) (inner : Place → ℕ → State → Counted Block)
   plain_read p t plains.Release at s x is e = subst (λ u. Found (IsPlain p u) s x) (sym is) (release_read p s x e)
   plain_read p t plains.Emit at s x is e = subst (λ u. Found (IsPlain p u) s x) (sym is) (emit_read p s x e)
 
-  one_of : (p : Place) (count : ℕ) (t : Token) (ts : List Token) (form : Form) → count + 1 ≤ 1000 → IsPlain p t ts form → IsOne p (suc d) count (t ∷ ts) (form, count + 1)
+  one_of : (p : Context) (count : ℕ) (t : Token) (ts : List Token) (form : Form) → count + 1 ≤ 1000 → IsPlain p t ts form → IsOne p (suc d) count (t ∷ ts) (form, count + 1)
   one_of p count t ts form few h =
       record {
         few = few;
@@ -296,21 +296,21 @@ module _ (d : ℕ) (inner : Place → ℕ → State → Counted Block)
         kinds = λ rest k. subst (BlockKinds p.schemes p.scope) (sym (h.is rest)) (h.kinds, k);
       }
 
-  content_read : (p : Place) (t : Token) (o : Opening) (at count : ℕ) (s : State) (x : (Form × ℕ) × State) → OpeningIs t o → count + 1 ≤ 1000 → content_at inner p o at (count + 1) s ≡ Ok x
+  content_read : (p : Context) (t : Token) (o : Opening) (at count : ℕ) (s : State) (x : (Form × ℕ) × State) → OpeningIs t o → count + 1 ≤ 1000 → content_at inner p o at (count + 1) s ≡ Ok x
       → Found (λ ts y. IsOne p (suc d) count (t ∷ ts) y) s x
   content_read p t openings.If at count s x is few e = subst (λ u. Found (λ ts y. IsOne p (suc d) count (u ∷ ts) y) s x) (sym is) (if_read p count s x few e)
   content_read p t openings.For at count s x is few e = subst (λ u. Found (λ ts y. IsOne p (suc d) count (u ∷ ts) y) s x) (sym is) (for_read p count s x few e)
   content_read p t (openings.Plain form) at count s x is few e =
       found_made (λ ts y. IsOne p (suc d) count (t ∷ ts) y) s (plain_at p form at s) (λ f. (f, count + 1)) (λ y k. plain_read p t form at s y is k) (λ f ts r. one_of p count t ts f few r) x e
 
-  opened_read : (p : Place) (t : Token) (o : Opening) (at count : ℕ) (s : State) (x : (Form × ℕ) × State) → OpeningIs t o → opened inner p o at count s ≡ Ok x → Found (λ ts y. IsOne p (suc d) count (t ∷ ts) y) s x
+  opened_read : (p : Context) (t : Token) (o : Opening) (at count : ℕ) (s : State) (x : (Form × ℕ) × State) → OpeningIs t o → opened inner p o at count s ≡ Ok x → Found (λ ts y. IsOne p (suc d) count (t ∷ ts) y) s x
   opened_read p t o at count s x is e = go (nat_lt count 1000) refl e
     where
       go : (b : Bool) → nat_lt count 1000 ≡ b → (if b then content_at inner p o at (count + 1) s else Err (fault at cause.TooLong)) ≡ Ok x → Found (λ ts y. IsOne p (suc d) count (t ∷ ts) y) s x
       go true lt h = content_read p t o at count s x is (let less = ltb-true count 1000 lt in omega (arith, less)) h
       go false lt h = absurd cc
 
-  stmt_read : (p : Place) (count : ℕ) (s : State) (x : (Form × ℕ) × State) → stmt_with inner p count s ≡ Ok x → Found (IsOne p (suc d) count) s x
+  stmt_read : (p : Context) (count : ℕ) (s : State) (x : (Form × ℕ) × State) → stmt_with inner p count s ≡ Ok x → Found (IsOne p (suc d) count) s x
   stmt_read p count s x e =
       let o = bind_ok (token (pass_known opening_of) s) (λ o. opened inner p o.0.0 o.0.1 count o.1) x e in
       let first = known_found opening_of s o.0 o.1 in
@@ -324,12 +324,12 @@ module _ (d : ℕ) (inner : Place → ℕ → State → Counted Block)
 -- ---- blocks
 
 -- these statements, behind those before
-record AreStmts (p : Place) (d : ℕ) (front : List Form) (count : ℕ) (ts : List Token) (y : Block × ℕ) : Type 0 where
+record AreStmts (p : Context) (d : ℕ) (front : List Form) (count : ℕ) (ts : List Token) (y : Block × ℕ) : Type 0 where
   new : List Form
   is : y.0 ≡ block_of (front ++ new)
   closed : IsClosed p d count ts (block_of new, y.1)
 
-module _ (p : Place) (d : ℕ) (stmt : ℕ → State → Counted Form) (one : (count : ℕ) (s : State) (x : (Form × ℕ) × State) → stmt count s ≡ Ok x → Found (IsOne p d count) s x) where
+module _ (p : Context) (d : ℕ) (stmt : ℕ → State → Counted Form) (one : (count : ℕ) (s : State) (x : (Form × ℕ) × State) → stmt count s ≡ Ok x → Found (IsOne p d count) s x) where
   stmts_read : (n : ℕ) (front : List Form) (count : ℕ) (s : State) (y : (Block × ℕ) × State) → stmts_from stmt n front count s ≡ Ok y → Found (AreStmts p d front count) s y
   unfolding stmts_from
   stmts_read zero front count s y e = absurd cc
@@ -395,7 +395,7 @@ module _ (p : Place) (d : ℕ) (stmt : ℕ → State → Counted Form) (one : (c
             (r.0, subst F (sym r.1.is) r.1.closed);
       }
 
-pub block_read : (d : ℕ) (p : Place) (count : ℕ) (s : State) (y : (Block × ℕ) × State) → stmts_at d p count s ≡ Ok y → Found (IsClosed p d count) s y
+pub block_read : (d : ℕ) (p : Context) (count : ℕ) (s : State) (y : (Block × ℕ) × State) → stmts_at d p count s ≡ Ok y → Found (IsClosed p d count) s y
 unfolding stmts_at
 block_read zero p count s y e = closed_read p zero deep_stmt (λ c r x h. never c r x h) count s y e
   where

@@ -13,7 +13,7 @@ use Rattle.mls_translang.specs.declared.operator.Operator.{Operator}
 use Rattle.mls_translang.specs.declared.operator.Operator.TheVariants.{Plus, Minus, Times, And, Or}
 use Rattle.mls_translang.specs.Fits.{ExprFits}
 use Rattle.mls_translang.specs.Kinds.{Sort, Truth, HasSort}
-use Rattle.mls_translang.specs.Tokens.{Place, operator_token}
+use Rattle.mls_translang.specs.Tokens.{Context, operator_token}
 use Rattle.mls_translang.specs.Tree.{Expr, Op}
 use Rattle.mls_translang.specs.Tx.{HasOwn}
 use Rattle.mls_parser.specs.declared.fault.PlacedFault.{PlacedFault}
@@ -97,7 +97,7 @@ record EndsTest (us : List Token) : Type 0 where
   no_dot : NotNext (is_sign sign.Dot) us
   no_comparison : NoneNext comparison_of us
 
-module _ (p : Place) (n : HasNames p) where
+module _ (p : Context) (n : HasNames p) where
   -- an expression of the place, of a sort
   record Fits (t : Sort) (e : Expr) : Type 0 where
     own : HasOwn p.scope e
@@ -292,7 +292,7 @@ ends_at (t ∷ ts) h =
       no_joiner = none_at (joiner_of t) (rest_at (is_some (comparison_of t)) (is_some (joiner_of t)) more);
     }
 
-module _ (p : Place) (n : HasNames p) where
+module _ (p : Context) (n : HasNames p) where
   tests_read : (e : Expr) (ts us : List Token) (s : State) → SpellsCondition p e ts → Fits p n Truth e → EndsCondition us → without_places s.1.placed ≡ ts ++ us → Gets (tests_at p s) s (IsAgain Truth e) us
   tests_read e ts us s (inl h) f over k =
       let ends = ends_at us over in

@@ -17,7 +17,7 @@ use Rattle.mls_tokens.proofs.TokenLemmas.{chosen}
 use Rattle.mls_tokens.proofs.PassedLemmas.{Passed, passed_more}
 use Rattle.mls_translang.specs.declared.operator.Operator.{Operator}
 use Rattle.mls_translang.specs.declared.operator.Operator.TheVariants.{Equal, Unequal, Less, AtMost, Greater, AtLeast, And, Or}
-use Rattle.mls_translang.specs.Tokens.{Place, operator_token}
+use Rattle.mls_translang.specs.Tokens.{Context, operator_token}
 use Rattle.mls_translang.specs.Tree.{Expr}
 use Rattle.mls_parser.specs.declared.fault.PlacedFault.{PlacedFault}
 use Rattle.mls_parser.specs.declared.fault.TextCause.TheVariants as cause
@@ -25,7 +25,7 @@ use Rattle.mls_parser.specs.declared.given.Given.{Given}
 use Rattle.mls_parser.specs.Condition.{is_comparison, SpellsBetween, SpellsSide, SpellsTest, SpellsTests, SpellsCondition, TellsCondition, IsCondition, IsConditionOf}
 use Rattle.mls_parser.specs.Fault.{fault}
 use Rattle.mls_parser.specs.Infer.{may_be_truth, operands_fit}
-use Rattle.mls_parser.specs.Noted.{State, Read, note, token, Gives}
+use Rattle.mls_parser.specs.Noted.{State, Read, note, token, GivesPlaced}
 use Rattle.mls_parser.specs.ReadCondition.{comparison_of_sign, comparison_of, joiner_of, take_known, taken_as, behind_known, takes_known, between, between_faults, are_mixed, past_most, with_next, compared, test_at, joined, next_test_at, tests_from, tests_at, written_place, as_fields, condition_at}
 use Rattle.mls_parser.specs.ReadExpr.{whole_at}
 use Rattle.mls_parser.specs.ReadList.{tested}
@@ -106,7 +106,7 @@ module _ (what : Token → Option Operator) (Is : Operator → Type 0) (is : (t 
 
 -- ---- tests
 
-module _ (p : Place) where
+module _ (p : Context) where
   -- a part of a condition, in which no fault was noted
   record IsPart (Spelling : Expr → List Token → Type 0) (ts : List Token) (g : Given) : Type 0 where
     spells : Spelling g.expr ts
@@ -323,7 +323,7 @@ module _ (p : Place) where
 -- ---- conditions
 
 module _ (policy : Policy) (schemes : Schemes) (relation : ℕ) where
-  abbrev place : Place
+  abbrev place : Context
   place = written_place policy schemes relation
 
   pub condition_found : (s : State) (y : Expr × State) → condition_at policy schemes relation s ≡ Ok y → Found (λ ts e. TellsCondition policy schemes relation e ts) s y
@@ -342,7 +342,7 @@ module _ (policy : Policy) (schemes : Schemes) (relation : ℕ) where
   -- ---- what the reader returned
 
   module _ (s t : State) where
-    pub told_kept : (x : Result Expr PlacedFault) → Gives (λ e. (e, t)) x (condition_at policy schemes relation s) → AreSpelled (without_places s.1.placed) → t.0 ≡ [] → IfOk x (IsCondition policy schemes relation s.1 t.1)
+    pub told_kept : (x : Result Expr PlacedFault) → GivesPlaced (λ e. (e, t)) x (condition_at policy schemes relation s) → AreSpelled (without_places s.1.placed) → t.0 ≡ [] → IfOk x (IsCondition policy schemes relation s.1 t.1)
     told_kept (Err f) g all none = tt
     told_kept (Ok e) g all none =
         let found = condition_found s (e, t) g in
@@ -357,5 +357,5 @@ module _ (policy : Policy) (schemes : Schemes) (relation : ℕ) where
     of_row (Err f) h = tt
     of_row (Ok e) h = told_of_row schemes relation policy e h.tokens h.tells
 
-    pub fits_kept : (x : Result Expr PlacedFault) → Gives (λ e. (e, t)) x (condition_at policy schemes relation s) → AreSpelled (without_places s.1.placed) → t.0 ≡ [] → IfOk x (IsConditionOf schemes relation)
+    pub fits_kept : (x : Result Expr PlacedFault) → GivesPlaced (λ e. (e, t)) x (condition_at policy schemes relation s) → AreSpelled (without_places s.1.placed) → t.0 ≡ [] → IfOk x (IsConditionOf schemes relation)
     fits_kept x g all none = of_row x (told_kept x g all none)

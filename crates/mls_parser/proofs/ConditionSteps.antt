@@ -14,7 +14,7 @@ use Rattle.mls_tokens.proofs.PassedLemmas.{Passed, sign_taken, word_taken}
 use Rattle.mls_tokens.proofs.NextLemmas.{next_is}
 use Rattle.mls_translang.specs.declared.operator.Operator.{Operator}
 use Rattle.mls_translang.specs.declared.operator.Operator.TheVariants.{Equal, Unequal, Less, AtMost, Greater, AtLeast, And, Or}
-use Rattle.mls_translang.specs.Tokens.{Place}
+use Rattle.mls_translang.specs.Tokens.{Context}
 use Rattle.mls_parser.specs.declared.fault.PlacedFault.{PlacedFault}
 use Rattle.mls_parser.specs.declared.given.Given.{Given}
 use Rattle.mls_parser.specs.Noted.{State, note}
@@ -142,7 +142,7 @@ pub ruleset joiner_steps = (and_taken, or_taken, no_joiner_taken)
 
 -- ---- tests
 
-module _ (p : Place) where
+module _ (p : Context) where
   -- what is left to read, behind the tests that were read, is the whole
   pub first_err : (s : State) (f : PlacedFault) → test_at p s ≡ Err f → tests_at p s ≡ Err f
   unfolding tests_at

@@ -21,7 +21,7 @@ use Rattle.mls_translang.specs.declared.operator.Operator.TheVariants as operato
 use Rattle.mls_translang.specs.Fits.{ExprFits}
 use Rattle.mls_translang.specs.Kinds.{Sort, Of, Truth, OperatorGives, HasSort, field_of}
 use Rattle.mls_translang.specs.Scope.{row_at}
-use Rattle.mls_translang.specs.Tokens.{Place, name_at, value_token, operator_token, expr_tokens}
+use Rattle.mls_translang.specs.Tokens.{Context, name_at, value_token, operator_token, expr_tokens}
 use Rattle.mls_translang.specs.Tree.{Expr, Known, Null, Var, Param, Field, No, Op}
 use Rattle.mls_translang.specs.Tx.{nesting, HasOwn, IsOwn}
 use Rattle.mls_translang.proofs.FieldLemmas.{attribute_is_name}
@@ -122,17 +122,17 @@ pub record IsAgain (t : Sort) (e : Expr) (g : Given) : Type 0 where
   pub is : g.expr ≡ e
   pub agrees : Agrees t g.gives
 
-module _ (p : Place) (negated operated : ℕ → State → Read Given) where
+module _ (p : Context) (negated operated : ℕ → State → Read Given) where
   term_gets : (h : Head) (t : Token) (us : List Token) (s : State) (Q : Given → Type 0) (vs : List Token) → head_of t ≡ Some h → without_places s.1.placed ≡ t ∷ us
       → ((at : ℕ) (m : Left) → without_places m.placed ≡ us → Gets (behind_head p negated operated h at (s.0, m)) (s.0, m) Q vs) → Gets (term_at p negated operated s) s Q vs
   term_gets h t us s Q vs found e next = placed_then (λ x. behind_head p negated operated x.0.0 x.0.1 x.1) (any_gets head_of h t us found s e) next
 
-depth_gets : (p : Place) (d : ℕ) (s : State) (Q : Given → Type 0) (vs : List Token) → ((negated operated : ℕ → State → Read Given) → Gets (term_at p negated operated s) s Q vs) → Gets (expr_at p d s) s Q vs
+depth_gets : (p : Context) (d : ℕ) (s : State) (Q : Given → Type 0) (vs : List Token) → ((negated operated : ℕ → State → Read Given) → Gets (term_at p negated operated s) s Q vs) → Gets (expr_at p d s) s Q vs
 unfolding expr_at
 depth_gets p zero s Q vs all = all too_deep too_deep
 depth_gets p (suc d) s Q vs all = all (λ at r. negation (λ t. expr_at p d t) at r) (λ at r. operation (λ t. expr_at p d t) at r)
 
-module _ (p : Place) (n : HasNames p) where
+module _ (p : Context) (n : HasNames p) where
   -- a name that stands for something, with no dot behind it
   name_again : (name : Bytes) (r : Referent) (t : Sort) (at : ℕ) (us : List Token) (fs : List PlacedFault) (m : Left) → referent p name ≡ Some r → Agrees t (of_referent p (Some r))
       → NotNext (is_sign sign.Dot) us → without_places m.placed ≡ us → Gets (named_at p (name, at) (fs, m)) (fs, m) (IsAgain t (refer (Some r))) us

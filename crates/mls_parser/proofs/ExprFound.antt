@@ -13,7 +13,7 @@ use Rattle.mls_tokens.specs.Passing.{PlacedName}
 use Rattle.mls_tokens.proofs.PassedLemmas.{Passed, passed_none, passed_more, passed_shorter}
 use Rattle.mls_translang.specs.declared.operator.Operator.{Operator}
 use Rattle.mls_translang.specs.Kinds.{field_of}
-use Rattle.mls_translang.specs.Tokens.{Place, value_token, operator_token, expr_tokens}
+use Rattle.mls_translang.specs.Tokens.{Context, value_token, operator_token, expr_tokens}
 use Rattle.mls_translang.specs.Tree.{Known, Null, No, Op}
 use Rattle.mls_translang.specs.Tx.{IsLiteral, nesting}
 use Rattle.mls_parser.specs.declared.fault.PlacedFault.{PlacedFault}
@@ -38,7 +38,7 @@ use Rattle.mls_parser.proofs.WordLemmas.{HeadIs, head_is, operator_is}
 
 -- ---- what an expression without faults is
 
-module _ (p : Place) (d : ℕ) where
+module _ (p : Context) (d : ℕ) where
   -- behind these faults it is spelled by these tokens
   pub record IsRight (fs : List PlacedFault) (ts : List Token) (g : Given) : Type 0 where
     pub clean : fs ≡ []
@@ -61,7 +61,7 @@ module _ (p : Place) (d : ℕ) where
 
 -- ---- names
 
-module _ (p : Place) (d : ℕ) (t : Token) where
+module _ (p : Context) (d : ℕ) (t : Token) where
   name_spelled : (n : Bytes) (a b : Option ℕ) → variable_named p n ≡ a → parameter_named p n ≡ b → is_some (referent_or a b) ≡ true
       → Word n ∷ [] ≡ expr_tokens p (refer (referent_or a b))
   name_spelled n (Some i) b is other e = sym (λ j. Word (variable_there p n i is j) ∷ [])
@@ -129,7 +129,7 @@ value_literal : (v : Value) → AreSpelled (value_token v ∷ []) → IsLiteral 
 value_literal (values.Int n) h = h.0.1.0
 value_literal (values.Text s) h = h.0.1.1
 
-module _ (p : Place) (d : ℕ) (negated operated : ℕ → State → Read Given)
+module _ (p : Context) (d : ℕ) (negated operated : ℕ → State → Read Given)
     (by_not : (at : ℕ) (s : State) (x : Given × State) → negated at s ≡ Ok x → Behind p d (Word (codes "not")) s x)
     (by_paren : (at : ℕ) (s : State) (x : Given × State) → operated at s ≡ Ok x → Behind p d (Sign sign.LeftParen) s x) where
   behind_found : (t : Token) (h : Head) (at : ℕ) (s : State) (x : Given × State) → HeadIs t h → behind_head p negated operated h at s ≡ Ok x → Behind p d t s x
@@ -169,12 +169,12 @@ module _ (p : Place) (d : ℕ) (negated operated : ℕ → State → Read Given)
 -- ---- operators
 
 -- an operator, its second operand, and the parenthesis that closes both
-record SecondFound (p : Place) (d : ℕ) (s : State) (x : ((Operator × ℕ) × Given) × State) : Type 0 where
+record SecondFound (p : Context) (d : ℕ) (s : State) (x : ((Operator × ℕ) × Given) × State) : Type 0 where
   right : List Token
   passed : Passed (operator_token x.0.0.0 ∷ (right ++ Sign sign.RightParen ∷ [])) s.1 x.1.1
   operand : x.1.0 ≡ [] → AreSpelled right → IsRight p d s.0 right x.0.1
 
-module _ (p : Place) (d : ℕ) (operand : State → Read Given) (sound : (s : State) (x : Given × State) → operand s ≡ Ok x → ExprFound p d s x) where
+module _ (p : Context) (d : ℕ) (operand : State → Read Given) (sound : (s : State) (x : Given × State) → operand s ≡ Ok x → ExprFound p d s x) where
   negation_found : (at : ℕ) (s : State) (x : Given × State) → negation operand at s ≡ Ok x → Behind p (suc d) (Word (codes "not")) s x
   negation_found at s x e =
       let next : Given × State → Given × State =
@@ -254,10 +254,10 @@ module _ (p : Place) (d : ℕ) (operand : State → Read Given) (sound : (s : St
             };
       })
 
-never : {p : Place} {d : ℕ} (t : Token) (at : ℕ) (s : State) (x : Given × State) → too_deep at s ≡ Ok x → Behind p d t s x
+never : {p : Context} {d : ℕ} (t : Token) (at : ℕ) (s : State) (x : Given × State) → too_deep at s ≡ Ok x → Behind p d t s x
 never t at s x e = absurd cc
 
-pub expr_found : (p : Place) (d : ℕ) (s : State) (x : Given × State) → expr_at p d s ≡ Ok x → ExprFound p d s x
+pub expr_found : (p : Context) (d : ℕ) (s : State) (x : Given × State) → expr_at p d s ≡ Ok x → ExprFound p d s x
 unfolding expr_at
 expr_found p zero s x e = term_found p zero too_deep too_deep (never (Word (codes "not"))) (never (Sign sign.LeftParen)) s x e
 expr_found p (suc d) s x e =
@@ -266,9 +266,9 @@ expr_found p (suc d) s x e =
 
 -- ---- expressions of statements
 
-pub whole_found : (p : Place) (s : State) (x : Given × State) → whole_at p s ≡ Ok x → ExprFound p 16 s x
+pub whole_found : (p : Context) (s : State) (x : Given × State) → whole_at p s ≡ Ok x → ExprFound p 16 s x
 unfolding whole_at
 whole_found p s x e = expr_found p 16 s x e
 
-pub whole_shorter : (p : Place) (s : State) (x : Given × State) → whole_at p s ≡ Ok x → length x.1.1.placed < length s.1.placed
+pub whole_shorter : (p : Context) (s : State) (x : Given × State) → whole_at p s ≡ Ok x → length x.1.1.placed < length s.1.placed
 whole_shorter p s x e = let h = whole_found p s x e in omega (arith, passed_shorter h.tokens s.1 x.1.1 h.passed, h.some)

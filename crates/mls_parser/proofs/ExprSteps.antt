@@ -1,12 +1,12 @@
 -- Expressions, one level of depth at a time.
 use Rattle.std.proofs.Common.{◌≡◌, ℕ, zero, suc, ◌-◌, ◌==◌, false, Result, refl, sym, subst, arith, if◌then◌else◌, ne_eqb}
-use Rattle.mls_translang.specs.Tokens.{Place}
+use Rattle.mls_translang.specs.Tokens.{Context}
 use Rattle.mls_parser.specs.declared.fault.PlacedFault.{PlacedFault}
 use Rattle.mls_parser.specs.declared.given.Given.{Given}
-use Rattle.mls_parser.specs.Noted.{State, Gives}
+use Rattle.mls_parser.specs.Noted.{State, GivesPlaced}
 use Rattle.mls_parser.specs.ReadExpr.{too_deep, term_at, negation, operation, expr_at, negation_at, operation_at}
 
-module _ (p : Place) where
+module _ (p : Context) where
   pub expr_is : (d : ℕ) (s : State) → expr_at p d s ≡ term_at p (negation_at p d) (operation_at p d) s
   unfolding expr_at negation_at operation_at
   expr_is zero s = refl
@@ -16,7 +16,7 @@ module _ (p : Place) where
       sym (λ i. term_at p (λ at r. if some i then too_deep at r else negation (λ t. expr_at p (less i) t) at r) (λ at r. if some i then too_deep at r else operation (λ t. expr_at p (less i) t) at r) s)
 
   pub expr_gives : {X : Type 0} (view : X → Given × State) (r : Result X PlacedFault) (d : ℕ) (s : State)
-      → Gives view r (term_at p (negation_at p d) (operation_at p d) s) → Gives view r (expr_at p d s)
-  expr_gives view r d s h = subst (λ z. Gives view r z) (sym (expr_is d s)) h
+      → GivesPlaced view r (term_at p (negation_at p d) (operation_at p d) s) → GivesPlaced view r (expr_at p d s)
+  expr_gives view r d s h = subst (λ z. GivesPlaced view r z) (sym (expr_is d s)) h
 
 pub ruleset expr_steps = (expr_gives)

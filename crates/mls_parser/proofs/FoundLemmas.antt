@@ -20,7 +20,7 @@ use Rattle.mls_scheme.proofs.SchemeNameLemmas as schemed
 use Rattle.mls_translang.specs.Fits.{width}
 use Rattle.mls_translang.specs.Kinds.{field_of}
 use Rattle.mls_translang.specs.Scope.{names_in, row_at, no_row}
-use Rattle.mls_translang.specs.Tokens.{Place, name_at}
+use Rattle.mls_translang.specs.Tokens.{Context, name_at}
 use Rattle.mls_translang.proofs.FieldLemmas.{as_key, as_other}
 use Rattle.mls_parser.specs.Names.{label_named, relation_named, variable_named, parameter_named, row_named, or_behind, attribute_named, other_named, row_scheme}
 
@@ -119,7 +119,7 @@ module _ (scheme : Scheme) (valid : IsScheme scheme) where
 -- ---- variables, parameters and rows
 
 -- what is declared, and which names are taken, are in order; a row may be named as a parameter or a variable
-pub record HasNames (p : Place) : Type 0 where
+pub record HasNames (p : Context) : Type 0 where
   pub policy : IsPolicy p.policy
   pub schemes : AreSchemes p.schemes
   pub names : AreNames (names_in p.scope)
@@ -142,7 +142,7 @@ pair_apart (x ∷ xs) ys n apart within =
     subst (λ name. list_any (bytes_eq name) ys ≡ false) (get_or-map (λ y. y.0) (x ∷ xs) n x [] within ∙ sym (name_is (x ∷ xs) n x within))
     (apart_behind bytes_eq (map (λ y. y.0) (x ∷ xs)) ys n [] apart (omega (arith, within, length-map (x ∷ xs) (λ y. y.0))))
 
-module _ (p : Place) (h : HasNames p) where
+module _ (p : Context) (h : HasNames p) where
   abbrev row_names : List Name
   row_names = map (λ r. r.name) p.scope.rows
 

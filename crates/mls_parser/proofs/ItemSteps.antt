@@ -9,7 +9,7 @@ use Rattle.mls_tokens.specs.declared.sign.Sign.TheVariants.{Comma, Equals}
 use Rattle.mls_tokens.specs.declared.token.Token.TheVariants.{Word, Sign}
 use Rattle.mls_tokens.specs.Passing.{PlacedName}
 use Rattle.mls_tokens.proofs.PassedLemmas.{passed_shorter}
-use Rattle.mls_translang.specs.Tokens.{Place}
+use Rattle.mls_translang.specs.Tokens.{Context}
 use Rattle.mls_translang.specs.Tree.{Expr}
 use Rattle.mls_parser.specs.declared.fault.TextCause.TheVariants as cause
 use Rattle.mls_parser.specs.declared.fault.PlacedFault.{PlacedFault}
@@ -117,7 +117,7 @@ module _ {V X : Type 0} (value_at : State → Read V) (item : V → X) (place : 
       omega (arith, target_shorter scheme front s o.0 o.1, shorter o.0.1 v.0 v.1, ap (λ (y : List (ℕ × X) × State). length y.1.1.placed) same, takes_shorter Comma m at l e)
 
 -- of expressions
-module _ (p : Place) where
+module _ (p : Context) where
   pub item_less : (attributes : List Attribute) (front : List Expr) (s : State) (x : List Expr) (m l : State) (at : ℕ)
       → item_at p attributes front s ≡ Ok (x, m) → takes_sign Comma m ≡ Some (at, l) → length l.1.placed < length s.1.placed
   unfolding item_at

@@ -7,7 +7,7 @@ pub mod SortLemmas
 pub mod ExprSteps
 pub mod ExprFound
 pub mod ItemSteps
-pub mod PlaceLemmas
+pub mod ContextLemmas
 pub mod LoopLemmas
 pub mod StmtSteps
 pub mod FoundLemmas

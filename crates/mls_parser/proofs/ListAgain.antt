@@ -15,7 +15,7 @@ use Rattle.mls_tokens.specs.Text.{separated}
 use Rattle.mls_tokens.proofs.NextLemmas.{NotNext}
 use Rattle.mls_translang.specs.Fits.{ExprFits, ListFits, SetsFit}
 use Rattle.mls_translang.specs.Kinds.{Of, HasKind, HaveKinds}
-use Rattle.mls_translang.specs.Tokens.{Place, expr_tokens, list_tokens, set_tokens}
+use Rattle.mls_translang.specs.Tokens.{Context, expr_tokens, list_tokens, set_tokens}
 use Rattle.mls_translang.specs.Tree.{Expr, Known}
 use Rattle.mls_translang.specs.Tx.{IsOwn}
 use Rattle.mls_parser.specs.declared.fault.TextCause.TheVariants as cause
@@ -38,23 +38,23 @@ NoDot ts = NotNext (is_sign sign.Dot) ts
 no_comma : (ts : List Token) → NoDot (Sign sign.Comma ∷ ts)
 no_comma ts = refl
 
-no_paren : (p : Place) (e : Expr) (us : List Token) → NotNext (is_sign sign.RightParen) (expr_tokens p e ++ us)
+no_paren : (p : Context) (e : Expr) (us : List Token) → NotNext (is_sign sign.RightParen) (expr_tokens p e ++ us)
 no_paren p (Known (Int n)) us = refl
 no_paren p _ us = refl
 
 -- one for each attribute, of its kind
-pub record AreListed (p : Place) (attributes : List Attribute) (es : List Expr) : Type 0 where
+pub record AreListed (p : Context) (attributes : List Attribute) (es : List Expr) : Type 0 where
   pub own : AllByRecursion (IsOwn p.scope) es
   pub fits : ListFits p.schemes p.scope attributes es
   pub kinds : HaveKinds p.schemes p.scope attributes es
 
 -- of attributes outside the key, none of them twice
-pub record AreSet (p : Place) (scheme : Scheme) (xs : List (ℕ × Expr)) : Type 0 where
+pub record AreSet (p : Context) (scheme : Scheme) (xs : List (ℕ × Expr)) : Type 0 where
   pub own : AllByRecursion (λ x. IsOwn p.scope x.1) xs
   pub fits : SetsFit p.schemes p.scope scheme xs
   pub kinds : AllByRecursion (λ x. HasKind p.schemes p.scope (other_of scheme x.0).1.kind x.1) xs
 
-module _ (p : Place) (n : HasNames p) where
+module _ (p : Context) (n : HasNames p) where
   -- of the kind of an attribute
   record IsGiven (o : Option Attribute) (e : Expr) : Type 0 where
     own : IsOwn p.scope e

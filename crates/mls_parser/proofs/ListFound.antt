@@ -10,7 +10,7 @@ use Rattle.mls_tokens.specs.declared.token.Token.{Token}
 use Rattle.mls_tokens.specs.declared.sign.Sign.TheVariants as sign
 use Rattle.mls_translang.specs.Fits.{ExprFits, ListFits}
 use Rattle.mls_translang.specs.Kinds.{HasKind, HaveKinds}
-use Rattle.mls_translang.specs.Tokens.{Place, expr_tokens, list_tokens}
+use Rattle.mls_translang.specs.Tokens.{Context, expr_tokens, list_tokens}
 use Rattle.mls_translang.specs.Tree.{Expr}
 use Rattle.mls_translang.specs.Tx.{IsOwn}
 use Rattle.mls_parser.specs.declared.fault.TextCause.TheVariants as cause
@@ -27,7 +27,7 @@ use Rattle.mls_parser.proofs.ValueLemmas.{item_read}
 
 -- ---- expressions
 
-pub right_read : (p : Place) (s : State) (x : Given × State) → whole_at p s ≡ Ok x → Found (λ ts g. IsRight p 16 [] ts g) s x
+pub right_read : (p : Context) (s : State) (x : Given × State) → whole_at p s ≡ Ok x → Found (λ ts g. IsRight p 16 [] ts g) s x
 right_read p s x e =
     let h = whole_found p s x e in
     record { tokens = h.tokens; passed = h.passed; right = λ none a. let r = h.right none a in (r.clean, subst (λ fs. IsRight p 16 fs h.tokens x.0) r.clean r) }
@@ -37,7 +37,7 @@ right_read p s x e =
 pub same_number : (m n : ℕ) → (m == n) ≡ true → m ≡ n
 same_number m n h = grind (arith, nat_tests)
 
-module _ (p : Place) where
+module _ (p : Context) where
   -- of the kind of its attribute
   pub record IsRightExpr (o : Option Attribute) (e : Expr) : Type 0 where
     pub own : IsOwn p.scope e
@@ -54,7 +54,7 @@ module _ (p : Place) where
     },
   )
 
-module _ (p : Place) (attributes : List Attribute) where
+module _ (p : Context) (attributes : List Attribute) where
   abbrev IsItem : List Expr → Expr → Type 0
   IsItem front e = IsRightExpr p (slice_get attributes (length front)) e
 

@@ -8,7 +8,7 @@ use Rattle.mls_lattice.proofs.NamedLemmas.{name_there, named_there, label_found}
 use Rattle.mls_scheme.proofs.SchemeNameLemmas.{relation_found}
 use Rattle.mls_translang.specs.Kinds.{field_of}
 use Rattle.mls_translang.specs.Scope.{row_at, no_row}
-use Rattle.mls_translang.specs.Tokens.{Place, name_at}
+use Rattle.mls_translang.specs.Tokens.{Context, name_at}
 use Rattle.mls_parser.specs.Names.{label_named, relation_named, variable_named, parameter_named, row_named, or_behind, attribute_named, other_named, numbered}
 use Rattle.mls_parser.specs.Noted.{known}
 use Rattle.mls_parser.proofs.FaultLemmas.{is_known}
@@ -29,7 +29,7 @@ pub other_there : (scheme : Scheme) (n : Name) (i : ℕ) → other_named scheme 
 unfolding other_named
 other_there scheme n i e = (named_there (λ a. a.0) scheme.others no_attribute n i e).1
 
-module _ (p : Place) (n : Name) where
+module _ (p : Context) (n : Name) where
   pub variable_there : (i : ℕ) → variable_named p n ≡ Some i → name_at p.scope.vars i ≡ n
   unfolding variable_named
   variable_there i e = go p.scope.vars e

@@ -5,11 +5,11 @@ use Rattle.std.proofs.lemmas.List.Folds.{list_any-append}
 use Rattle.mls_lattice.specs.Policy.{Name}
 use Rattle.mls_scheme.proofs.NamedLemmas.{is_some-position}
 use Rattle.mls_translang.specs.Scope.{names_in}
-use Rattle.mls_translang.specs.Tokens.{Place}
+use Rattle.mls_translang.specs.Tokens.{Context}
 use Rattle.mls_parser.specs.Names.{variable_named, parameter_named, row_named, is_taken}
 use Rattle.mls_parser.proofs.FoundLemmas.{named_any}
 
-module _ (p : Place) (name : Name) where
+module _ (p : Context) (name : Name) where
   row_taken : list_any (bytes_eq name) (map (λ r. r.name) p.scope.rows) ≡ is_some (row_named p name)
   unfolding row_named
   row_taken = named_any (λ r. r.name) p.scope.rows name ∙ sym (is_some-position (λ r. bytes_eq r.name name) p.scope.rows)

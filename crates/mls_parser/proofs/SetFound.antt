@@ -7,7 +7,7 @@ use Rattle.mls_tokens.specs.declared.token.Token.{Token}
 use Rattle.mls_tokens.specs.Text.{separated}
 use Rattle.mls_translang.specs.Fits.{SetsFit}
 use Rattle.mls_translang.specs.Kinds.{HasKind}
-use Rattle.mls_translang.specs.Tokens.{Place, expr_tokens, set_tokens}
+use Rattle.mls_translang.specs.Tokens.{Context, expr_tokens, set_tokens}
 use Rattle.mls_translang.specs.Tree.{Expr}
 use Rattle.mls_translang.specs.Tx.{IsOwn}
 use Rattle.mls_parser.specs.Noted.{State}
@@ -18,7 +18,7 @@ use Rattle.mls_parser.proofs.ListFound.{right_read, IsRightExpr, right_expr}
 use Rattle.mls_parser.proofs.ValueLemmas.{IsRightSet, AreAssigned}
 use Rattle.mls_parser.proofs.ValueLemmas as values
 
-module _ (p : Place) (scheme : Scheme) where
+module _ (p : Context) (scheme : Scheme) where
   abbrev IsNewRight : ℕ × Expr → Type 0
   IsNewRight = IsRightSet (expr_tokens p) (IsRightExpr p) scheme
 

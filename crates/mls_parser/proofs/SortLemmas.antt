@@ -21,7 +21,7 @@ use Rattle.mls_translang.specs.Scope.{kind_of_var, kind_of_param}
 use Rattle.mls_translang.specs.Tx.{IsLiteral, HasOwn}
 use Rattle.mls_translang.specs.Fits.{width, ExprFits}
 use Rattle.mls_translang.specs.Kinds.{Of, Truth, HasSort}
-use Rattle.mls_translang.specs.Tokens.{Place}
+use Rattle.mls_translang.specs.Tokens.{Context}
 use Rattle.mls_parser.specs.declared.names.Referent.TheVariants.{Variable, Parameter as Param}
 use Rattle.mls_parser.specs.declared.inferred.Inferred.{Inferred}
 use Rattle.mls_parser.specs.declared.inferred.Inferred.TheVariants as inferred
@@ -32,32 +32,32 @@ use Rattle.mls_parser.proofs.FaultLemmas.{holds}
 
 -- ---- what is known of an expression holds
 
-abbrev pub Gives : Place → Inferred → core.Expr → Type 0
-Gives p (inferred.Value k) e = HasSort p.schemes p.scope (Of k) e
-Gives p inferred.Truth e = HasSort p.schemes p.scope Truth e
-Gives p inferred.Null e = (k : Kind) → HasSort p.schemes p.scope (Of k) e
-Gives p inferred.Unknown e = ⊥
+abbrev pub HasInferred : Context → Inferred → core.Expr → Type 0
+HasInferred p (inferred.Value k) e = HasSort p.schemes p.scope (Of k) e
+HasInferred p inferred.Truth e = HasSort p.schemes p.scope Truth e
+HasInferred p inferred.Null e = (k : Kind) → HasSort p.schemes p.scope (Of k) e
+HasInferred p inferred.Unknown e = ⊥
 
-pub record IsSound (p : Place) (given : Inferred) (e : core.Expr) : Type 0 where
+pub record IsSound (p : Context) (given : Inferred) (e : core.Expr) : Type 0 where
   pub own : HasOwn p.scope e
   pub fits : ExprFits p.schemes p.scope e
-  pub gives : Gives p given e
+  pub gives : HasInferred p given e
 
-module _ (p : Place) where
-  pub as_kind : (given : Inferred) (k : Kind) (e : core.Expr) → may_be given k ≡ true → Gives p given e → HasSort p.schemes p.scope (Of k) e
+module _ (p : Context) where
+  pub as_kind : (given : Inferred) (k : Kind) (e : core.Expr) → may_be given k ≡ true → HasInferred p given e → HasSort p.schemes p.scope (Of k) e
   as_kind (inferred.Value kinds.Int) kinds.Int e h g = g
   as_kind (inferred.Value kinds.Text) kinds.Text e h g = g
   as_kind inferred.Null k e h g = g k
   as_kind inferred.Unknown k e h g = absurd g
   as_kind _ _ e h g = absurd cc
 
-  pub as_truth : (given : Inferred) (e : core.Expr) → may_be_truth given ≡ true → Gives p given e → HasSort p.schemes p.scope Truth e
+  pub as_truth : (given : Inferred) (e : core.Expr) → may_be_truth given ≡ true → HasInferred p given e → HasSort p.schemes p.scope Truth e
   as_truth (inferred.Value j) e h g = absurd cc
   as_truth inferred.Truth e h g = g
   as_truth inferred.Null e h g = absurd cc
   as_truth inferred.Unknown e h g = absurd g
 
-  pub as_value : (given : Inferred) (e : core.Expr) → may_be_value given ≡ true → Gives p given e → (k : Kind) × HasSort p.schemes p.scope (Of k) e
+  pub as_value : (given : Inferred) (e : core.Expr) → may_be_value given ≡ true → HasInferred p given e → (k : Kind) × HasSort p.schemes p.scope (Of k) e
   as_value (inferred.Value j) e h g = (j, g)
   as_value inferred.Truth e h g = absurd cc
   as_value inferred.Null e h g = (kinds.Int, g kinds.Int)
@@ -65,15 +65,15 @@ module _ (p : Place) where
 
   -- ---- operators
 
-  as_both : (k : Kind) (a b : Inferred) (x y : core.Expr) → both k a b ≡ true → Gives p a x → Gives p b y
+  as_both : (k : Kind) (a b : Inferred) (x y : core.Expr) → both k a b ≡ true → HasInferred p a x → HasInferred p b y
       → HasSort p.schemes p.scope (Of k) x × HasSort p.schemes p.scope (Of k) y
   as_both k a b x y h g q = let t = and_parts (may_be a k) (may_be b k) h in (as_kind a k x t.0 g, as_kind b k y t.1 q)
 
-  as_truths : (a b : Inferred) (x y : core.Expr) → (may_be_truth a && may_be_truth b) ≡ true → Gives p a x → Gives p b y
+  as_truths : (a b : Inferred) (x y : core.Expr) → (may_be_truth a && may_be_truth b) ≡ true → HasInferred p a x → HasInferred p b y
       → HasSort p.schemes p.scope Truth x × HasSort p.schemes p.scope Truth y
   as_truths a b x y h g q = let t = and_parts (may_be_truth a) (may_be_truth b) h in (as_truth a x t.0 g, as_truth b y t.1 q)
 
-  some_both : (a b : Inferred) (x y : core.Expr) → (both kinds.Int a b || both kinds.Text a b) ≡ true → Gives p a x → Gives p b y
+  some_both : (a b : Inferred) (x y : core.Expr) → (both kinds.Int a b || both kinds.Text a b) ≡ true → HasInferred p a x → HasInferred p b y
       → (k : Kind) × (HasSort p.schemes p.scope (Of k) x × HasSort p.schemes p.scope (Of k) y)
   some_both a b x y h g q = go (both kinds.Int a b) refl h
     where
@@ -81,7 +81,7 @@ module _ (p : Place) where
       go true is e = (kinds.Int, as_both kinds.Int a b x y is g q)
       go false is e = (kinds.Text, as_both kinds.Text a b x y e g q)
 
-  pub operator_gives : (op : Operator) (a b : Inferred) (x y : core.Expr) → operands_fit op a b ≡ true → Gives p a x → Gives p b y → Gives p (given_by_operator op) (core.Op op x y)
+  pub operator_gives : (op : Operator) (a b : Inferred) (x y : core.Expr) → operands_fit op a b ≡ true → HasInferred p a x → HasInferred p b y → HasInferred p (given_by_operator op) (core.Op op x y)
   operator_gives operators.Plus a b x y h g q = (refl, as_both kinds.Int a b x y h g q)
   operator_gives operators.Minus a b x y h g q = (refl, as_both kinds.Int a b x y h g q)
   operator_gives operators.Times a b x y h g q = (refl, as_both kinds.Int a b x y h g q)
@@ -118,13 +118,13 @@ module _ (p : Place) where
   variable_sound : (i : ℕ) → i < length p.scope.vars → IsSound p (of_referent p (Some (Variable i))) (refer (Some (Variable i)))
   variable_sound i lt =
       let k = variable_kind i lt in
-      let F : Option Kind → Type 0 = λ o. Gives p (of_kind o) (core.Var i) in
+      let F : Option Kind → Type 0 = λ o. HasInferred p (of_kind o) (core.Var i) in
       record { own = lt; fits = tt; gives = subst F (sym k.1) (k.0, refl, k.1) }
 
   parameter_sound : (i : ℕ) → i < length p.scope.params → IsSound p (of_referent p (Some (Param i))) (refer (Some (Param i)))
   parameter_sound i lt =
       let k = parameter_kind i lt in
-      let F : Option Kind → Type 0 = λ o. Gives p (of_kind o) (core.Param i) in
+      let F : Option Kind → Type 0 = λ o. HasInferred p (of_kind o) (core.Param i) in
       record { own = lt; fits = tt; gives = subst F (sym k.1) (k.0, refl, k.1) }
 
   pub name_sound : (name : Name) (a b : Option ℕ) → variable_named p name ≡ a → parameter_named p name ≡ b → is_some (referent_or a b) ≡ true

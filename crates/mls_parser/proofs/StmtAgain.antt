@@ -21,7 +21,7 @@ use Rattle.mls_translang.specs.declared.block.Stmt.TheVariants as forms
 use Rattle.mls_translang.specs.Fits.{IsLabel, ExprFits}
 use Rattle.mls_translang.specs.Kinds.{Of, HasKind, Assigns}
 use Rattle.mls_translang.specs.Scope.{kind_of_var}
-use Rattle.mls_translang.specs.Tokens.{Place, name_at as name_of, label_token, rel_token, var_token, expr_tokens, list_tokens, set_tokens, class_tokens, update_end, write_end, stmt_end}
+use Rattle.mls_translang.specs.Tokens.{Context, name_at as name_of, label_token, rel_token, var_token, expr_tokens, list_tokens, set_tokens, class_tokens, update_end, write_end, stmt_end}
 use Rattle.mls_translang.specs.Tree.{Expr, Insert, Update, Delete}
 use Rattle.mls_translang.specs.Tx.{IsOwn}
 use Rattle.mls_parser.specs.declared.fault.PlacedFault.{PlacedFault}
@@ -42,14 +42,14 @@ use Rattle.mls_parser.proofs.ListAgain.{NoDot, AreListed, AreSet, list_again, se
 use Rattle.mls_parser.proofs.NextLemmas.{Gets, Same, gets_more, gets_then, placed_then, gets_done, gets_noted, gets_is, sign_gets, word_gets, name_gets, behind_gets, took_word, after_took, no_word, none, none_two, none_known}
 
 -- a variable that may have a number, if there is one
-abbrev pub HasOutcome : Place → Option ℕ → Type 0
+abbrev pub HasOutcome : Context → Option ℕ → Type 0
 HasOutcome p o = IfSome o (λ x. x < length p.scope.vars) × IfSome o (λ x. kind_of_var p.scope x ≡ Some kinds.Int)
 
 -- behind the first word of a write
-abbrev pub keyed : Place → ℕ → List Expr → List Token
+abbrev pub keyed : Context → ℕ → List Expr → List Token
 keyed p relation key = rel_token p relation ∷ Word (codes "key") ∷ list_tokens p key
 
-module _ (p : Place) (n : HasNames p) where
+module _ (p : Context) (n : HasNames p) where
   -- ---- names
 
   pub label_gets : (w : Name) (i : ℕ) (us : List Token) (s : State) → IsLabel p.policy i → without_places s.1.placed ≡ Word w ∷ label_token p i ∷ us → Gets (label_behind p.policy w s) s (Same i) us

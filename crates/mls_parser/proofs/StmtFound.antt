@@ -19,7 +19,7 @@ use Rattle.mls_translang.specs.Blocks.{block_of}
 use Rattle.mls_translang.specs.Fits.{IsLabel, StmtFits}
 use Rattle.mls_translang.specs.Kinds.{Assigns, StmtKinds}
 use Rattle.mls_translang.specs.Scope.{kind_of_var}
-use Rattle.mls_translang.specs.Tokens.{Place, label_token, rel_token, var_token, list_tokens, outcome_tokens, write_end, stmt_end, stmt_tokens}
+use Rattle.mls_translang.specs.Tokens.{Context, label_token, rel_token, var_token, list_tokens, outcome_tokens, write_end, stmt_end, stmt_tokens}
 use Rattle.mls_translang.specs.Tree.{Expr, Stmt, Assign, Release, Emit, Do}
 use Rattle.mls_translang.specs.Tx.{IsOwn, StmtIsOwn}
 use Rattle.mls_parser.specs.declared.fault.TextCause.TheVariants as cause
@@ -40,7 +40,7 @@ use Rattle.mls_parser.proofs.FoundSteps.{Found, found_none, found_next, found_no
 use Rattle.mls_parser.proofs.ListFound.{right_read, IsList, list_read}
 use Rattle.mls_parser.proofs.NumberLemmas.{label_spelled, relation_spelled, variable_there, of_known}
 use Rattle.mls_parser.proofs.PassedLemmas.{word_taken}
-use Rattle.mls_parser.proofs.SortLemmas.{Gives, as_kind, as_value, variable_within, variable_kind}
+use Rattle.mls_parser.proofs.SortLemmas.{HasInferred, as_kind, as_value, variable_within, variable_kind}
 
 -- ---- labels and relations
 
@@ -48,7 +48,7 @@ pub label_known : (policy : Policy) (name : Name) (at : ℕ) → known (label_na
 unfolding label_named
 label_known policy name at h = of_known (label_named policy name) at (IsLabel policy) h (λ i e. (label_found policy.labels name i e).0)
 
-module _ (p : Place) where
+module _ (p : Context) where
   relation_within : (name : Name) (at : ℕ) → known (relation_named p.schemes name) at ≡ [] → numbered (relation_named p.schemes name) < length p.schemes
   unfolding relation_named
   relation_within name at h = of_known (relation_named p.schemes name) at (λ i. i < length p.schemes) h (λ i e. (relation_found p.schemes name i e).0)
@@ -116,7 +116,7 @@ module _ (p : Place) where
   target_is n gives h = target_at n gives (variable_named p n.0) refl h
 
   -- what is assigned has the variable's kind
-  pub assigns : (n : PlacedName) (g : Given) (i : ℕ) → IsTarget g.gives n i → Gives p g.gives g.expr → Assigns p.schemes p.scope i g.expr
+  pub assigns : (n : PlacedName) (g : Given) (i : ℕ) → IsTarget g.gives n i → HasInferred p g.gives g.expr → Assigns p.schemes p.scope i g.expr
   assigns n g i t h = (t.kind, t.is_kind, as_kind p g.gives t.kind g.expr t.fits h)
 
   -- the variable of an outcome, and the end
@@ -285,7 +285,7 @@ module _ (p : Place) where
 
   -- what is released, behind its value
   abbrev IsAimed : Given → List Token → Form → Type 0
-  IsAimed g ts form = Gives p g.gives g.expr → IsReleased g ts form
+  IsAimed g ts form = HasInferred p g.gives g.expr → IsReleased g ts form
 
   aimed_read : (g : Given) (s : State) (x : Form × State)
       → (lower_behind p (codes "to") s >>= λ to. name_behind (codes "into") to.1 >>= λ n. sign_at sign.Semicolon n.1 >>= λ end. Ok (forms.Release g.expr to.0 (variable p n.0), note (target_faults p n.0 (variable_named p n.0.0) g.gives) end.1)) ≡ Ok x

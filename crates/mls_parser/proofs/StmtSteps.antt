@@ -5,7 +5,7 @@ use Rattle.mls_tokens.specs.declared.sign.Sign.TheVariants.{RightBrace}
 use Rattle.mls_translang.specs.declared.block.Stmt.{Stmt}
 use Rattle.mls_translang.specs.declared.block.Stmt.TheVariants as stmts
 use Rattle.mls_translang.specs.Blocks.{block_of}
-use Rattle.mls_translang.specs.Tokens.{Place, at_row}
+use Rattle.mls_translang.specs.Tokens.{Context, at_row}
 use Rattle.mls_translang.specs.Tree.{Expr, Block}
 use Rattle.mls_parser.specs.declared.fault.PlacedFault.{PlacedFault}
 use Rattle.mls_parser.specs.declared.fault.TextCause.TheVariants.{Depth}
@@ -17,10 +17,10 @@ use Rattle.mls_parser.specs.ReadBlock.{Counted, braced, other_at, blocks_at, gua
 -- ---- one level of depth
 
 -- a statement that is too deep, or else one with these blocks inside
-abbrev stmt_by : Bool → (Place → ℕ → State → Counted Block) → Place → ℕ → State → Counted Stmt
+abbrev stmt_by : Bool → (Context → ℕ → State → Counted Block) → Context → ℕ → State → Counted Stmt
 stmt_by deep inner p count s = token (pass_known opening_of) s >>= λ o. if deep then Err (fault o.0.1 Depth) else opened inner p o.0.0 o.0.1 count o.1
 
-pub stmts_is : (d : ℕ) (p : Place) (count : ℕ) (s : State) → stmts_at d p count s ≡ stmts_with (stmt_at d p) count s
+pub stmts_is : (d : ℕ) (p : Context) (count : ℕ) (s : State) → stmts_at d p count s ≡ stmts_with (stmt_at d p) count s
 unfolding stmts_at stmt_at
 stmts_is zero p count s = refl
 stmts_is (suc d) p count s =
@@ -33,7 +33,7 @@ stmts_is (suc d) p count s =
 pub up_to : (a b d : ℕ) → a ≤ b → b ≤ d → a ≤ d
 up_to a b d h k = omega arith
 
-module _ (inner : Place → ℕ → State → Counted Block) (p : Place) (count : ℕ) (s m r : State) where
+module _ (inner : Context → ℕ → State → Counted Block) (p : Context) (count : ℕ) (s m r : State) where
   pub blocks_read : (one other : Block) (n k : ℕ) → braced inner p count s ≡ Ok ((one, n), m) → other_at inner p n m ≡ Ok ((other, k), r) → blocks_at inner p count s ≡ Ok (((one, other), k), r)
   unfolding blocks_at
   blocks_read one other n k a b =
@@ -52,7 +52,7 @@ module _ (inner : Place → ℕ → State → Counted Block) (p : Place) (count 
 
 -- ---- statement by statement
 
-module _ (d : ℕ) (p : Place) (first : ℕ) (start : State) where
+module _ (d : ℕ) (p : Context) (first : ℕ) (start : State) where
   -- what is left to read, behind the statements that were read, is the whole
   pub record StmtsSoFar (front : List Stmt) (count : ℕ) (s : State) : Type 0 where
     pub most : ℕ

@@ -30,7 +30,7 @@ use Rattle.mls_translang.specs.declared.tx.Parameter.{Parameter}
 use Rattle.mls_translang.specs.Fits.{IsLabel, IsReadUnder}
 use Rattle.mls_scheme.specs.Named.{has_name}
 use Rattle.mls_translang.specs.Tells.{TellsBlock, TellsTx, TellsEach, Tells}
-use Rattle.mls_translang.specs.Tokens.{Place, label_token, kind_token, param_tokens, params_tokens, var_tokens, braced as braced_tokens, outermost as place_of}
+use Rattle.mls_translang.specs.Tokens.{Context, label_token, kind_token, param_tokens, params_tokens, var_tokens, braced as braced_tokens, outermost as place_of}
 use Rattle.mls_translang.specs.Tree.{Block}
 use Rattle.mls_translang.specs.Tx.{Tx, IsTx}
 use Rattle.mls_parser.specs.declared.draft.Draft.{Draft}
@@ -80,7 +80,7 @@ pushed_more front (x ∷ xs) = pushed_more (more front x) xs ∙ append_assoc fr
 
 -- ---- parameters
 
-module _ (p : Place) (n : HasNames p) where
+module _ (p : Context) (n : HasNames p) where
   record FitsParam (front : Declared Parameter) (x : Name × Parameter) : Type 0 where
     named : is_name x.0 ≡ true
     label : IsLabel p.policy x.1.label

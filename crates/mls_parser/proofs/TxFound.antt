@@ -26,7 +26,7 @@ use Rattle.mls_tokens.proofs.TokensLemmas.{tokens_exact}
 use Rattle.mls_translang.specs.declared.tx.Parameter.{Parameter}
 use Rattle.mls_translang.specs.Fits.{IsLabel, IsReadUnder}
 use Rattle.mls_translang.specs.Tells.{TellsBlock, TellsTx, TellsEach, Tells}
-use Rattle.mls_translang.specs.Tokens.{Place, braced, var_tokens, outermost as place_of}
+use Rattle.mls_translang.specs.Tokens.{Context, braced, var_tokens, outermost as place_of}
 use Rattle.mls_translang.specs.Tree.{Block}
 use Rattle.mls_translang.specs.Tx.{IsTx}
 use Rattle.mls_parser.specs.declared.draft.Draft.{Draft}
@@ -155,7 +155,7 @@ module _ (policy : Policy) (schemes : Schemes) where
   body_read : (hi : ℕ) (params : List (Name × Parameter)) (s : State) (x : (List (Name × Kind) × Block) × State) → body_at policy schemes hi params s ≡ Ok x → Found (IsBody hi params) s x
   unfolding body_at
   body_read hi params s =
-      let place : List (Name × Kind) → Place = outermost policy schemes hi params in
+      let place : List (Name × Kind) → Context = outermost policy schemes hi params in
       found_next (IsBody hi params) (λ at ts y. IsUnbraced hi params ts y) s (sign_at sign.LeftBrace s)
       (λ brace. vars_at params brace.1 >>= λ vars. stmts_at 16 (place vars.0) 0 vars.1 >>= λ b. Ok ((vars.0, b.0.0), b.1)) (sign_read sign.LeftBrace s)
       (λ brace.

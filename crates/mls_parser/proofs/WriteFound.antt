@@ -8,7 +8,7 @@ use Rattle.mls_tokens.specs.Text.{separated}
 use Rattle.mls_translang.specs.declared.block.Stmt.{Stmt as Form}
 use Rattle.mls_translang.specs.declared.block.Stmt.TheVariants as forms
 use Rattle.mls_translang.specs.Fits.{IsLabel}
-use Rattle.mls_translang.specs.Tokens.{Place, label_token, list_tokens, set_tokens, class_tokens, update_end, write_end, stmt_end}
+use Rattle.mls_translang.specs.Tokens.{Context, label_token, list_tokens, set_tokens, class_tokens, update_end, write_end, stmt_end}
 use Rattle.mls_translang.specs.Tree.{Expr, Write_at, Insert, Update, Delete}
 use Rattle.mls_parser.specs.Noted.{State, word_at, label_behind}
 use Rattle.mls_parser.specs.ReadList.{list_at, sets_at}
@@ -18,7 +18,7 @@ use Rattle.mls_parser.proofs.ListFound.{IsList, list_read}
 use Rattle.mls_parser.proofs.SetFound.{AreNew, sets_read}
 use Rattle.mls_parser.proofs.StmtFound.{IsLabelled, label_read, IsOutcome, outcome_read, IsWritten, written_read, keyed_read, IsPlain}
 
-module _ (p : Place) where
+module _ (p : Context) where
   abbrev of_rel : ℕ → Scheme
   of_rel relation = scheme_of p.schemes relation
 

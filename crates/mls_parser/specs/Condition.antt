@@ -14,7 +14,7 @@ use Rattle.mls_translang.specs.declared.operator.Operator.TheVariants.{Equal, Un
 use Rattle.mls_translang.specs.declared.operator.Operator.TheVariants.{And, Or}
 use Rattle.mls_translang.specs.Fits.{ExprFits}
 use Rattle.mls_translang.specs.Kinds.{Truth, HasSort}
-use Rattle.mls_translang.specs.Tokens.{Place, operator_token, expr_tokens}
+use Rattle.mls_translang.specs.Tokens.{Context, operator_token, expr_tokens}
 use Rattle.mls_translang.specs.Tree.{Expr, Op}
 use Rattle.mls_translang.specs.Tx.{nesting, HasOwn}
 use Rattle.mls_parser.specs.Noted.{State}
@@ -44,7 +44,7 @@ pub record SpellsBetween (IsLeft : Expr → List Token → Type 0) (op : Operato
   pub spells_left : IsLeft left before
   pub spells_right : IsRight right behind
 
-module _ (p : Place) where
+module _ (p : Context) where
   -- an expression of a test
   pub record SpellsSide (e : Expr) (ts : List Token) : Type 0 where
     pub tokens : ts ≡ expr_tokens p e

@@ -7,7 +7,7 @@ use Rattle.mls_translang.specs.declared.operator.Operator.{Operator}
 use Rattle.mls_translang.specs.declared.operator.Operator.TheVariants.{Plus, Minus, Times, And, Or}
 use Rattle.mls_translang.specs.Scope.{kind_of_var, kind_of_param}
 use Rattle.mls_translang.specs.Kinds.{field_of}
-use Rattle.mls_translang.specs.Tokens.{Place}
+use Rattle.mls_translang.specs.Tokens.{Context}
 use Rattle.mls_parser.specs.declared.names.Referent.{Referent}
 use Rattle.mls_parser.specs.declared.names.Referent.TheVariants.{Variable, Parameter}
 use Rattle.mls_parser.specs.declared.inferred.Inferred.{Inferred}
@@ -63,7 +63,7 @@ abbrev pub of_kind : Option Kind → Inferred
 of_kind None = inferred.Unknown
 of_kind (Some k) = inferred.Value k
 
-abbrev pub of_referent : Place → Option Referent → Inferred
+abbrev pub of_referent : Context → Option Referent → Inferred
 of_referent p (Some (Variable i)) = of_kind (kind_of_var p.scope i)
 of_referent p (Some (Parameter i)) = of_kind (kind_of_param p.scope i)
 of_referent p None = inferred.Unknown

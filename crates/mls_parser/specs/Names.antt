@@ -5,7 +5,7 @@ use Rattle.std.specs.List.{AllByRecursion}
 use Rattle.mls_lattice.specs.Policy.{Name, Policy}
 use Rattle.mls_scheme.specs.Scheme.{Scheme, Schemes, scheme_of}
 use Rattle.mls_translang.specs.Scope.{row_at}
-use Rattle.mls_translang.specs.Tokens.{Place}
+use Rattle.mls_translang.specs.Tokens.{Context}
 use Rattle.mls_parser.specs.declared.names.Referent.{Referent}
 use Rattle.mls_parser.specs.declared.names.Referent.TheVariants.{Variable, Parameter}
 
@@ -17,14 +17,14 @@ label_named policy name = position (λ l. bytes_eq l.name name) policy.labels
 unfoldable pub relation_named : Schemes → Name → Option ℕ
 relation_named schemes name = position (λ s. bytes_eq s.name name) schemes
 
-unfoldable pub variable_named : Place → Name → Option ℕ
+unfoldable pub variable_named : Context → Name → Option ℕ
 variable_named p name = position (λ v. bytes_eq v.0 name) p.scope.vars
 
-unfoldable pub parameter_named : Place → Name → Option ℕ
+unfoldable pub parameter_named : Context → Name → Option ℕ
 parameter_named p name = position (λ x. bytes_eq x.0 name) p.scope.params
 
 -- the innermost loop whose row has the name
-unfoldable pub row_named : Place → Name → Option ℕ
+unfoldable pub row_named : Context → Name → Option ℕ
 row_named p name = position (λ r. bytes_eq r.name name) p.scope.rows
 
 abbrev pub or_behind : Option ℕ → ℕ → Option ℕ → Option ℕ
@@ -51,19 +51,19 @@ referent_or (Some i) parameter = Some (Variable i)
 referent_or None (Some i) = Some (Parameter i)
 referent_or None None = None
 
-abbrev pub referent : Place → Name → Option Referent
+abbrev pub referent : Context → Name → Option Referent
 referent p name = referent_or (variable_named p name) (parameter_named p name)
 
-abbrev pub IsReferent : Place → Referent → Type 0
+abbrev pub IsReferent : Context → Referent → Type 0
 IsReferent p (Variable i) = i < length p.scope.vars
 IsReferent p (Parameter i) = i < length p.scope.params
 
 -- the relation of the row at a depth
-abbrev pub row_scheme : Place → ℕ → Scheme
+abbrev pub row_scheme : Context → ℕ → Scheme
 row_scheme p depth = scheme_of p.schemes (row_at p.scope depth).relation
 
 -- rows are of relations, the ceiling is a label, and numbers are few
-pub record IsPlace (p : Place) : Type 0 where
+pub record IsContext (p : Context) : Type 0 where
   pub rows : AllByRecursion (λ r. r.relation < length p.schemes) p.scope.rows
   pub hi : p.hi < length p.policy.labels
   pub few_params : length p.scope.params ≤ 64
@@ -71,5 +71,5 @@ pub record IsPlace (p : Place) : Type 0 where
   pub few_rows : length p.scope.rows ≤ 16
 
 -- whether a name of a row, a parameter or a variable is in scope
-abbrev pub is_taken : Place → Name → Bool
+abbrev pub is_taken : Context → Name → Bool
 is_taken p name = is_some (row_named p name) || (is_some (parameter_named p name) || is_some (variable_named p name))

@@ -79,5 +79,5 @@ relation_at schemes s =
     >>= λ n. Ok (numbered (relation_named schemes n.0.0), note (known (relation_named schemes n.0.0) n.0.1) n.1)
 
 -- What a function returned, seen by view, is what reading gives, unless memory ran out.
-abbrev pub Gives : {X Y : Type 0} → (X → Y) → Result X PlacedFault → Result Y PlacedFault → Type 0
-Gives = GivesUnless (λ e. e.cause ≡ Memory)
+abbrev pub GivesPlaced : {X Y : Type 0} → (X → Y) → Result X PlacedFault → Result Y PlacedFault → Type 0
+GivesPlaced = GivesUnless (λ e. e.cause ≡ Memory)

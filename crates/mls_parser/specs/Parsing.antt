@@ -29,10 +29,6 @@ noted policy schemes bytes = transactions_at policy schemes ([], tokens_at bytes
 unfoldable pub parsed : Policy → Schemes → List ℕ → Result (List Tx) PlacedFault
 parsed policy schemes bytes = judged (noted policy schemes bytes)
 
--- What a function returned is what reading gives, unless memory ran out.
-abbrev pub Gives : Result (List Tx) PlacedFault → Result (List Tx) PlacedFault → Type 0
-Gives = GivesUnless (λ f. f.cause ≡ Memory) (λ txs. txs)
-
 abbrev pub placed_in : List ℕ → Result (List Tx) PlacedFault → Result (List Tx) TextFault
 placed_in bytes (Ok txs) = Ok txs
 placed_in bytes (Err f) = Err (in_text bytes f)

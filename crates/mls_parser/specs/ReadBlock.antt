@@ -13,7 +13,7 @@ use Rattle.mls_translang.specs.declared.block.Stmt.{Stmt}
 use Rattle.mls_translang.specs.declared.block.Stmt.TheVariants as stmts
 use Rattle.mls_translang.specs.Blocks.{block_of}
 use Rattle.mls_translang.specs.Scope.{kind_of_var}
-use Rattle.mls_translang.specs.Tokens.{Place, at_row}
+use Rattle.mls_translang.specs.Tokens.{Context, at_row}
 use Rattle.mls_translang.specs.Tree.{Expr, Insert, Update, Delete, Block, End}
 use Rattle.mls_parser.specs.declared.fault.TextCause.TheVariants as cause
 use Rattle.mls_parser.specs.declared.fault.PlacedFault.{PlacedFault}
@@ -35,10 +35,10 @@ use Rattle.mls_parser.specs.Words.{opening_of, pass_known}
 
 -- ---- names
 
-abbrev pub label : Place → PlacedName → ℕ
+abbrev pub label : Context → PlacedName → ℕ
 label p n = numbered (label_named p.policy n.0)
 
-abbrev pub variable : Place → PlacedName → ℕ
+abbrev pub variable : Context → PlacedName → ℕ
 variable p n = numbered (variable_named p n.0)
 
 -- a value that a variable may have
@@ -47,11 +47,11 @@ fits_variable None gives = may_be_value gives
 fits_variable (Some k) gives = may_be gives k
 
 -- a variable that gets what an expression gives
-abbrev pub target_faults : Place → PlacedName → Option ℕ → Inferred → List PlacedFault
+abbrev pub target_faults : Context → PlacedName → Option ℕ → Inferred → List PlacedFault
 target_faults p target None gives = unless false target.1 cause.UnknownName
 target_faults p target (Some i) gives = unless (fits_variable (kind_of_var p.scope i) gives) target.1 cause.Kind
 
-module _ (p : Place) where
+module _ (p : Context) where
   abbrev pub targeted : PlacedName → Inferred → State → State
   targeted n gives s = note (target_faults p n (variable_named p n.0) gives) s
 
@@ -185,7 +185,7 @@ abbrev pub with_count : {X : Type 0} → ℕ → X × State → Counted X
 with_count count x = Ok ((x.0, count), x.1)
 
 -- by the blocks that may stand inside at a place, each read up to the brace that closes it
-module _ (inner : Place → ℕ → State → Counted Block) (p : Place) where
+module _ (inner : Context → ℕ → State → Counted Block) (p : Context) where
   abbrev pub braced : ℕ → State → Counted Block
   braced count s = sign_at LeftBrace s >>= λ brace. inner p count brace.1
 
@@ -208,7 +208,7 @@ module _ (inner : Place → ℕ → State → Counted Block) (p : Place) where
     blocks ← blocks_at count guard.1
     Ok ((stmts.If guard.0 blocks.0.0.0 blocks.0.0.1, blocks.0.1), blocks.1)
 
-module _ (inner : Place → ℕ → State → Counted Block) (p : Place) where
+module _ (inner : Context → ℕ → State → Counted Block) (p : Context) where
   abbrev pub for_at : ℕ → State → Counted Stmt
   for_at count s = do
     head ← loop_head_at p s
@@ -249,11 +249,11 @@ module _ (stmt : ℕ → State → Counted Stmt) where
   stmts_with count s = stmts_from (suc (1000 - count)) [] count s
 
 -- statements up to the brace that closes them, with d others inside one another at most
-unfoldable pub stmts_at : ℕ → Place → ℕ → State → Counted Block
+unfoldable pub stmts_at : ℕ → Context → ℕ → State → Counted Block
 stmts_at zero p count s = stmts_with deep_stmt count s
 stmts_at (suc d) p count s = stmts_with (stmt_with (λ q c r. stmts_at d q c r) p) count s
 
 -- one of them
-unfoldable pub stmt_at : ℕ → Place → ℕ → State → Counted Stmt
+unfoldable pub stmt_at : ℕ → Context → ℕ → State → Counted Stmt
 stmt_at d p count s =
     token (pass_known opening_of) s >>= λ o. if d == 0 then Err (fault o.0.1 cause.Depth) else opened (λ q c r. stmts_at (d - 1) q c r) p o.0.0 o.0.1 count o.1

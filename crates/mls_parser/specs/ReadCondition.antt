@@ -18,7 +18,7 @@ use Rattle.mls_translang.specs.declared.operator.Operator.TheVariants.{Equal, Un
 use Rattle.mls_translang.specs.declared.operator.Operator.TheVariants.{And, Or}
 use Rattle.mls_translang.specs.declared.row.LoopRow.{LoopRow}
 use Rattle.mls_translang.specs.Scope.{Scope}
-use Rattle.mls_translang.specs.Tokens.{Place}
+use Rattle.mls_translang.specs.Tokens.{Context}
 use Rattle.mls_translang.specs.Tree.{Expr, Known, Null, Var, Param, Field, No, Op}
 use Rattle.mls_parser.specs.declared.fault.PlacedFault.{PlacedFault}
 use Rattle.mls_parser.specs.declared.fault.TextCause.TheVariants.{Expected, Kind as Wrong_kind, Depth}
@@ -96,7 +96,7 @@ abbrev pub with_next : (Operator → Given → State → Read Given) → Given �
 with_next more g (None, s) = Ok (g, s)
 with_next more g (Some (op, test), s) = more op.0 (between g op test) (note (between_faults g op test) s)
 
-module _ (p : Place) where
+module _ (p : Context) where
   abbrev pub compared : Given → State → Option ((Operator × ℕ) × State) → Read Given
   compared left s None = Ok (left, s)
   compared left s (Some op) =
@@ -146,7 +146,7 @@ abbrev pub written_scope : Schemes → ℕ → Scope
 written_scope schemes relation = record { params = []; vars = row_vars (scheme_of schemes relation); rows = row_of schemes relation ∷ [] }
 
 -- the ceiling is not looked at
-abbrev pub written_place : Policy → Schemes → ℕ → Place
+abbrev pub written_place : Policy → Schemes → ℕ → Context
 written_place policy schemes relation = record { policy = policy; schemes = schemes; hi = 0; scope = written_scope schemes relation }
 
 -- and are those of the row

@@ -5,7 +5,7 @@ use Rattle.mls_scheme.specs.Value.{kind_of}
 use Rattle.mls_tokens.specs.declared.sign.Sign.TheVariants.{RightParen, Dot}
 use Rattle.mls_tokens.specs.Passing.{PlacedName}
 use Rattle.mls_translang.specs.declared.operator.Operator.{Operator}
-use Rattle.mls_translang.specs.Tokens.{Place}
+use Rattle.mls_translang.specs.Tokens.{Context}
 use Rattle.mls_translang.specs.Tree.{Expr, Known, Null, Var, Param, Field, No, Op}
 use Rattle.mls_parser.specs.declared.fault.TextCause.TheVariants as cause
 use Rattle.mls_parser.specs.declared.fault.PlacedFault.{PlacedFault}
@@ -33,10 +33,10 @@ refer (Some (Variable i)) = Var i
 refer (Some (Parameter i)) = Param i
 refer None = Null
 
-abbrev pub name_given : Place → PlacedName → Given
+abbrev pub name_given : Context → PlacedName → Given
 name_given p n = given (refer (referent p n.0)) (of_referent p (referent p n.0)) n.1
 
-module _ (p : Place) where
+module _ (p : Context) where
   -- ROW.ATTRIBUTE
   abbrev pub attribute_given : ℕ → ℕ → Option ℕ → Given
   attribute_given at depth number = given (Field depth (numbered number)) (of_attribute (row_scheme p depth) number) at
@@ -98,7 +98,7 @@ module _ (operand : State → Read Given) where
 abbrev pub too_deep : {X : Type 0} → ℕ → State → Read X
 too_deep at s = Err (fault at cause.Depth)
 
-module _ (p : Place) where
+module _ (p : Context) where
   -- an expression whose `(` and `not` stand inside no more than d others
   unfoldable pub expr_at : ℕ → State → Read Given
   expr_at zero s = term_at p too_deep too_deep s

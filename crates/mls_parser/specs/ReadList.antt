@@ -6,7 +6,7 @@ use Rattle.mls_lattice.specs.Reading.{◌>>=◌}
 use Rattle.mls_scheme.specs.Scheme.{Attribute, Scheme}
 use Rattle.mls_tokens.specs.declared.sign.Sign.TheVariants.{LeftParen, RightParen, Comma, Equals}
 use Rattle.mls_tokens.specs.Passing.{refused, PlacedName}
-use Rattle.mls_translang.specs.Tokens.{Place}
+use Rattle.mls_translang.specs.Tokens.{Context}
 use Rattle.mls_translang.specs.Tree.{Expr}
 use Rattle.mls_parser.specs.declared.fault.TextCause.TheVariants as cause
 use Rattle.mls_parser.specs.declared.fault.PlacedFault.{PlacedFault}
@@ -108,7 +108,7 @@ abbrev pub fits_item : Option Attribute → Inferred → Bool
 fits_item None gives = may_be_value gives
 fits_item (Some a) gives = may_be gives a.1.kind
 
-module _ (p : Place) where
+module _ (p : Context) where
   -- an expression more, behind those before
   unfoldable pub item_at : List Attribute → List Expr → State → Read (List Expr)
   item_at attributes front s = item_of (whole_at p) (λ g. g.expr) (λ g. g.at) (λ a g. fits_item a g.gives) (slice_get attributes) front s

@@ -11,7 +11,7 @@ use Rattle.mls_tokens.specs.declared.sign.Sign.TheVariants.{LeftParen, RightPare
 use Rattle.mls_tokens.specs.Passing.{refused, PlacedName, has_ended}
 use Rattle.mls_translang.specs.declared.tx.Parameter.{Parameter}
 use Rattle.mls_scheme.specs.Named.{has_name}
-use Rattle.mls_translang.specs.Tokens.{Place}
+use Rattle.mls_translang.specs.Tokens.{Context}
 use Rattle.mls_translang.specs.Tree.{Block}
 use Rattle.mls_translang.specs.Tx.{Tx}
 use Rattle.mls_parser.specs.declared.draft.Draft.{Draft}
@@ -124,7 +124,7 @@ module _ (policy : Policy) (schemes : Schemes) where
     Ok ((name.0.0, numbered (label_named policy lo.0.0), numbered (label_named policy hi.0.0)), note (levels_faults policy lo.0 hi.0) hi.1)
 
   -- where its statements stand
-  abbrev pub outermost : ℕ → List (Name × Parameter) → List (Name × Kind) → Place
+  abbrev pub outermost : ℕ → List (Name × Parameter) → List (Name × Kind) → Context
   outermost hi params vars = record { policy = policy; schemes = schemes; hi = hi; scope = record { params = params; vars = vars; rows = [] } }
 
   -- its variables and its statements

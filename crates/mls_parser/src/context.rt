@@ -3,7 +3,7 @@ ghost use Rattle.std.specs.Prelude.{◌≡◌, ◌<◌, ◌≤◌, length, Some,
 ghost use Rattle.mls_scheme.specs.Scheme.{IsScheme};
 ghost use Rattle.mls_translang.specs.Fits.{width};
 ghost use Rattle.mls_parser.specs.Names.{label_named, relation_named, variable_named, parameter_named, row_named};
-ghost use Rattle.mls_parser.specs.Names.{numbered, referent, row_scheme, is_taken, IsReferent, IsPlace};
+ghost use Rattle.mls_parser.specs.Names.{numbered, referent, row_scheme, is_taken, IsReferent, IsContext};
 ghost use Rattle.mls_parser.specs.Infer.{of_referent, of_attribute};
 
 use crate::inferred::Inferred;
@@ -27,17 +27,17 @@ pub(crate) struct Context<'a> {
 impl<'a> Model for Context<'a> {
     ghost use Rattle.std.specs.Coded.{codes};
     ghost use Rattle.mls_lattice.specs.Lattice.{pair_code};
-    ghost use Rattle.mls_translang.specs.Tokens.{Place};
+    ghost use Rattle.mls_translang.specs.Tokens.{Context};
 
-    ghost Value = { Place };
+    ghost Value = { Context };
 
     ghost coded = { Prim.hlevel (codes, pair_code) };
 
-    ghost use Rattle.mls_parser.specs.Names.{IsPlace};
+    ghost use Rattle.mls_parser.specs.Names.{IsContext};
 
     ghost view = { λ a. record { policy = a.policy.now; schemes = a.schemes.now; hi = a.hi; scope = record { params = a.params.now; vars = a.vars.now; rows = a.rows.now } } };
 
-    ghost invariant = { λ a. IsPlace (record { policy = a.policy.now; schemes = a.schemes.now; hi = a.hi; scope = record { params = a.params.now; vars = a.vars.now; rows = a.rows.now } }) };
+    ghost invariant = { λ a. IsContext (record { policy = a.policy.now; schemes = a.schemes.now; hi = a.hi; scope = record { params = a.params.now; vars = a.vars.now; rows = a.rows.now } }) };
 }
 
 /// The number of the label of a name.

@@ -1,7 +1,7 @@
 //! The parameters and variables of a transaction, from the tokens that are left.
 ghost use Rattle.std.specs.Prelude.{◌≡◌, [], ◌+◌, ◌<◌, ◌≤◌, length, option_map, IfOk, IfSome, IsNone, OnOk};
 ghost use Rattle.mls_scheme.specs.Named.{has_name};
-ghost use Rattle.mls_parser.specs.Noted.{Gives};
+ghost use Rattle.mls_parser.specs.Noted.{GivesPlaced};
 ghost use Rattle.mls_parser.specs.ReadList.{items_at};
 ghost use Rattle.mls_parser.specs.ReadTx.{kept, param_behind, next_param, params_at, var_behind, next_var, vars_at};
 
@@ -41,7 +41,7 @@ fn param(
     params: &mut Named<Parameter>,
     name: Name,
 ) -> Result<(), PlacedFault>
-    ensures exact { Gives (λ _. (params.new, reader.new)) result
+    ensures exact { GivesPlaced (λ _. (params.new, reader.new)) result
         (param_behind policy.now params.old (name.0, name.1) reader.old) }
     ensures few { OnOk result (length params.new ≤ length params.old + 1) }
 {
@@ -63,7 +63,7 @@ fn next_param(
     params: &mut Named<Parameter>,
     count: usize,
 ) -> Result<(), PlacedFault>
-    ensures exact { Gives (λ _. ((params.new, count + 1), reader.new)) result
+    ensures exact { GivesPlaced (λ _. ((params.new, count + 1), reader.new)) result
         (next_param policy.now (params.old, count) reader.old) }
     ensures few { OnOk result (length params.new ≤ length params.old + 1) }
     ensures room { OnOk result (count < 64) }
@@ -82,7 +82,7 @@ fn some_params(
     policy: &Policy,
     reader: &mut Reader,
 ) -> Result<(Named<Parameter>, usize), PlacedFault>
-    ensures exact { Gives (λ x. ((x.0, x.1), reader.new)) result (items_at (next_param policy.now) ([], 0) reader.old) }
+    ensures exact { GivesPlaced (λ x. ((x.0, x.1), reader.new)) result (items_at (next_param policy.now) ([], 0) reader.old) }
     ensures few { IfOk result (λ x. length x.0 ≤ 64) }
 {
     let mut params = Named::new(alloc);
@@ -103,7 +103,7 @@ pub(crate) fn params(
     policy: &Policy,
     reader: &mut Reader,
 ) -> Result<Named<Parameter>, PlacedFault>
-    ensures exact { Gives (λ ps. (ps, reader.new)) result (params_at policy.now reader.old) }
+    ensures exact { GivesPlaced (λ ps. (ps, reader.new)) result (params_at policy.now reader.old) }
     ensures few { IfOk result (λ ps. length ps ≤ 64) }
 {
     reader.sign(Sign::LeftParen)?;
@@ -122,7 +122,7 @@ fn var(
     reader: &mut Reader,
     vars: &mut Named<Kind>,
 ) -> Result<(), PlacedFault>
-    ensures exact { Gives (λ _. (vars.new, reader.new)) result (var_behind params.now vars.old reader.old) }
+    ensures exact { GivesPlaced (λ _. (vars.new, reader.new)) result (var_behind params.now vars.old reader.old) }
     ensures few { OnOk result (length vars.new ≤ length vars.old + 1) }
 {
     let name = reader.name()?;
@@ -143,7 +143,7 @@ fn next_var(
     vars: &mut Named<Kind>,
     count: usize,
 ) -> Result<Option<usize>, PlacedFault>
-    ensures exact { Gives (λ x. (option_map (λ n. (vars.new, n)) x, reader.new)) result
+    ensures exact { GivesPlaced (λ x. (option_map (λ n. (vars.new, n)) x, reader.new)) result
         (next_var params.now (vars.old, count) reader.old) }
     ensures few { OnOk result (length vars.new ≤ length vars.old + 1) }
     ensures counted { IfOk result (λ x. IfSome x (λ n. (count < 64) × (n ≡ count + 1))) }
@@ -166,7 +166,7 @@ pub(crate) fn vars(
     params: &Named<Parameter>,
     reader: &mut Reader,
 ) -> Result<Named<Kind>, PlacedFault>
-    ensures exact { Gives (λ vs. (vs, reader.new)) result (vars_at params.now reader.old) }
+    ensures exact { GivesPlaced (λ vs. (vs, reader.new)) result (vars_at params.now reader.old) }
     ensures few { IfOk result (λ vs. length vs ≤ 64) }
 {
     let mut vars = Named::new(alloc);

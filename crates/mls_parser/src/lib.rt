@@ -23,7 +23,6 @@ mod reader;
 mod words;
 
 pub use fault::{PlacedFault, TextCause, TextFault, ill_formed};
-pub use names::Name;
 pub use parser::parse;
 pub use read_condition::condition;
 pub use read_list::with_set;

@@ -9,7 +9,7 @@ use mls_scheme::{Kind, Scheme};
 use mls_translang::LoopRow;
 
 /// A name as it is written, and the place of its first byte: the bytes of the whole text are counted from 1.
-pub type Name = (Str, usize);
+pub(crate) type Name = (Str, usize);
 
 /// A variable or a parameter, by its place.
 #[derive(Clone, Copy)]

@@ -7,7 +7,8 @@ ghost use Rattle.mls_translang.specs.Tells.{Tells};
 ghost use Rattle.mls_parser.specs.declared.fault.TextCause.TheVariants.{Memory};
 ghost use Rattle.mls_parser.specs.ReadTx.{tx_of};
 ghost use Rattle.mls_parser.specs.Laws.{TellsNone};
-ghost use Rattle.mls_parser.specs.Parsing.{parsed, Gives, parse_at, IsParsed, IsJudged};
+ghost use Rattle.mls_parser.specs.Noted.{GivesPlaced};
+ghost use Rattle.mls_parser.specs.Parsing.{parsed, parse_at, IsParsed, IsJudged};
 
 use crate::draft::Draft;
 use crate::fault::{PlacedFault, TextFault};
@@ -46,7 +47,7 @@ fn placed(
     schemes: &Schemes,
     bytes: &[u8],
 ) -> Result<Items<Tx>, PlacedFault>
-    ensures exact { Gives result (parsed policy.now schemes.now bytes.now) }
+    ensures exact { GivesPlaced (λ txs. txs) result (parsed policy.now schemes.now bytes.now) }
     ensures told { IfOk result (λ xs. Tells policy.now schemes.now bytes.now xs) }
 {
     let mut reader = Reader::new(alloc, Tokens::new(alloc, bytes)?);

@@ -1,8 +1,8 @@
 //! Blocks, from the tokens that are left. The statements of a transaction are counted, inner ones too.
 ghost use Rattle.std.specs.Prelude.{◌≡◌, ◌+◌, ◌≤◌, ◌<◌, ◌∷◌, length, IfOk};
 ghost use Rattle.mls_translang.specs.Tokens.{at_row, with_rows};
-ghost use Rattle.mls_parser.specs.Names.{IsPlace};
-ghost use Rattle.mls_parser.specs.Noted.{Gives};
+ghost use Rattle.mls_parser.specs.Names.{IsContext};
+ghost use Rattle.mls_parser.specs.Noted.{GivesPlaced};
 ghost use Rattle.mls_parser.specs.ReadBlock.{guard_at, loop_head_at, braced, other_at, blocks_at, if_at, for_at};
 ghost use Rattle.mls_parser.specs.ReadBlock.{content_at, stmt_at, stmts_at};
 
@@ -19,7 +19,7 @@ use std::alloc::{AllocError, Global};
 
 impl Context<'_> {
     /// The rows inside a loop: its own, and those around.
-    #[tactic(auto, using(crate::proofs::PlaceLemmas::place_steps))]
+    #[tactic(auto, using(crate::proofs::ContextLemmas::context_steps))]
     fn rows_inside(
         &self,
         alloc: Global,
@@ -29,7 +29,7 @@ impl Context<'_> {
         requires room { length self.now.scope.rows + 1 ≤ 16 }
         requires known { relation < length self.now.schemes }
         ensures rows { IfOk result (λ rows. rows.items ≡ record { name = row.now; relation = relation } ∷ self.now.scope.rows) }
-        ensures place { IfOk result (λ rows. IsPlace (with_rows self.now rows.items)) }
+        ensures place { IfOk result (λ rows. IsContext (with_rows self.now rows.items)) }
     {
         let mut rows = Vec::new(alloc);
         rows.push(LoopRow {
@@ -44,7 +44,7 @@ impl Context<'_> {
 
     /// The same place, inside these rows.
     fn with_rows<'b>(&'b self, rows: &'b [LoopRow]) -> Context<'b>
-        requires { IsPlace (with_rows self.now rows.now) }
+        requires { IsContext (with_rows self.now rows.now) }
         ensures { result ≡ with_rows self.now rows.now }
     {
         Context {
@@ -60,7 +60,7 @@ impl Context<'_> {
     /// An expression that gives a truth value.
     #[tactic(auto, unfolding(crate::specs::ReadBlock::guard_at))]
     fn guard(&self, alloc: Global, reader: &mut Reader) -> Result<Expr, PlacedFault>
-        ensures { Gives (λ e. (e, reader.new)) result (guard_at self.now reader.old) }
+        ensures { GivesPlaced (λ e. (e, reader.new)) result (guard_at self.now reader.old) }
     {
         let given = self.whole(alloc, reader)?;
         reader.note(given.gives.may_be_truth(), given.at, TextCause::Kind)?;
@@ -70,7 +70,7 @@ impl Context<'_> {
     /// The row of a loop, its relation and its label.
     #[tactic(auto, unfolding(crate::specs::ReadBlock::loop_head_at))]
     fn loop_head(&self, reader: &mut Reader) -> Result<(Str, RelNo, LabelNo), PlacedFault>
-        ensures exact { Gives (λ x. ((x.0, x.1, x.2), reader.new)) result (loop_head_at self.now reader.old) }
+        ensures exact { GivesPlaced (λ x. ((x.0, x.1, x.2), reader.new)) result (loop_head_at self.now reader.old) }
         ensures within { IfOk result (λ x. x.1 < length self.now.schemes) }
     {
         let name = reader.name()?;
@@ -92,7 +92,7 @@ impl Context<'_> {
     ) -> Result<(Block, usize), PlacedFault>
         requires shallow { length self.now.scope.rows + depth ≤ 16 }
         requires few { count ≤ 1000 }
-        ensures exact { Gives (λ x. ((x.0, x.1), reader.new)) result
+        ensures exact { GivesPlaced (λ x. ((x.0, x.1), reader.new)) result
             (braced (stmts_at depth) self.now count reader.old) }
         ensures counted { IfOk result (λ x. (count ≤ x.1) × (x.1 ≤ 1000)) }
     {
@@ -111,7 +111,7 @@ impl Context<'_> {
     ) -> Result<(Block, usize), PlacedFault>
         requires shallow { length self.now.scope.rows + depth ≤ 16 }
         requires few { count ≤ 1000 }
-        ensures exact { Gives (λ x. ((x.0, x.1), reader.new)) result
+        ensures exact { GivesPlaced (λ x. ((x.0, x.1), reader.new)) result
             (other_at (stmts_at depth) self.now count reader.old) }
         ensures counted { IfOk result (λ x. (count ≤ x.1) × (x.1 ≤ 1000)) }
     {
@@ -134,7 +134,7 @@ impl Context<'_> {
     ) -> Result<((Block, Block), usize), PlacedFault>
         requires shallow { length self.now.scope.rows + depth ≤ 16 }
         requires few { count ≤ 1000 }
-        ensures exact { Gives (λ x. (((x.0.0, x.0.1), x.1), reader.new)) result
+        ensures exact { GivesPlaced (λ x. (((x.0.0, x.0.1), x.1), reader.new)) result
             (blocks_at (stmts_at depth) self.now count reader.old) }
         ensures counted { IfOk result (λ x. (count ≤ x.1) × (x.1 ≤ 1000)) }
     {
@@ -154,7 +154,7 @@ impl Context<'_> {
     ) -> Result<(Stmt, usize), PlacedFault>
         requires shallow { length self.now.scope.rows + depth ≤ 16 }
         requires few { count ≤ 1000 }
-        ensures exact { Gives (λ x. ((x.0, x.1), reader.new)) result
+        ensures exact { GivesPlaced (λ x. ((x.0, x.1), reader.new)) result
             (if_at (stmts_at depth) self.now count reader.old) }
         ensures counted { IfOk result (λ x. (count ≤ x.1) × (x.1 ≤ 1000)) }
     {
@@ -177,7 +177,7 @@ impl Context<'_> {
         requires shallow { length self.now.scope.rows + depth + 1 ≤ 16 }
         requires few { count ≤ 1000 }
         requires known { relation < length self.now.schemes }
-        ensures exact { Gives (λ x. ((x.0, x.1), reader.new)) result
+        ensures exact { GivesPlaced (λ x. ((x.0, x.1), reader.new)) result
             (braced (stmts_at depth) (at_row self.now row.now relation) count reader.old) }
         ensures counted { IfOk result (λ x. (count ≤ x.1) × (x.1 ≤ 1000)) }
     {
@@ -197,7 +197,7 @@ impl Context<'_> {
     ) -> Result<(Stmt, usize), PlacedFault>
         requires shallow { length self.now.scope.rows + depth + 1 ≤ 16 }
         requires few { count ≤ 1000 }
-        ensures exact { Gives (λ x. ((x.0, x.1), reader.new)) result
+        ensures exact { GivesPlaced (λ x. ((x.0, x.1), reader.new)) result
             (for_at (stmts_at depth) self.now count reader.old) }
         ensures counted { IfOk result (λ x. (count ≤ x.1) × (x.1 ≤ 1000)) }
     {
@@ -227,7 +227,7 @@ impl Context<'_> {
     ) -> Result<(Stmt, usize), PlacedFault>
         requires shallow { length self.now.scope.rows + depth + 1 ≤ 16 }
         requires few { count ≤ 1000 }
-        ensures exact { Gives (λ x. ((x.0, x.1), reader.new)) result
+        ensures exact { GivesPlaced (λ x. ((x.0, x.1), reader.new)) result
             (content_at (stmts_at depth) self.now opening at count reader.old) }
         ensures counted { IfOk result (λ x. (count ≤ x.1) × (x.1 ≤ 1000)) }
     {
@@ -252,7 +252,7 @@ impl Context<'_> {
         count: usize,
     ) -> Result<(Stmt, usize), PlacedFault>
         requires { length self.now.scope.rows + depth ≤ 16 }
-        ensures exact { Gives (λ x. ((x.0, x.1), reader.new)) result (stmt_at depth self.now count reader.old) }
+        ensures exact { GivesPlaced (λ x. ((x.0, x.1), reader.new)) result (stmt_at depth self.now count reader.old) }
         ensures counted { IfOk result (λ x. (count < x.1) × (x.1 ≤ 1000)) }
     {
         let (opening, at) = reader.opening()?;
@@ -277,7 +277,7 @@ impl Context<'_> {
     ) -> Result<(Block, usize), PlacedFault>
         requires shallow { length self.now.scope.rows + depth ≤ 16 }
         requires few { count ≤ 1000 }
-        ensures exact { Gives (λ x. ((x.0, x.1), reader.new)) result (stmts_at depth self.now count reader.old) }
+        ensures exact { GivesPlaced (λ x. ((x.0, x.1), reader.new)) result (stmts_at depth self.now count reader.old) }
         ensures counted { IfOk result (λ x. (count ≤ x.1) × (x.1 ≤ 1000)) }
     {
         let mut stmts = Vec::new(alloc);

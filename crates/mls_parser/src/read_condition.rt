@@ -5,7 +5,7 @@ ghost use Rattle.std.specs.List.{IsDistinct};
 ghost use Rattle.mls_tokens.specs.Scanning.{without_places};
 ghost use Rattle.mls_parser.specs.declared.fault.TextCause.TheVariants.{Memory};
 ghost use Rattle.mls_parser.specs.Condition.{AreOfText, IsCondition, IsConditionOf};
-ghost use Rattle.mls_parser.specs.Noted.{Gives, note, token};
+ghost use Rattle.mls_parser.specs.Noted.{GivesPlaced, note, token};
 ghost use Rattle.mls_parser.specs.ReadCondition.{comparison_of, joiner_of, taken_as, between, between_faults, test_at};
 ghost use Rattle.mls_parser.specs.ReadCondition.{are_mixed, past_most, next_test_at, tests_at, attribute_var, row_vars};
 ghost use Rattle.mls_parser.specs.ReadCondition.{as_fields, condition_at};
@@ -104,7 +104,7 @@ impl Context<'_> {
     /// An expression, or two with a comparison between them.
     #[tactic(auto, unfolding(crate::specs::ReadCondition::test_at))]
     fn test(&self, alloc: Global, reader: &mut Reader) -> Result<Given, PlacedFault>
-        ensures { Gives (λ g. (g, reader.new)) result (test_at self.now reader.old) }
+        ensures { GivesPlaced (λ g. (g, reader.new)) result (test_at self.now reader.old) }
     {
         let left = self.whole(alloc, reader)?;
         let Some(operator) = takes_comparison(&mut reader.tokens) else {
@@ -124,7 +124,7 @@ impl Context<'_> {
         room: usize,
         before: Option<Operator>,
     ) -> Result<Option<((Operator, usize), Given)>, PlacedFault>
-        ensures exact { Gives (λ x. (option_map (λ y. ((y.0.0, y.0.1), y.1)) x, reader.new)) result
+        ensures exact { GivesPlaced (λ x. (option_map (λ y. ((y.0.0, y.0.1), y.1)) x, reader.new)) result
             (next_test_at self.now room before reader.old) }
         ensures within { IfOk result (λ x. IfSome x (λ _. 0 < room)) }
     {
@@ -144,7 +144,7 @@ impl Context<'_> {
     /// Tests with one word between each two.
     #[tactic(auto, using(crate::proofs::ConditionSteps::condition_steps))]
     fn tests(&self, alloc: Global, reader: &mut Reader) -> Result<Given, PlacedFault>
-        ensures { Gives (λ g. (g, reader.new)) result (tests_at self.now reader.old) }
+        ensures { GivesPlaced (λ g. (g, reader.new)) result (tests_at self.now reader.old) }
     {
         let mut whole = self.test(alloc, reader)?;
         let mut before = None;
@@ -218,7 +218,7 @@ fn tests_of_row(
     reader: &mut Reader,
 ) -> Result<Expr, PlacedFault>
     requires { relation < length schemes.now }
-    ensures { Gives (λ e. (e, reader.new)) result (condition_at policy.now schemes.now relation reader.old) }
+    ensures { GivesPlaced (λ e. (e, reader.new)) result (condition_at policy.now schemes.now relation reader.old) }
 {
     policy.use_invariant();
     let scheme = schemes.scheme(relation);
@@ -259,7 +259,7 @@ pub fn condition(
 ) -> Result<Expr, PlacedFault>
     requires { relation < length schemes.now }
     // The condition, what is left behind it, and the faults that are noted; or the fault of its form.
-    ensures exact { Gives (λ e. (e, reader.new)) result (condition_at policy.now schemes.now relation reader.old) }
+    ensures exact { GivesPlaced (λ e. (e, reader.new)) result (condition_at policy.now schemes.now relation reader.old) }
     // What was passed tells what is read, where no fault was noted and the tokens are those of a text.
     ensures told { AreOfText (without_places reader.old.1.placed) → reader.new.0 ≡ []
         → IfOk result (IsCondition policy.now schemes.now relation reader.old.1 reader.new.1) }

@@ -7,7 +7,7 @@ ghost use Rattle.mls_parser.specs.declared.fault.TextCause.TheVariants.{Memory};
 ghost use Rattle.mls_parser.specs.declared.inferred.Inferred.TheVariants.{Truth};
 ghost use Rattle.mls_parser.specs.Infer.{given_by_operator};
 ghost use Rattle.mls_parser.specs.Names.{referent, row_named, row_scheme};
-ghost use Rattle.mls_parser.specs.Noted.{Gives, known, note};
+ghost use Rattle.mls_parser.specs.Noted.{GivesPlaced, known, note};
 ghost use Rattle.mls_parser.specs.ReadExpr.{given, refer, name_given, attribute_given, field_given, field_faults};
 ghost use Rattle.mls_parser.specs.ReadExpr.{named_at, term_at, second, negation_at, operation_at, expr_at, whole_at};
 
@@ -125,7 +125,7 @@ impl Context<'_> {
 
     /// The name, or an attribute of the row that it names.
     fn named(&self, reader: &mut Reader, name: Name) -> Result<Given, PlacedFault>
-        ensures { Gives (λ g. (g, reader.new)) result (named_at self.now (name.0, name.1) reader.old) }
+        ensures { GivesPlaced (λ g. (g, reader.new)) result (named_at self.now (name.0, name.1) reader.old) }
     {
         if reader.takes_sign(Sign::Dot).is_none() {
             return Ok(self.alone(reader, &name)?);
@@ -144,7 +144,7 @@ impl Context<'_> {
         depth: usize,
         at: usize,
     ) -> Result<Given, PlacedFault>
-        ensures { Gives (λ g. (g, reader.new)) result (negation_at self.now depth at reader.old) }
+        ensures { GivesPlaced (λ g. (g, reader.new)) result (negation_at self.now depth at reader.old) }
     {
         if depth == 0 {
             return Err(ill_formed(at, TextCause::Depth));
@@ -162,7 +162,7 @@ impl Context<'_> {
         reader: &mut Reader,
         depth: usize,
     ) -> Result<((Operator, usize), Given), PlacedFault>
-        ensures { Gives (λ x. (((x.0.0, x.0.1), x.1), reader.new)) result (second (expr_at self.now depth) reader.old) }
+        ensures { GivesPlaced (λ x. (((x.0.0, x.0.1), x.1), reader.new)) result (second (expr_at self.now depth) reader.old) }
     {
         let operator = reader.operator()?;
         let right = self.expr(alloc, reader, depth)?;
@@ -180,7 +180,7 @@ impl Context<'_> {
         depth: usize,
         at: usize,
     ) -> Result<Given, PlacedFault>
-        ensures { Gives (λ g. (g, reader.new)) result (operation_at self.now depth at reader.old) }
+        ensures { GivesPlaced (λ g. (g, reader.new)) result (operation_at self.now depth at reader.old) }
     {
         if depth == 0 {
             return Err(ill_formed(at, TextCause::Depth));
@@ -195,7 +195,7 @@ impl Context<'_> {
     /// An expression by its first token, whose `(` and `not` stand inside no more than `depth` others.
     #[cycle(expr)]
     fn term(&self, alloc: Global, reader: &mut Reader, depth: usize) -> Result<Given, PlacedFault>
-        ensures { Gives (λ g. (g, reader.new)) result
+        ensures { GivesPlaced (λ g. (g, reader.new)) result
             (term_at self.now (negation_at self.now depth) (operation_at self.now depth) reader.old) }
     {
         let (head, at) = reader.head()?;
@@ -220,7 +220,7 @@ impl Context<'_> {
     #[cycle(expr)]
     #[tactic(auto, using(crate::proofs::ExprSteps::expr_steps))]
     fn expr(&self, alloc: Global, reader: &mut Reader, depth: usize) -> Result<Given, PlacedFault>
-        ensures { Gives (λ g. (g, reader.new)) result (expr_at self.now depth reader.old) }
+        ensures { GivesPlaced (λ g. (g, reader.new)) result (expr_at self.now depth reader.old) }
     {
         self.term(alloc, reader, depth)
     }
@@ -228,7 +228,7 @@ impl Context<'_> {
     /// An expression of a statement. An unknown name is noted, and may give anything.
     #[tactic(auto, unfolding(crate::specs::ReadExpr::whole_at))]
     pub fn whole(&self, alloc: Global, reader: &mut Reader) -> Result<Given, PlacedFault>
-        ensures { Gives (λ g. (g, reader.new)) result (whole_at self.now reader.old) }
+        ensures { GivesPlaced (λ g. (g, reader.new)) result (whole_at self.now reader.old) }
     {
         self.expr(alloc, reader, MAX_DEPTH)
     }

@@ -1,7 +1,7 @@
 //! Lists of expressions, and new values of attributes, from the tokens that are left.
 ghost use Rattle.std.specs.Prelude.{◌≡◌, [], nat_eq, map, OnOk};
 ghost use Rattle.std.specs.List.{list_any};
-ghost use Rattle.mls_parser.specs.Noted.{Gives};
+ghost use Rattle.mls_parser.specs.Noted.{GivesPlaced};
 ghost use Rattle.mls_parser.specs.ReadList.{with_set, numbered_in, target_at, fits_item, items_at, item_at, list_at};
 ghost use Rattle.mls_parser.specs.ReadList.{set_at, sets_at};
 
@@ -53,7 +53,7 @@ impl Reader {
         scheme: &Scheme,
         front: &[(usize, T)],
     ) -> Result<Option<usize>, PlacedFault>
-        ensures { Gives (λ o. (o, self.new)) result (target_at scheme.now front.now self.old) }
+        ensures { GivesPlaced (λ o. (o, self.new)) result (target_at scheme.now front.now self.old) }
     {
         let name = self.name()?;
         self.sign(Sign::Equals)?;
@@ -89,7 +89,7 @@ impl Context<'_> {
         attributes: &Attributes,
         front: &mut Vec<Expr>,
     ) -> Result<(), PlacedFault>
-        ensures { Gives (λ _. (front.new.items, reader.new)) result
+        ensures { GivesPlaced (λ _. (front.new.items, reader.new)) result
             (item_at self.now attributes.now front.old.items reader.old) }
     {
         let given = self.whole(alloc, reader)?;
@@ -107,7 +107,7 @@ impl Context<'_> {
         reader: &mut Reader,
         attributes: &Attributes,
     ) -> Result<Vec<Expr>, PlacedFault>
-        ensures { Gives (λ v. (v.items, reader.new)) result (items_at (item_at self.now attributes.now) [] reader.old) }
+        ensures { GivesPlaced (λ v. (v.items, reader.new)) result (items_at (item_at self.now attributes.now) [] reader.old) }
     {
         let mut items = Vec::new(alloc);
         loop {
@@ -126,7 +126,7 @@ impl Context<'_> {
         reader: &mut Reader,
         attributes: &Attributes,
     ) -> Result<Items<Expr>, PlacedFault>
-        ensures { Gives (λ es. (es, reader.new)) result (list_at self.now attributes.now reader.old) }
+        ensures { GivesPlaced (λ es. (es, reader.new)) result (list_at self.now attributes.now reader.old) }
     {
         reader.sign(Sign::LeftParen)?;
         if let Some(end) = reader.takes_sign(Sign::RightParen) {
@@ -149,7 +149,7 @@ impl Context<'_> {
         scheme: &Scheme,
         front: &mut Vec<(usize, Expr)>,
     ) -> Result<(), PlacedFault>
-        ensures { Gives (λ _. (front.new.items, reader.new)) result
+        ensures { GivesPlaced (λ _. (front.new.items, reader.new)) result
             (set_at self.now scheme.now front.old.items reader.old) }
     {
         let number = reader.target(scheme, front.as_slice())?;
@@ -168,7 +168,7 @@ impl Context<'_> {
         reader: &mut Reader,
         scheme: &Scheme,
     ) -> Result<Items<(usize, Expr)>, PlacedFault>
-        ensures { Gives (λ xs. (xs, reader.new)) result (sets_at self.now scheme.now reader.old) }
+        ensures { GivesPlaced (λ xs. (xs, reader.new)) result (sets_at self.now scheme.now reader.old) }
     {
         let mut sets = Vec::new(alloc);
         loop {

@@ -2,7 +2,7 @@
 ghost use Rattle.std.specs.Prelude.{◌≡◌, ◌<◌, length, IfOk, OnOk};
 ghost use Rattle.mls_scheme.specs.Scheme.{IsScheme, scheme_of};
 ghost use Rattle.mls_parser.specs.Names.{variable_named};
-ghost use Rattle.mls_parser.specs.Noted.{Gives, note};
+ghost use Rattle.mls_parser.specs.Noted.{GivesPlaced, note};
 ghost use Rattle.mls_parser.specs.ReadBlock.{variable, target_faults, outcome_at, written_at, keyed_at, assign_at};
 ghost use Rattle.mls_parser.specs.ReadBlock.{insert_at, classes_at, changes_at, update_at, delete_at, lower_behind};
 ghost use Rattle.mls_parser.specs.ReadBlock.{value_at, release_at, emit_at, plain_at};
@@ -52,7 +52,7 @@ impl Context<'_> {
     /// The variable of an outcome, if one is named, and the end of the statement.
     #[tactic(auto, unfolding(crate::specs::ReadBlock::outcome_at))]
     fn outcome(&self, reader: &mut Reader) -> Result<Option<u8>, PlacedFault>
-        ensures { Gives (λ n. (n, reader.new)) result (outcome_at self.now reader.old) }
+        ensures { GivesPlaced (λ n. (n, reader.new)) result (outcome_at self.now reader.old) }
     {
         if reader.takes_word("as").is_none() {
             reader.sign(Sign::Semicolon)?;
@@ -67,7 +67,7 @@ impl Context<'_> {
     /// Where a tuple is written, and the outcome.
     #[tactic(auto, unfolding(crate::specs::ReadBlock::written_at))]
     fn written(&self, reader: &mut Reader) -> Result<(LabelNo, Option<u8>), PlacedFault>
-        ensures { Gives (λ x. ((x.0, x.1), reader.new)) result (written_at self.now reader.old) }
+        ensures { GivesPlaced (λ x. ((x.0, x.1), reader.new)) result (written_at self.now reader.old) }
     {
         let at = reader.label_behind(self.policy, "at")?;
         let outcome = self.outcome(reader)?;
@@ -85,7 +85,7 @@ impl Context<'_> {
     /// The relation and the key of a write.
     #[tactic(auto, unfolding(crate::specs::ReadBlock::keyed_at))]
     fn keyed(&self, alloc: Global, reader: &mut Reader) -> Result<(RelNo, Items<Expr>), PlacedFault>
-        ensures exact { Gives (λ x. ((x.0, x.1), reader.new)) result (keyed_at self.now reader.old) }
+        ensures exact { GivesPlaced (λ x. ((x.0, x.1), reader.new)) result (keyed_at self.now reader.old) }
         ensures within { IfOk result (λ x. x.0 < length self.now.schemes) }
     {
         let relation = reader.relation(self.schemes)?;
@@ -96,7 +96,7 @@ impl Context<'_> {
 
     #[tactic(auto, unfolding(crate::specs::ReadBlock::assign_at))]
     fn assign(&self, alloc: Global, reader: &mut Reader, target: Name) -> Result<Stmt, PlacedFault>
-        ensures { Gives (λ x. (x, reader.new)) result (assign_at self.now (target.0, target.1) reader.old) }
+        ensures { GivesPlaced (λ x. (x, reader.new)) result (assign_at self.now (target.0, target.1) reader.old) }
     {
         reader.sign(Sign::Becomes)?;
         let given = self.whole(alloc, reader)?;
@@ -109,7 +109,7 @@ impl Context<'_> {
 
     #[tactic(auto, unfolding(crate::specs::ReadBlock::insert_at))]
     fn insert(&self, alloc: Global, reader: &mut Reader) -> Result<Stmt, PlacedFault>
-        ensures { Gives (λ x. (x, reader.new)) result (insert_at self.now reader.old) }
+        ensures { GivesPlaced (λ x. (x, reader.new)) result (insert_at self.now reader.old) }
     {
         let (relation, key) = self.keyed(alloc, reader)?;
         reader.word("values")?;
@@ -126,7 +126,7 @@ impl Context<'_> {
     /// The key class of an update, the class of its tuple, and where it is written.
     #[tactic(auto, unfolding(crate::specs::ReadBlock::classes_at))]
     fn classes(&self, reader: &mut Reader) -> Result<(LabelNo, LabelNo, LabelNo), PlacedFault>
-        ensures { Gives (λ x. ((x.0, x.1, x.2), reader.new)) result (classes_at self.now reader.old) }
+        ensures { GivesPlaced (λ x. ((x.0, x.1, x.2), reader.new)) result (classes_at self.now reader.old) }
     {
         let key_class = reader.label_behind(self.policy, "class")?;
         let from = reader.label_behind(self.policy, "from")?;
@@ -142,7 +142,7 @@ impl Context<'_> {
         reader: &mut Reader,
         scheme: &Scheme,
     ) -> Result<(Items<(usize, Expr)>, Option<u8>), PlacedFault>
-        ensures { Gives (λ x. ((x.0, x.1), reader.new)) result (changes_at self.now scheme.now reader.old) }
+        ensures { GivesPlaced (λ x. ((x.0, x.1), reader.new)) result (changes_at self.now scheme.now reader.old) }
     {
         reader.word("set")?;
         let sets = self.sets(alloc, reader, scheme)?;
@@ -152,7 +152,7 @@ impl Context<'_> {
 
     #[tactic(auto, unfolding(crate::specs::ReadBlock::update_at))]
     fn update(&self, alloc: Global, reader: &mut Reader) -> Result<Stmt, PlacedFault>
-        ensures { Gives (λ x. (x, reader.new)) result (update_at self.now reader.old) }
+        ensures { GivesPlaced (λ x. (x, reader.new)) result (update_at self.now reader.old) }
     {
         let (relation, key) = self.keyed(alloc, reader)?;
         let (key_class, from, at) = self.classes(reader)?;
@@ -172,7 +172,7 @@ impl Context<'_> {
 
     #[tactic(auto, unfolding(crate::specs::ReadBlock::delete_at))]
     fn delete(&self, alloc: Global, reader: &mut Reader) -> Result<Stmt, PlacedFault>
-        ensures { Gives (λ x. (x, reader.new)) result (delete_at self.now reader.old) }
+        ensures { GivesPlaced (λ x. (x, reader.new)) result (delete_at self.now reader.old) }
     {
         let (relation, key) = self.keyed(alloc, reader)?;
         let key_class = reader.label_behind(self.policy, "class")?;
@@ -188,7 +188,7 @@ impl Context<'_> {
     /// A word, and behind it a label that the ceiling dominates.
     #[tactic(auto, unfolding(crate::specs::ReadBlock::lower_behind))]
     fn lower_behind(&self, reader: &mut Reader, word: &str) -> Result<LabelNo, PlacedFault>
-        ensures { Gives (λ n. (n, reader.new)) result (lower_behind self.now word.now reader.old) }
+        ensures { GivesPlaced (λ n. (n, reader.new)) result (lower_behind self.now word.now reader.old) }
     {
         let name = reader.name_behind(word)?;
         let label = reader.noted_label(self.policy, &name)?;
@@ -200,7 +200,7 @@ impl Context<'_> {
     /// An expression that gives a value.
     #[tactic(auto, unfolding(crate::specs::ReadBlock::value_at))]
     fn value(&self, alloc: Global, reader: &mut Reader) -> Result<Given, PlacedFault>
-        ensures { Gives (λ g. (g, reader.new)) result (value_at self.now reader.old) }
+        ensures { GivesPlaced (λ g. (g, reader.new)) result (value_at self.now reader.old) }
     {
         let given = self.whole(alloc, reader)?;
         reader.note(given.gives.may_be_value(), given.at, TextCause::Kind)?;
@@ -209,7 +209,7 @@ impl Context<'_> {
 
     #[tactic(auto, unfolding(crate::specs::ReadBlock::release_at))]
     fn release(&self, alloc: Global, reader: &mut Reader) -> Result<Stmt, PlacedFault>
-        ensures { Gives (λ x. (x, reader.new)) result (release_at self.now reader.old) }
+        ensures { GivesPlaced (λ x. (x, reader.new)) result (release_at self.now reader.old) }
     {
         let given = self.value(alloc, reader)?;
         let to = self.lower_behind(reader, "to")?;
@@ -224,7 +224,7 @@ impl Context<'_> {
 
     #[tactic(auto, unfolding(crate::specs::ReadBlock::emit_at))]
     fn emit(&self, alloc: Global, reader: &mut Reader) -> Result<Stmt, PlacedFault>
-        ensures { Gives (λ x. (x, reader.new)) result (emit_at self.now reader.old) }
+        ensures { GivesPlaced (λ x. (x, reader.new)) result (emit_at self.now reader.old) }
     {
         let given = self.value(alloc, reader)?;
         let label = reader.label_behind(self.policy, "at")?;
@@ -243,7 +243,7 @@ impl Context<'_> {
         plain: Plain,
         at: usize,
     ) -> Result<Stmt, PlacedFault>
-        ensures { Gives (λ x. (x, reader.new)) result (plain_at self.now plain at reader.old) }
+        ensures { GivesPlaced (λ x. (x, reader.new)) result (plain_at self.now plain at reader.old) }
     {
         match plain {
             Plain::Assign(name) => self.assign(alloc, reader, (name, at)),

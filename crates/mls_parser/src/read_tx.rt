@@ -2,7 +2,7 @@
 ghost use Rattle.std.specs.Prelude.{◌≡◌, ◌++◌, ◌<◌, ◌≤◌, ◌∷◌, ◌||◌, [], length, map, option_map, IfOk, IfSome};
 ghost use Rattle.std.specs.Prelude.{OnOk, bytes_eq};
 ghost use Rattle.std.specs.List.{list_any};
-ghost use Rattle.mls_parser.specs.Noted.{Gives, note};
+ghost use Rattle.mls_parser.specs.Noted.{GivesPlaced, note};
 ghost use Rattle.mls_parser.specs.ReadTx.{name_faults, levels_faults, heading_at, outermost, body_at, transaction_at};
 ghost use Rattle.mls_parser.specs.ReadTx.{next_transaction, transactions_at};
 
@@ -62,7 +62,7 @@ fn heading(
     earlier: &[Draft],
     reader: &mut Reader,
 ) -> Result<(Str, LabelNo, LabelNo), PlacedFault>
-    ensures exact { Gives (λ x. ((x.0, x.1, x.2), reader.new)) result
+    ensures exact { GivesPlaced (λ x. ((x.0, x.1, x.2), reader.new)) result
         (heading_at policy.now schemes.now earlier.now reader.old) }
     ensures within { IfOk result (λ x. x.2 < length policy.now.labels) }
 {
@@ -90,7 +90,7 @@ fn body(
 ) -> Result<(Named<Kind>, Block), PlacedFault>
     requires hi { hi < length policy.now.labels }
     requires few { length params.now ≤ 64 }
-    ensures { Gives (λ x. ((x.0, x.1), reader.new)) result (body_at policy.now schemes.now hi params.now reader.old) }
+    ensures { GivesPlaced (λ x. ((x.0, x.1), reader.new)) result (body_at policy.now schemes.now hi params.now reader.old) }
 {
     reader.sign(Sign::LeftBrace)?;
     let vars = vars(alloc, params, reader)?;
@@ -115,7 +115,7 @@ fn transaction(
     earlier: &[Draft],
     reader: &mut Reader,
 ) -> Result<Draft, PlacedFault>
-    ensures { Gives (λ t. (t, reader.new)) result (transaction_at policy.now schemes.now earlier.now reader.old) }
+    ensures { GivesPlaced (λ t. (t, reader.new)) result (transaction_at policy.now schemes.now earlier.now reader.old) }
 {
     let (name, lo, hi) = heading(policy, schemes, earlier, reader)?;
     let params = params(alloc, policy, reader)?;
@@ -139,7 +139,7 @@ fn next_transaction(
     earlier: &[Draft],
     reader: &mut Reader,
 ) -> Result<Option<Draft>, PlacedFault>
-    ensures exact { Gives (λ x. (option_map (λ t. earlier.now ++ t ∷ []) x, reader.new)) result
+    ensures exact { GivesPlaced (λ x. (option_map (λ t. earlier.now ++ t ∷ []) x, reader.new)) result
         (next_transaction policy.now schemes.now earlier.now reader.old) }
     ensures room { IfOk result (λ x. IfSome x (λ _. length earlier.now < 64)) }
 {
@@ -162,7 +162,7 @@ pub(crate) fn transactions(
     schemes: &Schemes,
     reader: &mut Reader,
 ) -> Result<Vec<Draft>, PlacedFault>
-    ensures { Gives (λ v. (v.items, reader.new)) result (transactions_at policy.now schemes.now reader.old) }
+    ensures { GivesPlaced (λ v. (v.items, reader.new)) result (transactions_at policy.now schemes.now reader.old) }
 {
     let mut drafts = Vec::new(alloc);
     while let Some(next) = next_transaction(alloc, policy, schemes, drafts.as_slice(), reader)? {

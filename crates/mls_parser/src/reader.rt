@@ -3,7 +3,7 @@ ghost use Rattle.std.specs.Prelude.{◌≡◌, ◌<◌, [], length, option_map, 
 ghost use Rattle.mls_tokens.specs.Passing.{has_ended};
 ghost use Rattle.mls_parser.specs.Fault.{unless, least};
 ghost use Rattle.mls_parser.specs.Names.{label_named, numbered};
-ghost use Rattle.mls_parser.specs.Noted.{Gives, note, token, takes_sign, takes_word, sign_at, word_at, name_at};
+ghost use Rattle.mls_parser.specs.Noted.{GivesPlaced, note, token, takes_sign, takes_word, sign_at, word_at, name_at};
 ghost use Rattle.mls_parser.specs.Noted.{name_behind, known, label_at, label_behind, relation_at};
 ghost use Rattle.mls_parser.specs.Words.{pass_head, pass_known, opening_of, operator_of, kind_of};
 
@@ -87,28 +87,28 @@ impl Reader {
 
     /// Passes a sign, and gives its place.
     pub fn sign(&mut self, sign: Sign) -> Result<usize, PlacedFault>
-        ensures { Gives (λ at. (at, self.new)) result (sign_at sign self.old) }
+        ensures { GivesPlaced (λ at. (at, self.new)) result (sign_at sign self.old) }
     {
         Ok(self.tokens.sign(sign)?)
     }
 
     /// Passes a word, and gives its place.
     pub fn word(&mut self, word: &str) -> Result<usize, PlacedFault>
-        ensures { Gives (λ at. (at, self.new)) result (word_at word.now self.old) }
+        ensures { GivesPlaced (λ at. (at, self.new)) result (word_at word.now self.old) }
     {
         Ok(self.tokens.word(word)?)
     }
 
     /// Passes a name, and gives it with its place.
     pub fn name(&mut self) -> Result<Name, PlacedFault>
-        ensures { Gives (λ x. ((x.0, x.1), self.new)) result (name_at self.old) }
+        ensures { GivesPlaced (λ x. ((x.0, x.1), self.new)) result (name_at self.old) }
     {
         Ok(self.tokens.name()?)
     }
 
     /// Passes a word, and a name behind it.
     pub fn name_behind(&mut self, word: &str) -> Result<Name, PlacedFault>
-        ensures { Gives (λ x. ((x.0, x.1), self.new)) result (name_behind word.now self.old) }
+        ensures { GivesPlaced (λ x. ((x.0, x.1), self.new)) result (name_behind word.now self.old) }
     {
         self.word(word)?;
         self.name()
@@ -135,7 +135,7 @@ impl Reader {
     /// Passes the name of a label.
     #[tactic(auto, unfolding(crate::specs::Noted::label_at))]
     pub fn label(&mut self, policy: &Policy) -> Result<LabelNo, PlacedFault>
-        ensures { Gives (λ n. (n, self.new)) result (label_at policy.now self.old) }
+        ensures { GivesPlaced (λ n. (n, self.new)) result (label_at policy.now self.old) }
     {
         let name = self.name()?;
         Ok(self.noted_label(policy, &name)?)
@@ -144,7 +144,7 @@ impl Reader {
     /// Passes a word, and the name of a label behind it.
     #[tactic(auto, unfolding(crate::specs::Noted::label_behind))]
     pub fn label_behind(&mut self, policy: &Policy, word: &str) -> Result<LabelNo, PlacedFault>
-        ensures { Gives (λ n. (n, self.new)) result (label_behind policy.now word.now self.old) }
+        ensures { GivesPlaced (λ n. (n, self.new)) result (label_behind policy.now word.now self.old) }
     {
         let name = self.name_behind(word)?;
         Ok(self.noted_label(policy, &name)?)
@@ -153,7 +153,7 @@ impl Reader {
     /// Passes the name of a relation.
     #[tactic(auto, unfolding(crate::specs::Noted::relation_at))]
     pub fn relation(&mut self, schemes: &Schemes) -> Result<RelNo, PlacedFault>
-        ensures exact { Gives (λ n. (n, self.new)) result (relation_at schemes.now self.old) }
+        ensures exact { GivesPlaced (λ n. (n, self.new)) result (relation_at schemes.now self.old) }
         ensures within { IfOk result (λ n. n < length schemes.now) }
     {
         let name = self.name()?;
@@ -164,7 +164,7 @@ impl Reader {
 
     /// Passes what an expression begins with, and gives its place too.
     pub(crate) fn head(&mut self) -> Result<(Head, usize), PlacedFault>
-        ensures { Gives (λ x. ((x.0, x.1), self.new)) result (token pass_head self.old) }
+        ensures { GivesPlaced (λ x. ((x.0, x.1), self.new)) result (token pass_head self.old) }
     {
         let first = self.tokens.pop().ok_or(self.tokens.stop())?;
         let head = head_of(first.token).ok_or(ill_formed(first.at, TextCause::Expected))?;
@@ -173,7 +173,7 @@ impl Reader {
 
     /// Passes what a statement begins with, and gives its place too.
     pub(crate) fn opening(&mut self) -> Result<(Opening, usize), PlacedFault>
-        ensures { Gives (λ x. ((x.0, x.1), self.new)) result (token (pass_known opening_of) self.old) }
+        ensures { GivesPlaced (λ x. ((x.0, x.1), self.new)) result (token (pass_known opening_of) self.old) }
     {
         let first = self.tokens.pop().ok_or(self.tokens.refused())?;
         let opening = opening_of(first.token).ok_or(ill_formed(first.at, TextCause::Expected))?;
@@ -182,7 +182,7 @@ impl Reader {
 
     /// Passes an operator, and gives its place too.
     pub(crate) fn operator(&mut self) -> Result<(Operator, usize), PlacedFault>
-        ensures { Gives (λ x. ((x.0, x.1), self.new)) result (token (pass_known operator_of) self.old) }
+        ensures { GivesPlaced (λ x. ((x.0, x.1), self.new)) result (token (pass_known operator_of) self.old) }
     {
         let first = self.tokens.pop().ok_or(self.tokens.refused())?;
         let operator = operator_of(&first.token).ok_or(ill_formed(first.at, TextCause::Expected))?;
@@ -191,7 +191,7 @@ impl Reader {
 
     /// Passes the word of a kind, and gives its place too.
     pub(crate) fn kind(&mut self) -> Result<(Kind, usize), PlacedFault>
-        ensures { Gives (λ x. ((x.0, x.1), self.new)) result (token (pass_known kind_of) self.old) }
+        ensures { GivesPlaced (λ x. ((x.0, x.1), self.new)) result (token (pass_known kind_of) self.old) }
     {
         let first = self.tokens.pop().ok_or(self.tokens.refused())?;
         let kind = kind_of(&first.token).ok_or(ill_formed(first.at, TextCause::Expected))?;

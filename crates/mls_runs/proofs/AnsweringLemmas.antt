@@ -16,7 +16,7 @@ use Rattle.mls_runs.specs.declared.shell_session.Fate.TheVariants as fates
 use Rattle.mls_runs.specs.Shell.{events_of}
 use Rattle.mls_runs.proofs.TalkLemmas.{no_events}
 use Rattle.mls_runs.specs.Marks.{mark_of, IsCutMark}
-use Rattle.mls_runs.specs.Desk.{AreAnswered, IsDone, IsFollowed}
+use Rattle.mls_runs.specs.Desk.{AreAnswered, IsDone, IsDeskFollowed}
 
 module _ (site : Site) (w : World) where
   -- ---- one event
@@ -104,7 +104,7 @@ module _ (site : Site) (w : World) where
 
   module _ (fate : Fate) (was mid : Option (List ℕ)) (new : World) where
     -- the answers are not whole: no mark is written
-    followed_cut : (f : RunFault) → IsDone site w (events_of fate) was mid new (Err f) → IsFollowed site w fate was mid new (Err f)
+    followed_cut : (f : RunFault) → IsDone site w (events_of fate) was mid new (Err f) → IsDeskFollowed site w fate was mid new (Err f)
     followed_cut f h = record {
       end = h.end;
       part = h.answered.part;
@@ -120,10 +120,10 @@ module _ (site : Site) (w : World) where
     }
 
     -- at the exit of a `?`
-    pub followed_given_up : (r s : Result (Unit {0}) RunFault) (f : RunFault) → r ≡ Err f → IsErrAnd s (λ e. e ≡ f) → IsDone site w (events_of fate) was mid new r → IsFollowed site w fate was mid new s
+    pub followed_given_up : (r s : Result (Unit {0}) RunFault) (f : RunFault) → r ≡ Err f → IsErrAnd s (λ e. e ≡ f) → IsDone site w (events_of fate) was mid new r → IsDeskFollowed site w fate was mid new s
     followed_given_up r (Ok u) f is same h = absurd same
     followed_given_up r (Err e) f is same h =
-        subst (λ (x : RunFault). IsFollowed site w fate was mid new (Err x)) (sym same)
+        subst (λ (x : RunFault). IsDeskFollowed site w fate was mid new (Err x)) (sym same)
         (followed_cut f (subst (λ (s : Result (Unit {0}) RunFault). IsDone site w (events_of fate) was mid new s) is h))
 
     module _ (is : Option (List ℕ)) (h : IsDone site w (events_of fate) was mid new (Ok tt)) where
@@ -141,7 +141,7 @@ module _ (site : Site) (w : World) where
       none_told (Ok u) fault e = tt
       none_told (Err f) fault e = absurd cc
 
-      pub followed_whole : Appends mid is (mark_of fate) → IsFollowed site w fate was is new (Ok tt)
+      pub followed_whole : Appends mid is (mark_of fate) → IsDeskFollowed site w fate was is new (Ok tt)
       followed_whole mark = record {
         end = h.end;
         part = h.answered.part ++ mark_of fate;
@@ -156,7 +156,7 @@ module _ (site : Site) (w : World) where
         cause = tt;
       }
 
-      pub followed_unmarked : (fault : RunFault) → IsCutMark (mark_of fate) mid is fault.cause → IsFollowed site w fate was is new (Err fault)
+      pub followed_unmarked : (fault : RunFault) → IsCutMark (mark_of fate) mid is fault.cause → IsDeskFollowed site w fate was is new (Err fault)
       followed_unmarked fault k = record {
         end = h.end;
         part = h.answered.part ++ k.cut.part;

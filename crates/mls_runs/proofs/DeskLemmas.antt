@@ -26,7 +26,7 @@ use Rattle.mls_runs.specs.Shell.{Turn, IsShellTurn, events_of, events_in, is_las
 use Rattle.mls_runs.proofs.ShellLemmas.{or_none, end_of-append, events-snoc, any-snoc, none_failed, failed_there}
 use Rattle.mls_runs.proofs.TalkLemmas.{AreHeard, heard_more, fits_more, last_line, failed_last}
 use Rattle.mls_runs.specs.Marks.{mark_of}
-use Rattle.mls_runs.specs.Desk.{IsFate, AreLines, answer_of, desk, IsFollowed, IsService, at_line, between}
+use Rattle.mls_runs.specs.Desk.{IsDeskFate, AreLines, answer_of, desk, IsDeskFollowed, IsService, at_line, between}
 
 -- ---- a line more
 
@@ -46,9 +46,9 @@ module _ (site : Site) where
   world-snoc w ts t = sym (ap (end_of site w) (events-snoc ts t) ∙ end_of-append site w (events_in ts) (events_of t.fate))
 
 lines-snoc : (echo : List ℕ → List ℕ) (policy : Policy) (schemes : Schemes) (a b c : Option (List ℕ)) (ts : List Turn) (t : Turn) → AreLines echo policy schemes a b ts → list_any (λ (t : Turn). is_last t.fate) ts ≡ false
-    → IsShellTurn echo (IsFate policy schemes) b c t → AreLines echo policy schemes a c (ts ++ t ∷ [])
+    → IsShellTurn echo (IsDeskFate policy schemes) b c t → AreLines echo policy schemes a c (ts ++ t ∷ [])
 unfolding AreLines
-lines-snoc echo policy schemes a b c [] t h l n = (c, subst (λ x. IsShellTurn echo (IsFate policy schemes) x c t) (sym h) n, (λ e. absurd (e refl)), refl)
+lines-snoc echo policy schemes a b c [] t h l n = (c, subst (λ x. IsShellTurn echo (IsDeskFate policy schemes) x c t) (sym h) n, (λ e. absurd (e refl)), refl)
 lines-snoc echo policy schemes a b c (x ∷ ts) t h l n =
     let (left, turn, on, more) = h in
     let none = or_none (is_last x.fate) (list_any (λ (t : Turn). is_last t.fate) ts) l in
@@ -87,7 +87,7 @@ module _ {B : Type 0} (seen : B → Seen) (echo : List ℕ → List ℕ) (first 
 
     -- a line is read, and something becomes of it
     pub record Heard (fate : Fate) (over shown : Option (List ℕ)) (Broken : Type 0) : Type 0 where
-      pub read : IsLineRead echo (IsFate at.policy at.schemes) left over is shown Broken fate
+      pub read : IsLineRead echo (IsDeskFate at.policy at.schemes) left over is shown Broken fate
       pub fits : FateFits at.policy at.schemes fate
 
     module _ (fate : Fate) (over shown : Option (List ℕ)) (Broken : Type 0) (l : Heard fate over shown Broken) where
@@ -108,14 +108,14 @@ module _ {B : Type 0} (seen : B → Seen) (echo : List ℕ → List ℕ) (first 
 
       module _ (new : Engine B) (after : Option (List ℕ)) (clean : (seen new.base).is_clean → (seen now.base).is_clean) (kept : IsKept seen now new) where
         -- what becomes of the line, from the world up to here
-        moved : {r : Result (Unit {0}) RunFault} → (c : (seen new.base).is_clean) → IsFollowed (site now) (world_of seen now) fate shown after (world_of seen new) r
-            → IsFollowed at (end_of at w (events_in s.turns)) turn.fate shown after (world_of seen new) r
+        moved : {r : Result (Unit {0}) RunFault} → (c : (seen new.base).is_clean) → IsDeskFollowed (site now) (world_of seen now) fate shown after (world_of seen new) r
+            → IsDeskFollowed at (end_of at w (events_in s.turns)) turn.fate shown after (world_of seen new) r
         moved {r} c h =
-            subst (λ (x : Fate). IsFollowed at (end_of at w (events_in s.turns)) x shown after (world_of seen new) r) (sym l.read.same)
-            (subst (λ (u : World). IsFollowed at u fate shown after (world_of seen new) r) (s.world (clean c))
-            (subst (λ (p : Site). IsFollowed p (world_of seen now) fate shown after (world_of seen new) r) same_site h))
+            subst (λ (x : Fate). IsDeskFollowed at (end_of at w (events_in s.turns)) x shown after (world_of seen new) r) (sym l.read.same)
+            (subst (λ (u : World). IsDeskFollowed at u fate shown after (world_of seen new) r) (s.world (clean c))
+            (subst (λ (p : Site). IsDeskFollowed p (world_of seen now) fate shown after (world_of seen new) r) same_site h))
 
-        pub so_far_more : is_lost fate ≡ false → ((seen new.base).is_clean → IsFollowed (site now) (world_of seen now) fate shown after (world_of seen new) (Ok tt))
+        pub so_far_more : is_lost fate ≡ false → ((seen new.base).is_clean → IsDeskFollowed (site now) (world_of seen now) fate shown after (world_of seen new) (Ok tt))
             → SoFar new over after (is_last fate)
         so_far_more found h = record {
           turns = turns;
@@ -164,7 +164,7 @@ module _ {B : Type 0} (seen : B → Seen) (echo : List ℕ → List ℕ) (first 
         later_world (Ok u) is v h = h ∙ sym (end_of-append at w (events_in s.turns) (events_of turn.fate))
         later_world (Err f) is v h = left_by f is v f.done h
 
-        pub broken : (fault : RunFault) (c : (seen new.base).is_clean) → IsFollowed (site now) (world_of seen now) fate shown after (world_of seen new) (Err fault)
+        pub broken : (fault : RunFault) (c : (seen new.base).is_clean) → IsDeskFollowed (site now) (world_of seen now) fate shown after (world_of seen new) (Err fault)
             → IsService echo at given over Broken (Appends was after) (Err fault) w (world_of seen new)
         broken fault c h =
             let k = moved c h in
@@ -193,7 +193,7 @@ module _ {B : Type 0} (seen : B → Seen) (echo : List ℕ → List ℕ) (first 
 
         -- ---- it ends well at a line behind which no other is read
 
-        pub over_last : is_lost fate ≡ false → ((seen new.base).is_clean → IsFollowed (site now) (world_of seen now) fate shown after (world_of seen new) (Ok tt)) → is_last fate ≡ true → (seen new.base).is_clean
+        pub over_last : is_lost fate ≡ false → ((seen new.base).is_clean → IsDeskFollowed (site now) (world_of seen now) fate shown after (world_of seen new) (Ok tt)) → is_last fate ≡ true → (seen new.base).is_clean
             → IsService echo at given over Broken (Appends was after) (Ok (ending_if (is_failed fate))) w (world_of seen new)
         unfolding so_far_more
         over_last found h last c =
@@ -238,9 +238,9 @@ module _ {B : Type 0} (seen : B → Seen) (echo : List ℕ → List ℕ) (first 
 -- ---- at a site that is the same
 
 pub heard_at : (echo : List ℕ → List ℕ) (q : Site) (policy : Policy) (schemes : Schemes) (a b c d : Option (List ℕ)) (Broken : Type 0) (fate : Fate) → q.policy ≡ policy → q.schemes ≡ schemes
-    → IsLineRead echo (IsFate policy schemes) a b c d Broken fate → IsLineRead echo (IsFate q.policy q.schemes) a b c d Broken fate
+    → IsLineRead echo (IsDeskFate policy schemes) a b c d Broken fate → IsLineRead echo (IsDeskFate q.policy q.schemes) a b c d Broken fate
 heard_at echo q policy schemes a b c d Broken fate e f h =
-    subst (λ y. IsLineRead echo (IsFate q.policy y) a b c d Broken fate) (sym f) (subst (λ x. IsLineRead echo (IsFate x schemes) a b c d Broken fate) (sym e) h)
+    subst (λ y. IsLineRead echo (IsDeskFate q.policy y) a b c d Broken fate) (sym f) (subst (λ x. IsLineRead echo (IsDeskFate x schemes) a b c d Broken fate) (sym e) h)
 
 -- lines are answered at what is the same site, from and to what are the same worlds
 pub service_at : (echo : List ℕ → List ℕ) (before after : Option (List ℕ)) (Broken : Type 0) (Wrote : List ℕ → Type 0) (end : Result Ending RunFault) (s t : Site) (v x w y : World) → s ≡ t → v ≡ x → w ≡ y

@@ -28,7 +28,7 @@ use Rattle.mls_runs.specs.declared.shell_session.Fate.TheVariants as fates
 use Rattle.mls_runs.specs.declared.tally.Verdict.{Verdict}
 use Rattle.mls_runs.specs.declared.tally.Verdict.TheVariants as verdicts
 use Rattle.mls_runs.specs.Tally.{tally_with}
-use Rattle.mls_runs.specs.Shell.{Turn, IsShellTurn, IsFate, whole, long, cut, events_of, events_in, opening, audience_at, is_open, is_last, is_failed, verdict_of, says, is_refused, is_misunderstood, tally, prompt_of, told_of, told_from, AreTold, PipesAreToldNoMore, answers, dialogue, after_opening, transcript, shown_to, AreTurns, verdicts_in, tally_of, IsSilent, IsAnswered}
+use Rattle.mls_runs.specs.Shell.{Turn, IsShellTurn, IsShellFate, whole, long, cut, events_of, events_in, opening, audience_at, is_open, is_last, is_failed, verdict_of, says, is_refused, is_misunderstood, tally, prompt_of, told_of, told_from, AreTold, PipesAreToldNoMore, answers, dialogue, after_opening, transcript, shown_to, AreTurns, verdicts_in, tally_of, IsSilent, IsAnswered}
 
 -- ---- events
 
@@ -338,9 +338,9 @@ module _ (site : Site) (session : ShellSession) where
 
     module _ (echo : List ℕ → List ℕ) where
       turns-snoc-at : (v : World) (a b c : Option (List ℕ)) (ts : List Turn) (t : Turn) → AreTurns echo site session v a b ts → list_any (λ (t : Turn). is_last t.fate) ts ≡ false
-          → is_open session (end_of site v (events_in ts)) ≡ true → IsShellTurn echo (IsFate site.policy site.schemes session) b c t → AreTurns echo site session v a c (ts ++ t ∷ [])
+          → is_open session (end_of site v (events_in ts)) ≡ true → IsShellTurn echo (IsShellFate site.policy site.schemes session) b c t → AreTurns echo site session v a c (ts ++ t ∷ [])
       unfolding AreTurns end_of
-      turns-snoc-at v a b c [] t h l o n = (c, o, subst (λ x. IsShellTurn echo (IsFate site.policy site.schemes session) x c t) (sym h) n, (λ e. absurd (e refl)), refl)
+      turns-snoc-at v a b c [] t h l o n = (c, o, subst (λ x. IsShellTurn echo (IsShellFate site.policy site.schemes session) x c t) (sym h) n, (λ e. absurd (e refl)), refl)
       turns-snoc-at v a b c (x ∷ ts) t h l o n =
           let (left, opened, turn, on, more) = h in
           let none = or_none (is_last x.fate) (list_any (λ (t : Turn). is_last t.fate) ts) l in (
@@ -353,7 +353,7 @@ module _ (site : Site) (session : ShellSession) where
           )
 
       pub turns-snoc : (a b c : Option (List ℕ)) (ts : List Turn) (t : Turn) → AreTurns echo site session first a b ts → list_any (λ (t : Turn). is_last t.fate) ts ≡ false
-          → is_open session (end_of site w (opening session ∷ events_in ts)) ≡ true → IsShellTurn echo (IsFate site.policy site.schemes session) b c t → AreTurns echo site session first a c (ts ++ t ∷ [])
+          → is_open session (end_of site w (opening session ∷ events_in ts)) ≡ true → IsShellTurn echo (IsShellFate site.policy site.schemes session) b c t → AreTurns echo site session first a c (ts ++ t ∷ [])
       turns-snoc a b c ts t h l o n = turns-snoc-at first a b c ts t h l (subst (λ u. is_open session u ≡ true) (world_is ts) o) n
 
     pub tally-snoc : (ts : List Turn) (t : Turn)
@@ -383,7 +383,7 @@ module _ (site : Site) (session : ShellSession) where
   quiet_turns echo silent w a b [] h = tt
   quiet_turns echo silent w a b (t ∷ ts) h =
       let (left, opened, turn, on, more) = h in
-      (silent_turn echo (IsFate site.policy site.schemes session) a left t silent turn, quiet_turns echo silent (end_of site w (events_of t.fate)) left b ts more)
+      (silent_turn echo (IsShellFate site.policy site.schemes session) a left t silent turn, quiet_turns echo silent (end_of site w (events_of t.fate)) left b ts more)
 
   -- the lines are those of a run
   pub silent_lines : (echo : List ℕ → List ℕ) (w : World) (a b : Option (List ℕ)) (ts : List Turn) → IsSilent echo → AreTurns echo site session (after_opening site session w) a b ts

@@ -28,12 +28,12 @@ use Rattle.mls_runs.specs.Tally.{tally_with}
 use Rattle.mls_host.specs.Ending.{ending_if}
 use Rattle.mls_host.specs.Hosting.{IsTold}
 use Rattle.mls_host.proofs.HostingLemmas.{told_nothing, told_more}
-use Rattle.mls_runs.specs.Shell.{audience_at, verdicts_in, Turn, IsFate, events_of, events_in, opening, is_open, is_last, is_failed, is_lost, verdict_of, is_short, end_told, prompt_of, told_of, AreTold, AreAllTold, answers, after_opening, transcript, shown_to, AreTurns, tally_of, IsSilent, FateFits, IsAnswered, IsFollowed, IsLineRead, IsConversation}
+use Rattle.mls_runs.specs.Shell.{audience_at, verdicts_in, Turn, IsShellFate, events_of, events_in, opening, is_open, is_last, is_failed, is_lost, verdict_of, is_short, end_told, prompt_of, told_of, AreTold, AreAllTold, answers, after_opening, transcript, shown_to, AreTurns, tally_of, IsSilent, FateFits, IsAnswered, IsShellFollowed, IsLineRead, IsConversation}
 use Rattle.mls_runs.proofs.ShellLemmas.{nothing_done, whole_more, stopped_more, fault_more, first_part, length-snoc, events-snoc, told-snoc, world-snoc, transcript-snoc, shown_before, shown_behind, shown_from, turns-snoc, AreFew, few_more, tally-snoc, none_failed, failed_there, silent_turn, silent_lines, any-snoc}
 
 -- the events of a line are answered
 pub followed_whole : (at : Site) (audience : Audience) (w : World) (es : List Event) (was is : Option (List ℕ)) (new : World) (line : ℕ)
-    → IsFollowed at audience w es was is new line (Ok tt) → IsWhole at audience w es was is new
+    → IsShellFollowed at audience w es was is new line (Ok tt) → IsWhole at audience w es was is new
 followed_whole at audience w es was is new line h = subst (λ (r : Result (Unit {0}) RunFault). OnOk r (IsWhole at audience w es was is new)) h.ok h.answered.whole
 
 ok_where : (r e : Result (Unit {0}) RunFault) → e ≡ Ok tt → OnOk r (e ≡ Ok tt)
@@ -46,7 +46,7 @@ nothing_where (Err f) = tt
 
 -- no events are answered
 followed_nothing : (at : Site) (audience : Audience) (w : World) (es : List Event) (a : Option (List ℕ)) (line : ℕ) (r : Result (Unit {0}) RunFault) → es ≡ [] → IfErr r (λ fault. fault.event ≡ line)
-    → IsFollowed at audience w es a a w line r
+    → IsShellFollowed at audience w es a a w line r
 followed_nothing at audience w es a line r none is = record {
   end = Ok tt;
   answered = record { whole = subst (λ (es : List Event). IsWhole at audience w es a a w) (sym none) (nothing_done at audience w a); stopped = tt; fault = tt };
@@ -60,7 +60,7 @@ none_is_lost (fates.Lost cause) h = absurd (h cause refl)
 none_is_lost _ h = refl
 
 pub followed_lost : (at : Site) (audience : Audience) (w : World) (fate : Fate) (a : Option (List ℕ)) (line : ℕ) (cause : RunCause) → fate ≡ fates.Lost cause
-    → IsFollowed at audience w (events_of fate) a a w line (Err (record { event = line; cause = cause; done = false }))
+    → IsShellFollowed at audience w (events_of fate) a a w line (Err (record { event = line; cause = cause; done = false }))
 followed_lost at audience w fate a line cause is = followed_nothing at audience w (events_of fate) a line _ (ap events_of is) refl
 
 pub no_events : (fate : Fate) → ((events : List Event) → fate ≡ fates.Said events → ⊥) → events_of fate ≡ []
@@ -68,7 +68,7 @@ no_events (fates.Said events) h = absurd (h events refl)
 no_events _ h = refl
 
 pub followed_none : (at : Site) (audience : Audience) (w : World) (fate : Fate) (a : Option (List ℕ)) (line : ℕ) → ((events : List Event) → fate ≡ fates.Said events → ⊥)
-    → IsFollowed at audience w (events_of fate) a a w line (Ok tt)
+    → IsShellFollowed at audience w (events_of fate) a a w line (Ok tt)
 followed_none at audience w fate a line h = followed_nothing at audience w (events_of fate) a line (Ok tt) (no_events fate h) tt
 
 pub fate_fits : (at : Site) (fate : Fate) → FateFits at.policy at.schemes fate → EventsFit at (events_of fate)
@@ -101,9 +101,9 @@ pub level_at : (p q : Site) (policy : Policy) → p ≡ q → q.policy ≡ polic
 level_at p q policy same a level h = subst (λ (x : Site). level < length x.policy.labels) (sym same) (subst (λ (x : Policy). level < length x.labels) (sym a) h)
 
 pub read_at : (echo : List ℕ → List ℕ) (q : Site) (policy : Policy) (schemes : Schemes) (session : ShellSession) (a b c d : Option (List ℕ)) (Broken : Type 0) (fate : Fate) → q.policy ≡ policy → q.schemes ≡ schemes
-    → IsLineRead echo (IsFate policy schemes session) a b c d Broken fate → IsLineRead echo (IsFate q.policy q.schemes session) a b c d Broken fate
+    → IsLineRead echo (IsShellFate policy schemes session) a b c d Broken fate → IsLineRead echo (IsShellFate q.policy q.schemes session) a b c d Broken fate
 read_at echo q policy schemes session a b c d Broken fate e f h =
-    subst (λ y. IsLineRead echo (IsFate q.policy y session) a b c d Broken fate) (sym f) (subst (λ x. IsLineRead echo (IsFate x schemes session) a b c d Broken fate) (sym e) h)
+    subst (λ y. IsLineRead echo (IsShellFate q.policy y session) a b c d Broken fate) (sym f) (subst (λ x. IsLineRead echo (IsShellFate x schemes session) a b c d Broken fate) (sym e) h)
 
 -- a line behind which no other is read is the end, or it was not read, or the shell is given up at it
 pub last_line : (fate : Fate) (left : Option (List ℕ)) → is_last fate ≡ true → is_lost fate ≡ false → (fate ≡ fates.Over → IsAtEnd left) → IsAtEnd left ⊎ (is_failed fate ≡ true)
@@ -185,7 +185,7 @@ module _ {B E : Type 0} (seen : B → Seen) (contents : E → Option (List ℕ))
   pub record Opened (now : Engine B) (is : Option (List ℕ)) (was_opened : Bool) : Type 0 where
     pub clean : (seen now.base).is_clean → (seen first.base).is_clean
     pub kept : IsKept seen first now
-    pub followed : (seen now.base).is_clean → IsFollowed at (audience_at session) w (opening session ∷ []) was is (world_of seen now) 0 (Ok tt)
+    pub followed : (seen now.base).is_clean → IsShellFollowed at (audience_at session) w (opening session ∷ []) was is (world_of seen now) 0 (Ok tt)
     pub opened_is : was_opened ≡ is_open session (world_of seen now)
 
   pub so_far_start : (now : Engine B) (is : Option (List ℕ)) (was_opened : Bool) → Opened now is was_opened → (err : Errors E) → IsMore session.is_watched (IsTold contents quiet err)
@@ -215,7 +215,7 @@ module _ {B E : Type 0} (seen : B → Seen) (contents : E → Option (List ℕ))
     pub record Line (fate : Fate) (asked said : Errors E) (over shown : Option (List ℕ)) (Broken : Type 0) : Type 0 where
       pub was_open : is_open session (world_of seen now) ≡ true
       pub asked_is : IsTold contents err asked (prompt_of session)
-      pub read : IsLineRead echo (IsFate at.policy at.schemes session) left over is shown Broken fate
+      pub read : IsLineRead echo (IsShellFate at.policy at.schemes session) left over is shown Broken fate
       pub fits : FateFits at.policy at.schemes fate
       pub said_is : IsMore session.is_watched (λ more. IsTold contents asked said (told_of session (count + 1) fate ++ more))
 
@@ -259,12 +259,12 @@ module _ {B E : Type 0} (seen : B → Seen) (contents : E → Option (List ℕ))
 
       module _ (new : Engine B) (after : Option (List ℕ)) (clean : (seen new.base).is_clean → (seen now.base).is_clean) (kept : IsKept seen now new) where
         -- the events of the line, from the world up to here
-        moved : {r : Result (Unit {0}) RunFault} → (c : (seen new.base).is_clean) → IsFollowed (site now) (audience_at session) (world_of seen now) (events_of fate) shown after (world_of seen new) (count + 1) r
-            → IsFollowed at (audience_at session) (end_of at w (opening session ∷ events_in s.turns)) (events_of turn.fate) shown after (world_of seen new) (count + 1) r
+        moved : {r : Result (Unit {0}) RunFault} → (c : (seen new.base).is_clean) → IsShellFollowed (site now) (audience_at session) (world_of seen now) (events_of fate) shown after (world_of seen new) (count + 1) r
+            → IsShellFollowed at (audience_at session) (end_of at w (opening session ∷ events_in s.turns)) (events_of turn.fate) shown after (world_of seen new) (count + 1) r
         moved {r} c h =
-            subst (λ (x : Fate). IsFollowed at (audience_at session) (end_of at w (opening session ∷ events_in s.turns)) (events_of x) shown after (world_of seen new) (count + 1) r) (sym l.read.same)
-            (subst (λ (u : World). IsFollowed at (audience_at session) u (events_of fate) shown after (world_of seen new) (count + 1) r) (s.world (clean c))
-            (subst (λ (p : Site). IsFollowed p (audience_at session) (world_of seen now) (events_of fate) shown after (world_of seen new) (count + 1) r) same_site h))
+            subst (λ (x : Fate). IsShellFollowed at (audience_at session) (end_of at w (opening session ∷ events_in s.turns)) (events_of x) shown after (world_of seen new) (count + 1) r) (sym l.read.same)
+            (subst (λ (u : World). IsShellFollowed at (audience_at session) u (events_of fate) shown after (world_of seen new) (count + 1) r) (s.world (clean c))
+            (subst (λ (p : Site). IsShellFollowed p (audience_at session) (world_of seen now) (events_of fate) shown after (world_of seen new) (count + 1) r) same_site h))
 
         moved_verdict : (done : Bool) → (seen new.base).is_clean → verdict_of done fate ≡ verdict_of (are_done (site now) (world_of seen now) (events_of fate)) fate
             → verdict_of done fate ≡ verdict_of (are_done at (end_of at w (opening session ∷ events_in s.turns)) (events_of turn.fate)) turn.fate
@@ -273,7 +273,7 @@ module _ {B E : Type 0} (seen : B → Seen) (contents : E → Option (List ℕ))
             ∙ ap (λ (u : World). verdict_of (are_done at u (events_of fate)) fate) (s.world (clean c))
             ∙ ap (λ (x : Fate). verdict_of (are_done at (end_of at w (opening session ∷ events_in s.turns)) (events_of x)) x) (sym l.read.same)
 
-        pub so_far_more : is_lost fate ≡ false → ((seen new.base).is_clean → IsFollowed (site now) (audience_at session) (world_of seen now) (events_of fate) shown after (world_of seen new) (count + 1) (Ok tt))
+        pub so_far_more : is_lost fate ≡ false → ((seen new.base).is_clean → IsShellFollowed (site now) (audience_at session) (world_of seen now) (events_of fate) shown after (world_of seen new) (count + 1) (Ok tt))
             → (done : Bool) → ((seen new.base).is_clean → verdict_of done fate ≡ verdict_of (are_done (site now) (world_of seen now) (events_of fate)) fate)
             → SoFar (count + 1) new said over after was_opened (tally_with tally (verdict_of done fate)) (is_last fate)
         so_far_more found h all counts =
@@ -295,7 +295,7 @@ module _ {B E : Type 0} (seen : B → Seen) (contents : E → Option (List ℕ))
 
         -- a shell that is given up at the line
         pub broken : EventsFit at (opening session ∷ []) → (fault : RunFault) → (c : (seen new.base).is_clean)
-            → IsFollowed (site now) (audience_at session) (world_of seen now) (events_of fate) shown after (world_of seen new) (count + 1) (Err fault)
+            → IsShellFollowed (site now) (audience_at session) (world_of seen now) (events_of fate) shown after (world_of seen new) (count + 1) (Err fault)
             → IsConversation echo at session given over was after Broken (IsTold contents quiet said) (Err fault) w (world_of seen new)
         broken opens fault c h =
             let k = moved c h in
@@ -307,7 +307,7 @@ module _ {B E : Type 0} (seen : B → Seen) (contents : E → Option (List ℕ))
             λ q. record {
               bytes = subst (Appends was shown) (append-nil _) (Appends-trans was is shown (answers at session w (opening session ∷ events_in s.turns)) []
                   (subst (Appends was is) (silent_lines at session echo w given left s.turns q (s.lines (clean c))) (s.written (clean c)))
-                  (subst (Appends is shown) (silent_turn at session echo (IsFate at.policy at.schemes session) left over turn q l.read.is_turn) l.read.shown));
+                  (subst (Appends is shown) (silent_turn at session echo (IsShellFate at.policy at.schemes session) left over turn q l.read.is_turn) l.read.shown));
               world = refl;
             } in
             let line : fault.event ≡ length turns = k.line ∙ sym count_now in
@@ -362,7 +362,7 @@ module _ {B E : Type 0} (seen : B → Seen) (contents : E → Option (List ℕ))
 
   module _ (opens : EventsFit at (opening session ∷ [])) (Broken : Type 0) where
     -- it is given up at the opening
-    pub broken_first : (new : Engine B) (after : Option (List ℕ)) (fault : RunFault) → IsFollowed at (audience_at session) w (opening session ∷ []) was after (world_of seen new) 0 (Err fault)
+    pub broken_first : (new : Engine B) (after : Option (List ℕ)) (fault : RunFault) → IsShellFollowed at (audience_at session) w (opening session ∷ []) was after (world_of seen new) 0 (Err fault)
         → IsConversation echo at session given given was after Broken (IsTold contents quiet quiet) (Err fault) w (world_of seen new)
     unfolding AreTold Rattle.mls_runs.specs.Shell.dialogue AreTurns
     broken_first new after fault h =
@@ -459,7 +459,7 @@ module _ {B E : Type 0} (seen : B → Seen) (contents : E → Option (List ℕ))
     pub over_last : (count : ℕ) (now : Engine B) (err : Errors E) (left is : Option (List ℕ)) (was_opened : Bool) (tally : Tally) (s : SoFar count now err left is was_opened tally false)
         (fate : Fate) (asked said : Errors E) (past shown : Option (List ℕ)) (l : Line count now err left is was_opened tally s fate asked said past shown Broken)
         (new : Engine B) (after : Option (List ℕ)) (clean : (seen new.base).is_clean → (seen now.base).is_clean) (kept : IsKept seen now new)
-        → is_lost fate ≡ false → ((seen new.base).is_clean → IsFollowed (site now) (audience_at session) (world_of seen now) (events_of fate) shown after (world_of seen new) (count + 1) (Ok tt))
+        → is_lost fate ≡ false → ((seen new.base).is_clean → IsShellFollowed (site now) (audience_at session) (world_of seen now) (events_of fate) shown after (world_of seen new) (count + 1) (Ok tt))
         → (done : Bool) → ((seen new.base).is_clean → verdict_of done fate ≡ verdict_of (are_done (site now) (world_of seen now) (events_of fate)) fate)
         → is_last fate ≡ true → (seen new.base).is_clean → (final : Errors E) → IsTold contents said final (end_told session (tally_with tally (verdict_of done fate)))
         → IsConversation echo at session given past was after Broken (IsTold contents quiet final) (Ok (ending_if (not was_opened || is_short (tally_with tally (verdict_of done fate))))) w (world_of seen new)

@@ -18,7 +18,7 @@ use Rattle.mls_runs.specs.declared.shell_session.ShellSession.{ShellSession}
 use Rattle.mls_runs.specs.declared.shell_session.Fate.{Fate}
 use Rattle.mls_runs.specs.declared.shell_session.Fate.TheVariants as fates
 use Rattle.mls_runs.specs.Typed.{fate_of_fault, fate_read, fate_of, Becomes}
-use Rattle.mls_runs.specs.Shell.{prefix_of, is_own, is_asked, meant, IsCommand, IsFate, over, help, asked, said, blank, refused, IsCut, whole, long, cut, IsLineRead}
+use Rattle.mls_runs.specs.Shell.{prefix_of, is_own, is_asked, meant, IsCommand, IsShellFate, over, help, asked, said, blank, refused, IsCut, whole, long, cut, IsLineRead}
 
 pub lost_read : (cause : RunCause) → fates.Lost cause ≡ fates.Unreadable → ⊥
 lost_read cause h = absurd cc
@@ -101,30 +101,30 @@ module _ (policy : Policy) (schemes : Schemes) (session : ShellSession) where
     none_other bytes events r e h = sym (script_again policy schemes is_policy are_schemes bytes events h) ∙ e
 
     fault_is : (fault : ScriptFault) → IsCommand session line → script_at policy schemes (prefix_of session ++ meant session line) ≡ Err fault → (alone : Result (List Event) ScriptFault)
-        → script_at policy schemes (meant session line) ≡ alone → IsFate policy schemes session line (fate_of_fault fault alone)
+        → script_at policy schemes (meant session line) ≡ alone → IsShellFate policy schemes session line (fate_of_fault fault alone)
     fault_is fault command e (Ok []) a =
         blank command (λ events h. let bad = none_other (prefix_of session ++ meant session line) events (Err fault) e h in absurd cc) (script_found policy schemes (meant session line) [] a) refl
     fault_is fault command e (Ok (x ∷ xs)) a = refused fault command e (λ h. let bad = none_other (meant session line) [] (Ok (x ∷ xs)) a h in absurd cc) refl
     fault_is fault command e (Err other) a = refused fault command e (λ h. let bad = none_other (meant session line) [] (Err other) a h in absurd cc) refl
 
     read_is : IsCommand session line → (r : Result (List Event) ScriptFault) → script_at policy schemes (prefix_of session ++ meant session line) ≡ r
-        → IsFate policy schemes session line (fate_read policy schemes session (meant session line) r)
+        → IsShellFate policy schemes session line (fate_read policy schemes session (meant session line) r)
     read_is command (Ok events) e = said events command (script_found policy schemes (prefix_of session ++ meant session line) events e) refl
     read_is command (Err fault) e = fault_is fault command e (script_at policy schemes (meant session line)) refl
 
-    asked_is : (b : Bool) → is_asked session line ≡ b → (rest : Fate) → (is_asked session line ≡ false → IsFate policy schemes session line rest) → IsFate policy schemes session line (cond b fates.Asked rest)
+    asked_is : (b : Bool) → is_asked session line ≡ b → (rest : Fate) → (is_asked session line ≡ false → IsShellFate policy schemes session line rest) → IsShellFate policy schemes session line (cond b fates.Asked rest)
     asked_is true e rest f = asked e refl
     asked_is false e rest f = f e
 
-    help_is : (b : Bool) → bytes_eq line (codes "help\n") ≡ b → (rest : Fate) → (line ≢ codes "help\n" → IsFate policy schemes session line rest) → IsFate policy schemes session line (cond b fates.Help rest)
+    help_is : (b : Bool) → bytes_eq line (codes "help\n") ≡ b → (rest : Fate) → (line ≢ codes "help\n" → IsShellFate policy schemes session line rest) → IsShellFate policy schemes session line (cond b fates.Help rest)
     help_is true e rest f = help ((bytes_eq-Decides line (codes "help\n")).0 e) refl
     help_is false e rest f = f (λ h. true≢false (sym ((bytes_eq-Decides line (codes "help\n")).1 h) ∙ e))
 
-    over_is : (b : Bool) → nat_eq (length line) 0 ≡ b → (rest : Fate) → (line ≢ [] → IsFate policy schemes session line rest) → IsFate policy schemes session line (cond b fates.Over rest)
+    over_is : (b : Bool) → nat_eq (length line) 0 ≡ b → (rest : Fate) → (line ≢ [] → IsShellFate policy schemes session line rest) → IsShellFate policy schemes session line (cond b fates.Over rest)
     over_is true e rest f = over (empty line e) refl
     over_is false e rest f = f (λ h. true≢false (sym (ap (λ l. nat_eq (length l) 0) h) ∙ e))
 
-    pub fate_is : IsFate policy schemes session line (fate_of policy schemes session line)
+    pub fate_is : IsShellFate policy schemes session line (fate_of policy schemes session line)
     fate_is =
         let r = script_at policy schemes (prefix_of session ++ meant session line) in
         let read = fate_read policy schemes session (meant session line) r in
@@ -132,7 +132,7 @@ module _ (policy : Policy) (schemes : Schemes) (session : ShellSession) where
         over_is (nat_eq (length line) 0) refl (cond (bytes_eq line (codes "help\n")) fates.Help more)
         (λ some. help_is (bytes_eq line (codes "help\n")) refl more (λ other. asked_is (is_asked session line) refl read (λ none. read_is (some, other, none) r refl)))
 
-  over_is_empty : (line : List ℕ) (fate : Fate) → IsFate policy schemes session line fate → fate ≡ fates.Over → line ≡ []
+  over_is_empty : (line : List ℕ) (fate : Fate) → IsShellFate policy schemes session line fate → fate ≡ fates.Over → line ≡ []
   over_is_empty line fate (over e f) h = e
   over_is_empty line fate (help e f) h = absurd (let bad : fates.Help ≡ fates.Over = sym f ∙ h in cc)
   over_is_empty line fate (asked e f) h = absurd (let bad : fates.Asked ≡ fates.Over = sym f ∙ h in cc)
@@ -140,7 +140,7 @@ module _ (policy : Policy) (schemes : Schemes) (session : ShellSession) where
   over_is_empty line fate (blank c n r f) h = absurd (let bad : fates.Blank ≡ fates.Over = sym f ∙ h in cc)
   over_is_empty line fate (refused fault c r n f) h = absurd (let bad : fates.Refused fault ≡ fates.Over = sym f ∙ h in cc)
 
-  was_read : (line : List ℕ) (fate : Fate) → IsFate policy schemes session line fate → fate ≡ fates.Unreadable → ⊥
+  was_read : (line : List ℕ) (fate : Fate) → IsShellFate policy schemes session line fate → fate ≡ fates.Unreadable → ⊥
   was_read line fate (over e f) h = let bad : fates.Over ≡ fates.Unreadable = sym f ∙ h in absurd cc
   was_read line fate (help e f) h = let bad : fates.Help ≡ fates.Unreadable = sym f ∙ h in absurd cc
   was_read line fate (asked e f) h = let bad : fates.Asked ≡ fates.Unreadable = sym f ∙ h in absurd cc
@@ -150,8 +150,8 @@ module _ (policy : Policy) (schemes : Schemes) (session : ShellSession) where
 
   module _ (echo : List ℕ → List ℕ) (before after was is_now : Option (List ℕ)) (Broken : Type 0) where
     pub read_whole : IsPolicy policy → AreSchemes schemes → (line : List ℕ) → IsNext before after line → length line ≤ 1048576 → Appends was is_now (echo line) → (fate : Fate) → Becomes (fate_of policy schemes session line) fate
-        → IsLineRead echo (IsFate policy schemes session) before after was is_now Broken fate
+        → IsLineRead echo (IsShellFate policy schemes session) before after was is_now Broken fate
     read_whole is_policy are_schemes line n short w fate (inl e) =
-        let is = subst (IsFate policy schemes session line) (sym e) (fate_is is_policy are_schemes line) in
-        read_line echo (IsFate policy schemes session) before after was is_now Broken line n short w fate is (over_is_empty line fate is) (was_read line fate is)
-    read_whole is_policy are_schemes line n short w fate (inr e) = read_in_vain echo (IsFate policy schemes session) before after was is_now Broken line n w fate e
+        let is = subst (IsShellFate policy schemes session line) (sym e) (fate_is is_policy are_schemes line) in
+        read_line echo (IsShellFate policy schemes session) before after was is_now Broken line n short w fate is (over_is_empty line fate is) (was_read line fate is)
+    read_whole is_policy are_schemes line n short w fate (inr e) = read_in_vain echo (IsShellFate policy schemes session) before after was is_now Broken line n w fate e

@@ -55,14 +55,14 @@ other_name line = record { line = 1; column = name_column line; cause = Expected
 
 -- it tells events, as a script's line does; or one that opens a session under another name, which stands where the
 -- fault is told; or it is refused for its fault as a script's line
-pub data IsFate (policy : Policy) (schemes : Schemes) (line : List ℕ) (fate : Fate) : Type 0 where
-  over : line ≡ [] → fate ≡ Over → IsFate policy schemes line fate
+pub data IsDeskFate (policy : Policy) (schemes : Schemes) (line : List ℕ) (fate : Fate) : Type 0 where
+  over : line ≡ [] → fate ≡ Over → IsDeskFate policy schemes line fate
   said : (events : List Event) → line ≢ [] → ReadsScript policy schemes line events
-      → list_any opens_other events ≡ false → fate ≡ Said events → IsFate policy schemes line fate
+      → list_any opens_other events ≡ false → fate ≡ Said events → IsDeskFate policy schemes line fate
   other : (events : List Event) → line ≢ [] → ReadsScript policy schemes line events
-      → list_any opens_other events ≡ true → fate ≡ Refused (other_name line) → IsFate policy schemes line fate
+      → list_any opens_other events ≡ true → fate ≡ Refused (other_name line) → IsDeskFate policy schemes line fate
   refused : (fault : ScriptFault) → line ≢ [] → script_at policy schemes line ≡ Err fault → fate ≡ Refused fault
-      → IsFate policy schemes line fate
+      → IsDeskFate policy schemes line fate
 
 -- one event at most, which fits
 pub record TellsOne (policy : Policy) (schemes : Schemes) (fate : Fate) : Type 0 where
@@ -75,7 +75,8 @@ pub record TellsOne (policy : Policy) (schemes : Schemes) (fate : Fate) : Type 0
 unfoldable pub AreLines : (List ℕ → List ℕ) → Policy → Schemes → Option (List ℕ) → Option (List ℕ) → List Turn → Type 0
 AreLines echo policy schemes before after [] = before ≡ after
 AreLines echo policy schemes before after (t ∷ ts) =
-    (left : Option (List ℕ)) × IsShellTurn echo (IsFate policy schemes) before left t × (ts ≢ [] → is_last t.fate ≡ false)
+    (left : Option (List ℕ)) × IsShellTurn echo (IsDeskFate policy schemes) before left t
+    × (ts ≢ [] → is_last t.fate ≡ false)
     × AreLines echo policy schemes left after ts
 
 module _ (site : Site) where
@@ -170,7 +171,7 @@ pub record IsDone (site : Site) (w : World) (es : List Event) (was is : Option (
 
 -- so it is, and its mark is written behind that; or it is given up, and of the mark nothing is written unless the
 -- writer failed
-pub record IsFollowed (site : Site) (w : World) (fate : Fate) (was is : Option (List ℕ)) (new : World)
+pub record IsDeskFollowed (site : Site) (w : World) (fate : Fate) (was is : Option (List ℕ)) (new : World)
     (r : Result (Unit {0}) RunFault) : Type 0 where
   pub end : Result (Unit {0}) RunFault
   pub part : List ℕ

@@ -90,20 +90,21 @@ IsCommand session line = (line ≢ []) × (line ≢ codes "help\n") × (is_asked
 
 -- behind the words of the session what a line means tells events; or it tells none so, and nothing by itself; or it is
 -- refused for the first fault behind these words
-pub data IsFate (policy : Policy) (schemes : Schemes) (session : ShellSession) (line : List ℕ) (fate : Fate) : Type 0 where
-  over : line ≡ [] → fate ≡ Over → IsFate policy schemes session line fate
-  help : line ≡ codes "help\n" → fate ≡ Help → IsFate policy schemes session line fate
-  asked : is_asked session line ≡ true → fate ≡ Asked → IsFate policy schemes session line fate
+pub data IsShellFate (policy : Policy) (schemes : Schemes) (session : ShellSession) (line : List ℕ) (fate : Fate)
+    : Type 0 where
+  over : line ≡ [] → fate ≡ Over → IsShellFate policy schemes session line fate
+  help : line ≡ codes "help\n" → fate ≡ Help → IsShellFate policy schemes session line fate
+  asked : is_asked session line ≡ true → fate ≡ Asked → IsShellFate policy schemes session line fate
   said : (events : List Event) → IsCommand session line
       → ReadsScript policy schemes (prefix_of session ++ meant session line) events
-      → fate ≡ fate_of_events session events → IsFate policy schemes session line fate
+      → fate ≡ fate_of_events session events → IsShellFate policy schemes session line fate
   blank : IsCommand session line
       → ((events : List Event) → ReadsScript policy schemes (prefix_of session ++ meant session line) events → ⊥)
-      → ReadsScript policy schemes (meant session line) [] → fate ≡ Blank → IsFate policy schemes session line fate
+      → ReadsScript policy schemes (meant session line) [] → fate ≡ Blank → IsShellFate policy schemes session line fate
   refused : (fault : ScriptFault) → IsCommand session line
       → script_at policy schemes (prefix_of session ++ meant session line) ≡ Err fault
       → (ReadsScript policy schemes (meant session line) [] → ⊥) → fate ≡ Refused fault
-      → IsFate policy schemes session line fate
+      → IsShellFate policy schemes session line fate
 
 -- its events fit; and it is lost for memory or the writer, never for the store
 abbrev pub FateFits : Policy → Schemes → Fate → Type 0
@@ -314,7 +315,7 @@ module _ (echo : List ℕ → List ℕ) (site : Site) (session : ShellSession) w
   AreTurns w before after [] = before ≡ after
   AreTurns w before after (t ∷ ts) =
       (left : Option (List ℕ)) × (is_open session w ≡ true)
-      × IsShellTurn echo (IsFate site.policy site.schemes session) before left t
+      × IsShellTurn echo (IsShellFate site.policy site.schemes session) before left t
       × (ts ≢ [] → is_last t.fate ≡ false) × AreTurns (end_of site w (events_of t.fate)) left after ts
 
   module _ (before after : Option (List ℕ)) (Broken : Type 0) (Wrote Told : List ℕ → Type 0)
@@ -345,7 +346,7 @@ pub record IsAnswered (site : Site) (audience : Audience) (w : World) (es : List
   pub fault : IfErr end (IsFaultOf es)
 
 -- at a line the shell goes on, or is given up
-pub record IsFollowed (site : Site) (audience : Audience) (w : World) (es : List Event) (was is : Option (List ℕ))
+pub record IsShellFollowed (site : Site) (audience : Audience) (w : World) (es : List Event) (was is : Option (List ℕ))
     (new : World) (number : ℕ) (r : Result (Unit {0}) RunFault) : Type 0 where
   pub end : Result (Unit {0}) RunFault
   pub answered : IsAnswered site audience w es was is new end

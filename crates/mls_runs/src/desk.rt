@@ -7,12 +7,12 @@ ghost use Rattle.mls_sessions.specs.Engine.{site, world_of, MayServe, IsAtRest, 
 ghost use Rattle.mls_host.specs.Hosting.{IsAppended};
 ghost use Rattle.mls_certcheck.specs.Site.{site_of};
 ghost use Rattle.mls_runs.specs.Shell.{events_of, is_failed, is_lost};
-ghost use Rattle.mls_runs.specs.Desk.{TellsOne, IsDone, IsFollowed, IsService, IsDesk};
+ghost use Rattle.mls_runs.specs.Desk.{TellsOne, IsDone, IsDeskFollowed, IsService, IsDesk};
 
-use crate::Fate;
 use crate::marks::write_mark;
 use crate::reading::next_fate;
 use crate::shell::is_last;
+use crate::shell_session::Fate;
 use mls_filterview::Base;
 use mls_host::{Ending, ending_if};
 use mls_lattice::{Items, Policy};
@@ -83,7 +83,7 @@ fn follow<B: Base, W: Write>(
     requires ready { IsEngineReady B.seen engine.old }
     requires line { TellsOne (site engine.old).policy (site engine.old).schemes fate.now }
     ensures continues { Continues B.seen engine.old engine.new result }
-    ensures followed { (B.seen engine.new.base).is_clean → IsFollowed (site engine.old)
+    ensures followed { (B.seen engine.new.base).is_clean → IsDeskFollowed (site engine.old)
         (world_of B.seen engine.old) fate.now
         (W.contents out.old) (W.contents out.new) (world_of B.seen engine.new) result }
     ensures found { OnOk result (is_lost fate.now ≡ false) }

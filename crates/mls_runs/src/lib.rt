@@ -34,7 +34,6 @@ pub use crate::desks::run_desk;
 pub use crate::history::{HistoryCause, HistoryFault, Run, run_history};
 pub use crate::memory::{HeldFile, MemoryHost};
 pub use crate::running::{run_over_base, run_script};
-pub use crate::shell_session::{Fate, ShellSession};
 pub use crate::shells::run_shell;
 pub use crate::turning::turn_store;
 

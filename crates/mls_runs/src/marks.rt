@@ -2,7 +2,7 @@
 ghost use Rattle.std.specs.Prelude.{◌≡◌, IfOk};
 ghost use Rattle.mls_runs.specs.Marks.{refused_mark, mark_of, IsMarked};
 
-use crate::Fate;
+use crate::shell_session::Fate;
 use mls_script::ScriptFault;
 use mls_sessions::{RunCause, write_whole};
 use mls_tokens::Piece::{Number, Text};

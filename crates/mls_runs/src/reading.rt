@@ -6,10 +6,10 @@ ghost use Rattle.std.specs.List.{AllByRecursion, list_any};
 ghost use Rattle.mls_script.specs.Event.{EventFits};
 ghost use Rattle.mls_runs.specs.Typed.{Becomes};
 ghost use Rattle.mls_runs.specs.Shell.{FateFits, IsLineRead};
-ghost use Rattle.mls_runs.specs.Desk.{opens_other, name_column, IsFate};
+ghost use Rattle.mls_runs.specs.Desk.{opens_other, name_column, IsDeskFate};
 ghost use Rattle.mls_runs.specs.Reading.{fate_of_events, fate_of};
 
-use crate::Fate;
+use crate::shell_session::Fate;
 use mls_lattice::{Items, Policy};
 use mls_scheme::Schemes;
 use mls_script::{Command, Event, ScriptCause, ScriptFault, script};
@@ -101,7 +101,7 @@ pub(crate) fn next_fate<L: TypedLines, W: Write>(
     lines: &mut L,
     out: &mut W,
 ) -> Fate
-    ensures read { IsLineRead L.echo (IsFate policy.now schemes.now) (L.remaining lines.old) (L.remaining lines.new)
+    ensures read { IsLineRead L.echo (IsDeskFate policy.now schemes.now) (L.remaining lines.old) (L.remaining lines.new)
         (W.contents out.old) (W.contents out.new) (L.breaks lines.new) result }
     ensures fits { FateFits policy.now schemes.now result }
 {

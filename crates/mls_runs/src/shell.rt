@@ -7,7 +7,7 @@ ghost use Rattle.mls_host.specs.Ending.{ending_if};
 ghost use Rattle.mls_host.specs.Hosting.{IsAppended, IsTold};
 ghost use Rattle.mls_certcheck.specs.Site.{site_of};
 ghost use Rattle.mls_runs.specs.Shell.{opening, audience_at, events_of, verdict_of, is_short, end_told, is_last};
-ghost use Rattle.mls_runs.specs.Shell.{is_lost, FateFits, MayTalk, IsFollowed, IsConversation, IsShell};
+ghost use Rattle.mls_runs.specs.Shell.{is_lost, FateFits, MayTalk, IsShellFollowed, IsConversation, IsShell};
 
 use crate::explaining::Listener;
 use crate::form::form_of;
@@ -48,7 +48,7 @@ fn answer<B: Base, W: Write>(
     requires fits { EventsFit (site engine.old) events.now }
     requires level { session.now.level < length (site engine.old).policy.labels }
     ensures continues { Continues B.seen engine.old engine.new result }
-    ensures followed { (B.seen engine.new.base).is_clean → IsFollowed (site engine.old) (audience_at session.now)
+    ensures followed { (B.seen engine.new.base).is_clean → IsShellFollowed (site engine.old) (audience_at session.now)
         (world_of B.seen engine.old) events.now (W.contents out.old) (W.contents out.new)
         (world_of B.seen engine.new) line result }
     ensures noticed { (B.seen engine.new.base).is_clean → OnOk result (is_some engine.new.notice
@@ -76,7 +76,7 @@ fn follow<B: Base, W: Write>(
     requires fits { FateFits (site engine.old).policy (site engine.old).schemes fate.now }
     requires level { session.now.level < length (site engine.old).policy.labels }
     ensures continues { Continues B.seen engine.old engine.new result }
-    ensures followed { (B.seen engine.new.base).is_clean → IsFollowed (site engine.old) (audience_at session.now)
+    ensures followed { (B.seen engine.new.base).is_clean → IsShellFollowed (site engine.old) (audience_at session.now)
         (world_of B.seen engine.old) (events_of fate.now) (W.contents out.old) (W.contents out.new)
         (world_of B.seen engine.new) line result }
     ensures found { OnOk result (is_lost fate.now ≡ false) }

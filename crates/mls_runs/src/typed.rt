@@ -3,7 +3,8 @@ ghost use Rattle.std.specs.Prelude.{◌≡◌, ◌∷◌, ◌++◌, ◌||◌, []
 ghost use Rattle.std.specs.List.{AllByRecursion, list_all};
 ghost use Rattle.mls_script.specs.Event.{EventFits};
 ghost use Rattle.mls_script.specs.Reading.{GivesScript, script_at};
-ghost use Rattle.mls_runs.specs.Shell.{prefix_of, opening, is_own, fate_of_events, is_asked, meant, IsFate, FateFits};
+ghost use Rattle.mls_runs.specs.Shell.{prefix_of, opening, is_own, fate_of_events, is_asked, meant};
+ghost use Rattle.mls_runs.specs.Shell.{IsShellFate, FateFits};
 ghost use Rattle.mls_runs.specs.Shell.{IsLineRead};
 ghost use Rattle.mls_runs.specs.Typed.{fate_of_fault, fate_of, Becomes};
 
@@ -189,7 +190,8 @@ pub(crate) fn next_fate<L: TypedLines, W: Write>(
     out: &mut W,
     heard: &mut Vec<u8>,
 ) -> Fate
-    ensures read { IsLineRead L.echo (IsFate policy.now schemes.now session.now) (L.remaining lines.old) (L.remaining lines.new)
+    ensures read { IsLineRead L.echo (IsShellFate policy.now schemes.now session.now)
+        (L.remaining lines.old) (L.remaining lines.new)
         (W.contents out.old) (W.contents out.new) (L.breaks lines.new) result }
     ensures fits { FateFits policy.now schemes.now result }
 {

@@ -17,7 +17,7 @@ use Rattle.mls_scheme.specs.declared.value.Value.TheVariants.{Int, Text}
 use Rattle.mls_scheme.specs.declared.key_fault.KeyFault.{KeyFault}
 use Rattle.mls_scheme.specs.declared.key_fault.KeyFault.TheVariants.{Short, BadTag, BadText, Trailing}
 use Rattle.mls_scheme.specs.Spelling.{value_spelling, key_spelling, HasSpelling, IsSpelledKey, AreUnambiguous}
-use Rattle.mls_scheme.specs.KeyReading.{Gives, number_at, int_at, utf8_at, text_at, value_at, values_at, key_at}
+use Rattle.mls_scheme.specs.KeyReading.{GivesKey, number_at, int_at, utf8_at, text_at, value_at, values_at, key_at}
 use Rattle.mls_scheme.proofs.KeySteps.{utf8_at-ok}
 
 abbrev pub IsBytes : List ℕ → Type 0
@@ -232,7 +232,7 @@ key_again key h =
     (ap (λ (bs : List ℕ). values_at [] (length key) bs >>= (λ vs. cond (length vs.1 == 0) (Ok vs.0) (Err Trailing))) (sym (append-nil (flat_map value_spelling key)))
     ∙ rw (values_again [] key [] h.each) refl)
 
-pub is_found : (bytes : List ℕ) (r : Result (Vec Value) KeyFault) → IsBytes bytes → Gives (λ v. v.items) r (key_at bytes) → IfOk r (λ v. IsSpelledKey v.items × (bytes ≡ key_spelling v.items))
+pub is_found : (bytes : List ℕ) (r : Result (Vec Value) KeyFault) → IsBytes bytes → GivesKey (λ v. v.items) r (key_at bytes) → IfOk r (λ v. IsSpelledKey v.items × (bytes ≡ key_spelling v.items))
 is_found bytes (Ok v) fits given = key_found bytes v.items fits given
 is_found bytes (Err e) fits given = tt
 
@@ -255,11 +255,11 @@ front bytes v rest fits e =
       after = ap (λ (n : ℕ). drop n bytes) taken ∙ ap (λ (bs : List ℕ). drop (length (value_spelling v)) bs) parts ∙ drop_at (value_spelling v) rest (length (value_spelling v)) refl;
     }
 
-pub is_value_found : (bytes : List ℕ) (r : Result (Value × ℕ) KeyFault) → IsBytes bytes → Gives (λ x. (x.0, drop x.1 bytes)) r (value_at bytes) → IfOk r (λ x. HasSpelling x.0 × (bytes ≡ value_spelling x.0 ++ drop x.1 bytes))
+pub is_value_found : (bytes : List ℕ) (r : Result (Value × ℕ) KeyFault) → IsBytes bytes → GivesKey (λ x. (x.0, drop x.1 bytes)) r (value_at bytes) → IfOk r (λ x. HasSpelling x.0 × (bytes ≡ value_spelling x.0 ++ drop x.1 bytes))
 is_value_found bytes (Ok x) fits given = let t = value_takes bytes x.0 (drop x.1 bytes) fits given in (t.1, t.0.parts)
 is_value_found bytes (Err e) fits given = tt
 
-pub is_value_only : (bytes : List ℕ) (r : Result (Value × ℕ) KeyFault) → Gives (λ x. (x.0, drop x.1 bytes)) r (value_at bytes) → IfOk r (λ x. x.1 ≡ length (value_spelling x.0)) → (v : Value) (rest : List ℕ) → HasSpelling v → bytes ≡ value_spelling v ++ rest → Gives (λ x. x) r (Ok (v, length (value_spelling v)))
+pub is_value_only : (bytes : List ℕ) (r : Result (Value × ℕ) KeyFault) → GivesKey (λ x. (x.0, drop x.1 bytes)) r (value_at bytes) → IfOk r (λ x. x.1 ≡ length (value_spelling x.0)) → (v : Value) (rest : List ℕ) → HasSpelling v → bytes ≡ value_spelling v ++ rest → GivesKey (λ x. x) r (Ok (v, length (value_spelling v)))
 is_value_only bytes (Ok x) given taken v rest h e =
     let same : v ≡ x.0 = ap (λ (p : Value × List ℕ). p.0) (ok_is (v, rest) (x.0, drop x.1 bytes) (sym (ap value_at e ∙ value_again v rest h) ∙ given)) in
     ap Ok (λ i. (same i, (ap (λ (w : Value). length (value_spelling w)) same ∙ sym taken) i))

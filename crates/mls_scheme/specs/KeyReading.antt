@@ -10,8 +10,8 @@ use Rattle.mls_scheme.specs.declared.key_fault.KeyFault.{KeyFault}
 use Rattle.mls_scheme.specs.declared.key_fault.KeyFault.TheVariants.{Short, BadTag, BadText, Trailing, Memory}
 
 -- What a function returned, seen by view, is what reading gives, unless memory ran out.
-abbrev pub Gives : {X Y : Type 0} → (X → Y) → Result X KeyFault → Result Y KeyFault → Type 0
-Gives = GivesUnless (λ e. e ≡ Memory)
+abbrev pub GivesKey : {X Y : Type 0} → (X → Y) → Result X KeyFault → Result Y KeyFault → Type 0
+GivesKey = GivesUnless (λ e. e ≡ Memory)
 
 -- A field is a value and the bytes after it.
 abbrev pub number_at : Width → List ℕ → Result (ℕ × List ℕ) KeyFault

@@ -3,7 +3,7 @@ ghost use Rattle.std.specs.Prelude.{◌≡◌, ◌++◌, List, ℕ, [], length, 
 ghost use Rattle.std.specs.Int.{w32};
 ghost use Rattle.mls_scheme.specs.declared.value.Value.{Value as SpecValue};
 ghost use Rattle.mls_scheme.specs.Spelling.{value_spelling, key_spelling, HasSpelling, IsSpelledKey};
-ghost use Rattle.mls_scheme.specs.KeyReading.{Gives, number_at, int_at, utf8_at, text_at, value_at, values_at, key_at};
+ghost use Rattle.mls_scheme.specs.KeyReading.{GivesKey, number_at, int_at, utf8_at, text_at, value_at, values_at, key_at};
 
 use crate::key_fault::KeyFault;
 use crate::value::Value;
@@ -11,7 +11,7 @@ use mls_lattice::Str;
 use std::alloc::Global;
 
 fn length_at(bytes: &[u8]) -> Result<(u32, &[u8]), KeyFault>
-    ensures { Gives (λ x. (x.0, x.1.now)) result (number_at w32 bytes.now) }
+    ensures { GivesKey (λ x. (x.0, x.1.now)) result (number_at w32 bytes.now) }
 {
     if bytes.len() < 4 {
         return Err(KeyFault::Short);
@@ -23,7 +23,7 @@ fn length_at(bytes: &[u8]) -> Result<(u32, &[u8]), KeyFault>
 
 #[tactic(auto, unfolding(crate::specs::KeyReading::int_at))]
 fn int_of(bytes: &[u8]) -> Result<(i64, &[u8]), KeyFault>
-    ensures { Gives (λ x. (x.0, x.1.now)) result (int_at bytes.now) }
+    ensures { GivesKey (λ x. (x.0, x.1.now)) result (int_at bytes.now) }
 {
     if bytes.len() < 8 {
         return Err(KeyFault::Short);
@@ -37,7 +37,7 @@ fn int_of(bytes: &[u8]) -> Result<(i64, &[u8]), KeyFault>
 
 #[tactic(auto, using(crate::proofs::KeySteps::utf8_steps))]
 fn utf8_of(bytes: &[u8]) -> Result<&str, KeyFault>
-    ensures { Gives (λ s. s.now) result (utf8_at bytes.now) }
+    ensures { GivesKey (λ s. s.now) result (utf8_at bytes.now) }
 {
     match std::str::from_utf8(bytes) {
         Ok(text) => Ok(text),
@@ -47,7 +47,7 @@ fn utf8_of(bytes: &[u8]) -> Result<&str, KeyFault>
 
 #[tactic(auto, unfolding(crate::specs::KeyReading::text_at))]
 fn text_of(alloc: Global, bytes: &[u8]) -> Result<(Str, &[u8]), KeyFault>
-    ensures { Gives (λ x. (x.0, x.1.now)) result (text_at bytes.now) }
+    ensures { GivesKey (λ x. (x.0, x.1.now)) result (text_at bytes.now) }
 {
     let (len, rest) = length_at(bytes)?;
     let len = len as usize;
@@ -60,7 +60,7 @@ fn text_of(alloc: Global, bytes: &[u8]) -> Result<(Str, &[u8]), KeyFault>
 
 #[tactic(auto, unfolding(crate::specs::KeyReading::value_at))]
 fn front_of(alloc: Global, bytes: &[u8]) -> Result<(Value, &[u8]), KeyFault>
-    ensures { Gives (λ x. (x.0, x.1.now)) result (value_at bytes.now) }
+    ensures { GivesKey (λ x. (x.0, x.1.now)) result (value_at bytes.now) }
 {
     match bytes {
         [] => Err(KeyFault::Short),
@@ -78,7 +78,7 @@ fn front_of(alloc: Global, bytes: &[u8]) -> Result<(Value, &[u8]), KeyFault>
 
 #[tactic(auto, using(crate::proofs::KeySteps::value_steps))]
 fn values_of(alloc: Global, count: u8, bytes: &[u8]) -> Result<(Vec<Value>, &[u8]), KeyFault>
-    ensures { Gives (λ x. (x.0.items, x.1.now)) result (values_at [] count bytes.now) }
+    ensures { GivesKey (λ x. (x.0.items, x.1.now)) result (values_at [] count bytes.now) }
 {
     let mut values = Vec::new(alloc);
     let mut rest = bytes;
@@ -92,7 +92,7 @@ fn values_of(alloc: Global, count: u8, bytes: &[u8]) -> Result<(Vec<Value>, &[u8
 
 #[tactic(auto, unfolding(crate::specs::KeyReading::key_at))]
 fn all_of(alloc: Global, bytes: &[u8]) -> Result<Vec<Value>, KeyFault>
-    ensures { Gives (λ v. v.items) result (key_at bytes.now) }
+    ensures { GivesKey (λ v. v.items) result (key_at bytes.now) }
 {
     let Some((count, rest)) = bytes.split_first() else {
         return Err(KeyFault::Short);
@@ -109,7 +109,7 @@ fn all_of(alloc: Global, bytes: &[u8]) -> Result<Vec<Value>, KeyFault>
 
 fn sized_front_of(alloc: Global, bytes: &[u8]) -> Result<(Value, usize), KeyFault>
     ensures taken { IfOk result (λ x. x.1 ≡ length (value_spelling x.0)) }
-    ensures exact { Gives (λ x. (x.0, drop x.1 bytes.now)) result (value_at bytes.now) }
+    ensures exact { GivesKey (λ x. (x.0, drop x.1 bytes.now)) result (value_at bytes.now) }
 {
     let (value, rest) = front_of(alloc, bytes)?;
     Ok((value, bytes.len() - rest.len()))
@@ -124,9 +124,9 @@ pub fn value_of(alloc: Global, bytes: &[u8]) -> Result<(Value, usize), KeyFault>
     ensures taken { IfOk result (λ x. x.1 ≡ length (value_spelling x.0)) }
     // What is spelled so is read, unless memory runs out.
     ensures only { (v : SpecValue) (rest : List ℕ) → HasSpelling v → bytes.now ≡ value_spelling v ++ rest
-        → Gives (λ x. x) result (Ok (v, length (value_spelling v))) }
+        → GivesKey (λ x. x) result (Ok (v, length (value_spelling v))) }
     // Which fault it is.
-    ensures exact { Gives (λ x. (x.0, drop x.1 bytes.now)) result (value_at bytes.now) }
+    ensures exact { GivesKey (λ x. (x.0, drop x.1 bytes.now)) result (value_at bytes.now) }
 {
     sized_front_of(alloc, bytes)
 }
@@ -137,9 +137,9 @@ pub fn key_of(alloc: Global, bytes: &[u8]) -> Result<Vec<Value>, KeyFault>
     ensures found { IfOk result (λ v. IsSpelledKey v.items × (bytes.now ≡ key_spelling v.items)) }
     // What is spelled so is read, unless memory runs out.
     ensures only { (key : List SpecValue) → IsSpelledKey key → bytes.now ≡ key_spelling key
-        → Gives (λ v. v.items) result (Ok key) }
+        → GivesKey (λ v. v.items) result (Ok key) }
     // Which fault it is.
-    ensures exact { Gives (λ v. v.items) result (key_at bytes.now) }
+    ensures exact { GivesKey (λ v. v.items) result (key_at bytes.now) }
 {
     all_of(alloc, bytes)
 }

@@ -13,7 +13,7 @@ use Rattle.mls_scheme.specs.Scheme.{Schemes, Scheme, scheme_of}
 use Rattle.mls_tokens.specs.declared.token.Token.{Token}
 use Rattle.mls_tokens.specs.declared.token.Token.TheVariants.{Word}
 use Rattle.mls_tokens.specs.Passing.{PlacedName}
-use Rattle.mls_translang.specs.Tokens.{Place}
+use Rattle.mls_translang.specs.Tokens.{Context}
 use Rattle.mls_translang.specs.declared.query.Query.{Query}
 use Rattle.mls_parser.specs.declared.fault.PlacedFault.{PlacedFault}
 use Rattle.mls_parser.specs.Noted.{State, Read, token, word_at, name_at, label_at, label_behind, relation_at}
@@ -53,7 +53,7 @@ verb_is (Word s) v e = ap (λ (x : Name). Word x) (among_is verbs s v e)
 verb_is _ v e = absurd cc
 
 module _ (policy : Policy) (schemes : Schemes) where
-  abbrev place : Place
+  abbrev place : Context
   place = written_place policy schemes 0
 
   -- ---- commands

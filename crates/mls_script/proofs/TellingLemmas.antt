@@ -19,7 +19,7 @@ use Rattle.mls_tokens.specs.Passing.{is_sign, has_ended}
 use Rattle.mls_tokens.specs.Text.{separated}
 use Rattle.mls_tokens.proofs.TokensLemmas.{tokens_exact}
 use Rattle.mls_tokens.proofs.NextLemmas.{NotNext, over_again, not_over}
-use Rattle.mls_translang.specs.Tokens.{Place}
+use Rattle.mls_translang.specs.Tokens.{Context}
 use Rattle.mls_translang.specs.declared.query.Query.{Query}
 use Rattle.mls_parser.specs.Fault.{least, least_from}
 use Rattle.mls_parser.specs.Noted.{State, Read, token, word_at, name_at, label_behind}
@@ -63,7 +63,7 @@ verb_gets v us s k = known_gets verb_of_token v (Word (verb_word v)) us (known_v
 module _ (policy : Policy) (schemes : Schemes) (is_policy : IsPolicy policy) (are_schemes : AreSchemes schemes) where
   -- ---- commands
 
-  abbrev place : ℕ → Place
+  abbrev place : ℕ → Context
   place relation = written_place policy schemes relation
 
   names : (relation : ℕ) → relation < length schemes → HasNames (place relation)

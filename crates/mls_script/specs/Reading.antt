@@ -161,5 +161,5 @@ abbrev pub GivesScript : {X : Type 0} → (X → List Event) → Result X Script
 GivesScript = GivesUnless (λ e. e.cause ≡ Memory)
 
 -- The same of what is read of a line.
-abbrev pub Gives : {X Y : Type 0} → (X → Y) → Result X LineFault → Result Y LineFault → Type 0
-Gives = GivesUnless (λ e. e.cause ≡ Memory)
+abbrev pub GivesLine : {X Y : Type 0} → (X → Y) → Result X LineFault → Result Y LineFault → Type 0
+GivesLine = GivesUnless (λ e. e.cause ≡ Memory)

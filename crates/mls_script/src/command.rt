@@ -1,6 +1,6 @@
 //! A line: a level, a session and a command.
 ghost use Rattle.std.specs.Prelude.{◌≡◌, ◌<◌, length, IfOk};
-ghost use Rattle.mls_parser.specs.Noted.{Gives, token};
+ghost use Rattle.mls_parser.specs.Noted.{GivesPlaced, token};
 ghost use Rattle.mls_parser.specs.Words.{pass_known};
 ghost use Rattle.mls_script.specs.Reading.{verb_of_token, view_at, keyed_at, insert_at, update_at, delete_at, call_at};
 ghost use Rattle.mls_script.specs.Reading.{command_at, event_at, told_at};
@@ -26,7 +26,7 @@ fn verb_of_token(token: &Token) -> Option<Verb>
 
 /// Passes a verb, and gives its place too.
 fn verb(reader: &mut Reader) -> Result<(Verb, usize), PlacedFault>
-    ensures { Gives (λ x. ((x.0, x.1), reader.new)) result (token (pass_known verb_of_token) reader.old) }
+    ensures { GivesPlaced (λ x. ((x.0, x.1), reader.new)) result (token (pass_known verb_of_token) reader.old) }
 {
     let first = reader.tokens.pop().ok_or(reader.tokens.refused())?;
     let verb = verb_of_token(&first.token).ok_or(ill_formed(first.at, TextCause::Expected))?;
@@ -43,7 +43,7 @@ fn view(
     counts: bool,
     reader: &mut Reader,
 ) -> Result<Command, PlacedFault>
-    ensures { Gives (λ c. (c, reader.new)) result (view_at policy.now schemes.now counts reader.old) }
+    ensures { GivesPlaced (λ c. (c, reader.new)) result (view_at policy.now schemes.now counts reader.old) }
 {
     let relation = reader.relation(schemes)?;
     let label = reader.label_behind(policy, "at")?;
@@ -63,7 +63,7 @@ fn keyed(
     schemes: &Schemes,
     reader: &mut Reader,
 ) -> Result<(RelNo, Items<Option<Value>>), PlacedFault>
-    ensures exact { Gives (λ x. ((x.0, x.1), reader.new)) result (keyed_at schemes.now reader.old) }
+    ensures exact { GivesPlaced (λ x. ((x.0, x.1), reader.new)) result (keyed_at schemes.now reader.old) }
     ensures within { IfOk result (λ x. x.0 < length schemes.now) }
 {
     let relation = reader.relation(schemes)?;
@@ -74,7 +74,7 @@ fn keyed(
 
 #[tactic(auto, unfolding(crate::specs::Reading::insert_at))]
 fn insert(alloc: Global, schemes: &Schemes, reader: &mut Reader) -> Result<Command, PlacedFault>
-    ensures { Gives (λ c. (c, reader.new)) result (insert_at schemes.now reader.old) }
+    ensures { GivesPlaced (λ c. (c, reader.new)) result (insert_at schemes.now reader.old) }
 {
     let (relation, key) = keyed(alloc, schemes, reader)?;
     reader.word("values")?;
@@ -89,7 +89,7 @@ fn update(
     schemes: &Schemes,
     reader: &mut Reader,
 ) -> Result<Command, PlacedFault>
-    ensures { Gives (λ c. (c, reader.new)) result (update_at policy.now schemes.now reader.old) }
+    ensures { GivesPlaced (λ c. (c, reader.new)) result (update_at policy.now schemes.now reader.old) }
 {
     let (relation, key) = keyed(alloc, schemes, reader)?;
     let class = reader.label_behind(policy, "class")?;
@@ -105,7 +105,7 @@ fn delete(
     schemes: &Schemes,
     reader: &mut Reader,
 ) -> Result<Command, PlacedFault>
-    ensures { Gives (λ c. (c, reader.new)) result (delete_at policy.now schemes.now reader.old) }
+    ensures { GivesPlaced (λ c. (c, reader.new)) result (delete_at policy.now schemes.now reader.old) }
 {
     let (relation, key) = keyed(alloc, schemes, reader)?;
     let class = reader.label_behind(policy, "class")?;
@@ -114,7 +114,7 @@ fn delete(
 
 #[tactic(auto, unfolding(crate::specs::Reading::call_at))]
 fn call(alloc: Global, reader: &mut Reader) -> Result<Command, PlacedFault>
-    ensures { Gives (λ c. (c, reader.new)) result (call_at reader.old) }
+    ensures { GivesPlaced (λ c. (c, reader.new)) result (call_at reader.old) }
 {
     let (tx, _) = reader.name()?;
     let args = list(alloc, reader, None)?;
@@ -128,7 +128,7 @@ fn command(
     verb: Verb,
     reader: &mut Reader,
 ) -> Result<Command, PlacedFault>
-    ensures { Gives (λ c. (c, reader.new)) result (command_at policy.now schemes.now verb reader.old) }
+    ensures { GivesPlaced (λ c. (c, reader.new)) result (command_at policy.now schemes.now verb reader.old) }
 {
     match verb {
         Verb::Open => Ok(Command::Open(reader.name()?.0)),
@@ -156,7 +156,7 @@ fn event(
     schemes: &Schemes,
     reader: &mut Reader,
 ) -> Result<Event, PlacedFault>
-    ensures { Gives (λ e. (e, reader.new)) result (event_at policy.now schemes.now reader.old) }
+    ensures { GivesPlaced (λ e. (e, reader.new)) result (event_at policy.now schemes.now reader.old) }
 {
     let level = reader.label(policy)?;
     let (session, _) = reader.name()?;
@@ -177,7 +177,7 @@ pub(crate) fn told(
     schemes: &Schemes,
     reader: &mut Reader,
 ) -> Result<Option<Event>, PlacedFault>
-    ensures { Gives (λ o. (o, reader.new)) result (told_at policy.now schemes.now reader.old) }
+    ensures { GivesPlaced (λ o. (o, reader.new)) result (told_at policy.now schemes.now reader.old) }
 {
     if reader.has_ended() {
         return Ok(None);

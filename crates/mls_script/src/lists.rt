@@ -1,6 +1,6 @@
 //! Values, lists of them, and new values of attributes, from the tokens that are left.
 ghost use Rattle.std.specs.Prelude.{◌≡◌, [], option_map};
-ghost use Rattle.mls_parser.specs.Noted.{Gives};
+ghost use Rattle.mls_parser.specs.Noted.{GivesPlaced};
 ghost use Rattle.mls_parser.specs.ReadList.{numbered_in, items_at};
 ghost use Rattle.mls_script.specs.ReadList.{value_of_token, value_at, fits_attribute, attribute_at, are_as_many};
 ghost use Rattle.mls_script.specs.ReadList.{item_at, list_at, set_at, sets_at};
@@ -37,7 +37,7 @@ fn value_of_token(token: Token) -> Option<Option<Value>>
 
 /// Passes a value or null, and gives it with its place.
 fn value(reader: &mut Reader) -> Result<PlacedValue, PlacedFault>
-    ensures { Gives (λ x. ((x.0, x.1), reader.new)) result (value_at reader.old) }
+    ensures { GivesPlaced (λ x. ((x.0, x.1), reader.new)) result (value_at reader.old) }
 {
     let first = reader.tokens.pop().ok_or(reader.tokens.stop())?;
     let value = value_of_token(first.token).ok_or(ill_formed(first.at, TextCause::Expected))?;
@@ -86,7 +86,7 @@ fn item(
     attributes: Option<&Attributes>,
     front: &mut Vec<Option<Value>>,
 ) -> Result<(), PlacedFault>
-    ensures { Gives (λ _. (front.new.items, reader.new)) result
+    ensures { GivesPlaced (λ _. (front.new.items, reader.new)) result
         (item_at (option_map (λ a. a.now) attributes.entry) front.old.items reader.old) }
 {
     let (value, at) = value(reader)?;
@@ -103,7 +103,7 @@ fn items(
     reader: &mut Reader,
     attributes: Option<&Attributes>,
 ) -> Result<Vec<Option<Value>>, PlacedFault>
-    ensures { Gives (λ v. (v.items, reader.new)) result
+    ensures { GivesPlaced (λ v. (v.items, reader.new)) result
         (items_at (item_at (option_map (λ a. a.now) attributes.entry)) [] reader.old) }
 {
     let mut items = Vec::new(alloc);
@@ -122,7 +122,7 @@ pub(crate) fn list(
     reader: &mut Reader,
     attributes: Option<&Attributes>,
 ) -> Result<Items<Option<Value>>, PlacedFault>
-    ensures { Gives (λ vs. (vs, reader.new)) result
+    ensures { GivesPlaced (λ vs. (vs, reader.new)) result
         (list_at (option_map (λ a. a.now) attributes.entry) reader.old) }
 {
     reader.sign(Sign::LeftParen)?;
@@ -146,7 +146,7 @@ fn set(
     scheme: &Scheme,
     front: &mut Vec<(usize, Option<Value>)>,
 ) -> Result<(), PlacedFault>
-    ensures { Gives (λ _. (front.new.items, reader.new)) result (set_at scheme.now front.old.items reader.old) }
+    ensures { GivesPlaced (λ _. (front.new.items, reader.new)) result (set_at scheme.now front.old.items reader.old) }
 {
     let number = reader.target(scheme, front.as_slice())?;
     let (value, at) = value(reader)?;
@@ -159,7 +159,7 @@ fn set(
 /// New values, one or more with a comma between each two.
 #[tactic(auto, using(crate::proofs::ItemSteps::item_steps))]
 fn new_values(alloc: Global, reader: &mut Reader, scheme: &Scheme) -> Result<Sets, PlacedFault>
-    ensures { Gives (λ xs. (xs, reader.new)) result (items_at (set_at scheme.now) [] reader.old) }
+    ensures { GivesPlaced (λ xs. (xs, reader.new)) result (items_at (set_at scheme.now) [] reader.old) }
 {
     let mut sets = Vec::new(alloc);
     loop {
@@ -173,7 +173,7 @@ fn new_values(alloc: Global, reader: &mut Reader, scheme: &Scheme) -> Result<Set
 /// A word, and new values behind it.
 #[tactic(auto, unfolding(crate::specs::ReadList::sets_at))]
 pub(crate) fn sets(alloc: Global, reader: &mut Reader, scheme: &Scheme) -> Result<Sets, PlacedFault>
-    ensures { Gives (λ xs. (xs, reader.new)) result (sets_at scheme.now reader.old) }
+    ensures { GivesPlaced (λ xs. (xs, reader.new)) result (sets_at scheme.now reader.old) }
 {
     reader.word("set")?;
     new_values(alloc, reader, scheme)

@@ -1,6 +1,6 @@
 //! What stands behind the label of a view: which of its rows are asked for.
 ghost use Rattle.std.specs.Prelude.{◌≡◌, ◌<◌, length};
-ghost use Rattle.mls_parser.specs.Noted.{Gives, token};
+ghost use Rattle.mls_parser.specs.Noted.{GivesPlaced, token};
 ghost use Rattle.mls_parser.specs.Words.{pass_known};
 ghost use Rattle.mls_script.specs.ReadQuery.{comparison_of_sign, comparison_of, class_at, number_of, is_count};
 ghost use Rattle.mls_script.specs.ReadQuery.{count_of, first_at, where_at, query_at};
@@ -37,7 +37,7 @@ fn comparison_of(token: &Token) -> Option<Comparison>
 
 /// Passes a comparison, and gives its place too.
 fn comparison(reader: &mut Reader) -> Result<(Comparison, usize), PlacedFault>
-    ensures { Gives (λ x. ((x.0, x.1), reader.new)) result (token (pass_known comparison_of) reader.old) }
+    ensures { GivesPlaced (λ x. ((x.0, x.1), reader.new)) result (token (pass_known comparison_of) reader.old) }
 {
     let first = reader.tokens.pop().ok_or(reader.tokens.refused())?;
     let comparison = comparison_of(&first.token).ok_or(ill_formed(first.at, TextCause::Expected))?;
@@ -47,7 +47,7 @@ fn comparison(reader: &mut Reader) -> Result<(Comparison, usize), PlacedFault>
 /// Passes a test of classes if its word is next.
 #[tactic(auto, unfolding(crate::specs::ReadQuery::class_at))]
 fn class(policy: &Policy, reader: &mut Reader) -> Result<Option<ClassTest>, PlacedFault>
-    ensures { Gives (λ c. (c, reader.new)) result (class_at policy.now reader.old) }
+    ensures { GivesPlaced (λ c. (c, reader.new)) result (class_at policy.now reader.old) }
 {
     if reader.takes_word("class").is_none() {
         return Ok(None);
@@ -68,7 +68,7 @@ fn number_of(token: &Token) -> Option<i64>
 
 /// Passes a number, and gives its place too.
 fn number(reader: &mut Reader) -> Result<(i64, usize), PlacedFault>
-    ensures { Gives (λ x. ((x.0, x.1), reader.new)) result (token (pass_known number_of) reader.old) }
+    ensures { GivesPlaced (λ x. ((x.0, x.1), reader.new)) result (token (pass_known number_of) reader.old) }
 {
     let first = reader.tokens.pop().ok_or(reader.tokens.refused())?;
     let number = number_of(&first.token).ok_or(ill_formed(first.at, TextCause::Expected))?;
@@ -91,7 +91,7 @@ fn is_count(number: i64) -> bool
 /// Passes how many rows are asked for, if the word is next. Rows that are counted are all that are found.
 #[tactic(auto, unfolding(crate::specs::ReadQuery::first_at))]
 fn first(counts: bool, reader: &mut Reader) -> Result<Option<usize>, PlacedFault>
-    ensures { Gives (λ f. (f, reader.new)) result (first_at counts reader.old) }
+    ensures { GivesPlaced (λ f. (f, reader.new)) result (first_at counts reader.old) }
 {
     if counts || reader.takes_word("first").is_none() {
         return Ok(None);
@@ -111,7 +111,7 @@ fn condition(
     reader: &mut Reader,
 ) -> Result<Option<Expr>, PlacedFault>
     requires { relation < length schemes.now }
-    ensures { Gives (λ t. (t, reader.new)) result (where_at policy.now schemes.now relation reader.old) }
+    ensures { GivesPlaced (λ t. (t, reader.new)) result (where_at policy.now schemes.now relation reader.old) }
 {
     if reader.takes_word("where").is_none() {
         return Ok(None);
@@ -131,7 +131,7 @@ pub(crate) fn query(
     reader: &mut Reader,
 ) -> Result<Query, PlacedFault>
     requires { relation < length schemes.now }
-    ensures { Gives (λ q. (q, reader.new)) result (query_at policy.now schemes.now counts relation reader.old) }
+    ensures { GivesPlaced (λ q. (q, reader.new)) result (query_at policy.now schemes.now counts relation reader.old) }
 {
     let highest = reader.takes_word("highest").is_some();
     let class = class(policy, reader)?;

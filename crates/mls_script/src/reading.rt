@@ -6,8 +6,8 @@ ghost use Rattle.mls_script.specs.declared.fault.ScriptCause.TheVariants.{Memory
 ghost use Rattle.mls_script.specs.Event.{EventFits};
 ghost use Rattle.mls_script.specs.Script.{ReadsScript};
 ghost use Rattle.mls_tokens.specs.Scanning.{tokens_at};
-ghost use Rattle.mls_parser.specs.Noted.{Gives as TextGives};
-ghost use Rattle.mls_script.specs.Reading.{Gives, GivesScript, told_at, line_at, script_at};
+ghost use Rattle.mls_parser.specs.Noted.{GivesPlaced};
+ghost use Rattle.mls_script.specs.Reading.{GivesLine, GivesScript, told_at, line_at, script_at};
 
 use crate::command::told;
 use crate::event::Event;
@@ -37,7 +37,7 @@ fn line_told(
     schemes: &Schemes,
     line: &[u8],
 ) -> Result<(Option<Event>, Reader), PlacedFault>
-    ensures { TextGives (λ x. (x.0, x.1)) result (told_at policy.now schemes.now ([], tokens_at line.now)) }
+    ensures { GivesPlaced (λ x. (x.0, x.1)) result (told_at policy.now schemes.now ([], tokens_at line.now)) }
 {
     let mut reader = Reader::new(alloc, Tokens::new(alloc, line)?);
     let told = told(alloc, policy, schemes, &mut reader)?;
@@ -53,7 +53,7 @@ fn line_event(
     line: &[u8],
     ended: bool,
 ) -> Result<Option<Event>, LineFault>
-    ensures { Gives (λ e. e) result (line_at policy.now schemes.now line.now ended) }
+    ensures { GivesLine (λ e. e) result (line_at policy.now schemes.now line.now ended) }
 {
     let (told, reader) = line_told(alloc, policy, schemes, line)?;
     if !ended {

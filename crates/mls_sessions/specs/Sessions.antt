@@ -7,7 +7,7 @@ use Rattle.mls_audit.specs.declared.entry.Entry.{Entry}
 use Rattle.mls_machine.specs.declared.reply.Reply.{Reply}
 use Rattle.mls_certcheck.specs.Site.{Site}
 use Rattle.mls_machine.specs.Machine.{Sessions, World, Step}
-use Rattle.mls_sessions.specs.declared.site.RunSite.{RunSite}
+use Rattle.mls_sessions.specs.declared.site.Site.{Site as RunSite}
 use Rattle.mls_sessions.specs.declared.session.Session.{Session}
 
 -- what a run is under

@@ -12,10 +12,10 @@ ghost use Rattle.mls_queries.specs.Views.{AreViews};
 ghost use Rattle.mls_sessions.specs.Calling.{MayEnter, HasEntered, MayRunCall, HasRun};
 ghost use Rattle.mls_sessions.specs.Turns.{MayDo, Steps, IsOpen, HasDone};
 
-use crate::RunSite;
 use crate::arguments::fitted;
 use crate::change::Effect;
 use crate::finding::certified_named;
+use crate::site::Site;
 use mls_audit::{Entry, entry_bytes};
 use mls_certcheck::{Certified, Run};
 use mls_filterview::{Base, BaseFault, settle};
@@ -29,12 +29,7 @@ use mls_updates::copy_value;
 use std::alloc::AllocError;
 
 /// The bytes of the entry of a call.
-fn called_bytes(
-    site: &RunSite,
-    event: &Event,
-    user: UserNo,
-    name: &str,
-) -> Result<Vec<u8>, AllocError>
+fn called_bytes(site: &Site, event: &Event, user: UserNo, name: &str) -> Result<Vec<u8>, AllocError>
     requires user { user < length site.now.policy.now.users }
     requires session { is_name event.now.session ≡ true }
     requires name { is_name name.now ≡ true }
@@ -57,7 +52,7 @@ fn called_bytes(
 
 /// The bytes of the entry of a release.
 fn released_bytes(
-    site: &RunSite,
+    site: &Site,
     event: &Event,
     user: UserNo,
     item: &(LabelNo, Option<Value>),
@@ -83,7 +78,7 @@ fn released_bytes(
 
 /// Enters a call in the audit list, inside a change.
 fn enter_call<B: Base>(
-    site: &RunSite,
+    site: &Site,
     base: &mut B,
     event: &Event,
     user: UserNo,
@@ -101,7 +96,7 @@ fn enter_call<B: Base>(
 
 /// Enters a release in the audit list, inside a change.
 fn enter_release<B: Base>(
-    site: &RunSite,
+    site: &Site,
     base: &mut B,
     event: &Event,
     user: UserNo,
@@ -119,7 +114,7 @@ fn enter_release<B: Base>(
 
 /// Enters releases in the audit list, inside a change.
 fn enter_releases<B: Base>(
-    site: &RunSite,
+    site: &Site,
     base: &mut B,
     event: &Event,
     user: UserNo,
@@ -139,7 +134,7 @@ fn enter_releases<B: Base>(
 
 /// Enters a call and its releases in the audit list, inside a change.
 fn enter_run<B: Base>(
-    site: &RunSite,
+    site: &Site,
     base: &mut B,
     event: &Event,
     user: UserNo,
@@ -159,7 +154,7 @@ fn enter_run<B: Base>(
 
 /// Runs a transaction on arguments, inside a change: those of the wrong kind are taken as null.
 fn run_certified<B: Base>(
-    site: &RunSite,
+    site: &Site,
     base: &mut B,
     views: &mut Views,
     certified: &Certified,
@@ -186,7 +181,7 @@ fn run_certified<B: Base>(
 
 /// Runs the transaction that an event calls, and enters the call and what it released, inside a change.
 pub(crate) fn call<B: Base>(
-    site: &RunSite,
+    site: &Site,
     base: &mut B,
     views: &mut Views,
     event: &Event,

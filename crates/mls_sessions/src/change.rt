@@ -7,8 +7,8 @@ ghost use Rattle.mls_sessions.specs.Sessions.{site_of_run};
 ghost use Rattle.mls_sessions.specs.Turns.{MayDo, Steps, EndsChange, IsOpen, HasDone};
 ghost use Rattle.mls_queries.specs.Views.{AreViews};
 
-use crate::RunSite;
 use crate::calling::call;
+use crate::site::Site;
 use mls_audit::{Entry, entry_bytes};
 use mls_filterview::{Base, BaseFault, settle};
 use mls_lattice::{Str, UserNo};
@@ -30,7 +30,7 @@ pub(crate) enum Effect {
 
 /// The bytes of the entry of a denial.
 fn denial_bytes(
-    site: &RunSite,
+    site: &Site,
     event: &Event,
     user: UserNo,
     denial: Denial,
@@ -54,7 +54,7 @@ fn denial_bytes(
 
 /// Enters a denial in the audit list, inside a change.
 fn enter<B: Base>(
-    site: &RunSite,
+    site: &Site,
     base: &mut B,
     event: &Event,
     user: UserNo,
@@ -73,7 +73,7 @@ fn enter<B: Base>(
 
 /// Makes the write of an event at its level, inside a change, and notes it in the views that it may have changed.
 fn write<B: Base>(
-    site: &RunSite,
+    site: &Site,
     base: &mut B,
     views: &mut Views,
     event: &Event,
@@ -87,7 +87,7 @@ fn write<B: Base>(
     let Command::Write { relation, write } = &event.command else {
         unreachable!()
     };
-    let RunSite {
+    let Site {
         alloc,
         policy,
         schemes,
@@ -101,7 +101,7 @@ fn write<B: Base>(
 
 /// Does what an event changes, inside a change.
 fn act<B: Base>(
-    site: &RunSite,
+    site: &Site,
     base: &mut B,
     views: &mut Views,
     event: &Event,
@@ -122,7 +122,7 @@ fn act<B: Base>(
 
 /// Does what an event changes, as one change of the base.
 fn carry_out<B: Base>(
-    site: &RunSite,
+    site: &Site,
     base: &mut B,
     views: &mut Views,
     event: &Event,
@@ -142,7 +142,7 @@ fn carry_out<B: Base>(
 
 /// Does what an event changes, as one change of the base. After a fault no view is kept.
 pub(crate) fn change<B: Base>(
-    site: &RunSite,
+    site: &Site,
     base: &mut B,
     views: &mut Views,
     event: &Event,

@@ -10,7 +10,7 @@ ghost use Rattle.mls_sessions.specs.Denying.{denial_in};
 ghost use Rattle.mls_sessions.specs.Sessions.{site_of_run};
 
 use crate::denying_calls::call_denial;
-use crate::site::RunSite;
+use crate::site::Site;
 use bitflags::Flags;
 use mls_lattice::{LabelNo, Modes, Policy, UserNo};
 use mls_machine::Denial;
@@ -29,14 +29,14 @@ fn has_any(granted: Modes, modes: &[Modes]) -> bool
 }
 
 /// Whether the matrix grants a user none of the modes on what has a name.
-pub(crate) fn lacks_rights_on(site: &RunSite, user: UserNo, object: &str, modes: &[Modes]) -> bool
+pub(crate) fn lacks_rights_on(site: &Site, user: UserNo, object: &str, modes: &[Modes]) -> bool
     ensures { result ≡ lacks_rights_on (site_of_run site.now) user object.now (map (λ m. m.0) modes.now) }
 {
     !has_any(site.policy.modes(user, object), modes)
 }
 
 /// Whether the matrix grants a user none of the modes on a relation.
-fn lacks(site: &RunSite, user: UserNo, relation: RelNo, modes: &[Modes]) -> bool
+fn lacks(site: &Site, user: UserNo, relation: RelNo, modes: &[Modes]) -> bool
     requires { relation < length site.now.schemes.now }
     ensures { result ≡ lacks (site_of_run site.now) user relation (map (λ m. m.0) modes.now) }
 {
@@ -44,7 +44,7 @@ fn lacks(site: &RunSite, user: UserNo, relation: RelNo, modes: &[Modes]) -> bool
 }
 
 /// Whether one of the labels is not dominated by a limit.
-pub(crate) fn exceed(site: &RunSite, limit: LabelNo, labels: &[LabelNo]) -> bool
+pub(crate) fn exceed(site: &Site, limit: LabelNo, labels: &[LabelNo]) -> bool
     requires limit { limit < length site.now.policy.now.labels }
     requires labels { AllByRecursion (λ l. l < length site.now.policy.now.labels) labels.now }
     ensures { result ≡ exceed (site_of_run site.now) limit labels.now }
@@ -69,7 +69,7 @@ pub(crate) fn clearance(policy: &Policy, user: UserNo) -> LabelNo
 /// Why what needs one of the modes on a relation, and names labels, is denied, if it is.
 #[tactic(auto, unfolding(mls_machine::specs::Denying::first_denial))]
 fn access_denial(
-    site: &RunSite,
+    site: &Site,
     level: LabelNo,
     user: UserNo,
     relation: RelNo,
@@ -97,7 +97,7 @@ fn access_denial(
 
 /// Why a write is denied in a session of a level and a user, if it is.
 fn write_denial(
-    site: &RunSite,
+    site: &Site,
     level: LabelNo,
     user: UserNo,
     relation: RelNo,
@@ -130,7 +130,7 @@ fn write_denial(
 
 /// Why a command is denied in an open session of a level and a user, if it is.
 pub(crate) fn denial_of(
-    site: &RunSite,
+    site: &Site,
     level: LabelNo,
     user: UserNo,
     command: &Command,

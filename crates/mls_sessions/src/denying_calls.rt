@@ -10,7 +10,7 @@ ghost use Rattle.mls_sessions.specs.Sessions.{site_of_run};
 use crate::arguments::are_wrong;
 use crate::denying::{clearance, exceed, lacks_rights_on};
 use crate::finding::stored_named;
-use crate::site::RunSite;
+use crate::site::Site;
 use mls_certcheck::Stored;
 use mls_lattice::{LabelNo, Modes, Policy, UserNo};
 use mls_machine::Denial;
@@ -27,7 +27,7 @@ fn trusted(policy: &Policy, user: UserNo) -> Option<(LabelNo, LabelNo)>
 }
 
 /// Whether a label lies between two others.
-fn is_between(site: &RunSite, low: LabelNo, high: LabelNo, label: LabelNo) -> bool
+fn is_between(site: &Site, low: LabelNo, high: LabelNo, label: LabelNo) -> bool
     requires low { low < length site.now.policy.now.labels }
     requires high { high < length site.now.policy.now.labels }
     requires label { label < length site.now.policy.now.labels }
@@ -38,7 +38,7 @@ fn is_between(site: &RunSite, low: LabelNo, high: LabelNo, label: LabelNo) -> bo
 }
 
 /// Whether one of the labels does not lie between two others.
-fn leave(site: &RunSite, low: LabelNo, high: LabelNo, labels: &[LabelNo]) -> bool
+fn leave(site: &Site, low: LabelNo, high: LabelNo, labels: &[LabelNo]) -> bool
     requires low { low < length site.now.policy.now.labels }
     requires high { high < length site.now.policy.now.labels }
     requires labels { AllByRecursion (λ l. l < length site.now.policy.now.labels) labels.now }
@@ -53,7 +53,7 @@ fn leave(site: &RunSite, low: LabelNo, high: LabelNo, labels: &[LabelNo]) -> boo
 }
 
 /// Whether a transaction reads above its lowest label and a user is not trusted with that.
-fn is_untrusted(site: &RunSite, user: UserNo, tx: &Tx) -> bool
+fn is_untrusted(site: &Site, user: UserNo, tx: &Tx) -> bool
     requires user { user < length site.now.policy.now.users }
     requires lo { tx.now.lo < length site.now.policy.now.labels }
     requires hi { tx.now.hi < length site.now.policy.now.labels }
@@ -73,7 +73,7 @@ fn is_untrusted(site: &RunSite, user: UserNo, tx: &Tx) -> bool
 /// Why a call of a transaction with a certificate is denied, if it is.
 #[tactic(auto, unfolding(mls_machine::specs::Denying::first_denial))]
 fn certified_denial(
-    site: &RunSite,
+    site: &Site,
     level: LabelNo,
     user: UserNo,
     tx: &Tx,
@@ -104,7 +104,7 @@ fn certified_denial(
 
 /// Why a call of what is stored by a name is denied, if it is.
 pub(crate) fn call_denial(
-    site: &RunSite,
+    site: &Site,
     level: LabelNo,
     user: UserNo,
     name: &str,

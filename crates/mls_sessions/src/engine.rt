@@ -12,8 +12,8 @@ use crate::change::{Effect, change};
 use crate::denying::denial_of;
 use crate::looking::{audit, dump, look};
 use crate::notice::Notice;
-use crate::session::{close, open, user_of};
-use crate::{RunSite, Session};
+use crate::session::{Session, close, open, user_of};
+use crate::site::Site;
 use mls_certcheck::Stored;
 use mls_filterview::{Base, BaseFault};
 use mls_lattice::{Items, LabelNo, Policy, UserNo};
@@ -25,7 +25,7 @@ use std::alloc::Global;
 
 /// Sessions over a base, under a policy and its schemes. It keeps the views that were asked for last.
 pub struct Engine<'a, B: Base> {
-    pub(crate) site: RunSite<'a>,
+    pub(crate) site: Site<'a>,
     base: B,
     sessions: Vec<Session>,
     views: Views,
@@ -52,7 +52,7 @@ impl<'a, B: Base> Engine<'a, B> {
         ensures ready { IsEngineReady B.seen result }
     {
         policy.use_invariant();
-        let site = RunSite {
+        let site = Site {
             alloc,
             policy,
             schemes,

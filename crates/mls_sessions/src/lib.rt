@@ -23,7 +23,5 @@ pub use mls_machine::{Denial, Reply};
 pub use mls_script::{Command, Event, RunCause, RunFault, ScriptCause, ScriptFault};
 pub use notice::Notice;
 pub use running::{run, run_to};
-pub use session::Session;
-pub use site::RunSite;
 pub use turning::turn;
 pub use writing::write_whole;

@@ -11,7 +11,7 @@ ghost use Rattle.mls_sessions.specs.World.{declared, entries_in};
 ghost use Rattle.mls_sessions.specs.Turns.{IsOpen, HasLooked};
 ghost use Rattle.mls_queries.specs.Views.{AreViews};
 
-use crate::RunSite;
+use crate::site::Site;
 use mls_audit::{Entry, EntryFault, entry_of, visible};
 use mls_filterview::{Base, BaseFault, low_tuples, settle};
 use mls_lattice::{Items, LabelNo, Policy};
@@ -23,7 +23,7 @@ use std::alloc::{AllocError, Global};
 
 /// Answers a view by what its query finds.
 pub(crate) fn look<B: Base>(
-    site: &RunSite,
+    site: &Site,
     base: &mut B,
     views: &mut Views,
     relation: RelNo,
@@ -52,7 +52,7 @@ pub(crate) fn look<B: Base>(
 
 /// Answers a dump by the tuples whose classes a session's level dominates.
 pub(crate) fn dump<B: Base>(
-    site: &RunSite,
+    site: &Site,
     base: &mut B,
     relation: RelNo,
     level: LabelNo,
@@ -122,11 +122,7 @@ pub(crate) fn seen_of(
 }
 
 /// Answers an audit of a session's level.
-pub(crate) fn audit<B: Base>(
-    site: &RunSite,
-    base: &mut B,
-    level: LabelNo,
-) -> Result<Reply, BaseFault>
+pub(crate) fn audit<B: Base>(site: &Site, base: &mut B, level: LabelNo) -> Result<Reply, BaseFault>
     requires idle { (B.seen base.old).state.begun ≡ false }
     requires level { level < length site.now.policy.now.labels }
     ensures { HasLooked B.seen (site_of_run site.now)

@@ -11,10 +11,10 @@ ghost use Rattle.mls_machine.specs.Known.{HasKnownNumbers};
 ghost use Rattle.mls_sessions.specs.Engine.{site, world_of, IsEngineReady, Continues};
 ghost use Rattle.mls_sessions.specs.Run.{is_done, are_done, IsWhole, IsStopped, IsFaultOf, IsEventAnswered, IsHalted};
 
-use crate::RunSite;
 use crate::cause::{cause_of, fault_at};
 use crate::engine::Engine;
 use crate::notice::next_notice;
+use crate::site::Site;
 use crate::writing::write_whole;
 use mls_filterview::Base;
 use mls_machine::{Audience, Form, Reply, is_known, shown_to};
@@ -24,7 +24,7 @@ use std::io::Write;
 /// The lines of the reply to an event that the audience is shown. `Store` is the cause where a class is not declared, as
 /// may be over a store that gives other content than was written.
 fn text_of(
-    site: &RunSite,
+    site: &Site,
     event: &Event,
     reply: &Reply,
     audience: &Audience,

@@ -6,7 +6,7 @@ ghost use Rattle.mls_machine.specs.Output.{ReplyIsKnown};
 ghost use Rattle.mls_sessions.specs.Sessions.{site_of_run, sessions_of, AreForUsers, IsSessionStep};
 
 use crate::denying::clearance;
-use crate::site::RunSite;
+use crate::site::Site;
 use mls_filterview::BaseFault;
 use mls_lattice::{LabelNo, Policy, Str, UserNo};
 use mls_machine::{Denial, Reply};
@@ -14,7 +14,7 @@ use mls_script::{Command, Event};
 
 /// An open session: its level and its name, and the user that it is open for.
 #[derive(Drop)]
-pub struct Session {
+pub(crate) struct Session {
     level: LabelNo,
     name: Str,
     user: UserNo,
@@ -42,7 +42,7 @@ fn known_user(policy: &Policy, name: &str) -> Option<UserNo>
 
 /// Answers an event whose session is not open: opens it, where the command is to open it and is not denied.
 pub(crate) fn open(
-    site: &RunSite,
+    site: &Site,
     sessions: &mut Vec<Session>,
     event: &Event,
 ) -> Result<Reply, BaseFault>

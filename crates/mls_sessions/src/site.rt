@@ -15,7 +15,7 @@ use std::alloc::Global;
 /// A policy, the schemes of its relations, the stored transactions, and where memory comes from. That the transactions were read under
 /// it (`AreRead`) it does not keep: what a type keeps has one proof at most, and `null` is of each kind.
 #[derive(Drop)]
-pub struct RunSite<'a> {
+pub(crate) struct Site<'a> {
     pub alloc: Global,
     pub policy: &'a Policy,
     pub schemes: &'a Schemes,

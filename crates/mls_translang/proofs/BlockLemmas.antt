@@ -13,7 +13,7 @@ use Rattle.mls_translang.specs.Scope.{Scope}
 use Rattle.mls_translang.specs.Tx.{BlockIsOwn}
 use Rattle.mls_translang.specs.Fits.{BlockFits}
 use Rattle.mls_translang.specs.Layout.{Laid, puts}
-use Rattle.mls_translang.specs.Tokens.{Place, at_row, expr_tokens, stmt_tokens, write_tokens, for_tokens, braced, else_tokens, block_tokens}
+use Rattle.mls_translang.specs.Tokens.{Context, at_row, expr_tokens, stmt_tokens, write_tokens, for_tokens, braced, else_tokens, block_tokens}
 use Rattle.mls_translang.proofs.LayoutLemmas.{puts-append}
 
 -- the first statement and the rest
@@ -39,7 +39,7 @@ two a b r = ap (λ l. a ++ l) (after b r) ∙ sym (append_assoc a (b ++ []) r)
 three : (a b d r : List Token) → a ++ (b ++ (d ++ r)) ≡ (a ++ (b ++ (d ++ []))) ++ r
 three a b d r = ap (λ l. a ++ l) (two b d r) ∙ sym (append_assoc a (b ++ (d ++ [])) r)
 
-module _ (p : Place) where
+module _ (p : Context) where
   tokens_more : (x : Stmt) (rest : List Stmt) → block_tokens p (block_of (x ∷ rest)) ≡ block_tokens p (block_of (x ∷ [])) ++ block_tokens p (block_of rest)
   tokens_more (stmt.Assign v e) rest = after (stmt_tokens p (Assign v e)) _
   tokens_more (stmt.If guard one other) rest =
@@ -53,7 +53,7 @@ module _ (p : Place) where
 -- ---- a block that is written as far as some statements
 
 -- the statements that are left, put behind what was put, are the whole block put behind what was put at first
-pub record IsLeft (p : Place) (left : List Stmt) (out : Laid) (block : Block) (first : Laid) : Type 0 where
+pub record IsLeft (p : Context) (left : List Stmt) (out : Laid) (block : Block) (first : Laid) : Type 0 where
   pub put : puts out (block_tokens p (block_of left)) ≡ puts first (block_tokens p block)
   pub own : BlockIsOwn p.scope (block_of left)
   pub fits : BlockFits p.policy p.schemes p.hi p.scope (block_of left)
@@ -77,7 +77,7 @@ module _ (xs : List Stmt) (i : ℕ) (x : Stmt) (is : x ≡ get_or xs i x) (withi
       → BlockFits policy schemes hi s (block_of (x ∷ [])) × BlockFits policy schemes hi s (block_of (drop (i + 1) xs))
   fits_step policy schemes hi s h = fits_more policy schemes hi s x (drop (i + 1) xs) (subst (λ l. BlockFits policy schemes hi s (block_of l)) (sym here) h)
 
-  pub puts_step : (p : Place) (w : Laid)
+  pub puts_step : (p : Context) (w : Laid)
       → puts (puts w (block_tokens p (block_of (x ∷ [])))) (block_tokens p (block_of (drop (i + 1) xs))) ≡ puts w (block_tokens p (block_of (drop i xs)))
   puts_step p w =
       sym (puts-append w (block_tokens p (block_of (x ∷ []))) (block_tokens p (block_of (drop (i + 1) xs))))
@@ -91,7 +91,7 @@ module _ (xs : List Stmt) (i : ℕ) (x : Stmt) (is : x ≡ get_or xs i x) (withi
       = sym (statements_more x (drop (i + 1) xs)) ∙ ap (λ l. statements (block_of l)) here in
       (omega (arith, whole, h), omega (arith, whole, h))
 
-  pub left_step : (p : Place) (w v first : Laid) (block : Block) → v ≡ puts w (block_tokens p (block_of (x ∷ [])))
+  pub left_step : (p : Context) (w v first : Laid) (block : Block) → v ≡ puts w (block_tokens p (block_of (x ∷ [])))
       → IsLeft p (drop i xs) w block first → IsLeft p (drop (i + 1) xs) v block first
   left_step p w v first block e h = record {
     put = ap (λ u. puts u (block_tokens p (block_of (drop (i + 1) xs)))) e ∙ puts_step p w ∙ h.put;

@@ -15,7 +15,7 @@ use Rattle.mls_translang.specs.declared.tx.Parameter.{Parameter}
 use Rattle.mls_translang.specs.Tx.{Tx, IsTx}
 use Rattle.mls_translang.specs.Fits.{IsLabel, IsReadUnder}
 use Rattle.mls_tokens.specs.Text.{comma_tokens, separated}
-use Rattle.mls_translang.specs.Tokens.{Place, kind_token, param_tokens, params_tokens, var_tokens, heading_tokens, braced, block_tokens, outermost, tokens_of}
+use Rattle.mls_translang.specs.Tokens.{Context, kind_token, param_tokens, params_tokens, var_tokens, heading_tokens, braced, block_tokens, outermost, tokens_of}
 use Rattle.mls_translang.specs.ReadsBack.{PrintsAreTokens}
 use Rattle.mls_translang.proofs.FieldLemmas.{has_attribute, attribute_is_name}
 use Rattle.mls_translang.proofs.SpelledLemmas.{HasNames, AreSpelled, both, named, word_spelled, braced_spelled, block_spelled}
@@ -24,7 +24,7 @@ use Rattle.mls_translang.proofs.ReadsBackLemmas.{layouts_are_tokens}
 -- ---- a transaction
 
 module _ (policy : Policy) (schemes : Schemes) (tx : Tx) (of_policy : IsPolicy policy) (of_schemes : AreSchemes schemes) (is : IsTx tx) (read : IsReadUnder policy schemes tx) where
-  abbrev p : Place
+  abbrev p : Context
   p = outermost policy schemes tx
 
   own_names : AreNames (map (λ x. x.0) tx.params) × AreNames (map (λ x. x.0) tx.vars)
@@ -55,7 +55,7 @@ vars_spelled : (xs : List (Name × Kind)) → AreNames (map (λ x. x.0) xs) → 
 vars_spelled [] h = tt
 vars_spelled (x ∷ xs) h = both (var_tokens x) _ (var_spelled x h.0) (vars_spelled xs h.1)
 
-module _ (p : Place) (h : HasNames p) where
+module _ (p : Context) (h : HasNames p) where
   param_spelled : (x : Name × Parameter) → is_name x.0 ≡ true → IsLabel p.policy x.1.label → AreSpelled (param_tokens p x)
   param_spelled x name label =
       (named x.0 name, (refl, ((kind_spelled x.1.kind).0, (word_spelled (codes "at") refl refl refl, (named _ (h.label x.1.label label), tt)))))

@@ -20,7 +20,7 @@ use Rattle.mls_translang.specs.Kinds.{field_of}
 use Rattle.mls_translang.specs.Tx.{HasOwn, IsOwn, IsLiteral, StmtIsOwn, BlockIsOwn}
 use Rattle.mls_translang.specs.Fits.{IsLabel, width, ExprFits, StmtFits, BlockFits}
 use Rattle.mls_tokens.specs.Text.{comma_tokens, separated}
-use Rattle.mls_translang.specs.Tokens.{Place, at_row, name_at, value_token, operator_token, expr_tokens, list_tokens, set_tokens, stmt_end, head_tokens, write_end, stmt_tokens, else_tokens, braced, block_tokens}
+use Rattle.mls_translang.specs.Tokens.{Context, at_row, name_at, value_token, operator_token, expr_tokens, list_tokens, set_tokens, stmt_end, head_tokens, write_end, stmt_tokens, else_tokens, braced, block_tokens}
 use Rattle.mls_translang.specs.ReadsBack.{IsSpelled}
 use Rattle.mls_translang.proofs.NumberLemmas.{int_spelled}
 
@@ -53,7 +53,7 @@ word_spelled w letter bytes short = (refl, record { letter = letter; bytes = all
 
 -- ---- what names are at a place
 
-pub record HasNames (p : Place) : Type 0 where
+pub record HasNames (p : Context) : Type 0 where
   pub label : (n : ℕ) → IsLabel p.policy n → is_name (label_name p.policy.labels n) ≡ true
   pub relation : (r : ℕ) → r < length p.schemes → is_name (scheme_of p.schemes r).name ≡ true
   pub field : (r i : ℕ) → i < width (scheme_of p.schemes r) → is_name (field_of (scheme_of p.schemes r) i).0 ≡ true
@@ -62,7 +62,7 @@ pub record HasNames (p : Place) : Type 0 where
   pub param : (i : ℕ) → i < length p.scope.params → is_name (name_at p.scope.params i) ≡ true
   pub row : (d : ℕ) → d < length p.scope.rows → is_name (row_at p.scope d).name ≡ true
 
-inside : (p : Place) (row : Name) (relation : ℕ) → is_name row ≡ true → HasNames p → HasNames (at_row p row relation)
+inside : (p : Context) (row : Name) (relation : ℕ) → is_name row ≡ true → HasNames p → HasNames (at_row p row relation)
 inside p row relation named h = record {
   label = h.label;
   relation = h.relation;
@@ -88,7 +88,7 @@ operator_spelled operators.And = word_spelled (codes "and") refl refl refl
 operator_spelled operators.Or = word_spelled (codes "or") refl refl refl
 operator_spelled _ = refl
 
-module _ (p : Place) (h : HasNames p) where
+module _ (p : Context) (h : HasNames p) where
   pub expr_spelled : (e : Expr) → HasOwn p.scope e → ExprFits p.schemes p.scope e → AreSpelled (expr_tokens p e)
   expr_spelled (Known v) own fits = (value_spelled v own, tt)
   expr_spelled Null own fits = (word_spelled (codes "null") refl refl refl, tt)
@@ -204,7 +204,7 @@ else_spelled : (other : Block) (ts : List Token) → AreSpelled ts → AreSpelle
 else_spelled End ts h = tt
 else_spelled _ ts h = (word_spelled (codes "else") refl refl refl, h)
 
-pub block_spelled : (b : Block) (p : Place) → HasNames p → BlockIsOwn p.scope b → BlockFits p.policy p.schemes p.hi p.scope b → AreSpelled (block_tokens p b)
+pub block_spelled : (b : Block) (p : Context) → HasNames p → BlockIsOwn p.scope b → BlockFits p.policy p.schemes p.hi p.scope b → AreSpelled (block_tokens p b)
 block_spelled End p h own fits = tt
 block_spelled (Do stmt rest) p h own fits =
     both (stmt_tokens p stmt) _ (stmt_spelled p h stmt own.0 fits.0) (block_spelled rest p h own.1 fits.1)

@@ -4,7 +4,7 @@ use Rattle.std.specs.List.{IsDistinct}
 use Rattle.mls_lattice.specs.Policy.{Name}
 use Rattle.mls_tokens.specs.declared.token.Token.{Token}
 use Rattle.mls_translang.specs.Tree.{Block, End, Do, If, For, is_end}
-use Rattle.mls_translang.specs.Tokens.{Place, at_row, outermost, block_tokens, else_tokens, braced, tokens_of}
+use Rattle.mls_translang.specs.Tokens.{Context, at_row, outermost, block_tokens, else_tokens, braced, tokens_of}
 use Rattle.mls_translang.specs.Tells.{TellsBlock, TellsOther, PrintsAreTold}
 use Rattle.mls_translang.proofs.PrintedLemmas.{prints_are_tokens}
 
@@ -12,7 +12,7 @@ other_told : (other : Block) (told : List Token → Type 0) (ts : List Token) �
 other_told End told ts h = inl (refl, refl)
 other_told _ told ts h = inr (ts, refl, h)
 
-block_told : (b : Block) (p : Place) → TellsBlock p b (block_tokens p b)
+block_told : (b : Block) (p : Context) → TellsBlock p b (block_tokens p b)
 block_told End p = refl
 block_told (Do stmt rest) p = (block_tokens p rest, refl, block_told rest p)
 block_told (If guard one other rest) p = (

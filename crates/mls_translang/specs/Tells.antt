@@ -9,14 +9,14 @@ use Rattle.mls_tokens.specs.Text.{AreTokens}
 use Rattle.mls_translang.specs.Tree.{Block, End, Do, If, For, is_end}
 use Rattle.mls_translang.specs.Tx.{Tx, IsTx}
 use Rattle.mls_translang.specs.Fits.{IsReadUnder, AreReadUnder}
-use Rattle.mls_translang.specs.Tokens.{Place, at_row, outermost, expr_tokens, stmt_tokens, for_tokens, braced}
+use Rattle.mls_translang.specs.Tokens.{Context, at_row, outermost, expr_tokens, stmt_tokens, for_tokens, braced}
 use Rattle.mls_translang.specs.Tokens.{params_tokens, var_tokens, heading_tokens, printed}
 
 -- the other block of an `if`: one with no statement may be left out or written
 abbrev pub TellsOther : Bool → (List Token → Type 0) → List Token → Type 0
 TellsOther none told ts = ((none ≡ true) × (ts ≡ [])) ⊎ ((inner : List Token) × (ts ≡ Word (codes "else") ∷ braced inner) × told inner)
 
-abbrev pub TellsBlock : Place → Block → List Token → Type 0
+abbrev pub TellsBlock : Context → Block → List Token → Type 0
 TellsBlock p End ts = ts ≡ []
 TellsBlock p (Do stmt rest) ts = (r : List Token) × (ts ≡ stmt_tokens p stmt ++ r) × TellsBlock p rest r
 TellsBlock p (If guard one other rest) ts =
@@ -25,7 +25,7 @@ TellsBlock p (If guard one other rest) ts =
 TellsBlock p (For row relation label body rest) ts =
     (a r : List Token) × (ts ≡ for_tokens p row relation label ++ (braced a ++ r)) × TellsBlock (at_row p row relation) body a × TellsBlock p rest r
 
-abbrev pub TellsTx : Place → Tx → List Token → Type 0
+abbrev pub TellsTx : Context → Tx → List Token → Type 0
 TellsTx p tx ts =
     (b : List Token) × (ts ≡ heading_tokens p tx.name tx.lo tx.hi ++ (params_tokens p tx.params ++ braced (flat_map var_tokens tx.vars ++ b)))
     × TellsBlock p tx.body b

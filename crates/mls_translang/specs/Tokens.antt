@@ -30,25 +30,25 @@ abbrev pub name_at : {T : Type 0} → List (Name × T) → ℕ → Name
 name_at xs i = unwrap_or (option_map (λ x. x.0) (slice_get xs i)) []
 
 -- what a text is written under, its ceiling, and the names at its place
-pub record Place : Type 0 where
+pub record Context : Type 0 where
   pub policy : Policy
   pub schemes : Schemes
   pub hi : ℕ
   pub scope : Scope
 
-abbrev pub at_row : Place → Name → ℕ → Place
+abbrev pub at_row : Context → Name → ℕ → Context
 at_row p row relation = record p { scope = in_loop p.scope row relation }
 
-abbrev pub with_rows : Place → List LoopRow → Place
+abbrev pub with_rows : Context → List LoopRow → Context
 with_rows p rows = record p { scope = record { params = p.scope.params; vars = p.scope.vars; rows = rows } }
 
-abbrev pub var_token : Place → ℕ → Token
+abbrev pub var_token : Context → ℕ → Token
 var_token p i = Word (name_at p.scope.vars i)
 
-abbrev pub label_token : Place → ℕ → Token
+abbrev pub label_token : Context → ℕ → Token
 label_token p label = Word (label_name p.policy.labels label)
 
-abbrev pub rel_token : Place → ℕ → Token
+abbrev pub rel_token : Context → ℕ → Token
 rel_token p relation = Word (scheme_of p.schemes relation).name
 
 -- ---- expressions
@@ -71,11 +71,11 @@ operator_token operators.And = Word (codes "and")
 operator_token operators.Or = Word (codes "or")
 
 -- ROW.ATTRIBUTE
-abbrev pub field_tokens : Place → ℕ → ℕ → List Token
+abbrev pub field_tokens : Context → ℕ → ℕ → List Token
 field_tokens p d i = Word (row_at p.scope d).name ∷ Sign sign.Dot ∷ Word (field_of (scheme_of p.schemes (row_at p.scope d).relation) i).0 ∷ []
 
 -- each operation in its own parentheses
-abbrev pub expr_tokens : Place → Expr → List Token
+abbrev pub expr_tokens : Context → Expr → List Token
 expr_tokens p (Known v) = value_token v ∷ []
 expr_tokens p Null = Word (codes "null") ∷ []
 expr_tokens p (Var i) = var_token p i ∷ []
@@ -85,41 +85,41 @@ expr_tokens p (No e) = Word (codes "not") ∷ expr_tokens p e
 expr_tokens p (Op op left right) =
     Sign sign.LeftParen ∷ (expr_tokens p left ++ (operator_token op ∷ (expr_tokens p right ++ Sign sign.RightParen ∷ [])))
 
-abbrev pub list_tokens : Place → List Expr → List Token
+abbrev pub list_tokens : Context → List Expr → List Token
 list_tokens p es = Sign sign.LeftParen ∷ (separated (expr_tokens p) es ++ Sign sign.RightParen ∷ [])
 
 -- ---- statements
 
 -- ATTRIBUTE = EXPR, of an attribute outside the key
-abbrev pub set_tokens : Place → Scheme → ℕ × Expr → List Token
+abbrev pub set_tokens : Context → Scheme → ℕ × Expr → List Token
 set_tokens p scheme s = Word (other_of scheme s.0).0 ∷ Sign sign.Equals ∷ expr_tokens p s.1
 
 -- the variable of an outcome, if there is one
-abbrev pub outcome_tokens : Place → Option ℕ → List Token
+abbrev pub outcome_tokens : Context → Option ℕ → List Token
 outcome_tokens p None = []
 outcome_tokens p (Some x) = Word (codes "as") ∷ var_token p x ∷ []
 
 -- at LABEL, the outcome, and the end
-abbrev pub write_end : Place → ℕ → List Token → List Token
+abbrev pub write_end : Context → ℕ → List Token → List Token
 write_end p w rest = Word (codes "at") ∷ label_token p w ∷ rest
 
-abbrev pub stmt_end : Place → Option ℕ → List Token
+abbrev pub stmt_end : Context → Option ℕ → List Token
 stmt_end p outcome = outcome_tokens p outcome ++ Sign sign.Semicolon ∷ []
 
 -- what each write begins with
-abbrev pub head_tokens : Place → Name → ℕ → List Expr → List Token
+abbrev pub head_tokens : Context → Name → ℕ → List Expr → List Token
 head_tokens p word relation key = Word word ∷ rel_token p relation ∷ Word (codes "key") ∷ list_tokens p key
 
 -- class KEY_CLASS from FROM at W
-abbrev pub class_tokens : Place → ℕ → ℕ → ℕ → List Token
+abbrev pub class_tokens : Context → ℕ → ℕ → ℕ → List Token
 class_tokens p key_class from w =
     Word (codes "class") ∷ label_token p key_class ∷ Word (codes "from") ∷ label_token p from ∷ Word (codes "at") ∷ label_token p w ∷ []
 
 -- set SETS, the outcome, and the end
-abbrev pub update_end : Place → ℕ → List (ℕ × Expr) → Option ℕ → List Token
+abbrev pub update_end : Context → ℕ → List (ℕ × Expr) → Option ℕ → List Token
 update_end p relation sets outcome = Word (codes "set") ∷ (separated (set_tokens p (scheme_of p.schemes relation)) sets ++ stmt_end p outcome)
 
-abbrev pub write_tokens : Place → ℕ → ℕ → Option ℕ → Writing → List Token
+abbrev pub write_tokens : Context → ℕ → ℕ → Option ℕ → Writing → List Token
 write_tokens p relation w outcome (Insert key values) =
     head_tokens p (codes "insert") relation key ++ (Word (codes "values") ∷ (list_tokens p values ++ write_end p w (stmt_end p outcome)))
 write_tokens p relation w outcome (Update key key_class from sets) =
@@ -128,7 +128,7 @@ write_tokens p relation w outcome (Update key key_class from sets) =
 write_tokens p relation w outcome (Delete key key_class) =
     head_tokens p (codes "delete") relation key ++ (Word (codes "class") ∷ label_token p key_class ∷ write_end p w (stmt_end p outcome))
 
-abbrev pub stmt_tokens : Place → Stmt → List Token
+abbrev pub stmt_tokens : Context → Stmt → List Token
 stmt_tokens p (Assign x e) = var_token p x ∷ Sign sign.Becomes ∷ (expr_tokens p e ++ Sign sign.Semicolon ∷ [])
 stmt_tokens p (Write_at relation w writing outcome) = write_tokens p relation w outcome writing
 stmt_tokens p (Release e to into) =
@@ -141,13 +141,13 @@ abbrev pub else_tokens : Block → List Token → List Token
 else_tokens other tokens = if is_end other then [] else Word (codes "else") ∷ tokens
 
 -- for ROW in RELATION at LABEL
-abbrev pub for_tokens : Place → Name → ℕ → ℕ → List Token
+abbrev pub for_tokens : Context → Name → ℕ → ℕ → List Token
 for_tokens p row relation label = Word (codes "for") ∷ Word row ∷ Word (codes "in") ∷ rel_token p relation ∷ Word (codes "at") ∷ label_token p label ∷ []
 
 abbrev pub braced : List Token → List Token
 braced tokens = Sign sign.LeftBrace ∷ (tokens ++ Sign sign.RightBrace ∷ [])
 
-abbrev pub block_tokens : Place → Block → List Token
+abbrev pub block_tokens : Context → Block → List Token
 block_tokens p End = []
 block_tokens p (Do stmt rest) = stmt_tokens p stmt ++ block_tokens p rest
 block_tokens p (If guard one other rest) =
@@ -161,10 +161,10 @@ abbrev pub kind_token : Kind → Token
 kind_token k = Word (kind_word k)
 
 -- NAME : KIND at LABEL
-abbrev pub param_tokens : Place → Name × Parameter → List Token
+abbrev pub param_tokens : Context → Name × Parameter → List Token
 param_tokens p x = Word x.0 ∷ Sign sign.Colon ∷ kind_token x.1.kind ∷ Word (codes "at") ∷ label_token p x.1.label ∷ []
 
-abbrev pub params_tokens : Place → List (Name × Parameter) → List Token
+abbrev pub params_tokens : Context → List (Name × Parameter) → List Token
 params_tokens p xs = Sign sign.LeftParen ∷ (separated (param_tokens p) xs ++ Sign sign.RightParen ∷ [])
 
 -- var NAME : KIND ;
@@ -172,14 +172,14 @@ abbrev pub var_tokens : Name × Kind → List Token
 var_tokens x = Word (codes "var") ∷ Word x.0 ∷ Sign sign.Colon ∷ kind_token x.1 ∷ Sign sign.Semicolon ∷ []
 
 -- transaction NAME levels LO to HI
-abbrev pub heading_tokens : Place → Name → ℕ → ℕ → List Token
+abbrev pub heading_tokens : Context → Name → ℕ → ℕ → List Token
 heading_tokens p name lo hi =
     Word (codes "transaction") ∷ Word name ∷ Word (codes "levels") ∷ label_token p lo ∷ Word (codes "to") ∷ label_token p hi ∷ []
 
-abbrev pub outermost : Policy → Schemes → Tx → Place
+abbrev pub outermost : Policy → Schemes → Tx → Context
 outermost policy schemes tx = record { policy = policy; schemes = schemes; hi = tx.hi; scope = scope_of tx }
 
-abbrev pub tx_tokens : Place → Tx → List Token
+abbrev pub tx_tokens : Context → Tx → List Token
 tx_tokens p tx =
     heading_tokens p tx.name tx.lo tx.hi ++ (params_tokens p tx.params ++ braced (flat_map var_tokens tx.vars ++ block_tokens p tx.body))
 

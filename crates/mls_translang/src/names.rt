@@ -25,9 +25,9 @@ pub(crate) struct Names<'a> {
 impl<'a> Model for Names<'a> {
     ghost use Rattle.std.specs.Coded.{codes};
     ghost use Rattle.mls_lattice.specs.Lattice.{pair_code};
-    ghost use Rattle.mls_translang.specs.Tokens.{Place};
+    ghost use Rattle.mls_translang.specs.Tokens.{Context};
 
-    ghost Value = { Place };
+    ghost Value = { Context };
 
     ghost coded = { Prim.hlevel (codes, pair_code) };
 

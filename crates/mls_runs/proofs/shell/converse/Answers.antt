@@ -3,7 +3,7 @@ use Rattle.mls_sessions.specs.Sessions.{site_of_run}
 use Rattle.mls_sessions.specs.Engine.{site, world_of, Continues}
 use Rattle.mls_host.specs.Ending.{ending_if}
 use Rattle.mls_host.specs.Hosting.{IsTold}
-use Rattle.mls_runs.specs.Shell.{audience_at, verdict_of, is_short, end_told, IsFollowed, IsConversation}
+use Rattle.mls_runs.specs.Shell.{audience_at, verdict_of, is_short, end_told, IsShellFollowed, IsConversation}
 use Rattle.mls_runs.specs.Tally.{tally_with}
 use Rattle.mls_runs.proofs.ShellLemmas.{said_more, said_once}
 use Rattle.mls_runs.proofs.TalkLemmas.{SoFar, Line, so_far_start, so_far_more, broken, broken_first, over_closed, over_last, worn_out, fits_at, level_at, read_at}
@@ -20,7 +20,7 @@ returns-in_err-answer-clause-conversation g c = λ clean.
     carried (λ r. IsConversation g.L.TypedLines.echo (site c.args.engine.now) c.args.session.now (g.L.TypedLines.remaining c.args.lines.now) (g.L.TypedLines.remaining c.args.lines.now) (g.W.Write.contents c.args.out.now) (g.W.Write.contents c.answer.new.out) (g.L.TypedLines.breaks c.args.lines.now) (IsTold g.E.Write.contents c.args.err.now c.args.err.now) r (world_of g.B.Base.seen c.args.engine.now) (world_of g.B.Base.seen c.answer.new.engine))
     c.from_residual.result c.in_err-answer.field-0.0 c.from_residual.ensures.1
     (broken_first g.B.Base.seen g.E.Write.contents g.L.TypedLines.echo c.args.session.now c.args.engine.now c.args.err.now (g.L.TypedLines.remaining c.args.lines.now) (g.W.Write.contents c.args.out.now) c.requires.fits (g.L.TypedLines.breaks c.args.lines.now) c.answer.new.engine (g.W.Write.contents c.answer.new.out) c.in_err-answer.field-0.0
-    (subst (λ es. IsFollowed (site c.args.engine.now) (audience_at c.args.session.now) (world_of g.B.Base.seen c.args.engine.now) es (g.W.Write.contents c.args.out.now) (g.W.Write.contents c.answer.new.out) (world_of g.B.Base.seen c.answer.new.engine) 0 (Err c.in_err-answer.field-0.0)) c.requires.first (c.in_err-answer.ensures.followed clean)))
+    (subst (λ es. IsShellFollowed (site c.args.engine.now) (audience_at c.args.session.now) (world_of g.B.Base.seen c.args.engine.now) es (g.W.Write.contents c.args.out.now) (g.W.Write.contents c.answer.new.out) (world_of g.B.Base.seen c.answer.new.engine) 0 (Err c.in_err-answer.field-0.0)) c.requires.first (c.in_err-answer.ensures.followed clean)))
 
 pub loop-before-init : goal.loop-before-init
 loop-before-init g c = (
@@ -29,7 +29,7 @@ loop-before-init g c = (
       (record {
         clean = c.answer.ensures.continues.clean;
         kept = c.answer.ensures.continues.kept;
-        followed = λ clean. subst (λ es. IsFollowed (site c.args.engine.now) (audience_at c.args.session.now) (world_of g.B.Base.seen c.args.engine.now) es (g.W.Write.contents c.args.out.now) (g.W.Write.contents c.answer.new.out) (world_of g.B.Base.seen c.answer.new.engine) 0 (Ok tt)) c.requires.first (c.in_ok-answer.ensures.followed clean);
+        followed = λ clean. subst (λ es. IsShellFollowed (site c.args.engine.now) (audience_at c.args.session.now) (world_of g.B.Base.seen c.args.engine.now) es (g.W.Write.contents c.args.out.now) (g.W.Write.contents c.answer.new.out) (world_of g.B.Base.seen c.answer.new.engine) 0 (Ok tt)) c.requires.first (c.in_ok-answer.ensures.followed clean);
         opened_is = c.is_open-was_opened.ensures ∙ ap (λ n. is_some ((world_of g.B.Base.seen c.answer.new.engine).sessions c.args.session.now.level n)) c.as_str.ensures;
       }) c.tell_more.new.err c.tell_more.ensures,
 )

@@ -1,9 +1,9 @@
 use Rattle.std.proofs.Common.{List, ◌∷◌, ap, subst, ◌∙◌, take_all}
 use Rattle.mls_translang.specs.declared.row.LoopRow.{LoopRow}
-use Rattle.mls_translang.specs.Tokens.{Place}
-use Rattle.mls_parser.specs.Names.{IsPlace}
+use Rattle.mls_translang.specs.Tokens.{Context}
+use Rattle.mls_parser.specs.Names.{IsContext}
 use Rattle.mls_parser.proofs.LoopLemmas.{copy_more}
-use Rattle.mls_parser.proofs.PlaceLemmas.{place_more}
+use Rattle.mls_parser.proofs.ContextLemmas.{context_more}
 use Rattle.mls_parser.proofs.context.Context.rows_inside.Goals as goal
 
 pub loop-around-preserved : goal.loop-around-preserved
@@ -16,8 +16,8 @@ pub returns-clause-rows : goal.returns-clause-rows
 returns-clause-rows c =
     c.loop-around.invariant
     ∙ ap (λ (rows : List LoopRow). record { name = c.args.row.now; relation = c.args.relation } ∷ rows)
-    (take_all c.loop-around.around-index c.self.inside.rows.now c.loop-around-test.false ∙ ap (λ (p : Place). p.scope.rows) c.self.view_is)
+    (take_all c.loop-around.around-index c.self.inside.rows.now c.loop-around-test.false ∙ ap (λ (p : Context). p.scope.rows) c.self.view_is)
 
 pub returns-clause-place : goal.returns-clause-place
 returns-clause-place c =
-    place_more c.args.self.now c.loop-around.rows.items c.args.row.now c.args.relation (subst IsPlace c.self.view_is c.self.invariant) c.requires.room c.requires.known (returns-clause-rows c)
+    context_more c.args.self.now c.loop-around.rows.items c.args.row.now c.args.relation (subst IsContext c.self.view_is c.self.invariant) c.requires.room c.requires.known (returns-clause-rows c)

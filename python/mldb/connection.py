@@ -1,0 +1,175 @@
+"""Connections: a session, the relations that it may ask of, and the copy in SQLite that does its SQL."""
+
+import getpass
+import os
+from collections.abc import Callable, Iterable, Mapping, Sequence
+
+from mldb import catalogue, errors, values
+from mldb.catalogue import Relation
+from mldb.cursor import Cursor
+from mldb.errors import InterfaceError, NotSupportedError, OperationalError, ProgrammingError
+from mldb.local import Local
+from mldb.program import Path, Program, serve
+from mldb.session import Session
+from mldb.wire import ProcessWire, SocketWire
+
+BELOW = ("leave", "derive")
+
+
+class Connection:
+    """A session of one user at one label. Each command is a change of its own: `commit` has nothing to do."""
+
+    Warning, Error = errors.Warning, errors.Error
+    InterfaceError, DatabaseError = errors.InterfaceError, errors.DatabaseError
+    DataError, OperationalError, IntegrityError = errors.DataError, errors.OperationalError, errors.IntegrityError
+    InternalError, ProgrammingError = errors.InternalError, errors.ProgrammingError
+    NotSupportedError = errors.NotSupportedError
+    autocommit = True
+
+    def __init__(self, session: Session, relations: dict[str, Relation], below: str, leave: Callable[[], None]):
+        if below not in BELOW:
+            raise InterfaceError(f"below={below!r}: it is 'leave' or 'derive'")
+        self._session, self._leave = session, leave
+        self._local: Local | None = None
+        self.label, self.user = session.label, session.user
+        self.relations, self.below = relations, below
+        self.is_closed = False
+
+    def session(self) -> Session:
+        """The session, of a connection that is not closed."""
+        if self.is_closed:
+            raise ProgrammingError("the connection is closed: connect again")
+        return self._session
+
+    def local(self) -> Local:
+        """The copy in SQLite, which is made at the first statement."""
+        self.session()
+        self._local = self._local or Local(self._session, self.relations)
+        return self._local
+
+    def ask(self, line: str) -> list[str]:
+        """Sends a line of a session as it is: the lines of its answer as they were printed, also where it was denied or
+        refused."""
+        return self.session().ask(line)
+
+    def command(self, line: str) -> list[str]:
+        """Sends a line of a session: what the lines of its reply say. A denied or refused one raises its error."""
+        return self.session().command(line)
+
+    def derive(self, relation: str, key: Sequence, key_class: str, from_class: str | None = None, /,
+               **changes: object) -> None:
+        """Makes a tuple at this label above one of `from_class`, or else of the key's class: a cover story, or the
+        truth above one."""
+        scheme = self.relations.get(relation)
+        if scheme is None or len(key) != scheme.key_size:
+            told = f"{relation}: no relation of that name and {len(key)} key attributes: see the schemes"
+            raise ProgrammingError(told)
+        kinds = {one.name: one.kind for one in scheme.others}
+        if not changes or not kinds.keys() >= changes.keys():
+            told = ", ".join(changes) or "no change"
+            raise ProgrammingError(f"{told}: name attributes outside the key: {', '.join(kinds) or 'there are none'}")
+        told = ", ".join(values.spelt(value, one.kind, one.name) for value, one in zip(key, scheme.key))
+        sets = ", ".join(f"{name} = {values.spelt(value, kinds[name], name)}" for name, value in changes.items())
+        front = f"update {relation} key ({told}) class {key_class} from {from_class or key_class}"
+        self.session().command(f"{front} set {sets}")
+
+    def cursor(self) -> Cursor:
+        """A cursor. All cursors of a connection see the same."""
+        self.session()
+        return Cursor(self)
+
+    def execute(self, sql: str, parameters: Sequence | Mapping = ()) -> Cursor:
+        """A new cursor that has executed a statement."""
+        return self.cursor().execute(sql, parameters)
+
+    def executemany(self, sql: str, rows: Iterable[Sequence | Mapping]) -> Cursor:
+        """A new cursor that has executed a statement for each row."""
+        return self.cursor().executemany(sql, rows)
+
+    def commit(self) -> None:
+        """Nothing: each command is kept when it is done."""
+        self.session()
+
+    def rollback(self) -> None:
+        """Not supported: each command is kept when it is done."""
+        self.session()
+        raise NotSupportedError("each command is kept when it is done: nothing can be taken back")
+
+    def interrupt(self) -> None:
+        """Ends the SQL that is at work, which raises KeyboardInterrupt. Any thread may call it."""
+        if self._local is not None:
+            self._local.interrupt()
+
+    def close(self) -> None:
+        """Ends the session, where no other connection has it."""
+        if not self.is_closed:
+            self.is_closed = True
+            self._leave()
+
+    def __enter__(self) -> "Connection":
+        return self
+
+    def __exit__(self, *_: object) -> None:
+        self.close()
+
+
+def _of_program(program: Program, label: str, user: str, schemes: Path | None, below: str,
+                leave_too: Callable[[], None] | None = None) -> Connection:
+    """A connection to a program that was started here."""
+    relations = program.relations if schemes is None else catalogue.read_schemes(schemes)
+    session = program.enter(label, user)
+
+    def leave() -> None:
+        try:
+            program.leave(session)
+        except OperationalError:
+            pass
+        finally:
+            if leave_too:
+                leave_too()
+
+    return Connection(session, relations, below, leave)
+
+
+def _of_own_program(program: Program, label: str, user: str, schemes: Path | None, below: str) -> Connection:
+    """A connection to a program that ends with it."""
+    try:
+        return _of_program(program, label, user, schemes, below, program.close)
+    except BaseException:
+        program.close()
+        raise
+
+
+def connect(target: Path | Sequence[Path] | Program | None = None, label: str | None = None, *, user: str | None = None,
+            schemes: Path | None = None, policy: Path | None = None, store: Path | None = None,
+            transactions: Path | None = None, certificates: Path | None = None, program: Path = "mldb",
+            below: str = "leave", gateway: bool | None = None, timeout: float | None = None) -> Connection:
+    """A connection at a label.
+
+    `target` is the path of a gateway's socket; or the words of a command that leads to a gateway, or that is `mldb
+    serve` itself (one that has the word `serve`, unless `gateway` says what it is); or a Program that `serve` returned.
+    Without one the program is started here, with `policy`, `schemes` and `store`. `user` is else the name of the
+    account. `below="derive"` lets an UPDATE of lower rows make tuples above them. `timeout` is of a socket, in
+    seconds."""
+    if label is None:
+        raise InterfaceError("give a label: connect(target, label, ..)")
+    user = user or getpass.getuser()
+    if isinstance(target, Program):
+        return _of_program(target, label, user, schemes, below)
+    if target is None:
+        if policy is None or schemes is None:
+            raise InterfaceError("give a socket, a command or a program; or policy= and schemes= to start one here")
+        options = {"store": store, "transactions": transactions, "certificates": certificates, "program": program}
+        return _of_own_program(serve(policy, schemes, **options), label, user, None, below)
+    is_path = isinstance(target, (str, os.PathLike))
+    if not is_path and not (gateway if gateway is not None else "serve" not in target):
+        return _of_own_program(Program(target, schemes), label, user, None, below)
+    relations = catalogue.read_schemes(schemes) if schemes is not None else {}
+    wire = SocketWire(os.fspath(target), timeout) if is_path else ProcessWire([os.fspath(word) for word in target])
+    try:
+        session = Session(wire, label, user, is_gateway=True)
+        session.open()
+        return Connection(session, relations, below, wire.close)
+    except BaseException:
+        wire.close()
+        raise

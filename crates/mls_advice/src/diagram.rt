@@ -11,6 +11,9 @@ use std::alloc::{AllocError, Global};
 /// The columns of the widest drawing.
 const WIDEST: usize = 100;
 
+/// What stands before the first object that is no relation.
+const FIRST_OTHER: &str = "  no relation has these names, so they are transactions: ";
+
 /// No policy has more users.
 const MOST_USERS: u8 = 64;
 
@@ -176,7 +179,7 @@ impl<'a> Drawing<'a> {
         Ok(row)
     }
 
-    fn rights_to(&self, text: &mut String) -> Told {
+    fn rights_to(&self, text: &mut String, schemes: &Schemes) -> Told {
         let heading = self.objects_of()?;
         let mut rows = Vec::new(self.alloc);
         for number in 0..MOST_USERS {
@@ -185,9 +188,26 @@ impl<'a> Drawing<'a> {
                 rows.push(self.right_row(&heading, user)?)?;
             }
         }
+        let others = self.others_of(schemes, &heading)?;
         rows.insert(0, heading)?;
         text.push_str("rights (e execute, r read, a append, w write):\n")?;
-        columns_to(text, &rows)
+        columns_to(text, &rows)?;
+        text.push_str(&others)
+    }
+
+    /// A line that names the objects of a heading that are no relation, if there are any.
+    fn others_of(&self, schemes: &Schemes, heading: &[String]) -> Result<String, AllocError> {
+        let mut text = String::new(self.alloc);
+        for object in heading.iter().skip(1) {
+            if schemes.relation(object.as_str()).is_none() {
+                text.push_str(if text.is_empty() { FIRST_OTHER } else { ", " })?;
+                text.push_str(object.as_str())?;
+            }
+        }
+        if !text.is_empty() {
+            text.push_str("\n")?;
+        }
+        Ok(text)
     }
 
     // ---- relations
@@ -243,7 +263,7 @@ pub fn picture(alloc: Global, policy: &Policy, schemes: &Schemes) -> Result<Stri
     let mut text = String::new(alloc);
     drawing.labels_to(&mut text)?;
     drawing.users_to(&mut text)?;
-    drawing.rights_to(&mut text)?;
+    drawing.rights_to(&mut text, schemes)?;
     drawing.relations_to(&mut text, schemes)?;
     Ok(text)
 }

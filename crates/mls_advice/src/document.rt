@@ -123,7 +123,6 @@ fn table_to(text: &mut String, table: &Table) -> Told {
 fn value_of(alloc: Global, value: &Value) -> Result<String, AllocError> {
     let mut text = String::new(alloc);
     match value {
-        Value::String(words) => text.push_str(words)?,
         Value::Array(items) => list_to(&mut text, items.as_slice())?,
         Value::Table(table) => table_to(&mut text, table)?,
         _ => inner_to(&mut text, value)?,
@@ -282,7 +281,9 @@ impl RefusedField<'_> {
         let (line, column) = (spot.line, Some(spot.column));
         let mut text = excerpt(self.alloc, self.path, line, column, false, bytes)?;
         let message = fault.message();
-        writeln!(text, "  The reader of TOML says: {message}.")?;
+        text.push_str("  The reader of TOML says: ")?;
+        text_to(&mut text, message)?;
+        text.push_str(".\n")?;
         Ok(text)
     }
 
@@ -301,9 +302,9 @@ fn low_to(text: &mut String, table: Option<&Table>) -> Told {
     if let Some(table) = table
         && let Some(Value::String(low)) = table.get("low")
     {
-        text.push_str("  At low stands `")?;
+        text.push_str("  At low stands `\"")?;
         bytes_to(text, cut_off(low.as_bytes(), SHOWN))?;
-        text.push_str("`.\n")?;
+        text.push_str("\"`.\n")?;
     }
     Ok(())
 }

@@ -3,6 +3,7 @@ ghost use Rattle.std.specs.Prelude.{◌≡◌, ◌++◌, string_bytes, OnOk, IfO
 ghost use Rattle.mls_advice.specs.Excerpt.{Begins, place_line, file_line};
 
 use crate::columns::Told;
+use crate::habits::unseen_in;
 use crate::shown::{bytes_to, text_to};
 use mls_lattice::is_name_byte;
 use mls_tokens::columns;
@@ -160,12 +161,19 @@ fn standing_to(text: &mut String, bytes: &[u8]) -> Told {
     match bytes.first() {
         None => text.push_str("  There stands the end of the file.\n"),
         Some(b'\n') => text.push_str("  There stands the end of the line.\n"),
-        Some(_) => {
-            text.push_str("  There stands `")?;
-            bytes_to(text, cut_off(token_of(bytes), BEHIND))?;
-            text.push_str("`.\n")
-        }
+        Some(_) => token_to(text, cut_off(token_of(bytes), BEHIND)),
     }
+}
+
+/// Appends a word that stands somewhere; a character that cannot be seen by its number.
+fn token_to(text: &mut String, token: &[u8]) -> Told {
+    if let Some(character) = unseen_in(token) {
+        let number = u32::from(character);
+        return writeln!(text, "  There stands U+{number:04X}.");
+    }
+    text.push_str("  There stands `")?;
+    bytes_to(text, token)?;
+    text.push_str("`.\n")
 }
 
 /// What of a line is shown, behind so many columns, with a caret below a place, and what stands there.

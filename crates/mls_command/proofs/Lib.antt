@@ -4,3 +4,5 @@ pub mod TellingLemmas
 pub mod CertifyingLemmas
 pub mod PrintingLemmas
 pub mod ClosingLemmas
+pub mod IgnoredLemmas
+pub mod NamedLemmas

@@ -1,5 +1,5 @@
 -- What is told of the inputs of a command that is explained: all are accepted, and its store is opened or not; or the
--- session of its shell is denied; or which one is refused first.
+-- session of its shell is denied; or which one is refused first. A command that explains tells the last of its own.
 use Rattle.std.specs.Prelude.{◌≡◌, ◌≢◌, ℕ, List, [], ◌++◌, Some, None, ◌⊎◌}
 use Rattle.mls_host.specs.declared.words.Job.{Job}
 use Rattle.mls_host.specs.Words.{named}
@@ -31,7 +31,8 @@ module _ (h : Hosting) (job : Job) where
   pub data Accounts (text told : List ℕ) (end : Ending) : Type 0 where
     all_accepted : (inputs : Inputs) → AreInputs h job inputs
         → opening_denial inputs.setting.policy inputs.setting.reader job.task ≡ None
-        → IsStoreAccount h inputs.setting (named job.files.store) text told end → Accounts text told end
+        → IsStoreAccount h inputs.setting job.task (h.ignores job.documents) (named job.files.store) text told end
+        → Accounts text told end
     one_denied : (inputs : Inputs) (denial : Denial) (more : List ℕ) → AreInputs h job inputs
         → opening_denial inputs.setting.policy inputs.setting.reader job.task ≡ Some denial
         → text ≡ denial_text denial ++ more → told ≡ [] → end ≡ Refused → Accounts text told end
@@ -45,3 +46,10 @@ module _ (h : Hosting) (job : Job) where
   -- which is printed; or nothing is, for want of memory
   abbrev pub IsAccountOf : Deed → Type 0
   IsAccountOf d = IsPrinting Accounts IsUnread d
+
+  -- that an input is refused is printed; or nothing is, for want of memory
+  abbrev pub TellsRefusal : List ℕ → List ℕ → Ending → Type 0
+  TellsRefusal text told end = (reason : Reason) × AreInputsRefused h job reason × IsRefusalTold job reason text told end
+
+  abbrev pub IsRefusalOf : Deed → Type 0
+  IsRefusalOf d = IsPrinting TellsRefusal IsUnread d

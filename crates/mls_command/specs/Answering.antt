@@ -11,6 +11,7 @@ use Rattle.mls_host.specs.Deed.{Deed, end_text, end_status}
 use Rattle.mls_host.specs.Hosting.{Hosting, Hosted, KeepsStores}
 use Rattle.mls_command.specs.Acting.{IsDeedOf}
 use Rattle.mls_command.specs.Accounting.{IsAccountOf}
+use Rattle.mls_runs.specs.Explaining.{Explaining}
 
 -- A deed was done; where it was given up, the line of that was told behind all else, and, where somebody reads standard
 -- error at a terminal, more of it; and the status is that of its end.
@@ -38,12 +39,13 @@ module _ (h : Hosted) where
     not_asked : (usage : Usage) → AskNothing words usage → KeepsStores h → wrote [] → told (usage_text usage)
         → status ≡ usage_status usage → AnswersWords Does words wrote told status
 
+module _ (explaining : Explaining) (h : Hosted) where
   -- the command does what it says; where another one is explained, what is told of the inputs of that, and stores are
   -- left
   abbrev pub IsAnsweredAs : Option (List Text) → List Text → (wrote told : List ℕ → Type 0) → ℕ → Type 0
-  IsAnsweredAs None words wrote told status = AnswersWords (IsDeedOf h) words wrote told status
+  IsAnsweredAs None words wrote told status = AnswersWords h (IsDeedOf explaining h) words wrote told status
   IsAnsweredAs (Some other) words wrote told status =
-      KeepsStores h × AnswersWords (IsAccountOf h.before) other wrote told status
+      KeepsStores h × AnswersWords h (IsAccountOf h.before) other wrote told status
 
   abbrev pub IsOutcomeOf : List Text → (wrote told : List ℕ → Type 0) → ℕ → Type 0
   IsOutcomeOf words wrote told status =

@@ -1,6 +1,7 @@
--- What the command explain tells: what came of the least labels of each transaction of a file, or of the one of a name.
-use Rattle.std.specs.Prelude.{◌≡◌, ℕ, Bool, false, not, List, [], ◌∷◌, Option, None, Some, Contains, string_bytes}
-use Rattle.std.specs.Prelude.{flat_map, bytes_eq}
+-- What the command explain tells: what came of the least labels of each transaction of a file, or of the one of a name;
+-- and which fields of the policy and the schemes nobody reads.
+use Rattle.std.specs.Prelude.{◌≡◌, ℕ, Bool, false, not, ◌||◌, List, [], ◌∷◌, ◌++◌, Option, None, Some, Contains}
+use Rattle.std.specs.Prelude.{string_bytes, flat_map, bytes_eq}
 use Rattle.std.specs.List.{list_any, AllZip}
 use Rattle.mls_lattice.specs.Policy.{Name, Policy}
 use Rattle.mls_scheme.specs.Scheme.{Schemes}
@@ -12,6 +13,7 @@ use Rattle.mls_host.specs.declared.ending.Ending.{Ending}
 use Rattle.mls_host.specs.declared.reason.Reason.{Reason}
 use Rattle.mls_host.specs.declared.reason.Reason.TheVariants as reasons
 use Rattle.mls_host.specs.Ending.{ending_if}
+use Rattle.mls_command.specs.Showing.{is_some_text}
 
 -- all are chosen; or the one that has the name
 abbrev pub AreChosen : Option Name → List Tx → List Tx → Type 0
@@ -29,16 +31,23 @@ AreExplained policy schemes = AllZip (IsExplanation policy schemes)
 abbrev pub lacks_labels : Explained → Bool
 lacks_labels e = not (has_labels e.labelling)
 
--- what came of each transaction is told, one behind the other, and nothing on standard error
-pub record IsExplained (policy : Policy) (schemes : Schemes) (txs : List Tx) (name : Option Name) (text told : List ℕ)
-    (end : Ending) : Type 0 where
+-- whether a transaction has no labels, or something is said of fields that nobody reads
+abbrev pub is_some_refused : List Explained → List ℕ → Bool
+is_some_refused explained ignored = list_any lacks_labels explained || is_some_text ignored
+
+-- what came of each transaction is told, one behind the other, then what is said of the fields that nobody reads; and
+-- nothing on standard error
+pub record IsExplained (policy : Policy) (schemes : Schemes) (txs : List Tx) (name : Option Name)
+    (Ignores : List ℕ → Type 0) (text told : List ℕ) (end : Ending) : Type 0 where
   pub chosen : List Tx
   pub explained : List Explained
   pub chosen_are : AreChosen name txs chosen
   pub explained_are : AreExplained policy schemes chosen explained
-  pub text_is : text ≡ flat_map (λ e. string_bytes e.text) explained
+  pub ignored : List ℕ
+  pub ignored_are : Ignores ignored
+  pub text_is : text ≡ flat_map (λ e. string_bytes e.text) explained ++ ignored
   pub told_is : told ≡ []
-  pub end_is : end ≡ ending_if (list_any lacks_labels explained)
+  pub end_is : end ≡ ending_if (is_some_refused explained ignored)
 
 -- none has the name; or memory
 pub data IsUnexplained (txs : List Tx) (name : Option Name) (reason : Reason) : Type 0 where

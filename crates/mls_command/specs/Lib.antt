@@ -13,3 +13,4 @@ pub mod Explaining
 pub mod Showing
 pub mod Closing
 pub mod AnsweringOver
+pub mod Named

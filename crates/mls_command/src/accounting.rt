@@ -8,7 +8,7 @@ ghost use Rattle.mls_host.specs.Reason.{reason_status};
 ghost use Rattle.mls_command.specs.Accounting.{IsRefusalTold, Accounts, IsUnread, IsAccountOf};
 ghost use Rattle.mls_command.specs.Answering.{IsFinished};
 
-use crate::documents::ignored_of;
+use crate::documents::Advises;
 use crate::listing::Listing;
 use crate::looking::store_account;
 use crate::opening::{denied_text, opening_denial};
@@ -32,7 +32,7 @@ pub(crate) fn listing_of(alloc: Global, text: Vec<u8>, ending: Ending) -> Listin
 
 /// What is told where all inputs are accepted, with the fields that nobody reads: of the session of a shell, where that would be denied;
 /// else of the store, where the job names one.
-fn accepted_listing<H: Host>(
+fn accepted_listing<H: Advises>(
     alloc: Global,
     host: &H,
     job: Job,
@@ -42,18 +42,18 @@ fn accepted_listing<H: Host>(
     ensures { IfOk result (λ l. Accounts (H.hosting host.now) job.entry l.text.items (string_bytes l.told) l.ending) }
 {
     let setting = &inputs.setting;
-    let ignored = ignored_of(alloc, host, job.documents)?;
+    let ignored = host.ignored(alloc, job.documents)?;
     match opening_denial(&setting.policy, setting.reader, job.task) {
         Some(denial) => {
             let text = denied_text(alloc, &setting.policy, job.task, denial, &ignored)?;
             Ok(listing_of(alloc, text, Ending::Refused))
         }
-        None => store_account(alloc, host, setting, job.files.store, &ignored),
+        None => store_account(alloc, host, setting, job.task, job.files.store, &ignored),
     }
 }
 
 /// What is told where one is refused, but for want of memory.
-fn refused_listing<H: Host>(
+pub(crate) fn refused_listing<H: Host>(
     alloc: Global,
     host: &H,
     job: Job,
@@ -71,7 +71,7 @@ fn refused_listing<H: Host>(
 }
 
 /// What is told of the inputs of a command.
-fn account<H: Host>(alloc: Global, host: &H, job: Job) -> Result<Listing, Reason>
+fn account<H: Advises>(alloc: Global, host: &H, job: Job) -> Result<Listing, Reason>
     ensures told { IfOk result (λ l. Accounts (H.hosting host.now) job.entry l.text.items (string_bytes l.told) l.ending) }
     ensures unread { IfErr result (IsUnread (H.hosting host.now) job.entry) }
 {
@@ -82,7 +82,7 @@ fn account<H: Host>(alloc: Global, host: &H, job: Job) -> Result<Listing, Reason
 }
 
 /// Prints what is told of the inputs of a command.
-fn print_account<H: Host, W: Write, E: Write>(
+fn print_account<H: Advises, W: Write, E: Write>(
     alloc: Global,
     host: &H,
     job: Job,
@@ -95,7 +95,7 @@ fn print_account<H: Host, W: Write, E: Write>(
 }
 
 /// Explains the inputs of a command, and answers the exit status.
-pub(crate) fn finish_account<H: Host, W: Write, E: Write>(
+pub(crate) fn finish_account<H: Advises, W: Write, E: Write>(
     alloc: Global,
     job: Job,
     host: &H,

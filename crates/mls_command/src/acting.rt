@@ -1,23 +1,23 @@
 //! What the program does with its words.
+ghost use Rattle.std.specs.Prelude.{◌≡◌};
 ghost use Rattle.mls_host.specs.Deed.{deed};
 ghost use Rattle.mls_host.specs.Hosting.{hosted, IsAppended, IsTold};
-ghost use Rattle.mls_host.specs.Reading.{FitSetting, HasUser};
-ghost use Rattle.mls_host.specs.Words.{named, texts_of};
-ghost use Rattle.mls_command.specs.Acting.{IsTaskDeed, IsDeedOf};
+ghost use Rattle.mls_host.specs.Reading.{AreInputsRefused, FitSetting, HasUser};
+ghost use Rattle.mls_host.specs.Words.{texts_of};
+ghost use Rattle.mls_command.specs.Acting.{explains, IsTaskDeed, IsRefusedDeed, IsDeedOf};
 ghost use Rattle.mls_command.specs.Accounting.{IsAccountOf};
 ghost use Rattle.mls_command.specs.Answering.{IsFinished, IsNoted, AnswersWords, IsOutcomeOf};
 
-use crate::accounting::finish_account;
+use crate::accounting::{finish_account, refused_listing};
 use crate::certifying::certified;
 use crate::checking::checked;
-use crate::documents::picture_of;
+use crate::documents::{Advises, explanation_of, picture_of};
 use crate::explained::explained_of;
-use crate::explaining::explained;
 use crate::listing::print_made;
 use crate::showing::texts;
 use crate::telling::explain_stop;
 use mls_host::{
-    Ending, Errors, Host, Inputs, Job, Stop, Task, Usage, inputs_of, job_of, served, turned,
+    Ending, Errors, Host, Inputs, Job, Reason, Stop, Task, Usage, inputs_of, job_of, served, turned,
 };
 use mls_runs::{run_desk, run_script, run_shell, turn_store};
 use std::alloc::Global;
@@ -28,7 +28,7 @@ mldb: reads a script from here, under the sample policy, up to the end of input 
 ";
 
 /// Does the task of a job with what it has read.
-fn perform_task<H: Host, W: Write, E: Write>(
+fn perform_task<H: Advises, W: Write, E: Write>(
     alloc: Global,
     host: &mut H,
     inputs: Inputs,
@@ -38,8 +38,8 @@ fn perform_task<H: Host, W: Write, E: Write>(
 ) -> Result<Ending, Stop>
     requires fit { FitSetting inputs.setting inputs.transactions inputs.events }
     requires user { HasUser job.task }
-    ensures { IsTaskDeed (hosted H.hosting H.Lines.echo host.old host.new) inputs (named job.entry.files.store) job.entry.task
-        (deed W.contents out.old out.new E.contents err.old err.new result) }
+    ensures { IsTaskDeed H.Advice.explaining (hosted H.hosting H.Lines.echo host.old host.new) job.entry inputs
+        job.entry.task (deed W.contents out.old out.new E.contents err.old err.new result) }
 {
     let store = job.files.store;
     match job.task {
@@ -61,38 +61,69 @@ fn perform_task<H: Host, W: Write, E: Write>(
             print_made(made, out, err)
         }
         Task::Explain { name } => {
-            let (policy, schemes) = (&inputs.setting.policy, &inputs.setting.file.schemes);
-            explained(alloc, policy, schemes, &inputs.transactions, name)?.print(out, err)
+            let (setting, txs) = (&inputs.setting, &inputs.transactions);
+            explanation_of(alloc, host, setting, txs, name, job.documents)?.print(out, err)
         }
         Task::Run { is_table, .. } => {
             run_script(alloc, host, store, inputs, is_table, out)?;
             Ok(Ending::Well)
         }
         Task::Shell { label, user } => {
-            run_shell(alloc, host, store, inputs, label, user, out, err)
+            run_shell::<H::Advice, H, W, E>(alloc, host, store, inputs, label, user, out, err)
         }
         Task::Serve => served(run_desk(alloc, host, store, inputs, out)),
         Task::Turn { .. } => turned(turn_store(alloc, host, store, &inputs.setting, out)),
     }
 }
 
+/// Whether a task explains inputs of its own.
+fn explains(task: Task) -> bool
+    ensures { result ≡ explains task.entry }
+{
+    match task {
+        Task::Picture | Task::Explain { .. } => true,
+        _ => false,
+    }
+}
+
+/// Gives a job up, an input of which is refused: a task that explains prints why.
+fn give_up<H: Advises, W: Write, E: Write>(
+    alloc: Global,
+    job: Job,
+    reason: Reason,
+    host: &H,
+    out: &mut W,
+    err: &mut Errors<E>,
+) -> Result<Ending, Stop>
+    requires { AreInputsRefused (H.hosting host.now) job reason }
+    ensures { IsRefusedDeed (hosted H.hosting H.Lines.echo host.now host.now) job.entry (explains job.entry.task)
+        (deed W.contents out.old out.new E.contents err.old err.new result) }
+{
+    if !explains(job.task) {
+        return Err(Stop::Before(reason));
+    }
+    refused_listing(alloc, host, job, reason)?.print(out, err)
+}
+
 /// Does a job.
-fn perform<H: Host, W: Write, E: Write>(
+fn perform<H: Advises, W: Write, E: Write>(
     alloc: Global,
     job: Job,
     host: &mut H,
     out: &mut W,
     err: &mut Errors<E>,
 ) -> Result<Ending, Stop>
-    ensures { IsDeedOf (hosted H.hosting H.Lines.echo host.old host.new) job.entry
+    ensures { IsDeedOf H.Advice.explaining (hosted H.hosting H.Lines.echo host.old host.new) job.entry
         (deed W.contents out.old out.new E.contents err.old err.new result) }
 {
-    let inputs = inputs_of(alloc, host, job)?;
-    perform_task(alloc, host, inputs, job, out, err)
+    match inputs_of(alloc, host, job) {
+        Ok(inputs) => perform_task(alloc, host, inputs, job, out, err),
+        Err(reason) => give_up(alloc, job, reason, host, out, err),
+    }
 }
 
 /// Does a job, and answers the exit status. A refusal is told, and, where somebody reads standard error at a terminal, explained.
-fn finish<H: Host, W: Write, E: Write>(
+fn finish<H: Advises, W: Write, E: Write>(
     alloc: Global,
     job: Job,
     host: &mut H,
@@ -100,7 +131,7 @@ fn finish<H: Host, W: Write, E: Write>(
     err: &mut Errors<E>,
 ) -> u8
     ensures { IsFinished (H.hosting host.old).is_watched
-        (IsDeedOf (hosted H.hosting H.Lines.echo host.old host.new) job.entry)
+        (IsDeedOf H.Advice.explaining (hosted H.hosting H.Lines.echo host.old host.new) job.entry)
         (IsAppended W.contents out.old out.new) (IsTold E.contents err.old err.new) result }
 {
     let is_watched = host.is_watched();
@@ -115,7 +146,7 @@ fn finish<H: Host, W: Write, E: Write>(
 }
 
 /// Does what the words of a command ask for, and answers the exit status.
-fn answer<H: Host, W: Write, E: Write>(
+fn answer<H: Advises, W: Write, E: Write>(
     alloc: Global,
     words: &[&str],
     host: &mut H,
@@ -123,7 +154,7 @@ fn answer<H: Host, W: Write, E: Write>(
     err: &mut Errors<E>,
 ) -> u8
     ensures { AnswersWords (hosted H.hosting H.Lines.echo host.old host.new)
-        (IsDeedOf (hosted H.hosting H.Lines.echo host.old host.new)) (texts_of words.now)
+        (IsDeedOf H.Advice.explaining (hosted H.hosting H.Lines.echo host.old host.new)) (texts_of words.now)
         (IsAppended W.contents out.old out.new) (IsTold E.contents err.old err.new) result }
 {
     match job_of(alloc, words) {
@@ -136,7 +167,7 @@ fn answer<H: Host, W: Write, E: Write>(
 }
 
 /// Explains the inputs of a command, and answers the exit status.
-fn explain_inputs<H: Host, W: Write, E: Write>(
+fn explain_inputs<H: Advises, W: Write, E: Write>(
     alloc: Global,
     words: &[&str],
     host: &H,
@@ -171,14 +202,14 @@ fn tell_note<H: Host, E: Write>(words: &[&str], host: &H, err: &mut Errors<E>)
 /// that is explained is refused or its store is not opened, or a shell's opening was denied or a line of it refused, or a line of a desk
 /// was not read, 2 an input or the command line was refused, 3 store, writing or memory. Files are read in the order policy, schemes, transactions, certificates, script,
 /// store, and nothing runs before all were accepted.
-pub fn act<H: Host, W: Write, E: Write>(
+pub fn act<H: Advises, W: Write, E: Write>(
     alloc: Global,
     words: &[&str],
     host: &mut H,
     out: &mut W,
     err: &mut Errors<E>,
 ) -> u8
-    ensures { IsOutcomeOf (hosted H.hosting H.Lines.echo host.old host.new) (texts_of words.now)
+    ensures { IsOutcomeOf H.Advice.explaining (hosted H.hosting H.Lines.echo host.old host.new) (texts_of words.now)
         (IsAppended W.contents out.old out.new) (IsTold E.contents err.old err.new) result }
 {
     tell_note(words, host, err);

@@ -1,9 +1,9 @@
 //! What is told of transactions: their labels, or why they have none.
-ghost use Rattle.std.specs.Prelude.{◌≡◌, [], Some, None, IfOk, IfErr, IfSome, string_bytes, flat_map};
+ghost use Rattle.std.specs.Prelude.{◌≡◌, ◌++◌, [], Some, None, IfOk, IfErr, IfSome, string_bytes, flat_map};
 ghost use Rattle.std.specs.List.{list_any, AllByRecursion};
 ghost use Rattle.mls_translang.specs.Fits.{IsReadUnder};
 ghost use Rattle.mls_command.specs.Explaining.{AreChosen, HaveNone, AreExplained, lacks_labels, IsExplained};
-ghost use Rattle.mls_command.specs.Explaining.{IsUnexplained};
+ghost use Rattle.mls_command.specs.Explaining.{IsUnexplained, is_some_refused};
 ghost use Rattle.mls_host.specs.Ending.{ending_if};
 ghost use Rattle.mls_host.specs.Words.{named};
 
@@ -80,29 +80,41 @@ fn lacks_some(explained: &[Explained]) -> bool
     explained.iter().any(|one| lacks_labels(one))
 }
 
-fn listing_of(alloc: Global, explained: &[Explained]) -> Result<Listing, AllocError>
-    ensures text { IfOk result (λ l. l.text.items ≡ flat_map (λ e. string_bytes e.text) explained.now) }
-    ensures told { IfOk result (λ l. string_bytes l.told ≡ []) }
-    ensures end { IfOk result (λ l. l.ending ≡ ending_if (list_any lacks_labels explained.now)) }
+/// Whether one lacks labels, or something is said of fields that nobody reads.
+fn is_some_refused(explained: &[Explained], ignored: &str) -> bool
+    ensures { result ≡ is_some_refused explained.now ignored.now }
 {
+    lacks_some(explained) || !ignored.is_empty()
+}
+
+fn listing_of(alloc: Global, explained: &[Explained], ignored: &str) -> Result<Listing, AllocError>
+    ensures text { IfOk result (λ l. l.text.items
+        ≡ flat_map (λ e. string_bytes e.text) explained.now ++ ignored.now) }
+    ensures told { IfOk result (λ l. string_bytes l.told ≡ []) }
+    ensures end { IfOk result (λ l. l.ending ≡ ending_if (is_some_refused explained.now ignored.now)) }
+{
+    let mut text = text_of(alloc, explained)?;
+    text.extend_from_slice(ignored.as_bytes())?;
     Ok(Listing {
-        text: text_of(alloc, explained)?,
+        text,
         told: String::new(alloc),
-        ending: ending_if(lacks_some(explained)),
+        ending: ending_if(is_some_refused(explained, ignored)),
     })
 }
 
-/// Transactions, or the one of a name, explained. `Name` where none has the name.
+/// Transactions, or the one of a name, explained, and behind them what is said of fields that nobody reads. `Name` where none has the
+/// name.
 pub(crate) fn explained(
     alloc: Global,
     policy: &Policy,
     schemes: &Schemes,
     txs: &[Tx],
     name: Option<&str>,
+    ignored: &str,
 ) -> Result<Listing, Reason>
     requires { AllByRecursion (IsReadUnder policy.now schemes.now) txs.now }
-    ensures listing { IfOk result (λ l. IsExplained policy.now schemes.now txs.now (named name.entry) l.text.items
-        (string_bytes l.told) l.ending) }
+    ensures listing { IfOk result (λ l. IsExplained policy.now schemes.now txs.now (named name.entry)
+        (λ text. text ≡ ignored.now) l.text.items (string_bytes l.told) l.ending) }
     ensures refused { IfErr result (IsUnexplained txs.now (named name.entry)) }
 {
     let chosen = match chosen_of(txs, name) {
@@ -110,5 +122,5 @@ pub(crate) fn explained(
         None => return Err(Reason::Name),
     };
     let explained = each_explained(alloc, policy, schemes, chosen)?;
-    Ok(listing_of(alloc, &explained)?)
+    Ok(listing_of(alloc, &explained, ignored)?)
 }

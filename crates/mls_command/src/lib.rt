@@ -12,6 +12,7 @@ mod explaining;
 mod listing;
 mod looking;
 mod machine;
+mod named;
 mod opening;
 mod paths;
 mod private;
@@ -21,4 +22,6 @@ mod shown;
 mod telling;
 
 pub use crate::acting::act;
-pub use crate::running::{Written, answer_in_any_files, run, run_kept};
+pub use crate::documents::{Advises, ignored_of};
+pub use crate::named::words_are_named;
+pub use crate::running::{answer_in_any_files, run};

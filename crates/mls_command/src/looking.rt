@@ -1,9 +1,10 @@
 //! The store that a command names, which is looked at and not opened.
-ghost use Rattle.std.specs.Prelude.{◌≡◌, ◌≢◌, Some, string_bytes, IfOk, IfSome};
+ghost use Rattle.std.specs.Prelude.{◌≡◌, ◌≢◌, ◌&&◌, length, nat_eq, true, false, Some, [], string_bytes, IfOk, IfSome};
 ghost use Rattle.mls_host.specs.Words.{named};
 ghost use Rattle.mls_host.specs.declared.host.StoreCause.TheVariants as causes;
 ghost use Rattle.mls_advice.specs.Excerpt.{Begins};
-ghost use Rattle.mls_command.specs.Looking.{IsSight, IsFound, found_text, found_ending, IsStoreAccount};
+ghost use Rattle.mls_command.specs.Looking.{makes_store, IsSeen, IsSight, IsFound, found_text, found_ending};
+ghost use Rattle.mls_command.specs.Looking.{IsStoreAccount};
 
 use crate::accounting::listing_of;
 use crate::listing::Listing;
@@ -11,7 +12,9 @@ use crate::telling::push_reason;
 use mls_advice::file_line;
 use mls_explain::{Diagnosis, diagnosis_of};
 use mls_fragments::OpenFault;
-use mls_host::{Ending, Host, Job, Reason, Setting, StoreCause, setting_of};
+use mls_host::{
+    Ending, Host, Job, Reason, Setting, StoreCause, StoreFiles, Task, ending_if, setting_of,
+};
 use std::alloc::{AllocError, Global};
 
 pub(crate) const ACCEPTED: &str = "All inputs are accepted.\n";
@@ -29,6 +32,8 @@ const JOURNAL: &str =
     "  SQLite left a journal beside the file.\n  Open the file with sqlite3, which plays it back.\n";
 
 const UNREADABLE: &str = "  The file cannot be read.\n  See to its disk.\n";
+
+const ABSENT: &str = "  There is no store.\n  Name one that is there.\n";
 
 /// Why the files of a store are not read, and what to do; none for want of memory.
 fn cause_text(cause: StoreCause) -> Option<&'static str>
@@ -59,32 +64,68 @@ fn diagnosis_of_hidden(alloc: Global, cause: StoreCause) -> Result<Diagnosis, Al
     }
 }
 
+fn are_empty(files: &StoreFiles) -> bool
+    ensures { result ≡ (nat_eq (length files.now.log.items) 0 && nat_eq (length files.now.db.items) 0) }
+{
+    files.log.is_empty() && files.db.is_empty()
+}
+
+/// Whether there is no store, and its task makes none.
+fn is_absent(task: Task, files: &StoreFiles) -> bool
+    ensures { result ≡ true → (makes_store task.entry ≡ false) × (files.now.log.items ≡ []) × (files.now.db.items ≡ []) }
+{
+    match task {
+        Task::Turn { .. } => are_empty(files),
+        _ => false,
+    }
+}
+
+/// What is found of a store with the bytes of these files.
+fn seen_of(
+    alloc: Global,
+    setting: &Setting,
+    task: Task,
+    files: &StoreFiles,
+) -> Result<Diagnosis, AllocError>
+    ensures { IfOk result (λ d. IsSeen setting.now task.entry files.now.log.items files.now.db.items d.fault) }
+{
+    if !is_absent(task, files) {
+        return diagnosis_of(alloc, &files.log, &files.db, &setting.policy, &setting.file);
+    }
+    Ok(Diagnosis {
+        fault: Some(OpenFault::Store),
+        text: Vec::from_slice(alloc, ABSENT.as_bytes())?,
+    })
+}
+
 /// What is found of the store at a path, whose files stay as they are.
 fn sight_of<H: Host>(
     alloc: Global,
     host: &H,
     setting: &Setting,
+    task: Task,
     path: &str,
 ) -> Result<Diagnosis, AllocError>
-    ensures { IfOk result (λ d. IsSight (H.hosting host.now) setting.now path.now d.fault) }
+    ensures { IfOk result (λ d. IsSight (H.hosting host.now) setting.now task.entry path.now d.fault) }
 {
     match host.store_files(alloc, path) {
-        Ok(files) => diagnosis_of(alloc, &files.log, &files.db, &setting.policy, &setting.file),
+        Ok(files) => seen_of(alloc, setting, task, &files),
         Err(cause) => diagnosis_of_hidden(alloc, cause),
     }
 }
 
-/// What is found of a store: nothing wrong, where none is named.
+/// What is found of a task's store: nothing wrong, where none is named.
 fn found_of<H: Host>(
     alloc: Global,
     host: &H,
     setting: &Setting,
+    task: Task,
     store: Option<&str>,
 ) -> Result<Diagnosis, AllocError>
-    ensures { IfOk result (λ d. IsFound (H.hosting host.now) setting.now (named store.entry) d.fault) }
+    ensures { IfOk result (λ d. IsFound (H.hosting host.now) setting.now task.entry (named store.entry) d.fault) }
 {
     match store {
-        Some(path) => sight_of(alloc, host, setting, path),
+        Some(path) => sight_of(alloc, host, setting, task, path),
         None => Ok(Diagnosis {
             fault: None,
             text: Vec::new(alloc),
@@ -118,31 +159,32 @@ fn found_text(alloc: Global, store: Option<&str>, found: &Diagnosis) -> Result<V
     }
 }
 
-/// How that ends.
-fn found_ending(found: &Diagnosis) -> Ending
-    ensures { result ≡ found_ending found.now.fault }
+/// How that ends, where this is said of fields that nobody reads.
+fn found_ending(found: &Diagnosis, ignored: &str) -> Ending
+    ensures { result ≡ found_ending found.now.fault ignored.now }
 {
     match found.fault {
-        None => Ending::Well,
+        None => ending_if(!ignored.is_empty()),
         Some(_) => Ending::Refused,
     }
 }
 
-/// What is told where all inputs are accepted: of the store, where one is named, and other lines.
+/// What is told where all inputs are accepted: of the store, where one is named, and of fields that nobody reads.
 pub(crate) fn store_account<H: Host>(
     alloc: Global,
     host: &H,
     setting: &Setting,
+    task: Task,
     store: Option<&str>,
-    lines: &str,
+    ignored: &str,
 ) -> Result<Listing, AllocError>
-    ensures { IfOk result (λ l. IsStoreAccount (H.hosting host.now) setting.now (named store.entry) l.text.items
-        (string_bytes l.told) l.ending) }
+    ensures { IfOk result (λ l. IsStoreAccount (H.hosting host.now) setting.now task.entry (λ text. text ≡ ignored.now)
+        (named store.entry) l.text.items (string_bytes l.told) l.ending) }
 {
-    let found = found_of(alloc, host, setting, store)?;
+    let found = found_of(alloc, host, setting, task, store)?;
     let mut text = found_text(alloc, store, &found)?;
-    text.extend_from_slice(lines.as_bytes())?;
-    Ok(listing_of(alloc, text, found_ending(&found)))
+    text.extend_from_slice(ignored.as_bytes())?;
+    Ok(listing_of(alloc, text, found_ending(&found, ignored)))
 }
 
 /// What is told of the store of a job that was not opened, whose policy and schemes are read once more.
@@ -154,6 +196,6 @@ pub(crate) fn store_lines<H: Host>(
     let Ok(setting) = setting_of(alloc, host, job) else {
         return Ok(Vec::new(alloc));
     };
-    let found = found_of(alloc, host, &setting, job.files.store)?;
+    let found = found_of(alloc, host, &setting, job.task, job.files.store)?;
     lines_of(alloc, job.files.store, &found)
 }

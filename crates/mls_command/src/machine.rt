@@ -1,5 +1,5 @@
 //! Files, the standard input and stores, as the program has them.
-ghost use Rattle.std.specs.Prelude.{◌≡◌, ◌↔◌, false, length, IfOk, IfErr, IsErr};
+ghost use Rattle.std.specs.Prelude.{◌≡◌, ◌↔◌, false, length, None, IfOk, IfErr, IsErr};
 ghost use Rattle.mls_scheme.specs.Scheme.{AreUnder};
 ghost use Rattle.mls_audit.specs.Sound.{IsSoundContent};
 ghost use Rattle.mls_tables.specs.declared.rows.MetaRow.{MetaRow};
@@ -8,15 +8,17 @@ ghost use Rattle.mls_fragments.specs.Holdings.{holdings_of, IsTakenOf};
 ghost use Rattle.sqlite.specs.Recovery.{Image};
 
 use crate::closing::{Left, LeftFiles, close};
+use crate::documents::{Advises, ignored_of};
 use crate::{private, shown};
 use mls_filterview::Base;
 use mls_fragments::{OpenFault, SqlBase};
-use mls_host::{CloseFault, Host, HostFault, StoreCause, StoreFiles, read_whole};
+use mls_host::{CloseFault, Documents, Host, HostFault, StoreCause, StoreFiles, read_whole};
 use mls_lattice::Policy;
+use mls_runs::Advice;
 use mls_scheme::SchemesFile;
 use mls_tokens::{AnyReader, LinesOf};
 use sqlite::{FileFrom, FileStore, Start};
-use std::alloc::Global;
+use std::alloc::{AllocError, Global};
 use std::fs;
 use std::io::{ErrorKind, Input, IsTerminal};
 use std::snapshot::Snapshot;
@@ -92,8 +94,11 @@ pub struct Machine<'a, B: Base + Drop, L: Left + Drop, O: Drop> {
 }
 
 impl<'a, B: Base + Drop, L: Left + Drop, O: Opens<B, L> + Drop> Machine<'a, B, L, O> {
-    /// The files and the standard input of a runtime, and stores.
-    pub fn new(rt: &'a HostRuntime, stores: O) -> Machine<'a, B, L, O> {
+    /// The files and the standard input of a runtime, and stores, of which none was taken back.
+    pub fn new(rt: &'a HostRuntime, stores: O) -> Machine<'a, B, L, O>
+        ensures base { result.base ≡ None }
+        ensures left { result.left ≡ None }
+    {
         Machine {
             rt,
             stores,
@@ -108,9 +113,7 @@ impl<'a, B: Base + Drop, L: Left + Drop, O: Opens<B, L> + Drop> Machine<'a, B, L
 impl<'a, B: Base + Drop, L: Left + Drop, O: Opens<B, L> + Drop> Host for Machine<'a, B, L, O> {
     ghost use Rattle.mls_command.specs.AnsweringOver.{hosting};
 
-    ghost hosting = { hosting
-        B.seen
-        (record { image = O.image; bars = L.bars; keeps = L.keeps; is_open = L.is_open }) };
+    ghost hosting = { hosting B.seen O.image L.bars L.keeps L.is_open };
 
     type Store = B;
 
@@ -163,5 +166,13 @@ impl<'a, B: Base + Drop, L: Left + Drop, O: Opens<B, L> + Drop> Host for Machine
         self.base = Some(base);
         self.left = Some(Snapshot::of(&left));
         closed
+    }
+}
+
+impl<'a, B: Base + Drop, L: Left + Drop, O: Opens<B, L> + Drop> Advises for Machine<'a, B, L, O> {
+    type Advice = Advice;
+
+    fn ignored(&self, alloc: Global, documents: Option<Documents>) -> Result<String, AllocError> {
+        ignored_of(alloc, self, documents)
     }
 }

@@ -1,7 +1,7 @@
 //! What words ask for, done over the machine itself.
 ghost use Rattle.mls_host.specs.Words.{texts_of};
 ghost use Rattle.mls_host.specs.Hosting.{IsAppended, IsTold};
-ghost use Rattle.mls_command.specs.AnsweringOver.{IsAnsweredHere, IsAnsweredOver};
+ghost use Rattle.mls_command.specs.AnsweringOver.{IsAnsweredOver};
 
 use crate::act;
 use crate::closing::{Left, LeftFiles};
@@ -11,30 +11,33 @@ use mls_fragments::SqlBase;
 use mls_host::Errors;
 use sqlite::{FileFrom, FileStore, Start, Unknown};
 use sqlite_disk::Disk;
+use std::alloc::Global;
 use std::io::Write;
 
-/// What a command wrote, on standard output and standard error, and its status.
-#[derive(Drop)]
-pub struct Written {
-    pub out: Vec<u8>,
-    pub err: Vec<u8>,
-    pub status: u8,
+/// Does what the words ask for over a machine, and answers the exit status.
+fn answer<B: Base + Drop, L: Left + Drop, O: Opens<B, L> + Drop, W: Write, E: Write>(
+    alloc: Global,
+    words: &[&str],
+    machine: &mut Machine<'_, B, L, O>,
+    out: &mut W,
+    err: &mut Errors<E>,
+) -> u8
+    ensures { IsAnsweredOver B.seen O.image L.bars L.keeps L.is_open machine.old machine.new (texts_of words.now)
+        (IsAppended W.contents out.old out.new) (IsTold E.contents err.old err.new) result }
+{
+    act(alloc, words, machine, out, err)
 }
 
-/// Does what the words ask for, over stores that are opened as such bases, and answers the exit status.
-fn answer<B: Base + Drop, L: Left + Drop, O: Opens<B, L> + Drop, W: Write, E: Write>(
+/// The same over a new machine.
+fn answer_anew<B: Base + Drop, L: Left + Drop, O: Opens<B, L> + Drop, W: Write, E: Write>(
     rt: &HostRuntime,
     words: &[&str],
     stores: O,
     out: &mut W,
     err: &mut Errors<E>,
-) -> u8
-    ensures { IsAnsweredHere O B.seen
-        (record { image = O.image; bars = L.bars; keeps = L.keeps; is_open = L.is_open }) (texts_of words.now)
-        (IsAppended W.contents out.old out.new) (IsTold E.contents err.old err.new) result }
-{
-    let mut host = Machine::<B, L, O>::new(rt, stores);
-    act(rt.alloc(), words, &mut host, out, err)
+) -> u8 {
+    let mut machine = Machine::<B, L, O>::new(rt, stores);
+    answer(rt.alloc(), words, &mut machine, out, err)
 }
 
 /// The same over stores in files of a disk.
@@ -43,11 +46,8 @@ fn answer_in_files<
     O: Opens<SqlBase<FileStore<D>>, LeftFiles<D>> + Drop,
     W: Write,
     E: Write,
->(rt: &HostRuntime, words: &[&str], stores: O, out: &mut W, err: &mut Errors<E>) -> u8
-    ensures { IsAnsweredOver D.Disk O O.image (texts_of words.now) (IsAppended W.contents out.old out.new)
-        (IsTold E.contents err.old err.new) result }
-{
-    answer::<SqlBase<FileStore<D>>, LeftFiles<D>, O, W, E>(rt, words, stores, out, err)
+>(rt: &HostRuntime, words: &[&str], stores: O, out: &mut W, err: &mut Errors<E>) -> u8 {
+    answer_anew::<SqlBase<FileStore<D>>, LeftFiles<D>, O, W, E>(rt, words, stores, out, err)
 }
 
 /// Does what the words ask for over stores in files, whatever these held, and answers the exit status.
@@ -69,15 +69,4 @@ pub fn answer_in_any_files<F: Start, W: Write, E: Write>(
 pub fn run(rt: &HostRuntime, words: &[&str]) -> u8 {
     let (mut out, mut err) = (rt.stdout(), Errors::new(rt.stderr()));
     answer_in_any_files(rt, words, Unknown, &mut out, &mut err)
-}
-
-/// The same, with what is written kept.
-pub fn run_kept(rt: &HostRuntime, words: &[&str]) -> Written {
-    let (mut out, mut err) = (Vec::new(rt.alloc()), Errors::new(Vec::new(rt.alloc())));
-    let status = answer_in_any_files(rt, words, Unknown, &mut out, &mut err);
-    Written {
-        out,
-        err: err.into_writer(),
-        status,
-    }
 }

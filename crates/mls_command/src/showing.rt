@@ -42,7 +42,7 @@ pub(crate) fn pictured(
     setting: &Setting,
     ignored: &str,
 ) -> Result<Listing, AllocError>
-    ensures text { IfOk result (λ l. IsPictured ignored.now l.text.items l.ending) }
+    ensures text { IfOk result (λ l. IsPictured (λ text. text ≡ ignored.now) l.text.items l.ending) }
     ensures told { IfOk result (λ l. string_bytes l.told ≡ []) }
 {
     let mut text = picture(alloc, &setting.policy, &setting.file.schemes)?;

@@ -1,6 +1,4 @@
 //! What is told of an input that is refused.
-//! The whole form of a script's line is told where a token is not expected: a line is short. The grammar of
-//! transactions is a parser and no table, so nothing more is told there.
 ghost use Rattle.std.specs.Prelude.{◌≡◌, ◌++◌, string_bytes, IfOk, OnOk};
 ghost use Rattle.mls_host.specs.Hosting.{IsTold};
 ghost use Rattle.mls_host.specs.Reason.{reason_text};
@@ -11,12 +9,12 @@ use crate::documents::ignored_of;
 use crate::looking::store_lines;
 use crate::paths::{location_of, source_of};
 use mls_advice::{
-    advice_of, declared_names, excerpt, file_line, form_at, kinds_at, nearest_line, refused_lines,
-    token_at,
+    Names, Slip, advice_of, command_advice, excerpt, file_line, form_at, label_name, refused_lines,
+    transaction_advice,
 };
-use mls_host::{Errors, Host, Job, Reason, Stop, policy_or_sample, schemes_or_sample};
-use mls_lattice::{Policy, Refused, Str};
-use mls_scheme::SchemesFile;
+use mls_host::{Errors, Host, Job, Reason, Role, Stop, policy_or_sample, schemes_or_sample};
+use mls_lattice::{LabelNo, Policy, Refused};
+use mls_scheme::{Schemes, SchemesFile};
 use std::alloc::{AllocError, Global};
 use std::io::Write;
 
@@ -25,39 +23,76 @@ const UNREADABLE: &str =
 
 const TOO_LONG: &str = "  The file has more than 1,048,576 bytes.\n  Split it.\n";
 
+const TOO_LONG_WHOLE: &str =
+    "  The file has more than 1,048,576 bytes.\n  Take something out: it cannot be split.\n";
+
 const NO_LABEL: &str = "  The policy has no label of this name.\n  Name a label of the policy.\n";
 
 const NO_USER: &str = "  What stands for the user is no name.\n  Name a user of the policy.\n";
 
 const NO_TRANSACTION: &str = "  No transaction has this name.\n  Name one that the file has.\n";
 
-/// What a stop means, and what to do; that of a policy and of schemes stands with the field.
+/// So many labels are listed at most.
+const MOST_LABELS: usize = 16;
+
+/// What a stop means, and what to do; that of a policy and of schemes stands with the field, that of a text with
+/// the place.
 fn advice(reason: &Reason) -> &'static str {
     match reason {
         Reason::Unreadable(_) => UNREADABLE,
+        Reason::TooLong(Role::Policy | Role::Schemes) => TOO_LONG_WHOLE,
         Reason::TooLong(_) => TOO_LONG,
-        Reason::Transactions(fault) => advice_of(fault.cause.code()),
         Reason::Certificates(fault) => advice_of(fault.cause.code()),
-        Reason::Script(fault) => advice_of(fault.cause.code()),
         Reason::Reader | Reason::Label => NO_LABEL,
         Reason::User => NO_USER,
         Reason::Name => NO_TRANSACTION,
-        Reason::Policy(_) | Reason::Schemes(_) | Reason::Store(_) | Reason::Memory => "",
+        Reason::Policy(_)
+        | Reason::Schemes(_)
+        | Reason::Transactions(_)
+        | Reason::Script(_)
+        | Reason::Store(_)
+        | Reason::Memory => "",
     }
 }
 
-/// The names that the policy and the schemes of a job declare; none where one is refused.
-fn names_of<H: Host>(alloc: Global, host: &H, job: Job) -> Result<Vec<Str>, AllocError> {
+/// What is told of a text, of a script or of transactions, under a policy and schemes: the names that could stand
+/// at a place, and what to do.
+fn advice_under(
+    alloc: Global,
+    policy: &Policy,
+    schemes: &Schemes,
+    reason: &Reason,
+    slip: Slip<'_>,
+) -> Result<String, AllocError> {
+    let names = Names {
+        alloc,
+        policy,
+        schemes,
+    };
+    match reason {
+        Reason::Transactions(_) => transaction_advice(names, slip),
+        _ => command_advice(names, slip),
+    }
+}
+
+/// The same under the policy and the schemes of a job; what to do alone, where the host no longer gives these.
+fn advice_at<H: Host>(
+    alloc: Global,
+    host: &H,
+    job: Job,
+    reason: &Reason,
+    slip: Slip<'_>,
+) -> Result<String, AllocError> {
     let Ok(policy) = policy_or_sample(alloc, host, job.documents) else {
-        return Ok(Vec::new(alloc));
+        return String::from_str(alloc, advice_of(slip.code));
     };
     match schemes_or_sample(alloc, host, &policy, job.documents) {
-        Ok(file) => declared_names(alloc, &policy, &file.schemes),
-        Err(_) => Ok(Vec::new(alloc)),
+        Ok(file) => advice_under(alloc, &policy, &file.schemes, reason, slip),
+        Err(_) => String::from_str(alloc, advice_of(slip.code)),
     }
 }
 
-/// What is told beside a place: the nearest declared name, the form of a script's command, or the kinds.
+/// What is told beside a place of a text, behind the form of a script's command.
 fn hint_of<H: Host>(
     alloc: Global,
     host: &H,
@@ -65,19 +100,25 @@ fn hint_of<H: Host>(
     reason: &Reason,
     bytes: &[u8],
 ) -> Result<String, AllocError> {
-    let (line, column) = match reason {
-        Reason::Script(fault) if fault.cause.code() == 22 => {
-            return String::from_str(alloc, form_at(fault.line, bytes));
-        }
-        Reason::Transactions(fault) if fault.cause.code() == 22 => {
-            return String::from_str(alloc, kinds_at(fault.line, fault.column, bytes));
-        }
-        Reason::Transactions(fault) if fault.cause.code() == 23 => (fault.line, fault.column),
-        Reason::Script(fault) if fault.cause.code() == 23 => (fault.line, fault.column),
+    let (code, line, column) = match reason {
+        Reason::Script(fault) => (fault.cause.code(), fault.line, fault.column),
+        Reason::Transactions(fault) => (fault.cause.code(), fault.line, fault.column),
         _ => return Ok(String::new(alloc)),
     };
-    let names = names_of(alloc, host, job)?;
-    nearest_line(alloc, token_at(bytes, line, column), &names)
+    let mut text = String::new(alloc);
+    if let Reason::Script(_) = reason
+        && code == 22
+    {
+        text.push_str(form_at(line, bytes))?;
+    }
+    let slip = Slip {
+        code,
+        line,
+        column,
+        bytes,
+    };
+    text.push_str(&advice_at(alloc, host, job, reason, slip)?)?;
+    Ok(text)
 }
 
 /// What is told of a policy or of schemes with these bytes, which are read once more to say where reading stopped.
@@ -132,7 +173,41 @@ fn lines_of_file<H: Host>(
     }
 }
 
-/// What is told of the file that is refused, if one is; its name alone, where the host no longer gives it.
+/// The labels of a policy in a line, if they are not too many.
+fn labels_line(alloc: Global, policy: &Policy) -> Result<String, AllocError> {
+    let mut text = String::new(alloc);
+    if policy.label_count() > MOST_LABELS {
+        return Ok(text);
+    }
+    let mut front = "  The labels are ";
+    for place in 0..policy.label_count() {
+        text.push_str(front)?;
+        text.push_str(label_name(policy, LabelNo::new(place as u8)))?;
+        front = ", ";
+    }
+    text.push_str(".\n")?;
+    Ok(text)
+}
+
+/// The names that could stand where one of the words of the command is refused.
+fn names_of<H: Host>(
+    alloc: Global,
+    host: &H,
+    job: Job,
+    reason: &Reason,
+) -> Result<String, AllocError> {
+    match reason {
+        Reason::Reader | Reason::Label => {}
+        _ => return Ok(String::new(alloc)),
+    }
+    match policy_or_sample(alloc, host, job.documents) {
+        Ok(policy) => labels_line(alloc, &policy),
+        Err(_) => Ok(String::new(alloc)),
+    }
+}
+
+/// What is told of the file that is refused, if one is; its name alone, where the host no longer gives it. Where a
+/// word is refused, the names that could stand there.
 fn file_lines<H: Host>(
     alloc: Global,
     host: &H,
@@ -143,7 +218,7 @@ fn file_lines<H: Host>(
         (λ s. IsLocationTold (source_of job.entry reason.now) (location_of reason.now) (string_bytes s)) }
 {
     match source_of(job, reason) {
-        None => Ok(String::new(alloc)),
+        None => Ok(names_of(alloc, host, job, reason)?),
         Some(path) => match host.file(alloc, path) {
             Ok(bytes) => lines_of_file(alloc, host, job, reason, path, &bytes),
             Err(_) => file_line(alloc, path),

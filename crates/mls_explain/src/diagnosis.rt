@@ -19,7 +19,7 @@ const DAMAGED: &str =
     "  The file is no database, or a damaged one.\n  Name another, or take the last copy of the store that was sound.\n";
 
 const OF_OTHERS: &str =
-    "  The store is of another policy or of other schemes.\n  Name its own, or files of version 2 that only add labels, or attributes, behind those of the store.\n  Any other change needs a new store: name a path where no file is, and insert the rows again.\n";
+    "  The store is of another policy or of other schemes.\n  Name its own, or files of version 2 that only add labels, or attributes, behind those of the store.\n  Any other change needs a new store: `dump` what this one has, and load that where no file is (docs/running.md, A store moved).\n";
 
 const CHANGED: &str =
     "  Something other than mldb has changed the store.\n  Take the last copy of it that was sound.\n";
@@ -31,7 +31,8 @@ pub struct Diagnosis {
     pub text: Vec<u8>,
 }
 
-/// Appends how the texts of a connection's store differ from those of the files: the labels, or else the schemes.
+/// Appends how the texts of a connection's store differ from those of the files: the labels, or else the relations,
+/// or else the schemes.
 fn tell_others<S: Alter>(
     alloc: Global,
     text: &mut String,
@@ -45,8 +46,11 @@ fn tell_others<S: Alter>(
     if found.lattice.as_str() != labels.as_str() {
         return difference_to(text, "labels", found.lattice.as_str(), &labels);
     }
-    difference_to(text, "schemes", found.schemes.as_str(), &schemes)?;
-    relations_to(text, found.schemes.as_str(), &schemes)
+    relations_to(text, found.schemes.as_str(), &schemes)?;
+    if text.is_empty() {
+        difference_to(text, "schemes", found.schemes.as_str(), &schemes)?;
+    }
+    Ok(())
 }
 
 /// What to do where a store is not opened; nothing for want of memory.

@@ -10,6 +10,7 @@ use Rattle.mls_fragments.specs.declared.open_fault.OpenFault.{OpenFault}
 use Rattle.mls_host.specs.declared.host.HostFault.{HostFault}
 use Rattle.mls_host.specs.declared.host.StoreCause.{StoreCause}
 use Rattle.mls_host.specs.declared.errors.Errors.{Errors}
+use Rattle.mls_host.specs.declared.words.Documents.{Documents}
 
 -- A host, as contracts see it.
 -- A host that cannot know why it gives nothing says that any cause may be.
@@ -34,6 +35,8 @@ pub record Hosting : Type 1 where
   pub shows : List ℕ → List ℕ → List ℕ → Type 0
   -- why none are shown
   pub hides : List ℕ → StoreCause → Type 0
+  -- what is said of the fields of a policy and schemes that nobody reads
+  pub ignores : Option Documents → List ℕ → Type 0
   -- the store that it took back last is clean: a premise of what is said of that, since a base may be any
   pub is_honest : Type 0
   -- a call of that store failed since it was opened

@@ -1,3 +1,5 @@
+pub mod CountLemmas
+pub mod ValueLemmas
 pub mod WalkLemmas
 pub mod FlowLemmas
 pub mod SlotLemmas

@@ -29,6 +29,20 @@ abbrev pub Admits : Range → Option Value → Type 0
 Admits r None = r.null ≡ true
 Admits r (Some v) = IsAmong r.listed v × IsBetween r.bounds v
 
+-- ---- how many values there are
+
+-- the count that stands for what is not counted
+abbrev pub uncounted : ℕ
+uncounted = 18446744073709551615
+
+-- each integer between bounds
+abbrev pub HasIntegers : Bounds → List ℤ → Type 0
+HasIntegers b numbers = (n : ℤ) → Within b n → Contains numbers n
+
+-- each value of a range, and null where it can be
+abbrev pub HasValues : Range → List (Option Value) → Type 0
+HasValues r values = (v : Option Value) → Admits r v → Contains values v
+
 abbrev pub any_value : Range
 any_value = record { null = true; listed = None; bounds = None }
 

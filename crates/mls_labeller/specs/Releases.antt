@@ -1,13 +1,13 @@
 -- What lists of items runs can release, where a range is told of each release, in the order of the text.
-use Rattle.std.specs.Prelude.{◌≡◌, ℕ, ◌<◌, Bool, true, false, if◌then◌else◌, List, [], ◌∷◌, ◌++◌, length, Option}
+use Rattle.std.specs.Prelude.{◌≡◌, ◌⊎◌, ℕ, zero, suc, ◌+◌, ◌*◌, ◌<◌, ◌≤◌, Bool, true, false, if◌then◌else◌, List, [], ◌∷◌, ◌++◌, length, Option}
 use Rattle.std.specs.Prelude.{Contains}
 use Rattle.mls_lattice.specs.Labels.{Labels}
-use Rattle.mls_lattice.specs.Policy.{Name, Policy, labels_of}
+use Rattle.mls_lattice.specs.Policy.{Policy, labels_of}
 use Rattle.mls_scheme.specs.declared.value.Value.{Value}
 use Rattle.mls_scheme.specs.declared.tuple.Tuple.{Tuple}
 use Rattle.mls_scheme.specs.Scheme.{Schemes}
 use Rattle.mls_scheme.specs.Table.{Database}
-use Rattle.mls_translang.specs.Tree.{Expr, Stmt as Simple, Release, Block, End, Do, If, For}
+use Rattle.mls_translang.specs.Tree.{Release, Block, End, Do, If, For}
 use Rattle.mls_translang.specs.Tx.{Tx}
 use Rattle.mls_translang.specs.Fits.{IsReadUnder}
 use Rattle.mls_certcheck.specs.Meaning.{Item, Progress, run_block, run_tx}
@@ -15,30 +15,29 @@ use Rattle.mls_certcheck.specs.Secure.{AreStored, SameViews, SameArgs, param_lab
 use Rattle.mls_labeller.specs.declared.told.Told.{Told}
 use Rattle.mls_labeller.specs.declared.range.Range.{Range}
 use Rattle.mls_labeller.specs.Ranges.{Admits, AreHeld}
+pub use Rattle.mls_labeller.specs.Ranges.{uncounted}
 
-abbrev pub is_release : Simple → Bool
-is_release (Release e to into) = true
-is_release _ = false
+-- one list leads to another by so many steps
+abbrev pub Repeats : (List Item → List Item → Type 0) → ℕ → List Item → List Item → Type 0
+Repeats Goes zero xs zs = zs ≡ xs
+Repeats Goes (suc n) xs zs = (ys : List Item) × Goes xs ys × Repeats Goes n ys zs
 
 -- what is told of the releases of a block, in a loop or not, and items that were released before a run of it and are behind it
-pub data CanRelease : Bool → Block → List Told → List Item → List Item → Type 0 where
-  Over : {looped : Bool} {xs : List Item} → CanRelease looped End [] xs xs
-  -- a release gives its label and a value of its range, and other statements give nothing
-  Silent : {looped : Bool} {stmt : Simple} {rest : Block} {told : List Told} {xs zs : List Item} → is_release stmt ≡ false
-      → CanRelease looped rest told xs zs → CanRelease looped (Do stmt rest) told xs zs
-  Released : {e : Expr} {into : ℕ} {rest : Block} {this : Told} {told : List Told} {xs zs : List Item} (v : Option Value)
-      → Admits this.range v → CanRelease this.looped rest told (xs ++ (this.to, v) ∷ []) zs
-      → CanRelease this.looped (Do (Release e this.to into) rest) (this ∷ told) xs zs
-  -- a branch gives what one of its blocks can give
-  Either : {looped : Bool} {guard : Expr} {one other rest : Block} {a b told : List Told} {xs zs : List Item} (taken : Bool) (x y : List Item)
-      → CanRelease looped one a xs x → CanRelease looped other b xs y → CanRelease looped rest told (if taken then x else y) zs
-      → CanRelease looped (If guard one other rest) ((a ++ b) ++ told) xs zs
-  -- a loop gives what its body can give, never or again and again
-  Never : {looped : Bool} {row : Name} {relation label : ℕ} {body rest : Block} {a told : List Told} {xs zs : List Item} (x y : List Item)
-      → CanRelease true body a x y → CanRelease looped rest told xs zs → CanRelease looped (For row relation label body rest) (a ++ told) xs zs
-  Again : {looped : Bool} {row : Name} {relation label : ℕ} {body rest : Block} {a : List Told} (told : List Told) {xs zs : List Item} (ys : List Item)
-      → CanRelease true body a xs ys → CanRelease looped (For row relation label body rest) (a ++ told) ys zs
-      → CanRelease looped (For row relation label body rest) (a ++ told) xs zs
+abbrev pub CanRelease : Bool → Block → List Told → List Item → List Item → Type 0
+CanRelease looped End told xs zs = (told ≡ []) × (zs ≡ xs)
+-- a release gives its label and a value of its range, and other statements give nothing
+CanRelease looped (Do (Release e to into) rest) told xs zs =
+    (range : Range) × (more : List Told) × (told ≡ record { to = to; into = into; range = range; looped = looped } ∷ more)
+    × (v : Option Value) × Admits range v × CanRelease looped rest more (xs ++ (to, v) ∷ []) zs
+CanRelease looped (Do stmt rest) told xs zs = CanRelease looped rest told xs zs
+-- a branch gives what one of its blocks can give
+CanRelease looped (If guard one other rest) told xs zs =
+    (a : List Told) × (b : List Told) × (more : List Told) × (told ≡ (a ++ b) ++ more) × (taken : Bool) × (x : List Item) × (y : List Item)
+    × CanRelease looped one a xs x × CanRelease looped other b xs y × CanRelease looped rest more (if taken then x else y) zs
+-- a loop gives what its body can give, never or again and again
+CanRelease looped (For row relation label body rest) told xs zs =
+    (a : List Told) × (more : List Told) × (told ≡ a ++ more) × (x : List Item) × (y : List Item) × CanRelease true body a x y
+    × (turns : ℕ) × (ys : List Item) × Repeats (CanRelease true body a) turns xs ys × CanRelease looped rest more ys zs
 
 -- in every run from any database, with any arguments, the releases have values of the ranges that are told
 abbrev pub AreTold : Tx → List Told → Type 0
@@ -60,6 +59,30 @@ pub record Covers (looped : Bool) (before : List Range) (block : Block) (after :
 -- so goes every run of a block, if it does from a point inside, where there are ranges now
 pub record Reaches (looped : Bool) (before : List Range) (block : Block) (now : List Range) (rest : Block) (told : List Told) : Type 0 where
   pub covers : (after : List Range) (more : List Told) → Covers looped now rest after more → Covers looped before block after (told ++ more)
+
+-- ---- how many lists of items there are
+
+-- how many releases a block has
+abbrev pub releases : Block → ℕ
+releases End = 0
+releases (Do (Release e to into) rest) = 1 + releases rest
+releases (Do stmt rest) = releases rest
+releases (If guard one other rest) = releases one + releases other + releases rest
+releases (For row relation label body rest) = releases body + releases rest
+
+-- each list of items that a block can release behind others
+abbrev pub HasLists : Bool → Block → List Told → List (List Item) → Type 0
+HasLists looped block told lists = (xs : List Item) (zs : List Item) → CanRelease looped block told xs zs → (ys : List Item) × Contains lists ys × (zs ≡ xs ++ ys)
+
+-- From a block to a rest of it: for each list that the rest can release there are so many, if they are counted. One is of nothing, and
+-- in a loop no others are counted.
+pub record Multiplies (looped : Bool) (block rest : Block) (told : List Told) (count : ℕ) : Type 0 where
+  pub some : 1 ≤ count
+  pub long : length told + releases rest ≡ releases block
+  pub nothing : told ≡ [] → count ≡ 1
+  pub loops : looped ≡ true → (told ≡ []) ⊎ (count ≡ uncounted)
+  pub lists : count < uncounted → (more : List Told) (lists : List (List Item)) → HasLists looped rest more lists
+      → (all : List (List Item)) × (length all ≤ count * length lists) × HasLists looped block (told ++ more) all
 
 -- ---- how much a call can tell
 

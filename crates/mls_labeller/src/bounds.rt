@@ -1,6 +1,6 @@
 //! Integers from one to another.
-ghost use Rattle.std.specs.Prelude.{ℤ, ◌+ℤ◌, ◌-ℤ◌, IfSome, IsSome};
-ghost use Rattle.mls_labeller.specs.Ranges.{Within, arithmetic, IsArithmetic};
+ghost use Rattle.std.specs.Prelude.{ℤ, ◌+ℤ◌, ◌-ℤ◌, ◌<◌, ◌≤◌, List, length, IfSome, IsSome};
+ghost use Rattle.mls_labeller.specs.Ranges.{Within, arithmetic, IsArithmetic, HasIntegers, uncounted};
 
 use mls_translang::Operator;
 
@@ -43,7 +43,9 @@ impl Bounds {
     }
 
     /// How many there are, as far as they can be counted.
-    pub(crate) fn count(self) -> u64 {
+    pub(crate) fn count(self) -> u64
+        ensures { result < uncounted → (numbers : List ℤ) × (length numbers ≤ result) × HasIntegers self numbers }
+    {
         if self.high < self.low {
             return 0;
         }

@@ -1,8 +1,8 @@
 //! Ranges: sets of values, one of which something has.
-ghost use Rattle.std.specs.Prelude.{◌≡◌, IfOk, OnOk, Some, Contains};
+ghost use Rattle.std.specs.Prelude.{◌≡◌, ◌<◌, ◌≤◌, List, length, IfOk, OnOk, Option, Some, Contains};
 ghost use Rattle.mls_scheme.specs.declared.value.Value.{Value as SpecValue};
 ghost use Rattle.mls_certcheck.specs.Expressions.{Datum, value_of, apply};
-ghost use Rattle.mls_labeller.specs.Ranges.{IsAmong, IsBetween, Admits, Includes, any_value};
+ghost use Rattle.mls_labeller.specs.Ranges.{IsAmong, IsBetween, Admits, Includes, any_value, HasValues, uncounted};
 
 use crate::bounds::Bounds;
 use mls_lattice::Items;
@@ -153,7 +153,9 @@ impl Range {
     }
 
     /// How many values it holds, as far as they can be counted.
-    pub(crate) fn count(&self) -> u64 {
+    pub(crate) fn count(&self) -> u64
+        ensures { result < uncounted → (values : List (Option SpecValue)) × (length values ≤ result) × HasValues self.now values }
+    {
         let values = match (&self.listed, self.bounds) {
             (Some(values), _) => values.len() as u64,
             (None, Some(bounds)) => bounds.count(),

@@ -1,6 +1,9 @@
 //! What is told of the releases of a transaction.
-ghost use Rattle.std.specs.Prelude.{IfOk};
-ghost use Rattle.mls_labeller.specs.Releases.{AreTold};
+ghost use Rattle.std.specs.Prelude.{ℕ, ◌<◌, ◌≤◌, List, length, IfOk};
+ghost use Rattle.mls_lattice.specs.Policy.{Policy};
+ghost use Rattle.mls_scheme.specs.Scheme.{Schemes};
+ghost use Rattle.mls_certcheck.specs.Meaning.{Item};
+ghost use Rattle.mls_labeller.specs.Releases.{AreTold, HasAll, uncounted};
 
 use crate::range::Range;
 use crate::ranges::Ranges;
@@ -22,8 +25,8 @@ pub struct Told {
     pub looped: bool,
 }
 
-/// What is told of each release of a transaction, in the order of its text, and how many lists of values they can have together, as far
-/// as these can be counted.
+/// What is told of each release of a transaction, in the order of its text, and how many lists of values they can have together at
+/// most, as far as these can be counted.
 #[derive(Drop)]
 pub struct Releases {
     pub told: Items<Told>,
@@ -32,7 +35,9 @@ pub struct Releases {
 
 /// What is told of the releases of a transaction.
 pub fn ranges_of(alloc: Global, tx: &Tx) -> Result<Releases, AllocError>
-    ensures { IfOk result (λ r. AreTold tx.now r.told) }
+    ensures told { IfOk result (λ r. AreTold tx.now r.told) }
+    ensures counted { IfOk result (λ r. r.lists < uncounted → (policy : Policy) (schemes : Schemes) (c : ℕ)
+        → (lists : List (List Item)) × (length lists ≤ r.lists) × HasAll policy schemes tx.now c r.told lists) }
 {
     let ranges = Ranges::nulls(alloc, tx.vars().len())?;
     let walk = Walk {

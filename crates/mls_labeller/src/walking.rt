@@ -1,9 +1,10 @@
 //! How ranges change from statement to statement.
-ghost use Rattle.std.specs.Prelude.{◌≡◌, true, List, ◌∷◌, ◌++◌, [], IfOk};
+ghost use Rattle.std.specs.Prelude.{◌≡◌, ◌+◌, min, true, List, ◌∷◌, ◌++◌, [], IfOk};
+ghost use Rattle.mls_translang.specs.Tree.{End};
 ghost use Rattle.mls_translang.specs.Blocks.{block_of};
 ghost use Rattle.mls_translang.specs.declared.block.Stmt.{Stmt as SpecStmt};
 ghost use Rattle.mls_labeller.specs.Ranges.{Wider};
-ghost use Rattle.mls_labeller.specs.Releases.{Covers, Reaches};
+ghost use Rattle.mls_labeller.specs.Releases.{Covers, Multiplies, Reaches, uncounted};
 
 use crate::ranges::Ranges;
 use crate::told::Told;
@@ -37,6 +38,8 @@ impl Walked {
         ensures one { IfOk result (λ w. Wider one.ranges.vars.items w.ranges.vars.items) }
         ensures other { IfOk result (λ w. Wider other.ranges.vars.items w.ranges.vars.items) }
         ensures told { IfOk result (λ w. w.told.items ≡ one.told.items ++ other.told.items) }
+        ensures none { IfOk result (λ w. w.told.items ≡ [] → w.lists ≡ one.lists) }
+        ensures many { IfOk result (λ w. ¬ (w.told.items ≡ []) → w.lists ≡ min (one.lists + other.lists) uncounted) }
     {
         let ranges = one.ranges.joined(alloc, &other.ranges, false)?;
         let mut walked = Walked { ranges, ..one };
@@ -54,6 +57,7 @@ impl Walk {
     fn silent(self, ranges: Ranges) -> Walked
         ensures ranges { result.ranges.vars.items ≡ ranges.vars.items }
         ensures told { result.told.items ≡ [] }
+        ensures lists { result.lists ≡ 1 }
     {
         Walked {
             ranges,
@@ -66,7 +70,8 @@ impl Walk {
     #[cycle(walk)]
     fn stmt(self, before: &Ranges, stmt: &Stmt) -> Result<Walked, AllocError>
         ensures { IfOk result (λ w. (rest : List SpecStmt) → Reaches self.looped before.now.vars.items (block_of (stmt.now ∷ rest))
-            w.ranges.vars.items (block_of rest) w.told.items) }
+            w.ranges.vars.items (block_of rest) w.told.items
+            × Multiplies self.looped (block_of (stmt.now ∷ rest)) (block_of rest) w.told.items w.lists) }
     {
         match stmt {
             Stmt::Assign { variable, value } => {
@@ -83,7 +88,11 @@ impl Walk {
             Stmt::Release { value, to, into } => {
                 let (to, into, looped) = (*to, *into, self.looped);
                 let range = before.range_of(self.alloc, value)?;
-                let lists = if looped { u64::MAX } else { range.count() };
+                let lists = if looped {
+                    u64::MAX
+                } else {
+                    range.count().max(1)
+                };
                 let mut walked = self.silent(before.put(into, range.copy()?)?);
                 walked.lists = lists;
                 walked.told.push(Told {
@@ -101,7 +110,8 @@ impl Walk {
     /// The statements of a block.
     #[cycle(walk)]
     pub(crate) fn block(self, before: &Ranges, block: &Block) -> Result<Walked, AllocError>
-        ensures { IfOk result (λ w. Covers self.looped before.now.vars.items block.now w.ranges.vars.items w.told.items) }
+        ensures { IfOk result (λ w. Covers self.looped before.now.vars.items block.now w.ranges.vars.items w.told.items
+            × Multiplies self.looped block.now End w.told.items w.lists) }
     {
         let mut walked = self.silent(before.copy()?);
         for stmt in &block.stmts {
@@ -117,7 +127,8 @@ impl Walk {
     #[cycle(walk)]
     fn turns(self, before: &Ranges, body: &Block) -> Result<Walked, AllocError>
         ensures wider { IfOk result (λ w. Wider before.now.vars.items w.ranges.vars.items) }
-        ensures covers { IfOk result (λ w. Covers true w.ranges.vars.items body.now w.ranges.vars.items w.told.items) }
+        ensures covers { IfOk result (λ w. Covers true w.ranges.vars.items body.now w.ranges.vars.items w.told.items
+            × Multiplies true body.now End w.told.items w.lists) }
     {
         let inside = Walk {
             looped: true,

@@ -1,5 +1,5 @@
 -- Texts in which no line feed stands.
-use Rattle.std.proofs.Common.{◌≡◌, ℕ, zero, suc, ◌+◌, ◌<◌, ◌/◌, ◌%◌, Bool, true, false, cond, ◌&&◌, ◌||◌, ◌==◌, List, [], ◌∷◌, ◌++◌, refl, sym, ap, ◌∙◌, subst, inl, inr, arith, ℤ, pos, negsuc, codes, nat_lt, slice_get, slice_index, option_map, ◌-◌, unwrap_or, flat_map, decimal}
+use Rattle.std.proofs.Common.{◌≡◌, ℕ, zero, suc, ◌+◌, ◌*◌, ◌<◌, ◌/◌, ◌%◌, Bool, true, false, cond, ◌||◌, ◌==◌, List, [], ◌∷◌, ◌++◌, refl, sym, ap, ◌∙◌, subst, inl, inr, arith, ℤ, pos, negsuc, codes, nat_lt, slice_get, slice_index, option_map, ◌-◌, unwrap_or, flat_map, decimal}
 use Rattle.std.specs.List.{list_all, AllByRecursion}
 use Rattle.std.specs.Fmt.{signed_decimal, digits, digits_onto, digit_glyph}
 use Rattle.std.proofs.lemmas.Bool.{cases_Bool, and_parts}
@@ -8,7 +8,7 @@ use Rattle.std.proofs.lemmas.List.Folds.{list_any-append}
 use Rattle.std.proofs.Math.ListN.{replicate}
 use Rattle.mls_lattice.proofs.EachLemmas.{all}
 use Rattle.mls_tokens.specs.Writing.{is_control, hex_digit, printable_byte, printable, is_escaped, quoted_byte, quoted}
-use Rattle.mls_tokens.specs.Screen.{is_hidden, is_c1, hex_escape, pending, shown_byte, written, escaped_from, escaped}
+use Rattle.mls_tokens.specs.Screen.{is_hidden, is_hidden_pair, is_hidden_triple, hex_escape, unicode_escape, pair_escape, byte_at, shown, passed, escaped_from, escaped}
 use Rattle.mls_tokens.specs.Table.{columns, padding, padded, ruled}
 use Rattle.mls_certcheck.proofs.NameLemmas.{name_bytes}
 use Rattle.mls_machine.specs.Parting.{is_line_feed, IsOneLine}
@@ -100,25 +100,30 @@ one_line-signed (negsuc n) = one_line-decimal (suc n)
 
 -- ---- texts for a screen
 
-shown_line : (b : ℕ) → is_line_feed b ≡ false → IsOneLine (shown_byte b)
-shown_line b h =
-    elim (b == 194) as (λ t. IsOneLine (cond t [] (cond (is_hidden b) (hex_escape b) (b ∷ [])))) [
-      | true ↦ refl
-      | false ↦ elim (is_hidden b) as (λ t. IsOneLine (cond t (hex_escape b) (b ∷ []))) [
-        | true ↦ hex_escape_line b
-        | false ↦ neither (is_line_feed b) false h refl
-      ]
+unicode_escape_line : (a b c : ℕ) → IsOneLine (unicode_escape a b c)
+unicode_escape_line a b c =
+    hex_line (a % 16) (hex_digit (b % 64 / 4) ∷ hex_digit (b % 4 * 4 + c % 64 / 16) ∷ hex_digit (c % 16) ∷ [])
+    (hex_line (b % 64 / 4) (hex_digit (b % 4 * 4 + c % 64 / 16) ∷ hex_digit (c % 16) ∷ [])
+    (hex_line (b % 4 * 4 + c % 64 / 16) (hex_digit (c % 16) ∷ []) (hex_line (c % 16) [] refl)))
+
+pair_escape_line : (a b : ℕ) → IsOneLine (pair_escape a b)
+pair_escape_line a b =
+    elim (a == 194) as (λ t. IsOneLine (cond t (hex_escape b) (unicode_escape 0 a b))) [
+      | true ↦ hex_escape_line b
+      | false ↦ unicode_escape_line 0 a b
     ]
 
-pending_line : (behind : Bool) → IsOneLine (pending behind)
-pending_line true = refl
-pending_line false = refl
-
-written_line : (behind : Bool) (b : ℕ) → is_line_feed b ≡ false → IsOneLine (written behind b)
-written_line behind b h =
-    elim (behind && is_c1 b) as (λ t. IsOneLine (cond t (hex_escape b) (pending behind ++ shown_byte b))) [
-      | true ↦ hex_escape_line b
-      | false ↦ one_line-append (pending behind) (shown_byte b) (pending_line behind) (shown_line b h)
+shown_line : (a b c : ℕ) → is_line_feed a ≡ false → IsOneLine (shown a b c)
+shown_line a b c h =
+    elim (is_hidden a) as (λ t. IsOneLine (cond t (hex_escape a) (cond (is_hidden_pair a b) (pair_escape a b) (cond (is_hidden_triple a b c) (unicode_escape a b c) (a ∷ []))))) [
+      | true ↦ hex_escape_line a
+      | false ↦ elim (is_hidden_pair a b) as (λ t. IsOneLine (cond t (pair_escape a b) (cond (is_hidden_triple a b c) (unicode_escape a b c) (a ∷ [])))) [
+        | true ↦ pair_escape_line a b
+        | false ↦ elim (is_hidden_triple a b c) as (λ t. IsOneLine (cond t (unicode_escape a b c) (a ∷ []))) [
+          | true ↦ unicode_escape_line a b c
+          | false ↦ neither (is_line_feed a) false h refl
+        ]
+      ]
     ]
 
 -- of two that are both false
@@ -130,14 +135,17 @@ pub second_of : (a b : Bool) → (a || b) ≡ false → b ≡ false
 second_of true b h = absurd (cc)
 second_of false b h = h
 
-escaped_from_line : (behind : Bool) (text : List ℕ) → IsOneLine text → IsOneLine (escaped_from behind text)
-escaped_from_line behind [] h = pending_line behind
-escaped_from_line behind (b ∷ text) h =
-    one_line-append (written behind b) (escaped_from (b == 194) text) (written_line behind b (first_of (is_line_feed b) _ h))
-    (escaped_from_line (b == 194) text (second_of (is_line_feed b) _ h))
+escaped_from_line : (n : ℕ) (text : List ℕ) → IsOneLine text → IsOneLine (escaped_from n text)
+escaped_from_line n [] h = refl
+escaped_from_line (suc n) (a ∷ text) h = escaped_from_line n text (second_of (is_line_feed a) _ h)
+escaped_from_line zero (a ∷ text) h =
+    let b = byte_at text 0 in
+    let c = byte_at text 1 in
+    one_line-append (shown a b c) (escaped_from (passed a b c) text) (shown_line a b c (first_of (is_line_feed a) _ h))
+    (escaped_from_line (passed a b c) text (second_of (is_line_feed a) _ h))
 
 pub one_line-escaped : (text : List ℕ) → IsOneLine text → IsOneLine (escaped text)
-one_line-escaped = escaped_from_line false
+one_line-escaped = escaped_from_line 0
 
 -- ---- columns
 

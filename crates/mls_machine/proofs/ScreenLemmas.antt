@@ -1,5 +1,5 @@
 -- Lines for a screen: their bytes are those of the lines, escaped.
-use Rattle.std.proofs.Common.{◌≡◌, ℕ, List, [], ◌∷◌, ◌++◌, map, Option, Some, None, refl, sym, ap, ◌∙◌, subst, append_assoc, false, codes}
+use Rattle.std.proofs.Common.{◌≡◌, ℕ, List, [], ◌∷◌, ◌++◌, map, Option, Some, None, refl, sym, ap, ◌∙◌, subst, append_assoc, codes}
 use Rattle.std.proofs.lemmas.List.{map-append}
 use Rattle.mls_tokens.specs.Screen.{escaped, IsHarmless}
 use Rattle.mls_tokens.proofs.EscapingLemmas.{escaped-line}
@@ -17,7 +17,7 @@ use Rattle.mls_machine.proofs.ItemLemmas.{filter-map}
 pub printed-escaped : (lines : List Line) → escaped (printed lines) ≡ printed (map escaped_line lines)
 printed-escaped [] = refl
 printed-escaped (l ∷ lines) =
-    ap escaped (append_assoc l.text (codes "\n") (printed lines)) ∙ escaped-line false l.text (printed lines)
+    ap escaped (append_assoc l.text (codes "\n") (printed lines)) ∙ escaped-line l.text (printed lines)
     ∙ ap (λ rest. escaped l.text ++ (codes "\n" ++ rest)) (printed-escaped lines) ∙ sym (append_assoc (escaped l.text) (codes "\n") (printed (map escaped_line lines)))
 
 heard-escaped : (ls : Labels) (reader : Option ℕ) (lines : List Line) → heard ls reader (map escaped_line lines) ≡ map escaped_line (heard ls reader lines)

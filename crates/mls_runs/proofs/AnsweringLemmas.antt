@@ -1,5 +1,5 @@
 -- A line of a desk: its event is answered, and its mark written behind that.
-use Rattle.std.proofs.Common.{◌≡◌, ℕ, ◌-◌, ◌<◌, ◌≤◌, List, [], ◌∷◌, ◌++◌, length, Option, Some, Result, Ok, Err, OnOk, IfErr, refl, sym, ap, ◌∙◌, subst, append_assoc, append-nil, arith, get_or, IsErrAnd}
+use Rattle.std.proofs.Common.{◌≡◌, ℕ, ◌-◌, ◌<◌, ◌≤◌, Bool, true, false, cond, List, [], ◌∷◌, ◌++◌, length, take, Option, Some, Result, Ok, Err, OnOk, IfErr, refl, sym, ap, ◌∙◌, subst, append_assoc, append-nil, arith, get_or, IsErrAnd, inl, inr}
 use Rattle.std.specs.Io.KnownBytes.{Appends}
 use Rattle.std.proofs.KnownBytes.{Appends-nil, Appends-trans}
 use Rattle.mls_script.specs.declared.event.Event.{Event}
@@ -9,6 +9,8 @@ use Rattle.mls_machine.specs.Machine.{World, step, end_of}
 use Rattle.mls_machine.specs.Output.{Line, reply_lines_in, run_lines, printed}
 use Rattle.mls_machine.specs.Observation.{heard, run_shows, reader_of}
 use Rattle.mls_machine.specs.Serving.{answer_to, answers_to}
+use Rattle.mls_script.specs.declared.run_fault.RunCause.{RunCause}
+use Rattle.mls_script.specs.declared.run_fault.RunCause.TheVariants.{Memory, Store, Write}
 use Rattle.mls_script.specs.declared.run_fault.RunFault.{RunFault}
 use Rattle.mls_sessions.specs.Run.{IsWhole, IsStopped, IsFaultOf, printed_to}
 use Rattle.mls_runs.specs.declared.shell_session.Fate.{Fate}
@@ -16,7 +18,7 @@ use Rattle.mls_runs.specs.declared.shell_session.Fate.TheVariants as fates
 use Rattle.mls_runs.specs.Shell.{events_of}
 use Rattle.mls_runs.proofs.TalkLemmas.{no_events}
 use Rattle.mls_runs.specs.Marks.{mark_of, IsCutMark}
-use Rattle.mls_runs.specs.Desk.{AreAnswered, IsDone, IsDeskFollowed}
+use Rattle.mls_runs.specs.Desk.{IsCutShort, IsDeskFollowed}
 
 module _ (site : Site) (w : World) where
   -- ---- one event
@@ -28,35 +30,46 @@ module _ (site : Site) (w : World) where
       ap (λ (l : List Line). printed (heard (site_labels site) (Some e.level) l)) (append-nil (reply_lines_in Lines site e (step site w e).reply))
       ∙ sym (append-nil (answer_to site w e))
 
+  -- before the first event nothing is shown
+  none_shown : (e : Event) (n : ℕ) → n ≡ 1 → printed_to site (reader_of e.level Lines) w (e ∷ []) (n - 1) ≡ []
+  unfolding run_lines
+  none_shown e n one = ap (λ n. printed_to site (reader_of e.level Lines) w (e ∷ []) (n - 1)) one
+
+  kept_one : (e : Event) (done : Bool) (n : ℕ) → n ≡ 1 → take (cond done n (n - 1)) (e ∷ []) ≡ cond done (e ∷ []) []
+  kept_one e true n one = ap (λ n. take n (e ∷ [])) one
+  kept_one e false n one = ap (λ n. take (n - 1) (e ∷ [])) one
+
   module _ (e : Event) (was is : Option (List ℕ)) (new : World) where
     answered_one : (r : Result (Unit {0}) RunFault) → OnOk r (IsWhole site (reader_of e.level Lines) w (e ∷ []) was is new) → IfErr r (IsStopped site (reader_of e.level Lines) w (e ∷ []) was is new)
-        → IfErr r (IsFaultOf (e ∷ [])) → AreAnswered site w (e ∷ []) was is new r
+        → IfErr r (IsFaultOf (e ∷ [])) → IsDeskFollowed site w (e ∷ []) [] was is new r
     answered_one (Ok u) ok err fault = record {
+      stands = true;
       part = run_shows site (reader_of e.level Lines) w (e ∷ []);
       rest = [];
       bytes = ok.bytes;
-      whole = append-nil (run_shows site (reader_of e.level Lines) w (e ∷ [])) ∙ shown_one e;
-      all = refl;
+      whole = ap (λ l. l ++ []) (shown_one e);
+      all = (refl, refl);
+      cut = tt;
       world = ok.world;
-      fault = tt;
     }
     answered_one (Err f) ok err fault =
         let first = fault.first in
         let last = fault.last in
         let one : f.event ≡ 1 = omega (arith, first, last) in
+        let answers = answers_to site w (e ∷ []) in
         record {
+          stands = f.done;
           part = printed_to site (reader_of e.level Lines) w (e ∷ []) (f.event - 1) ++ err.part;
           rest = err.rest;
           bytes = err.bytes;
-          whole = err.reply ∙ ap (printed_to site (reader_of e.level Lines) w (e ∷ [])) one ∙ shown_one e;
+          whole = err.reply ∙ ap (printed_to site (reader_of e.level Lines) w (e ∷ [])) one ∙ shown_one e ∙ sym (append-nil answers);
           all = tt;
-          world = err.world;
-          fault = fault;
+          cut = record {
+            write = fault.write;
+            other = λ n. inl (ap (λ l. l ++ err.part) (none_shown e f.event one) ∙ err.none n);
+          };
+          world = err.world ∙ ap (end_of site w) (kept_one e f.done f.event one);
         }
-
-  done_so : (es : List Event) (was is : Option (List ℕ)) (new : World) (r : Result (Unit {0}) RunFault) → AreAnswered site w es was is new r → IsDone site w es was is new r
-  done_so es was is new (Ok u) h = record { end = Ok tt; answered = h; ok = refl; cause = tt }
-  done_so es was is new (Err f) h = record { end = Err f; answered = h; ok = tt; cause = refl }
 
   alone : (e : Event) (rest : List Event) → length (e ∷ rest) ≤ 1 → e ∷ rest ≡ e ∷ []
   alone e [] h = refl
@@ -64,109 +77,111 @@ module _ (site : Site) (w : World) where
 
   -- of a line with an event, which is answered for the level of its session alone
   pub done_one : (e : Event) (rest es : List Event) → es ≡ e ∷ rest → length es ≤ 1 → (was is : Option (List ℕ)) (new : World) (r : Result (Unit {0}) RunFault)
-      → OnOk r (IsWhole site (reader_of e.level Lines) w es was is new) → IfErr r (IsStopped site (reader_of e.level Lines) w es was is new) → IfErr r (IsFaultOf es) → IsDone site w es was is new r
+      → OnOk r (IsWhole site (reader_of e.level Lines) w es was is new) → IfErr r (IsStopped site (reader_of e.level Lines) w es was is new) → IfErr r (IsFaultOf es) → IsDeskFollowed site w es [] was is new r
   done_one e rest es first one was is new r ok err fault =
       let same : es ≡ e ∷ [] = first ∙ alone e rest (subst (λ (l : List Event). length l ≤ 1) first one) in
-      done_so es was is new r
-      (subst (λ (l : List Event). AreAnswered site w l was is new r) (sym same)
+      subst (λ (l : List Event). IsDeskFollowed site w l [] was is new r) (sym same)
       (answered_one e was is new r
       (subst (λ (l : List Event). OnOk r (IsWhole site (reader_of e.level Lines) w l was is new)) same ok)
       (subst (λ (l : List Event). IfErr r (IsStopped site (reader_of e.level Lines) w l was is new)) same err)
-      (subst (λ (l : List Event). IfErr r (IsFaultOf l)) same fault)))
+      (subst (λ (l : List Event). IfErr r (IsFaultOf l)) same fault))
 
   -- of a line with a first event
   pub done_first : (e d : Event) (es : List Event) → 1 ≤ length es → e ≡ get_or es 0 d → length es ≤ 1 → (was is : Option (List ℕ)) (new : World) (r : Result (Unit {0}) RunFault)
-      → OnOk r (IsWhole site (reader_of e.level Lines) w es was is new) → IfErr r (IsStopped site (reader_of e.level Lines) w es was is new) → IfErr r (IsFaultOf es) → IsDone site w es was is new r
+      → OnOk r (IsWhole site (reader_of e.level Lines) w es was is new) → IfErr r (IsStopped site (reader_of e.level Lines) w es was is new) → IfErr r (IsFaultOf es) → IsDeskFollowed site w es [] was is new r
   done_first e d [] some h one was is new r ok err fault = absurd (let k = some in omega (arith, k))
   done_first e d (x ∷ xs) some h one was is new r ok err fault = done_one e xs (x ∷ xs) (ap (λ y. y ∷ xs) (sym h)) one was is new r ok err fault
 
   -- ---- none
 
-  none_answered : (a : Option (List ℕ)) → AreAnswered site w [] a a w (Ok tt)
+  none_done : (a : Option (List ℕ)) (r : Result (Unit {0}) RunFault) → IsDeskFollowed site w [] [] a a w r
   unfolding answers_to end_of
-  none_answered a = record { part = []; rest = []; bytes = Appends-nil a; whole = refl; all = refl; world = refl; fault = tt }
+  none_done a (Ok u) = record { stands = true; part = []; rest = []; bytes = Appends-nil a; whole = refl; all = (refl, refl); cut = tt; world = refl }
+  none_done a (Err f) = record {
+    stands = true;
+    part = [];
+    rest = [];
+    bytes = Appends-nil a;
+    whole = refl;
+    all = tt;
+    cut = record { write = λ is. refl; other = λ n. inl refl };
+    world = refl;
+  }
 
-  none_done : (a : Option (List ℕ)) (r : Result (Unit {0}) RunFault) → IsDone site w [] a a w r
-  none_done a (Ok u) = record { end = Ok tt; answered = none_answered a; ok = refl; cause = tt }
-  none_done a (Err f) = record { end = Ok tt; answered = none_answered a; ok = tt; cause = tt }
+  pub done_none : (es : List Event) → es ≡ [] → (a : Option (List ℕ)) (r : Result (Unit {0}) RunFault) → IsDeskFollowed site w es [] a a w r
+  done_none es none a r = subst (λ (l : List Event). IsDeskFollowed site w l [] a a w r) (sym none) (none_done a r)
 
-  pub done_none : (es : List Event) → es ≡ [] → (a : Option (List ℕ)) (r : Result (Unit {0}) RunFault) → IsDone site w es a a w r
-  done_none es none a r = subst (λ (l : List Event). IsDone site w l a a w r) (sym none) (none_done a r)
-
-  pub done_without : (es : List Event) → length es < 1 → (a : Option (List ℕ)) (r : Result (Unit {0}) RunFault) → IsDone site w es a a w r
+  pub done_without : (es : List Event) → length es < 1 → (a : Option (List ℕ)) (r : Result (Unit {0}) RunFault) → IsDeskFollowed site w es [] a a w r
   done_without [] none a r = none_done a r
   done_without (e ∷ es) none a r = absurd (let k = none in omega (arith, k))
 
-  pub done_default : (fate : Fate) → ((events : List Event) → fate ≡ fates.Said events → ⊥) → (a : Option (List ℕ)) (r : Result (Unit {0}) RunFault) → IsDone site w (events_of fate) a a w r
+  pub done_default : (fate : Fate) → ((events : List Event) → fate ≡ fates.Said events → ⊥) → (a : Option (List ℕ)) (r : Result (Unit {0}) RunFault) → IsDeskFollowed site w (events_of fate) [] a a w r
   done_default fate h a r = done_none (events_of fate) (no_events fate h) a r
 
   -- ---- and its mark
 
   module _ (fate : Fate) (was mid : Option (List ℕ)) (new : World) where
+    abbrev answers : List ℕ
+    answers = answers_to site w (events_of fate)
+
+    abbrev Followed : Option (List ℕ) → Result (Unit {0}) RunFault → Type 0
+    Followed is r = IsDeskFollowed site w (events_of fate) (mark_of fate) was is new r
+
+    abbrev Done : Result (Unit {0}) RunFault → Type 0
+    Done r = IsDeskFollowed site w (events_of fate) [] was mid new r
+
     -- the answers are not whole: no mark is written
-    followed_cut : (f : RunFault) → IsDone site w (events_of fate) was mid new (Err f) → IsDeskFollowed site w fate was mid new (Err f)
+    followed_cut : (f : RunFault) → Done (Err f) → Followed mid (Err f)
     followed_cut f h = record {
-      end = h.end;
-      part = h.answered.part;
-      rest = h.answered.rest ++ mark_of fate;
-      bytes = h.answered.bytes;
-      whole = sym (append_assoc h.answered.part h.answered.rest (mark_of fate)) ∙ ap (λ l. l ++ mark_of fate) h.answered.whole;
+      stands = h.stands;
+      part = h.part;
+      rest = h.rest ++ mark_of fate;
+      bytes = h.bytes;
+      whole = sym (append_assoc h.part h.rest (mark_of fate)) ∙ ap (λ l. l ++ mark_of fate) (h.whole ∙ append-nil answers);
       all = tt;
-      no_mark = λ n. (h.answered.rest, h.answered.whole);
-      world = h.answered.world;
-      fault = h.answered.fault;
-      ok = tt;
-      cause = h.cause;
+      cut = h.cut;
+      world = h.world;
     }
 
     -- at the exit of a `?`
-    pub followed_given_up : (r s : Result (Unit {0}) RunFault) (f : RunFault) → r ≡ Err f → IsErrAnd s (λ e. e ≡ f) → IsDone site w (events_of fate) was mid new r → IsDeskFollowed site w fate was mid new s
+    pub followed_given_up : (r s : Result (Unit {0}) RunFault) (f : RunFault) → r ≡ Err f → IsErrAnd s (λ e. e ≡ f) → Done r → Followed mid s
     followed_given_up r (Ok u) f is same h = absurd same
     followed_given_up r (Err e) f is same h =
-        subst (λ (x : RunFault). IsDeskFollowed site w fate was mid new (Err x)) (sym same)
-        (followed_cut f (subst (λ (s : Result (Unit {0}) RunFault). IsDone site w (events_of fate) was mid new s) is h))
+        subst (λ (x : RunFault). Followed mid (Err x)) (sym same) (followed_cut f (subst Done is h))
 
-    module _ (is : Option (List ℕ)) (h : IsDone site w (events_of fate) was mid new (Ok tt)) where
-      all_there : (end : Result (Unit {0}) RunFault) (rest : List ℕ) → end ≡ Ok tt → OnOk end (rest ≡ []) → rest ≡ []
-      all_there (Ok u) rest e k = k
-      all_there (Err f) rest e k = absurd cc
+    module _ (is : Option (List ℕ)) (h : Done (Ok tt)) where
+      answers_there : h.part ≡ answers
+      answers_there = sym (append-nil h.part) ∙ ap (λ l. h.part ++ l) (sym h.all.0) ∙ h.whole ∙ append-nil answers
 
-      none_left : h.answered.rest ≡ []
-      none_left = all_there h.end h.answered.rest h.ok h.answered.all
-
-      answers_there : h.answered.part ≡ answers_to site w (events_of fate)
-      answers_there = sym (append-nil h.answered.part) ∙ ap (λ l. h.answered.part ++ l) (sym none_left) ∙ h.answered.whole
-
-      none_told : (end : Result (Unit {0}) RunFault) (fault : RunFault) → end ≡ Ok tt → IfErr end (λ f. f.cause ≡ fault.cause)
-      none_told (Ok u) fault e = tt
-      none_told (Err f) fault e = absurd cc
-
-      pub followed_whole : Appends mid is (mark_of fate) → IsDeskFollowed site w fate was is new (Ok tt)
+      pub followed_whole : Appends mid is (mark_of fate) → Followed is (Ok tt)
       followed_whole mark = record {
-        end = h.end;
-        part = h.answered.part ++ mark_of fate;
+        stands = h.stands;
+        part = h.part ++ mark_of fate;
         rest = [];
-        bytes = Appends-trans was mid is h.answered.part (mark_of fate) h.answered.bytes mark;
-        whole = append-nil (h.answered.part ++ mark_of fate) ∙ ap (λ l. l ++ mark_of fate) answers_there;
-        all = refl;
-        no_mark = tt;
-        world = h.answered.world;
-        fault = h.answered.fault;
-        ok = h.ok;
-        cause = tt;
+        bytes = Appends-trans was mid is h.part (mark_of fate) h.bytes mark;
+        whole = append-nil (h.part ++ mark_of fate) ∙ ap (λ l. l ++ mark_of fate) answers_there;
+        all = (refl, h.all.1);
+        cut = tt;
+        world = h.world;
       }
 
-      pub followed_unmarked : (fault : RunFault) → IsCutMark (mark_of fate) mid is fault.cause → IsDeskFollowed site w fate was is new (Err fault)
+      -- what neither the writer nor the store stops wants memory
+      for_memory : (cause : RunCause) → (cause ≡ Write → ⊥) → (cause ≡ Store → ⊥) → cause ≡ Memory
+      for_memory Memory w s = refl
+      for_memory Write w s = absurd (w refl)
+      for_memory Store w s = absurd (s refl)
+
+      pub followed_unmarked : (fault : RunFault) → IsCutMark (mark_of fate) mid is fault.cause → Followed is (Err fault)
       followed_unmarked fault k = record {
-        end = h.end;
-        part = h.answered.part ++ k.cut.part;
+        stands = h.stands;
+        part = h.part ++ k.cut.part;
         rest = k.cut.rest;
-        bytes = Appends-trans was mid is h.answered.part k.cut.part h.answered.bytes k.cut.appends;
-        whole = append_assoc h.answered.part k.cut.part k.cut.rest ∙ ap (λ l. h.answered.part ++ l) k.cut.whole ∙ ap (λ l. l ++ mark_of fate) answers_there;
+        bytes = Appends-trans was mid is h.part k.cut.part h.bytes k.cut.appends;
+        whole = append_assoc h.part k.cut.part k.cut.rest ∙ ap (λ l. h.part ++ l) k.cut.whole ∙ ap (λ l. l ++ mark_of fate) answers_there;
         all = tt;
-        no_mark = λ n. ([], append-nil (h.answered.part ++ k.cut.part) ∙ ap (λ l. h.answered.part ++ l) (k.none n) ∙ append-nil h.answered.part ∙ answers_there);
-        world = h.answered.world;
-        fault = h.answered.fault;
-        ok = tt;
-        cause = none_told h.end fault h.ok;
+        cut = record {
+          write = λ is. h.all.1;
+          other = λ n. inr (for_memory fault.cause n k.no_store, ap (λ l. h.part ++ l) (k.none n) ∙ append-nil h.part ∙ answers_there, h.all.1);
+        };
+        world = h.world;
       }

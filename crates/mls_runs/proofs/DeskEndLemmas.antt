@@ -55,7 +55,7 @@ desk_at echo site sessions first left before after Broken Wrote end distinct rea
 read_only_so : (echo : List ℕ → List ℕ) (site : Site) (before after : Option (List ℕ)) (Broken May : Type 0) (Wrote : List ℕ → Type 0) (end : Result Ending RunFault) (first left : Content)
     → (Broken → May) → IsDesk echo site before after Broken Wrote end first left → IsDesk echo site before after May Wrote end first left
 read_only_so echo site before after Broken May Wrote end first left f k = record {
-  service = record { turns = k.service.turns; run_end = k.service.run_end; lines = k.service.lines; broken = λ b. f (k.service.broken b); written = k.service.written; ends = k.service.ends };
+  service = record { turns = k.service.turns; kept = k.service.kept; lines = k.service.lines; broken = λ b. f (k.service.broken b); written = k.service.written };
   left_by = k.left_by;
   sound = k.sound;
   integrity = k.integrity;

@@ -1,9 +1,8 @@
 -- Desks, line by line: what holds of the lines up to here, and how a desk ends.
-use Rattle.std.proofs.Common.{◌≡◌, ℕ, ◌+◌, ◌-◌, ◌≤◌, Bool, true, false, true≢false, cond, ◌||◌, List, [], ◌∷◌, ◌++◌, length, take, Option, Result, Ok, Err, IfErr, refl, sym, ap, ◌∙◌, subst, append_assoc, append-nil, arith, length-append}
+use Rattle.std.proofs.Common.{◌≡◌, ◌⊎◌, inl, inr, ℕ, Bool, true, false, true≢false, cond, ◌||◌, List, [], ◌∷◌, ◌++◌, Option, Result, Ok, Err, refl, sym, ap, ◌∙◌, subst, append_assoc, append-nil}
 use Rattle.std.specs.List.{list_any}
 use Rattle.std.specs.Io.KnownBytes.{Appends}
 use Rattle.std.proofs.KnownBytes.{Appends-nil, Appends-trans}
-use Rattle.std.proofs.Math.Seq.{take-append-add}
 use Rattle.mls_lattice.specs.Policy.{Policy}
 use Rattle.mls_scheme.specs.Scheme.{Schemes}
 use Rattle.mls_filterview.specs.Content.{Seen}
@@ -17,16 +16,14 @@ use Rattle.mls_script.specs.declared.run_fault.RunCause.TheVariants.{Memory}
 use Rattle.mls_script.specs.declared.run_fault.RunFault.{RunFault}
 use Rattle.mls_sessions.specs.declared.engine.Engine.{Engine}
 use Rattle.mls_sessions.specs.Engine.{site, world_of, IsEngineReady, IsKept}
-use Rattle.mls_sessions.specs.Run.{IsFaultOf}
 use Rattle.mls_host.specs.declared.ending.Ending.{Ending}
 use Rattle.mls_host.specs.Ending.{ending_if}
-use Rattle.mls_runs.specs.Running.{standing}
 use Rattle.mls_runs.specs.declared.shell_session.Fate.{Fate}
 use Rattle.mls_runs.specs.Shell.{Turn, IsShellTurn, events_of, events_in, is_last, is_failed, is_lost, FateFits, IsLineRead}
 use Rattle.mls_runs.proofs.ShellLemmas.{or_none, end_of-append, events-snoc, any-snoc, none_failed, failed_there}
 use Rattle.mls_runs.proofs.TalkLemmas.{AreHeard, heard_more, fits_more, last_line, failed_last}
 use Rattle.mls_runs.specs.Marks.{mark_of}
-use Rattle.mls_runs.specs.Desk.{IsDeskFate, AreLines, answer_of, desk, IsDeskFollowed, IsService, at_line, between}
+use Rattle.mls_runs.specs.Desk.{IsDeskFate, AreLines, answer_of, desk, IsCutShort, IsDeskFollowed, IsService, at_line, between}
 
 -- ---- a line more
 
@@ -53,6 +50,14 @@ lines-snoc echo policy schemes a b c (x ∷ ts) t h l n =
     let (left, turn, on, more) = h in
     let none = or_none (is_last x.fate) (list_any (λ (t : Turn). is_last t.fate) ts) l in
     (left, turn, (λ e. none.0), lines-snoc echo policy schemes left b c ts t more none.1 n)
+
+-- behind what the line shows
+shown_before : (shown answer part : List ℕ) (stands : Bool) (fault : RunFault) → IsCutShort [] answer part stands fault → IsCutShort shown answer (shown ++ part) stands fault
+shown_before shown answer part stands fault k = record { write = k.write; other = λ n. behind (k.other n) }
+  where
+    behind : (part ≡ []) ⊎ ((fault.cause ≡ Memory) × (part ≡ answer) × (stands ≡ true)) → (shown ++ part ≡ shown) ⊎ ((fault.cause ≡ Memory) × (shown ++ part ≡ shown ++ answer) × (stands ≡ true))
+    behind (inl none) = inl (ap (λ l. shown ++ l) none ∙ append-nil shown)
+    behind (inr (memory, whole, stand)) = inr (memory, ap (λ l. shown ++ l) whole, stand)
 
 -- ---- the lines up to here
 
@@ -107,93 +112,66 @@ module _ {B : Type 0} (seen : B → Seen) (echo : List ℕ → List ℕ) (first 
       broken_now h = l.read.broken (sym l.read.same ∙ failed_there s.turns turn s.heard.last_is h)
 
       module _ (new : Engine B) (after : Option (List ℕ)) (clean : (seen new.base).is_clean → (seen now.base).is_clean) (kept : IsKept seen now new) where
-        -- what becomes of the line, from the world up to here
-        moved : {r : Result (Unit {0}) RunFault} → (c : (seen new.base).is_clean) → IsDeskFollowed (site now) (world_of seen now) fate shown after (world_of seen new) r
-            → IsDeskFollowed at (end_of at w (events_in s.turns)) turn.fate shown after (world_of seen new) r
-        moved {r} c h =
-            subst (λ (x : Fate). IsDeskFollowed at (end_of at w (events_in s.turns)) x shown after (world_of seen new) r) (sym l.read.same)
-            (subst (λ (u : World). IsDeskFollowed at u fate shown after (world_of seen new) r) (s.world (clean c))
-            (subst (λ (p : Site). IsDeskFollowed p (world_of seen now) fate shown after (world_of seen new) r) same_site h))
+        abbrev Followed : Site → World → Fate → Result (Unit {0}) RunFault → Type 0
+        Followed site v fate r = IsDeskFollowed site v (events_of fate) (mark_of fate) shown after (world_of seen new) r
 
-        pub so_far_more : is_lost fate ≡ false → ((seen new.base).is_clean → IsDeskFollowed (site now) (world_of seen now) fate shown after (world_of seen new) (Ok tt))
+        -- what becomes of the line, from the world up to here
+        moved : {r : Result (Unit {0}) RunFault} → (c : (seen new.base).is_clean) → Followed (site now) (world_of seen now) fate r → Followed at (end_of at w (events_in s.turns)) turn.fate r
+        moved {r} c h =
+            subst (λ (x : Fate). Followed at (end_of at w (events_in s.turns)) x r) (sym l.read.same)
+            (subst (λ (u : World). Followed at u fate r) (s.world (clean c))
+            (subst (λ (p : Site). Followed p (world_of seen now) fate r) same_site h))
+
+        pub so_far_more : is_lost fate ≡ false → ((seen new.base).is_clean → Followed (site now) (world_of seen now) fate (Ok tt))
             → SoFar new over after (is_last fate)
         so_far_more found h = record {
           turns = turns;
           heard = heard_more seen first now new s.turns turn fate s.heard l.read.same found fits_now clean kept;
           lines = lines_now;
-          world = λ c. let k = moved c (h c) in k.world ∙ ap (λ (e : Result (Unit {0}) RunFault). end_of at (end_of at w (events_in s.turns)) (standing (events_of turn.fate) e)) k.ok ∙ world-snoc at w s.turns turn;
+          world = λ c. let k = moved c (h c) in k.world ∙ ap (λ b. end_of at (end_of at w (events_in s.turns)) (cond b (events_of turn.fate) [])) k.all.1 ∙ world-snoc at w s.turns turn;
           written = λ c. let k = moved c (h c) in
               subst (Appends was after) (sym (desk-snoc at w s.turns turn))
               (Appends-trans was is after (desk at w s.turns) _ (s.written (clean c))
               (subst (Appends is after)
-              (ap (λ l. turn.shown ++ l) (sym (append-nil k.part) ∙ ap (λ l. k.part ++ l) (sym k.all) ∙ k.whole) ∙ sym (append_assoc turn.shown (answers_to at (end_of at w (events_in s.turns)) (events_of turn.fate)) (mark_of turn.fate)))
+              (ap (λ l. turn.shown ++ l) (sym (append-nil k.part) ∙ ap (λ l. k.part ++ l) (sym k.all.0) ∙ k.whole) ∙ sym (append_assoc turn.shown (answers_to at (end_of at w (events_in s.turns)) (events_of turn.fate)) (mark_of turn.fate)))
               (Appends-trans is shown after turn.shown k.part l.read.shown k.bytes)));
         }
 
         -- ---- a desk that is given up at the line
 
-        abbrev later : Result (Unit {0}) RunFault → Result (Unit {0}) RunFault
-        later (Ok u) = Ok tt
-        later (Err f) = Err (record { event = length (events_in s.turns) + f.event; cause = f.cause; done = f.done })
-
-        later_fault : (end : Result (Unit {0}) RunFault) → IfErr end (IsFaultOf (events_of turn.fate)) → IfErr (later end) (IsFaultOf (events_in s.turns ++ events_of turn.fate))
-        later_fault (Ok u) h = tt
-        later_fault (Err f) h = record {
-          first = let some = h.first in omega (arith, some);
-          last = let most = h.last in subst (λ n. length (events_in s.turns) + f.event ≤ n) (sym (length-append (events_in s.turns) (events_of turn.fate))) (omega (arith, most));
-          write = h.write;
-        }
-
-        later_cause : (end : Result (Unit {0}) RunFault) (fault : RunFault) → IfErr end (λ f. f.cause ≡ fault.cause) → IfErr (later end) (λ f. f.cause ≡ fault.cause)
-        later_cause (Ok u) fault h = tt
-        later_cause (Err f) fault h = h
-
-        at_more : (n : ℕ) → end_of at (end_of at w (events_in s.turns)) (take n (events_of turn.fate)) ≡ end_of at w (take (length (events_in s.turns) + n) (events_in s.turns ++ events_of turn.fate))
-        at_more n = sym (ap (end_of at w) (take-append-add (events_in s.turns) (events_of turn.fate) n) ∙ end_of-append at w (events_in s.turns) (take n (events_of turn.fate)))
-
-        left_by : (f : RunFault) → IsFaultOf (events_of turn.fate) f → (u : World) (done : Bool) → u ≡ end_of at (end_of at w (events_in s.turns)) (take (cond done f.event (f.event - 1)) (events_of turn.fate))
-            → u ≡ end_of at w (take (cond done (length (events_in s.turns) + f.event) ((length (events_in s.turns) + f.event) - 1)) (events_in s.turns ++ events_of turn.fate))
-        left_by f is u true h = h ∙ at_more f.event
-        left_by f is u false h = h ∙ at_more (f.event - 1) ∙ ap (λ n. end_of at w (take n (events_in s.turns ++ events_of turn.fate))) less
-          where
-            less : length (events_in s.turns) + (f.event - 1) ≡ (length (events_in s.turns) + f.event) - 1
-            less = let some = is.first in omega (arith, some)
-
-        later_world : (end : Result (Unit {0}) RunFault) → IfErr end (IsFaultOf (events_of turn.fate)) → (u : World) → u ≡ end_of at (end_of at w (events_in s.turns)) (standing (events_of turn.fate) end)
-            → u ≡ end_of at w (standing (events_in s.turns ++ events_of turn.fate) (later end))
-        later_world (Ok u) is v h = h ∙ sym (end_of-append at w (events_in s.turns) (events_of turn.fate))
-        later_world (Err f) is v h = left_by f is v f.done h
-
-        pub broken : (fault : RunFault) (c : (seen new.base).is_clean) → IsDeskFollowed (site now) (world_of seen now) fate shown after (world_of seen new) (Err fault)
+        pub broken : (fault : RunFault) (c : (seen new.base).is_clean) → Followed (site now) (world_of seen now) fate (Err fault)
             → IsService echo at given over Broken (Appends was after) (Err fault) w (world_of seen new)
         broken fault c h =
             let k = moved c h in
             let front = desk at w s.turns in
             let answers = answers_to at (end_of at w (events_in s.turns)) (events_of turn.fate) in
-            let told = sym (events-snoc s.turns turn) in
+            let kept : List Event = cond k.stands (events_of turn.fate) [] in
             record {
               service = record {
                 turns = turns;
-                run_end = later k.end;
+                kept = events_in s.turns ++ kept;
                 lines = lines_now;
                 broken = broken_now;
-                written = at_line s.turns turn (turn.shown ++ k.part) k.rest refl
-                    (Appends-trans was is after front (turn.shown ++ k.part) (s.written (clean c)) (Appends-trans is shown after turn.shown k.part l.read.shown k.bytes))
-                    (append_assoc turn.shown k.part k.rest ∙ ap (λ l. turn.shown ++ l) k.whole ∙ sym (append_assoc turn.shown answers (mark_of turn.fate)))
-                    (λ n. let m = k.no_mark n in (m.0, append_assoc turn.shown k.part m.0 ∙ ap (λ l. turn.shown ++ l) m.1));
-                ends = record {
-                  ok = tt;
-                  is = subst (λ (es : List Event). IfErr (later k.end) (IsFaultOf es)) told (later_fault k.end k.fault);
-                  cause = later_cause k.end fault k.cause;
-                };
+                written = at_line (record {
+                  front = s.turns;
+                  last = turn;
+                  stands = k.stands;
+                  part = turn.shown ++ k.part;
+                  rest = k.rest;
+                  all = refl;
+                  written = Appends-trans was is after front (turn.shown ++ k.part) (s.written (clean c)) (Appends-trans is shown after turn.shown k.part l.read.shown k.bytes);
+                  whole = append_assoc turn.shown k.part k.rest ∙ ap (λ l. turn.shown ++ l) k.whole ∙ sym (append_assoc turn.shown answers (mark_of turn.fate));
+                  cut = shown_before turn.shown answers k.part k.stands fault k.cut;
+                  kept_are = refl;
+                });
               };
               fits = fits_now;
-              world = subst (λ (es : List Event). world_of seen new ≡ end_of at w (standing es (later k.end))) told (later_world k.end k.fault (world_of seen new) k.world);
+              world = k.world ∙ sym (end_of-append at w (events_in s.turns) kept);
             }
 
         -- ---- it ends well at a line behind which no other is read
 
-        pub over_last : is_lost fate ≡ false → ((seen new.base).is_clean → IsDeskFollowed (site now) (world_of seen now) fate shown after (world_of seen new) (Ok tt)) → is_last fate ≡ true → (seen new.base).is_clean
+        pub over_last : is_lost fate ≡ false → ((seen new.base).is_clean → Followed (site now) (world_of seen now) fate (Ok tt)) → is_last fate ≡ true → (seen new.base).is_clean
             → IsService echo at given over Broken (Appends was after) (Ok (ending_if (is_failed fate))) w (world_of seen new)
         unfolding so_far_more
         over_last found h last c =
@@ -203,17 +181,19 @@ module _ {B : Type 0} (seen : B → Seen) (echo : List ℕ → List ℕ) (first 
             record {
               service = record {
                 turns = turns;
-                run_end = Ok tt;
+                kept = events_in turns;
                 lines = lines_now;
                 broken = broken_now;
-                written = record {
-                  written = all.written c;
-                  status = ap ending_if (sym fails);
-                  none_lost = all.heard.none_lost;
-                  all = failed_last s.turns turn over
-                      (last_line turn.fate over (ap is_last l.read.same ∙ last) (ap is_lost l.read.same ∙ found) (λ e. l.read.over (sym l.read.same ∙ e)));
-                };
-                ends = record { ok = refl; is = tt; cause = tt };
+                written = (
+                  record {
+                    written = all.written c;
+                    status = ap ending_if (sym fails);
+                    none_lost = all.heard.none_lost;
+                    all = failed_last s.turns turn over
+                        (last_line turn.fate over (ap is_last l.read.same ∙ last) (ap is_lost l.read.same ∙ found) (λ e. l.read.over (sym l.read.same ∙ e)));
+                  },
+                  refl,
+                );
               };
               fits = fits_now;
               world = all.world c;
@@ -225,11 +205,10 @@ module _ {B : Type 0} (seen : B → Seen) (echo : List ℕ → List ℕ) (first 
     worn_out Broken fault memory c = record {
       service = record {
         turns = s.turns;
-        run_end = Ok tt;
+        kept = events_in s.turns;
         lines = s.lines;
         broken = λ f. absurd (true≢false (sym f ∙ none_failed s.turns s.heard.last_is));
-        written = between memory (s.written c);
-        ends = record { ok = tt; is = tt; cause = tt };
+        written = between memory (s.written c) refl;
       };
       fits = s.heard.fits;
       world = s.world c;

@@ -13,3 +13,5 @@ pub mod TypedLemmas
 pub mod ShellLemmas
 pub mod TalkLemmas
 pub mod ShellEndLemmas
+pub mod SameLemmas
+pub mod StepsLemmas

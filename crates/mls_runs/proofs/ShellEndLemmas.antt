@@ -27,6 +27,7 @@ use Rattle.mls_host.specs.Storing.{AreStoredWith}
 use Rattle.mls_host.specs.Causes.{IsBarred, no_memory, no_store}
 use Rattle.mls_host.specs.Stop.{IsEnd}
 use Rattle.mls_runs.specs.Running.{first_world}
+use Rattle.mls_runs.specs.Explaining.{Explaining}
 use Rattle.mls_runs.specs.Shell.{audience_at, opening, events_in, IsConversation, IsShell}
 use Rattle.mls_runs.specs.ShellRun.{shell_session_of, IsShellRun, IsShellRefused, not_begun}
 use Rattle.mls_runs.specs.Work.{IsOverStore}
@@ -36,12 +37,12 @@ pub opening_fits : (site : Site) (session : ShellSession) → session.level < le
 opening_fits site session level name = (record { level = level; session = name; command = name }, tt)
 
 -- a conversation over a content that it leaves as another
-pub shell_at : (echo : List ℕ → List ℕ) (site : Site) (session : ShellSession) (sessions : Sessions) (first left : Content) (before after was is : Option (List ℕ)) (Broken : Type 0)
+pub shell_at : (x : Explaining) (echo : List ℕ → List ℕ) (site : Site) (session : ShellSession) (sessions : Sessions) (first left : Content) (before after was is : Option (List ℕ)) (Broken : Type 0)
     (Told : List ℕ → Type 0) (end : Result Ending RunFault)
     → AreDistinct (site_labels site) → AreRead site → AreCertified site → IsSoundContent site.policy site.schemes first → IsSoundContent site.policy site.schemes left
-    → IsConversation echo site session before after was is Broken Told end (first_world site first) (world_at site sessions left)
-    → IsShell echo site session before after Broken (Appends was is) Told end first left
-shell_at echo site session sessions first left before after was is Broken Told end distinct read certified sound sound_left k =
+    → IsConversation x echo site session before after was is Broken Told end (first_world site first) (world_at site sessions left)
+    → IsShell x echo site session before after Broken (Appends was is) Told end first left
+shell_at x echo site session sessions first left before after was is Broken Told end distinct read certified sound sound_left k =
     let w = first_world site first in
     let es : List Event = opening session ∷ events_in k.talk.turns in
     let stored : AreStored site w.db = λ relation. (sound.content relation).stored in
@@ -53,30 +54,30 @@ shell_at echo site session sessions first left before after was is Broken Told e
     }
 
 -- a conversation at what is the same site, from and to what are the same worlds
-pub conversation_at : (echo : List ℕ → List ℕ) (session : ShellSession) (before after was is : Option (List ℕ)) (Broken : Type 0) (Told : List ℕ → Type 0) (end : Result Ending RunFault)
-    (s t : Site) (v x w y : World) → s ≡ t → v ≡ x → w ≡ y
-    → IsConversation echo s session before after was is Broken Told end v w → IsConversation echo t session before after was is Broken Told end x y
-conversation_at echo session before after was is Broken Told end s t v x w y e f g k =
-    subst (λ w. IsConversation echo t session before after was is Broken Told end x w) g
-    (subst (λ v. IsConversation echo t session before after was is Broken Told end v w) f (subst (λ s. IsConversation echo s session before after was is Broken Told end v w) e k))
+pub conversation_at : (x : Explaining) (echo : List ℕ → List ℕ) (session : ShellSession) (before after was is : Option (List ℕ)) (Broken : Type 0) (Told : List ℕ → Type 0) (end : Result Ending RunFault)
+    (s t : Site) (v u w y : World) → s ≡ t → v ≡ u → w ≡ y
+    → IsConversation x echo s session before after was is Broken Told end v w → IsConversation x echo t session before after was is Broken Told end u y
+conversation_at x echo session before after was is Broken Told end s t v u w y e f g k =
+    subst (λ w. IsConversation x echo t session before after was is Broken Told end u w) g
+    (subst (λ v. IsConversation x echo t session before after was is Broken Told end v w) f (subst (λ s. IsConversation x echo s session before after was is Broken Told end v w) e k))
 
 -- ---- tasks
 
 -- a read of the lines has failed only where the host says that it may
-read_only_so : (echo : List ℕ → List ℕ) (site : Site) (session : ShellSession) (before after : Option (List ℕ)) (Broken May : Type 0) (Wrote Told : List ℕ → Type 0) (end : Result Ending RunFault) (first left : Content)
-    → (Broken → May) → IsShell echo site session before after Broken Wrote Told end first left → IsShell echo site session before after May Wrote Told end first left
-read_only_so echo site session before after Broken May Wrote Told end first left f k = record {
+read_only_so : (x : Explaining) (echo : List ℕ → List ℕ) (site : Site) (session : ShellSession) (before after : Option (List ℕ)) (Broken May : Type 0) (Wrote Told : List ℕ → Type 0) (end : Result Ending RunFault) (first left : Content)
+    → (Broken → May) → IsShell x echo site session before after Broken Wrote Told end first left → IsShell x echo site session before after May Wrote Told end first left
+read_only_so x echo site session before after Broken May Wrote Told end first left f k = record {
   talk = record { turns = k.talk.turns; run_end = k.talk.run_end; lines = k.talk.lines; broken = λ b. f (k.talk.broken b); told = k.talk.told; ended = k.talk.ended };
   run = k.run;
 }
 
-module _ (h : Hosted) (inputs : Inputs) (store : Option (List ℕ)) (label user : List ℕ) (Wrote Told : List ℕ → Type 0) where
+module _ (x : Explaining) (h : Hosted) (inputs : Inputs) (store : Option (List ℕ)) (label user : List ℕ) (Wrote Told : List ℕ → Type 0) where
   -- it was not begun, and nothing was written or told
   abbrev Nothing : Reason → Type 0
   Nothing reason = IsShellRefused h.before inputs.setting store reason × Wrote [] × Told []
 
   abbrev pub Ends : Result Ending Stop → Type 0
-  Ends r = IsEnd (IsShellRun h inputs store label user Wrote Told) Nothing r
+  Ends r = IsEnd (IsShellRun x h inputs store label user Wrote Told) Nothing r
 
   -- at the exit of a `?`
   pub shell_before : (r : Result Ending Stop) → IsErrAnd r (λ e. e ≡ Before Memory) → Wrote [] → Told [] → Ends r
@@ -93,9 +94,9 @@ module _ (h : Hosted) (inputs : Inputs) (store : Option (List ℕ)) (label user 
     session = shell_session_of label user level h.before.is_terminal h.before.is_watched
 
     abbrev Shells : ShellSession → Result Ending RunFault → Type 0
-    Shells who = IsOverStore h inputs.setting.policy inputs.setting.file store (IsShell h.echo at who before after Broken Wrote Told)
+    Shells who = IsOverStore h inputs.setting.policy inputs.setting.file store (IsShell x h.echo at who before after Broken Wrote Told)
 
-    shell_run : (end : Result Ending RunFault) → Shells session end → IsShellRun h inputs store label user Wrote Told end
+    shell_run : (end : Result Ending RunFault) → Shells session end → IsShellRun x h inputs store label user Wrote Told end
     shell_run end k = record {
       stored = stored;
       level = level;
@@ -109,7 +110,7 @@ module _ (h : Hosted) (inputs : Inputs) (store : Option (List ℕ)) (label user 
         left = o.left;
         begins = o.begins;
         kept = o.kept;
-        leads = read_only_so h.echo at session before after Broken h.before.breaks Wrote Told end o.first o.left broken o.leads;
+        leads = read_only_so x h.echo at session before after Broken h.before.breaks Wrote Told end o.first o.left broken o.leads;
       };
     }
 
@@ -119,7 +120,38 @@ module _ (h : Hosted) (inputs : Inputs) (store : Option (List ℕ)) (label user 
 
     pub shell_over_stored : (who : ShellSession) → who ≡ session → (r : Result Ending Stop) → IsEnd (Shells who) Barred r → Ends r
     shell_over_stored who is r k =
-        let f : (end : Result Ending RunFault) → Shells who end → IsShellRun h inputs store label user Wrote Told end
-        = λ end x. shell_run end (subst (λ w. Shells w end) is x) in
+        let f : (end : Result Ending RunFault) → Shells who end → IsShellRun x h inputs store label user Wrote Told end
+        = λ end o. shell_run end (subst (λ w. Shells w end) is o) in
         let g : (reason : Reason) → Barred reason → Nothing reason = λ reason n. (let s = still n.1 in (not_begun (no_store n.0), s.0, s.1)) in
-        end_weaker (Shells who) Barred (IsShellRun h inputs store label user Wrote Told) Nothing f g r k
+        end_weaker (Shells who) Barred (IsShellRun x h inputs store label user Wrote Told) Nothing f g r k
+
+-- ---- more is told
+
+pub shell_told_more : (x : Explaining) (h : Hosted) (inputs : Inputs) (store : Option (List ℕ)) (label user : List ℕ) (Wrote Told More : List ℕ → Type 0) → ((text : List ℕ) → Told text → More text)
+    → (end : Result Ending RunFault) → IsShellRun x h inputs store label user Wrote Told end → IsShellRun x h inputs store label user Wrote More end
+shell_told_more x h inputs store label user Wrote Told More f end r = record {
+  stored = r.stored;
+  level = r.level;
+  before = r.before;
+  after = r.after;
+  stored_are = r.stored_are;
+  level_is = r.level_is;
+  typed = r.typed;
+  shell = λ clean. let o = r.shell clean in let k = o.leads.talk in record {
+    first = o.first;
+    left = o.left;
+    begins = o.begins;
+    kept = o.kept;
+    leads = record {
+      talk = record {
+        turns = k.turns;
+        run_end = k.run_end;
+        lines = k.lines;
+        broken = k.broken;
+        told = record { lines = k.told.lines; are = k.told.are; opening = record { more = k.told.opening.more; none = k.told.opening.none; may = k.told.opening.may; leads = f _ k.told.opening.leads } };
+        ended = k.ended;
+      };
+      run = o.leads.run;
+    };
+  };
+}

@@ -1,5 +1,5 @@
 -- Shells: events, lines and what is told of them, one after another.
-use Rattle.std.proofs.Common.{◌≡◌, ℕ, zero, suc, ◌+◌, ◌-◌, ◌≤◌, Bool, true, false, true≢false, cond, not, ◌||◌, List, [], ◌∷◌, ◌++◌, length, take, drop, Option, Result, Ok, Err, refl, sym, ap, ◌∙◌, subst, append_assoc, append-nil, arith, filter, flat_map, length-append, take-append-drop}
+use Rattle.std.proofs.Common.{◌≡◌, ℕ, zero, suc, ◌+◌, ◌-◌, ◌≤◌, Bool, true, false, true≢false, cond, not, ◌||◌, List, [], ◌∷◌, ◌++◌, length, take, drop, Option, Result, Ok, Err, IfOk, ◌⊎◌, inl, inr, refl, sym, ap, ◌∙◌, subst, append_assoc, append-nil, arith, filter, flat_map, length-append, take-append-drop}
 use Rattle.std.specs.List.{AllByRecursion, list_any}
 use Rattle.std.specs.Io.KnownBytes.{Appends}
 use Rattle.std.proofs.KnownBytes.{Appends-nil, Appends-trans}
@@ -17,7 +17,6 @@ use Rattle.mls_machine.specs.Observation.{heard, run_shows}
 use Rattle.mls_machine.proofs.LineLemmas.{printed-append, nothing_heard}
 use Rattle.mls_script.specs.declared.run_fault.RunFault.{RunFault}
 use Rattle.mls_sessions.specs.Run.{are_done, IsWhole, IsStopped, IsFaultOf, printed_to, world_after}
-use Rattle.mls_host.specs.Telling.{IsMore}
 use Rattle.mls_host.specs.declared.errors.Errors.{Errors}
 use Rattle.mls_host.specs.declared.telling.Tally.{Tally}
 use Rattle.mls_host.specs.Hosting.{IsTold}
@@ -28,7 +27,8 @@ use Rattle.mls_runs.specs.declared.shell_session.Fate.TheVariants as fates
 use Rattle.mls_runs.specs.declared.tally.Verdict.{Verdict}
 use Rattle.mls_runs.specs.declared.tally.Verdict.TheVariants as verdicts
 use Rattle.mls_runs.specs.Tally.{tally_with}
-use Rattle.mls_runs.specs.Shell.{Turn, IsShellTurn, IsShellFate, whole, long, cut, events_of, events_in, opening, audience_at, is_open, is_last, is_failed, verdict_of, says, is_refused, is_misunderstood, tally, prompt_of, told_of, told_from, AreTold, PipesAreToldNoMore, answers, dialogue, after_opening, transcript, shown_to, AreTurns, verdicts_in, tally_of, IsSilent, IsAnswered}
+use Rattle.mls_runs.specs.Explaining.{Explaining, IsExplained, IsTextOf}
+use Rattle.mls_runs.specs.Shell.{Turn, MayTell, IsShellTurn, IsShellFate, whole, long, cut, events_of, events_in, opening, audience_at, is_open, is_last, is_failed, verdict_of, says, is_refused, is_misunderstood, tally, prompt_of, told_of, told_from, AreTold, PipesAreToldNoMore, answers, dialogue, after_opening, transcript, shown_to, AreTurns, verdicts_in, tally_of, IsSilent, IsAnswered}
 
 -- ---- events
 
@@ -152,58 +152,69 @@ nil_front (x ∷ xs) ys h = absurd cc
 pub events-snoc : (ts : List Turn) (t : Turn) → events_in (ts ++ t ∷ []) ≡ events_in ts ++ events_of t.fate
 events-snoc ts t = flat-snoc (λ (t : Turn). events_of t.fate) ts t
 
-pub told-snoc : (session : ShellSession) (n : ℕ) (ts : List Turn) (t : Turn) (text more : List ℕ) → (session.is_watched ≡ false → more ≡ []) → AreTold session n ts text
-    → AreTold session n (ts ++ t ∷ []) (text ++ (prompt_of session ++ (told_of session (n + length ts) t.fate ++ more)))
-unfolding AreTold
-told-snoc session n [] t text more none h = record {
-  more = more;
-  none = none;
-  leads = ([], ap (λ l. l ++ here (n + 0)) h ∙ ap here same ∙ sym (append-nil (here n)), refl);
-}
-  where
-    here : ℕ → List ℕ
-    here k = prompt_of session ++ (told_of session k t.fate ++ more)
+module _ (x : Explaining) (site : Site) (session : ShellSession) where
+  pub told-snoc : (w : World) (n : ℕ) (ts : List Turn) (t : Turn) (text more : List ℕ) → (session.is_watched ≡ false → more ≡ []) → (more ≡ []) ⊎ MayTell x site session (end_of site w (events_in ts)) t more
+      → AreTold x site session w n ts text → AreTold x site session w n (ts ++ t ∷ []) (text ++ (prompt_of session ++ (told_of session (n + length ts) t.fate ++ more)))
+  unfolding AreTold end_of
+  told-snoc w n [] t text more none may h = record {
+    more = more;
+    none = none;
+    may = may;
+    leads = ([], ap (λ l. l ++ here (n + 0)) h ∙ ap here same ∙ sym (append-nil (here n)), refl);
+  }
+    where
+      here : ℕ → List ℕ
+      here k = prompt_of session ++ (told_of session k t.fate ++ more)
 
-    same : n + 0 ≡ n
-    same = omega arith
-told-snoc session n (x ∷ ts) t text more none h =
-    let (rest, is, are) = h.leads in
-    record {
-      more = h.more;
-      none = h.none;
-      leads = (
-        rest ++ here (n + suc (length ts)),
-        ap (λ l. l ++ here (n + suc (length ts))) is ∙ append_assoc (prompt_of session ++ (told_of session n x.fate ++ h.more)) rest (here (n + suc (length ts))),
-        subst (λ (k : ℕ). AreTold session (n + 1) (ts ++ t ∷ []) (rest ++ here k)) same (told-snoc session (n + 1) ts t rest more none are),
-      );
-    }
-  where
-    here : ℕ → List ℕ
-    here k = prompt_of session ++ (told_of session k t.fate ++ more)
+      same : n + 0 ≡ n
+      same = omega arith
+  told-snoc w n (a ∷ ts) t text more none may h =
+      let (rest, is, are) = h.leads in
+      let v = end_of site w (events_of a.fate) in
+      let moved = subst (λ u. (more ≡ []) ⊎ MayTell x site session u t more) (end_of-append site w (events_of a.fate) (events_in ts)) may in
+      record {
+        more = h.more;
+        none = h.none;
+        may = h.may;
+        leads = (
+          rest ++ here (n + suc (length ts)),
+          ap (λ l. l ++ here (n + suc (length ts))) is ∙ append_assoc (prompt_of session ++ (told_of session n a.fate ++ h.more)) rest (here (n + suc (length ts))),
+          subst (λ (k : ℕ). AreTold x site session v (n + 1) (ts ++ t ∷ []) (rest ++ here k)) same (told-snoc v (n + 1) ts t rest more none moved are),
+        );
+      }
+    where
+      here : ℕ → List ℕ
+      here k = prompt_of session ++ (told_of session k t.fate ++ more)
 
-    same : n + 1 + length ts ≡ n + suc (length ts)
-    same = omega arith
+      same : n + 1 + length ts ≡ n + suc (length ts)
+      same = omega arith
 
-plainly : (session : ShellSession) (n : ℕ) (ts : List Turn) (text : List ℕ) → session.is_watched ≡ false → AreTold session n ts text → text ≡ told_from session n ts
+pub pipes_told : (x : Explaining) → PipesAreToldNoMore x
 unfolding told_from AreTold
-plainly session n [] text off h = h
-plainly session n (t ∷ ts) text off h =
+pipes_told x site session w n [] text off h = h
+pipes_told x site session w n (t ∷ ts) text off h =
     let (rest, is, are) = h.leads in
     is ∙ ap (λ more. (prompt_of session ++ (told_of session n t.fate ++ more)) ++ rest) (h.none off)
     ∙ ap (λ own. (prompt_of session ++ own) ++ rest) (append-nil (told_of session n t.fate))
-    ∙ ap (λ more. (prompt_of session ++ told_of session n t.fate) ++ more) (plainly session (n + 1) ts rest off are)
-
-pub pipes_told : PipesAreToldNoMore
-pipes_told = plainly
+    ∙ ap (λ more. (prompt_of session ++ told_of session n t.fate) ++ more) (pipes_told x site session (end_of site w (events_of t.fate)) (n + 1) ts rest off are)
 
 -- ---- more that is told
 
-module _ {E : Type 0} (contents : E → Option (List ℕ)) (session : ShellSession) (a b : Errors E) (text : List ℕ) (h : IsTold contents a b text) where
-  pub said_more : (c : Errors E) → IsMore session.is_watched (IsTold contents b c) → IsMore session.is_watched (λ more. IsTold contents a c (text ++ more))
-  said_more c k = record { more = k.more; none = k.none; leads = told_more contents a b c text k.more h k.leads }
+-- the text that there is may be told
+pub explained_as : {S F : Type 0} (bytes : S → List ℕ) (r : Result S F) (b : Bool) (Says May Then : List ℕ → Type 0) → ((text : List ℕ) → Says text → May text) → IfOk r (λ text. Says (bytes text)) → IsExplained b (IsTextOf bytes r) Then → IsExplained b May Then
+explained_as {S} {F} bytes r b Says May Then f h k = record { more = k.more; none = k.none; may = told r h k.may; leads = k.leads }
+  where
+    told : (r : Result S F) → IfOk r (λ text. Says (bytes text)) → (k.more ≡ []) ⊎ IsTextOf bytes r k.more → (k.more ≡ []) ⊎ May k.more
+    told r h (inl none) = inl none
+    told (Ok text) h (inr same) = inr (subst May (sym same) (f (bytes text) h))
+    told (Err fault) h (inr same) = absurd same
 
-  pub said_once : IsMore session.is_watched (λ more. IsTold contents a b (text ++ more))
-  said_once = record { more = []; none = λ off. refl; leads = subst (IsTold contents a b) (sym (append-nil text)) h }
+module _ {E : Type 0} (contents : E → Option (List ℕ)) (session : ShellSession) (a b : Errors E) (text : List ℕ) (May : List ℕ → Type 0) (h : IsTold contents a b text) where
+  pub said_more : (c : Errors E) → IsExplained session.is_watched May (IsTold contents b c) → IsExplained session.is_watched May (λ more. IsTold contents a c (text ++ more))
+  said_more c k = record { more = k.more; none = k.none; may = k.may; leads = told_more contents a b c text k.more h k.leads }
+
+  pub said_once : IsExplained session.is_watched May (λ more. IsTold contents a b (text ++ more))
+  said_once = record { more = []; none = λ off. refl; may = inl refl; leads = subst (IsTold contents a b) (sym (append-nil text)) h }
 
 -- ---- last lines, and those that were not read
 
@@ -292,7 +303,7 @@ module _ (site : Site) (session : ShellSession) where
     abbrev first : World
     first = after_opening site session w
 
-    world_is : (ts : List Turn) → end_of site w (opening session ∷ events_in ts) ≡ end_of site first (events_in ts)
+    pub world_is : (ts : List Turn) → end_of site w (opening session ∷ events_in ts) ≡ end_of site first (events_in ts)
     world_is ts = end_of-append site w (opening session ∷ []) (events_in ts)
 
     pub world-snoc : (ts : List Turn) (t : Turn) → end_of site (end_of site w (opening session ∷ events_in ts)) (events_of t.fate) ≡ end_of site w (opening session ∷ events_in (ts ++ t ∷ []))

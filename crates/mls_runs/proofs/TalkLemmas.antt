@@ -1,5 +1,5 @@
 -- Shells, line by line: what holds of the lines up to here, and how a shell ends.
-use Rattle.std.proofs.Common.{◌≡◌, ℕ, suc, ◌+◌, ◌<◌, Bool, true, false, true≢false, not, ◌||◌, List, [], ◌∷◌, ◌++◌, length, Option, Result, Ok, Err, OnOk, IfErr, refl, sym, ap, ◌∙◌, subst, inl, inr, ◌⊎◌, append_assoc, append-nil, arith}
+use Rattle.std.proofs.Common.{◌≡◌, ℕ, suc, ◌+◌, ◌<◌, Bool, true, false, true≢false, not, ◌||◌, List, [], ◌∷◌, ◌++◌, length, Option, is_some, Result, Ok, Err, OnOk, IfErr, refl, sym, ap, ◌∙◌, subst, inl, inr, ◌⊎◌, append_assoc, append-nil, arith}
 use Rattle.std.specs.List.{list_any}
 use Rattle.std.specs.Io.KnownBytes.{Appends, IsAtEnd}
 use Rattle.std.proofs.KnownBytes.{Appends-trans}
@@ -7,7 +7,8 @@ use Rattle.mls_lattice.proofs.EachLemmas.{all_append}
 use Rattle.mls_filterview.specs.Content.{Seen}
 use Rattle.mls_script.specs.declared.event.Event.{Event}
 use Rattle.mls_machine.specs.declared.form.Audience.{Audience}
-use Rattle.mls_certcheck.specs.Site.{Site}
+use Rattle.mls_certcheck.specs.declared.stored.Stored.{Stored}
+use Rattle.mls_certcheck.specs.Site.{Site, site_of}
 use Rattle.mls_machine.specs.Machine.{World, end_of}
 use Rattle.mls_machine.specs.Observation.{EventsFit}
 use Rattle.mls_lattice.specs.Policy.{Policy}
@@ -17,8 +18,9 @@ use Rattle.mls_script.specs.declared.run_fault.RunFault.{RunFault}
 use Rattle.mls_script.specs.declared.run_fault.RunCause.{RunCause}
 use Rattle.mls_sessions.specs.declared.engine.Engine.{Engine}
 use Rattle.mls_sessions.specs.Engine.{site, world_of, IsKept}
-use Rattle.mls_sessions.specs.Run.{are_done, IsWhole}
-use Rattle.mls_host.specs.Telling.{IsMore}
+use Rattle.mls_sessions.specs.declared.notice.Notice.{Notice}
+use Rattle.mls_sessions.specs.Run.{are_done, notice_in, IsWhole}
+use Rattle.mls_sessions.proofs.AnswerLemmas.{is_noticed}
 use Rattle.mls_host.specs.declared.errors.Errors.{Errors}
 use Rattle.mls_host.specs.declared.telling.Tally.{Tally}
 use Rattle.mls_runs.specs.declared.shell_session.ShellSession.{ShellSession}
@@ -28,8 +30,9 @@ use Rattle.mls_runs.specs.Tally.{tally_with}
 use Rattle.mls_host.specs.Ending.{ending_if}
 use Rattle.mls_host.specs.Hosting.{IsTold}
 use Rattle.mls_host.proofs.HostingLemmas.{told_nothing, told_more}
-use Rattle.mls_runs.specs.Shell.{audience_at, verdicts_in, Turn, IsShellFate, events_of, events_in, opening, is_open, is_last, is_failed, is_lost, verdict_of, is_short, end_told, prompt_of, told_of, AreTold, AreAllTold, answers, after_opening, transcript, shown_to, AreTurns, tally_of, IsSilent, FateFits, IsAnswered, IsShellFollowed, IsLineRead, IsConversation}
-use Rattle.mls_runs.proofs.ShellLemmas.{nothing_done, whole_more, stopped_more, fault_more, first_part, length-snoc, events-snoc, told-snoc, world-snoc, transcript-snoc, shown_before, shown_behind, shown_from, turns-snoc, AreFew, few_more, tally-snoc, none_failed, failed_there, silent_turn, silent_lines, any-snoc}
+use Rattle.mls_runs.specs.Explaining.{Explaining, IsExplained, heard_of}
+use Rattle.mls_runs.specs.Shell.{MayTell, noticed_by, audience_at, verdicts_in, Turn, IsShellFate, events_of, events_in, opening, is_open, is_last, is_failed, is_lost, verdict_of, is_short, end_told, prompt_of, told_of, AreTold, AreAllTold, answers, after_opening, transcript, shown_to, AreTurns, tally_of, IsSilent, FateFits, IsAnswered, IsShellFollowed, IsLineRead, IsShellLineRead, IsConversation}
+use Rattle.mls_runs.proofs.ShellLemmas.{nothing_done, whole_more, stopped_more, fault_more, first_part, length-snoc, events-snoc, told-snoc, world-snoc, transcript-snoc, world_is, said_once, shown_before, shown_behind, shown_from, turns-snoc, AreFew, few_more, tally-snoc, none_failed, failed_there, silent_turn, silent_lines, any-snoc}
 
 -- the events of a line are answered
 pub followed_whole : (at : Site) (audience : Audience) (w : World) (es : List Event) (was is : Option (List ℕ)) (new : World) (line : ℕ)
@@ -77,33 +80,43 @@ fate_fits at _ h = tt
 
 -- ---- what is counted of a line
 
--- of one without events, whatever is said of events
-pub verdict_same : (fate : Fate) (a b : Bool) → ((events : List Event) → fate ≡ fates.Said events → ⊥) → verdict_of a fate ≡ verdict_of b fate
-verdict_same (fates.Said events) a b h = absurd (h events refl)
-verdict_same _ a b h = refl
-
--- of one whose events are answered, by whether there is a notice
-pub verdict_noticed : (at : Site) (w : World) (fate : Fate) (events es : List Event) (noticed : Bool) → fate ≡ fates.Said events → es ≡ events → noticed ≡ not (are_done at w es)
-    → verdict_of (not noticed) fate ≡ verdict_of (are_done at w (events_of fate)) fate
-verdict_noticed at w fate events es noticed is same h =
-    ap (λ b. verdict_of (not b) fate) h ∙ ap (λ b. verdict_of b fate) (not_not (are_done at w es) ∙ ap (are_done at w) (same ∙ sym (ap events_of is)))
+-- by why its event was not done
+pub verdict_noticed : (at : Site) (w : World) (fate : Fate) (notice : Option Notice) → notice ≡ notice_in at w (events_of fate)
+    → verdict_of (not (is_some notice)) fate ≡ verdict_of (are_done at w (events_of fate)) fate
+verdict_noticed at w fate notice h =
+    ap (λ b. verdict_of (not b) fate) (ap is_some h ∙ is_noticed at w (events_of fate)) ∙ ap (λ b. verdict_of b fate) (not_not (are_done at w (events_of fate)))
   where
     not_not : (b : Bool) → not (not b) ≡ b
     not_not true = refl
     not_not false = refl
+
+-- of a line with events, and of one without
+pub noticed_said : (at : Site) (w : World) (fate : Fate) (events es : List Event) (notice : Option Notice) → fate ≡ fates.Said events → es ≡ events → notice ≡ notice_in at w es
+    → noticed_by fate notice ≡ notice_in at w (events_of fate)
+noticed_said at w fate events es notice is same h =
+    ap (λ f. noticed_by f notice) is ∙ h ∙ ap (notice_in at w) (same ∙ sym (ap events_of is))
+
+pub noticed_none : (at : Site) (w : World) (fate : Fate) (notice : Option Notice) → ((events : List Event) → fate ≡ fates.Said events → ⊥) → noticed_by fate notice ≡ notice_in at w (events_of fate)
+unfolding notice_in
+noticed_none at w (fates.Said events) notice h = absurd (h events refl)
+noticed_none at w _ notice h = refl
 
 -- what is read under the policy and the schemes is read under the site
 pub fits_at : (p q : Site) (policy : Policy) (schemes : Schemes) → p ≡ q → q.policy ≡ policy → q.schemes ≡ schemes → (fate : Fate) → FateFits policy schemes fate → FateFits p.policy p.schemes fate
 fits_at p q policy schemes same a b fate h =
     subst (λ (x : Site). FateFits x.policy x.schemes fate) (sym same) (subst (λ y. FateFits q.policy y fate) (sym b) (subst (λ x. FateFits x schemes fate) (sym a) h))
 
+-- the parts of a site make it
+pub site_made : (p q : Site) (policy : Policy) (schemes : Schemes) (stored : List Stored) → p ≡ q → q.policy ≡ policy → q.schemes ≡ schemes → stored ≡ p.stored → site_of policy schemes stored ≡ q
+site_made p q policy schemes stored same a b k = (λ i. site_of (sym a i) (sym b i) ((k ∙ ap (λ (x : Site). x.stored) same) i))
+
 pub level_at : (p q : Site) (policy : Policy) → p ≡ q → q.policy ≡ policy → (level : ℕ) → level < length policy.labels → level < length p.policy.labels
 level_at p q policy same a level h = subst (λ (x : Site). level < length x.policy.labels) (sym same) (subst (λ (x : Policy). level < length x.labels) (sym a) h)
 
-pub read_at : (echo : List ℕ → List ℕ) (q : Site) (policy : Policy) (schemes : Schemes) (session : ShellSession) (a b c d : Option (List ℕ)) (Broken : Type 0) (fate : Fate) → q.policy ≡ policy → q.schemes ≡ schemes
-    → IsLineRead echo (IsShellFate policy schemes session) a b c d Broken fate → IsLineRead echo (IsShellFate q.policy q.schemes session) a b c d Broken fate
-read_at echo q policy schemes session a b c d Broken fate e f h =
-    subst (λ y. IsLineRead echo (IsShellFate q.policy y session) a b c d Broken fate) (sym f) (subst (λ x. IsLineRead echo (IsShellFate x schemes session) a b c d Broken fate) (sym e) h)
+pub heard_at : (echo : List ℕ → List ℕ) (q : Site) (policy : Policy) (schemes : Schemes) (session : ShellSession) (a b c d : Option (List ℕ)) (Broken : Type 0) (fate : Fate) (heard : List ℕ) → q.policy ≡ policy → q.schemes ≡ schemes
+    → IsShellLineRead echo policy schemes session a b c d Broken fate heard → IsShellLineRead echo q.policy q.schemes session a b c d Broken fate heard
+heard_at echo q policy schemes session a b c d Broken fate heard e f h =
+    subst (λ y. IsShellLineRead echo q.policy y session a b c d Broken fate heard) (sym f) (subst (λ x. IsShellLineRead echo x schemes session a b c d Broken fate heard) (sym e) h)
 
 -- a line behind which no other is read is the end, or it was not read, or the shell is given up at it
 pub last_line : (fate : Fate) (left : Option (List ℕ)) → is_last fate ≡ true → is_lost fate ≡ false → (fate ≡ fates.Over → IsAtEnd left) → IsAtEnd left ⊎ (is_failed fate ≡ true)
@@ -146,7 +159,7 @@ fits_more at ts t fate h same fit =
 
 -- ---- the lines up to here
 
-module _ {B E : Type 0} (seen : B → Seen) (contents : E → Option (List ℕ)) (echo : List ℕ → List ℕ) (session : ShellSession)
+module _ {B E : Type 0} (seen : B → Seen) (contents : E → Option (List ℕ)) (x : Explaining) (echo : List ℕ → List ℕ) (session : ShellSession)
     (first : Engine B) (quiet : Errors E) (given was : Option (List ℕ)) where
   abbrev at : Site
   at = site first
@@ -154,18 +167,28 @@ module _ {B E : Type 0} (seen : B → Seen) (contents : E → Option (List ℕ))
   abbrev w : World
   w = world_of seen first
 
-  -- what is told of these lines, perhaps behind more
+  -- what may be told behind the opening
+  abbrev pub MayGreet : List ℕ → Type 0
+  MayGreet = x.greets at session (opening session ∷ []) (notice_in at w (opening session ∷ []))
+
+  pub may_greet : (p : Site) → p ≡ at → (events : List Event) (notice : Option Notice) → events ≡ opening session ∷ [] → notice ≡ notice_in at w events
+      → (text : List ℕ) → x.greets p session events notice text → MayGreet text
+  may_greet p same events notice first noticed text h =
+      subst (λ n. x.greets at session (opening session ∷ []) n text) (noticed ∙ ap (notice_in at w) first)
+      (subst (λ es. x.greets at session es notice text) first (subst (λ (q : Site). x.greets q session events notice text) same h))
+
+  -- what is told of these lines, behind what is told of the opening
   pub record AreSoFarTold (turns : List Turn) (err : Errors E) : Type 0 where
     pub lines : List ℕ
-    pub are : AreTold session 1 turns lines
-    pub opening : IsMore session.is_watched (λ more. IsTold contents quiet err (more ++ lines))
+    pub are : AreTold x at session (after_opening at session w) 1 turns lines
+    pub opening : IsExplained session.is_watched MayGreet (λ more. IsTold contents quiet err (more ++ lines))
 
   -- and behind it the last
-  all_told : (turns : List Turn) (last : List ℕ) (err final : Errors E) → AreSoFarTold turns err → IsTold contents err final last → AreAllTold session turns last (IsTold contents quiet final)
+  all_told : (turns : List Turn) (last : List ℕ) (err final : Errors E) → AreSoFarTold turns err → IsTold contents err final last → AreAllTold x at session w turns last (IsTold contents quiet final)
   all_told turns last err final h k = record {
     lines = h.lines;
     are = h.are;
-    opening = record { more = h.opening.more; none = h.opening.none; leads = told_more contents quiet err final (h.opening.more ++ h.lines) last h.opening.leads k };
+    opening = record { more = h.opening.more; none = h.opening.none; may = h.opening.may; leads = told_more contents quiet err final (h.opening.more ++ h.lines) last h.opening.leads k };
   }
 
   -- so many lines were read, answered and counted; of the last it is said whether it is one behind which no other is read
@@ -173,7 +196,7 @@ module _ {B E : Type 0} (seen : B → Seen) (contents : E → Option (List ℕ))
     pub turns : List Turn
     pub count_is : length turns ≡ count
     pub heard : AreHeard seen first now turns last
-    pub told : AreSoFarTold turns err
+    pub told : (seen now.base).is_clean → AreSoFarTold turns err
     pub lines : (seen now.base).is_clean → AreTurns echo at session (after_opening at session w) given left turns
     pub world : (seen now.base).is_clean → world_of seen now ≡ end_of at w (opening session ∷ events_in turns)
     pub written : (seen now.base).is_clean → Appends was is (transcript at session w turns)
@@ -188,7 +211,7 @@ module _ {B E : Type 0} (seen : B → Seen) (contents : E → Option (List ℕ))
     pub followed : (seen now.base).is_clean → IsShellFollowed at (audience_at session) w (opening session ∷ []) was is (world_of seen now) 0 (Ok tt)
     pub opened_is : was_opened ≡ is_open session (world_of seen now)
 
-  pub so_far_start : (now : Engine B) (is : Option (List ℕ)) (was_opened : Bool) → Opened now is was_opened → (err : Errors E) → IsMore session.is_watched (IsTold contents quiet err)
+  pub so_far_start : (now : Engine B) (is : Option (List ℕ)) (was_opened : Bool) → Opened now is was_opened → (err : Errors E) → ((seen now.base).is_clean → IsExplained session.is_watched MayGreet (IsTold contents quiet err))
       → SoFar 0 now err given is was_opened (record { lines = 0; refused = 0; misunderstood = 0 }) false
   unfolding AreTold Rattle.mls_runs.specs.Shell.dialogue AreTurns verdicts_in
   so_far_start now is was_opened h err m =
@@ -198,7 +221,7 @@ module _ {B E : Type 0} (seen : B → Seen) (contents : E → Option (List ℕ))
         turns = [];
         count_is = refl;
         heard = record { clean = h.clean; kept = h.kept; none_lost = refl; last_is = refl; fits = tt };
-        told = record { lines = []; are = refl; opening = record { more = m.more; none = m.none; leads = subst (IsTold contents quiet err) (sym (append-nil m.more)) m.leads } };
+        told = λ c. let k = m c in record { lines = []; are = refl; opening = record { more = k.more; none = k.none; may = k.may; leads = subst (IsTold contents quiet err) (sym (append-nil k.more)) k.leads } };
         lines = λ c. refl;
         world = λ c. (done c).world;
         written = λ c. subst (Appends was is) (sym (append-nil (answers at session w (opening session ∷ [])))) (done c).bytes;
@@ -211,36 +234,56 @@ module _ {B E : Type 0} (seen : B → Seen) (contents : E → Option (List ℕ))
     same_site : site now ≡ at
     same_site = ap site_of_run s.heard.kept.site
 
-    -- the prompt is shown, a line is read, something becomes of it, and that is told
-    pub record Line (fate : Fate) (asked said : Errors E) (over shown : Option (List ℕ)) (Broken : Type 0) : Type 0 where
+    -- the prompt is shown, a line is read, and something becomes of it
+    pub record Line (fate : Fate) (asked : Errors E) (over shown : Option (List ℕ)) (Broken : Type 0) : Type 0 where
       pub was_open : is_open session (world_of seen now) ≡ true
       pub asked_is : IsTold contents err asked (prompt_of session)
       pub read : IsLineRead echo (IsShellFate at.policy at.schemes session) left over is shown Broken fate
       pub fits : FateFits at.policy at.schemes fate
-      pub said_is : IsMore session.is_watched (λ more. IsTold contents asked said (told_of session (count + 1) fate ++ more))
 
-    module _ (fate : Fate) (asked said : Errors E) (over shown : Option (List ℕ)) (Broken : Type 0) (l : Line fate asked said over shown Broken) where
+    module _ (fate : Fate) (asked said : Errors E) (over shown : Option (List ℕ)) (Broken : Type 0) (l : Line fate asked over shown Broken) where
       abbrev turn : Turn
       turn = l.read.turn
 
       abbrev turns : List Turn
       turns = s.turns ++ turn ∷ []
 
-      told_now : AreSoFarTold turns said
-      told_now = record {
-        lines = s.told.lines ++ here (count + 1) fate;
-        are = subst (λ (x : Fate). AreTold session 1 turns (s.told.lines ++ here (count + 1) x)) l.read.same
-            (subst (λ (n : ℕ). AreTold session 1 turns (s.told.lines ++ here n turn.fate)) number (told-snoc session 1 s.turns turn s.told.lines l.said_is.more l.said_is.none s.told.are));
+      -- the world in which the line is read
+      abbrev met : World
+      met = end_of at w (opening session ∷ events_in s.turns)
+
+      -- what becomes of it is told, and beside that what may be told
+      abbrev pub IsSaid : Type 0
+      IsSaid = IsExplained session.is_watched (MayTell x at session met turn) (λ more. IsTold contents asked said (told_of session (count + 1) fate ++ more))
+
+      -- what is said of the line as it was heard may be told
+      pub may_tell : (p : Site) → p ≡ at → (heard : List ℕ) (notice : Option Notice) → heard ≡ heard_of fate turn.line → notice ≡ notice_in (site now) (world_of seen now) (events_of fate)
+          → (seen now.base).is_clean → (text : List ℕ) → x.says p session heard fate notice text → MayTell x at session met turn text
+      may_tell p same heard notice known noticed c text h =
+          let why : notice ≡ notice_in at met (events_of fate)
+          = noticed ∙ ap (λ (p : Site). notice_in p (world_of seen now) (events_of fate)) same_site ∙ ap (λ (u : World). notice_in at u (events_of fate)) (s.world c) in
+          subst (λ (y : Fate). x.says at session (heard_of y turn.line) y (notice_in at met (events_of y)) text) (sym l.read.same)
+          (subst (λ n. x.says at session (heard_of fate turn.line) fate n text) why
+          (subst (λ b. x.says at session b fate notice text) known (subst (λ (q : Site). x.says q session heard fate notice text) same h)))
+
+      told_now : AreSoFarTold s.turns err → IsSaid → AreSoFarTold turns said
+      told_now told k = record {
+        lines = told.lines ++ here (count + 1) fate;
+        are = subst (λ (y : Fate). AreTold x at session (after_opening at session w) 1 turns (told.lines ++ here (count + 1) y)) l.read.same
+            (subst (λ (n : ℕ). AreTold x at session (after_opening at session w) 1 turns (told.lines ++ here n turn.fate)) number
+            (told-snoc x at session (after_opening at session w) 1 s.turns turn told.lines k.more k.none
+            (subst (λ (u : World). (k.more ≡ []) ⊎ MayTell x at session u turn k.more) (world_is at session w s.turns) k.may) told.are));
         opening = record {
-          more = s.told.opening.more;
-          none = s.told.opening.none;
-          leads = subst (IsTold contents quiet said) (append_assoc s.told.opening.more s.told.lines (here (count + 1) fate))
-              (told_more contents quiet err said _ _ s.told.opening.leads (told_more contents err asked said (prompt_of session) _ l.asked_is l.said_is.leads));
+          more = told.opening.more;
+          none = told.opening.none;
+          may = told.opening.may;
+          leads = subst (IsTold contents quiet said) (append_assoc told.opening.more told.lines (here (count + 1) fate))
+              (told_more contents quiet err said _ _ told.opening.leads (told_more contents err asked said (prompt_of session) _ l.asked_is k.leads));
         };
       }
         where
           here : ℕ → Fate → List ℕ
-          here n x = prompt_of session ++ (told_of session n x ++ l.said_is.more)
+          here n y = prompt_of session ++ (told_of session n y ++ k.more)
 
           number : 1 + length s.turns ≡ count + 1
           number = let e = s.count_is in omega arith
@@ -275,15 +318,16 @@ module _ {B E : Type 0} (seen : B → Seen) (contents : E → Option (List ℕ))
 
         pub so_far_more : is_lost fate ≡ false → ((seen new.base).is_clean → IsShellFollowed (site now) (audience_at session) (world_of seen now) (events_of fate) shown after (world_of seen new) (count + 1) (Ok tt))
             → (done : Bool) → ((seen new.base).is_clean → verdict_of done fate ≡ verdict_of (are_done (site now) (world_of seen now) (events_of fate)) fate)
+            → ((seen new.base).is_clean → IsSaid)
             → SoFar (count + 1) new said over after was_opened (tally_with tally (verdict_of done fate)) (is_last fate)
-        so_far_more found h all counts =
+        so_far_more found h all counts says =
             let done : (seen new.base).is_clean → IsWhole at (audience_at session) (end_of at w (opening session ∷ events_in s.turns)) (events_of turn.fate) shown after (world_of seen new) =
             λ c. followed_whole at (audience_at session) (end_of at w (opening session ∷ events_in s.turns)) (events_of turn.fate) shown after (world_of seen new) (count + 1) (moved c (h c)) in
             record {
               turns = turns;
               count_is = count_now;
               heard = heard_more seen first now new s.turns turn fate s.heard l.read.same found fits_now clean kept;
-              told = told_now;
+              told = λ c. told_now (s.told (clean c)) (says c);
               lines = λ c. lines_now (clean c);
               world = λ c. (done c).world ∙ world-snoc at session w s.turns turn;
               written = λ c. subst (Appends was after) (sym (transcript-snoc at session w s.turns turn))
@@ -294,10 +338,10 @@ module _ {B E : Type 0} (seen : B → Seen) (contents : E → Option (List ℕ))
             }
 
         -- a shell that is given up at the line
-        pub broken : EventsFit at (opening session ∷ []) → (fault : RunFault) → (c : (seen new.base).is_clean)
+        pub broken : EventsFit at (opening session ∷ []) → (fault : RunFault) → (c : (seen new.base).is_clean) → IsTold contents asked said (told_of session (count + 1) fate)
             → IsShellFollowed (site now) (audience_at session) (world_of seen now) (events_of fate) shown after (world_of seen new) (count + 1) (Err fault)
-            → IsConversation echo at session given over was after Broken (IsTold contents quiet said) (Err fault) w (world_of seen new)
-        broken opens fault c h =
+            → IsConversation x echo at session given over was after Broken (IsTold contents quiet said) (Err fault) w (world_of seen new)
+        broken opens fault c tells h =
             let k = moved c h in
             let world = end_of at w (opening session ∷ events_in s.turns) in
             let (part, rest, bytes, both) = first_part at (audience_at session) world (events_of turn.fate) shown after (world_of seen new) k.end k.answered in
@@ -319,7 +363,7 @@ module _ {B E : Type 0} (seen : B → Seen) (contents : E → Option (List ℕ))
                 run_end = later k.end;
                 lines = lines_now (clean c);
                 broken = broken_now;
-                told = all_told turns [] said said told_now (told_nothing contents said);
+                told = all_told turns [] said said (told_now (s.told (clean c)) (said_once contents session asked said (told_of session (count + 1) fate) (MayTell x at session met turn) tells)) (told_nothing contents said);
                 ended = record {
                   line = line;
                   cause = later_cause k.end fault k.cause;
@@ -363,7 +407,7 @@ module _ {B E : Type 0} (seen : B → Seen) (contents : E → Option (List ℕ))
   module _ (opens : EventsFit at (opening session ∷ [])) (Broken : Type 0) where
     -- it is given up at the opening
     pub broken_first : (new : Engine B) (after : Option (List ℕ)) (fault : RunFault) → IsShellFollowed at (audience_at session) w (opening session ∷ []) was after (world_of seen new) 0 (Err fault)
-        → IsConversation echo at session given given was after Broken (IsTold contents quiet quiet) (Err fault) w (world_of seen new)
+        → IsConversation x echo at session given given was after Broken (IsTold contents quiet quiet) (Err fault) w (world_of seen new)
     unfolding AreTold Rattle.mls_runs.specs.Shell.dialogue AreTurns
     broken_first new after fault h =
         let (part, rest, bytes, both) = first_part at (audience_at session) w (opening session ∷ []) was after (world_of seen new) h.end h.answered in
@@ -373,7 +417,7 @@ module _ {B E : Type 0} (seen : B → Seen) (contents : E → Option (List ℕ))
             run_end = h.end;
             lines = refl;
             broken = λ f. absurd (true≢false (sym f));
-            told = record { lines = []; are = refl; opening = record { more = []; none = λ off. refl; leads = told_nothing contents quiet } };
+            told = record { lines = []; are = refl; opening = record { more = []; none = λ off. refl; may = inl refl; leads = told_nothing contents quiet } };
             ended = record {
               line = h.line;
               cause = h.cause;
@@ -399,14 +443,14 @@ module _ {B E : Type 0} (seen : B → Seen) (contents : E → Option (List ℕ))
       pub over : (is_open session (world_of seen now) ≡ true → IsAtEnd left ⊎ (list_any (λ (t : Turn). is_failed t.fate) s.turns ≡ true))
           → (list_any (λ (t : Turn). is_failed t.fate) s.turns ≡ true → Broken)
           → (final : Errors E) → IsTold contents err final (end_told session tally)
-          → IsConversation echo at session given left was is Broken (IsTold contents quiet final) (Ok (ending_if (not was_opened || is_short tally))) w (world_of seen now)
+          → IsConversation x echo at session given left was is Broken (IsTold contents quiet final) (Ok (ending_if (not was_opened || is_short tally))) w (world_of seen now)
       over all breaks final end = record {
         talk = record {
           turns = s.turns;
           run_end = Ok tt;
           lines = s.lines c;
           broken = breaks;
-          told = all_told s.turns (end_told session (tally_of at session w s.turns)) err final s.told (subst (λ t. IsTold contents err final (end_told session t)) (s.tally_is c) end);
+          told = all_told s.turns (end_told session (tally_of at session w s.turns)) err final (s.told c) (subst (λ t. IsTold contents err final (end_told session t)) (s.tally_is c) end);
           ended = (
             refl,
             record {
@@ -427,11 +471,11 @@ module _ {B E : Type 0} (seen : B → Seen) (contents : E → Option (List ℕ))
 
       -- it ends well where the session is closed
       pub over_closed : is_open session (world_of seen now) ≡ false → (final : Errors E) → IsTold contents err final (end_told session tally)
-          → IsConversation echo at session given left was is Broken (IsTold contents quiet final) (Ok (ending_if (not was_opened || is_short tally))) w (world_of seen now)
+          → IsConversation x echo at session given left was is Broken (IsTold contents quiet final) (Ok (ending_if (not was_opened || is_short tally))) w (world_of seen now)
       over_closed closed = over count now err left is was_opened tally false s c (λ o. absurd (true≢false (sym o ∙ closed))) none_broken
 
       -- it is given up between two lines
-      pub worn_out : (fault : RunFault) → fault.event ≡ count → IsConversation echo at session given left was is Broken (IsTold contents quiet err) (Err fault) w (world_of seen now)
+      pub worn_out : (fault : RunFault) → fault.event ≡ count → IsConversation x echo at session given left was is Broken (IsTold contents quiet err) (Err fault) w (world_of seen now)
       worn_out fault e =
           let line : fault.event ≡ length s.turns = e ∙ sym s.count_is in
           let rest = shown_from at session w s.turns fault.event in
@@ -441,7 +485,7 @@ module _ {B E : Type 0} (seen : B → Seen) (contents : E → Option (List ℕ))
               run_end = Ok tt;
               lines = s.lines c;
               broken = none_broken;
-              told = all_told s.turns [] err err s.told (told_nothing contents err);
+              told = all_told s.turns [] err err (s.told c) (told_nothing contents err);
               ended = record {
                 line = line;
                 cause = tt;
@@ -457,16 +501,17 @@ module _ {B E : Type 0} (seen : B → Seen) (contents : E → Option (List ℕ))
 
     -- it ends well at a line behind which no other is read
     pub over_last : (count : ℕ) (now : Engine B) (err : Errors E) (left is : Option (List ℕ)) (was_opened : Bool) (tally : Tally) (s : SoFar count now err left is was_opened tally false)
-        (fate : Fate) (asked said : Errors E) (past shown : Option (List ℕ)) (l : Line count now err left is was_opened tally s fate asked said past shown Broken)
+        (fate : Fate) (asked said : Errors E) (past shown : Option (List ℕ)) (l : Line count now err left is was_opened tally s fate asked past shown Broken)
         (new : Engine B) (after : Option (List ℕ)) (clean : (seen new.base).is_clean → (seen now.base).is_clean) (kept : IsKept seen now new)
         → is_lost fate ≡ false → ((seen new.base).is_clean → IsShellFollowed (site now) (audience_at session) (world_of seen now) (events_of fate) shown after (world_of seen new) (count + 1) (Ok tt))
         → (done : Bool) → ((seen new.base).is_clean → verdict_of done fate ≡ verdict_of (are_done (site now) (world_of seen now) (events_of fate)) fate)
+        → ((seen new.base).is_clean → IsSaid count now err left is was_opened tally s fate asked said past shown Broken l)
         → is_last fate ≡ true → (seen new.base).is_clean → (final : Errors E) → IsTold contents said final (end_told session (tally_with tally (verdict_of done fate)))
-        → IsConversation echo at session given past was after Broken (IsTold contents quiet final) (Ok (ending_if (not was_opened || is_short (tally_with tally (verdict_of done fate))))) w (world_of seen new)
+        → IsConversation x echo at session given past was after Broken (IsTold contents quiet final) (Ok (ending_if (not was_opened || is_short (tally_with tally (verdict_of done fate))))) w (world_of seen new)
     unfolding so_far_more
-    over_last count now err left is was_opened tally s fate asked said past shown l new after clean kept found h done counts last c =
+    over_last count now err left is was_opened tally s fate asked said past shown l new after clean kept found h done counts says last c =
         over (count + 1) new said past after was_opened (tally_with tally (verdict_of done fate)) (is_last fate)
-        (so_far_more count now err left is was_opened tally s fate asked said past shown Broken l new after clean kept found h done counts) c
+        (so_far_more count now err left is was_opened tally s fate asked said past shown Broken l new after clean kept found h done counts says) c
         (λ o. failed_last s.turns l.read.turn past
         (last_line l.read.turn.fate past (ap is_last l.read.same ∙ last) (ap is_lost l.read.same ∙ found) (λ e. l.read.over (sym l.read.same ∙ e))))
         (broken_now count now err left is was_opened tally s fate asked said past shown Broken l)

@@ -17,8 +17,9 @@ use Rattle.mls_tokens.specs.Typing.{IsNext, IsLong, IsLost}
 use Rattle.mls_runs.specs.declared.shell_session.ShellSession.{ShellSession}
 use Rattle.mls_runs.specs.declared.shell_session.Fate.{Fate}
 use Rattle.mls_runs.specs.declared.shell_session.Fate.TheVariants as fates
+use Rattle.mls_runs.specs.Explaining.{heard_of}
 use Rattle.mls_runs.specs.Typed.{fate_of_fault, fate_read, fate_of, Becomes}
-use Rattle.mls_runs.specs.Shell.{prefix_of, is_own, is_asked, meant, IsCommand, IsShellFate, over, help, asked, said, blank, refused, IsCut, whole, long, cut, IsLineRead}
+use Rattle.mls_runs.specs.Shell.{prefix_of, is_own, is_asked, meant, IsCommand, IsShellFate, over, help, asked, said, blank, refused, is_lost, IsCut, whole, long, cut, IsLineRead}
 
 pub lost_read : (cause : RunCause) → fates.Lost cause ≡ fates.Unreadable → ⊥
 lost_read cause h = absurd cc
@@ -35,6 +36,10 @@ some_events false events fault h = absurd cc
 read_events : (b : Bool) (events : List Event) (fault : ScriptFault) → cond b (fates.Said events) (fates.Refused fault) ≡ fates.Unreadable → ⊥
 read_events true events fault h = absurd cc
 read_events false events fault h = absurd cc
+
+heard_events : (b : Bool) (events : List Event) (fault : ScriptFault) (line : List ℕ) → heard_of (cond b (fates.Said events) (fates.Refused fault)) line ≡ line
+heard_events true events fault line = refl
+heard_events false events fault line = refl
 
 empty : (line : List ℕ) → nat_eq (length line) 0 ≡ true → line ≡ []
 empty [] h = refl
@@ -148,6 +153,15 @@ module _ (policy : Policy) (schemes : Schemes) (session : ShellSession) where
   was_read line fate (blank c n r f) h = let bad : fates.Blank ≡ fates.Unreadable = sym f ∙ h in absurd cc
   was_read line fate (refused fault c r n f) h = let bad : fates.Refused fault ≡ fates.Unreadable = sym f ∙ h in absurd cc
 
+  -- it is known whole
+  heard_all : (line : List ℕ) (fate : Fate) → IsShellFate policy schemes session line fate → heard_of fate line ≡ line
+  heard_all line fate (over e f) = ap (λ x. heard_of x line) f
+  heard_all line fate (help e f) = ap (λ x. heard_of x line) f
+  heard_all line fate (asked e f) = ap (λ x. heard_of x line) f
+  heard_all line fate (said events c r f) = ap (λ x. heard_of x line) f ∙ heard_events (list_all (is_own session) events) events _ line
+  heard_all line fate (blank c n r f) = ap (λ x. heard_of x line) f
+  heard_all line fate (refused fault c r n f) = ap (λ x. heard_of x line) f
+
   module _ (echo : List ℕ → List ℕ) (before after was is_now : Option (List ℕ)) (Broken : Type 0) where
     pub read_whole : IsPolicy policy → AreSchemes schemes → (line : List ℕ) → IsNext before after line → length line ≤ 1048576 → Appends was is_now (echo line) → (fate : Fate) → Becomes (fate_of policy schemes session line) fate
         → IsLineRead echo (IsShellFate policy schemes session) before after was is_now Broken fate
@@ -155,3 +169,10 @@ module _ (policy : Policy) (schemes : Schemes) (session : ShellSession) where
         let is = subst (IsShellFate policy schemes session line) (sym e) (fate_is is_policy are_schemes line) in
         read_line echo (IsShellFate policy schemes session) before after was is_now Broken line n short w fate is (over_is_empty line fate is) (was_read line fate is)
     read_whole is_policy are_schemes line n short w fate (inr e) = read_in_vain echo (IsShellFate policy schemes session) before after was is_now Broken line n w fate e
+
+    -- all its bytes are known, where there was memory to understand it
+    pub known_whole : (is_policy : IsPolicy policy) (are_schemes : AreSchemes schemes) (line : List ℕ) (n : IsNext before after line) (short : length line ≤ 1048576) (w : Appends was is_now (echo line)) (fate : Fate)
+        (b : Becomes (fate_of policy schemes session line) fate) → is_lost fate ≡ false → line ≡ heard_of fate (read_whole is_policy are_schemes line n short w fate b).turn.line
+    unfolding read_whole read_line
+    known_whole is_policy are_schemes line n short w fate (inl e) found = sym (heard_all line fate (subst (IsShellFate policy schemes session line) (sym e) (fate_is is_policy are_schemes line)))
+    known_whole is_policy are_schemes line n short w fate (inr e) found = absurd (true≢false (sym (ap is_lost e) ∙ found))

@@ -1,5 +1,5 @@
 -- A desk: lines of many sessions, each answered for the level of its own before the next is read.
-use Rattle.std.specs.Prelude.{◌≡◌, ◌≢◌, ℕ, ◌≤◌, Bool, true, false, not, List, [], ◌∷◌, ◌++◌, length, take, Option, ◌⊎◌}
+use Rattle.std.specs.Prelude.{◌≡◌, ◌≢◌, ℕ, ◌≤◌, if◌then◌else◌, Bool, true, false, not, List, [], ◌∷◌, ◌++◌, length, take, Option, ◌⊎◌}
 use Rattle.std.specs.Prelude.{Result, Ok, Err, OnOk, IfErr, bytes_eq}
 use Rattle.std.specs.List.{list_any}
 use Rattle.std.specs.Io.KnownBytes.{Appends, IsAtEnd}
@@ -23,10 +23,9 @@ use Rattle.mls_machine.specs.Laws.{KeepsIntegrity}
 use Rattle.mls_machine.specs.Serving.{answers_to, ServesOnlyReleases}
 use Rattle.mls_script.specs.declared.run_fault.RunCause.TheVariants.{Memory, Write}
 use Rattle.mls_script.specs.declared.run_fault.RunFault.{RunFault}
-use Rattle.mls_sessions.specs.Run.{IsFaultOf}
 use Rattle.mls_host.specs.declared.ending.Ending.{Ending}
 use Rattle.mls_host.specs.Ending.{ending_if}
-use Rattle.mls_runs.specs.Running.{first_world, standing, IsLeftBy}
+use Rattle.mls_runs.specs.Running.{first_world, IsLeftBy}
 use Rattle.mls_runs.specs.declared.shell_session.Fate.{Fate}
 use Rattle.mls_runs.specs.declared.shell_session.Fate.TheVariants.{Over, Said, Refused}
 use Rattle.mls_runs.specs.Shell.{Turn, IsShellTurn, FateFits, events_of, events_in, is_last, is_failed, is_lost}
@@ -91,6 +90,14 @@ module _ (site : Site) where
 
 -- ---- how a desk ends
 
+-- A line shows a text and is answered with another, and a first part of both and of a mark is written. A part of the
+-- answer is written where the writer failed, alone; or all of it, where there was no memory for the mark. Where any of it
+-- is written its event stands.
+pub record IsCutShort (shown answer part : List ℕ) (stands : Bool) (fault : RunFault) : Type 0 where
+  pub write : fault.cause ≡ Write → stands ≡ true
+  pub other : fault.cause ≢ Write
+      → (part ≡ shown) ⊎ ((fault.cause ≡ Memory) × (part ≡ shown ++ answer) × (stands ≡ true))
+
 module _ (site : Site) (w : World) (turns : List Turn) (Wrote : List ℕ → Type 0) where
   -- all is written; all lines were read, or a read failed
   pub record IsWellEnded (left : Option (List ℕ)) (ending : Ending) : Type 0 where
@@ -99,27 +106,30 @@ module _ (site : Site) (w : World) (turns : List Turn) (Wrote : List ℕ → Typ
     pub none_lost : list_any (λ t. is_lost t.fate) turns ≡ false
     pub all : IsAtEnd left ⊎ (list_any (λ t. is_failed t.fate) turns ≡ true)
 
-  -- It is given up at a line, the last that was read: what comes before it is written, and a first part of its answers
-  -- and its mark, of which nothing is unless the writer failed. Or it is given up between two lines, for memory.
-  pub data IsGivenUp (fault : RunFault) : Type 0 where
-    at_line : (front : List Turn) (t : Turn) (part : List ℕ) (rest : List ℕ) → turns ≡ front ++ t ∷ []
-        → Wrote (desk site w front ++ part)
-        → part ++ rest ≡ answer_of site (end_of site w (events_in front)) t ++ mark_of t.fate
-        → (fault.cause ≢ Write
-        → (more : List ℕ) × (part ++ more ≡ answer_of site (end_of site w (events_in front)) t))
-        → IsGivenUp fault
-    between : fault.cause ≡ Memory → Wrote (desk site w turns) → IsGivenUp fault
+  -- It is given up at a line, the last that was read: what comes before it is written, and a first part of what the
+  -- line shows, of its answer and of its mark. The event of the line stands, or it does not.
+  pub record IsCutAt (fault : RunFault) (kept : List Event) : Type 0 where
+    pub front : List Turn
+    pub last : Turn
+    pub stands : Bool
+    pub part : List ℕ
+    pub rest : List ℕ
+    pub all : turns ≡ front ++ last ∷ []
+    pub written : Wrote (desk site w front ++ part)
+    pub whole : part ++ rest ≡ answer_of site (end_of site w (events_in front)) last ++ mark_of last.fate
+    pub cut : IsCutShort last.shown (answers_to site (end_of site w (events_in front)) (events_of last.fate)) part stands
+        fault
+    pub kept_are : kept ≡ events_in front ++ (if stands then events_of last.fate else [])
 
-  -- how its lines are written, by how it ends
-  abbrev pub IsEndOf : Option (List ℕ) → Result Ending RunFault → Type 0
-  IsEndOf left (Ok ending) = IsWellEnded left ending
-  IsEndOf left (Err fault) = IsGivenUp fault
+  -- so it is, or it is given up between two lines, for memory, and all of them stand
+  pub data IsGivenUp (fault : RunFault) (kept : List Event) : Type 0 where
+    at_line : IsCutAt fault kept → IsGivenUp fault kept
+    between : fault.cause ≡ Memory → Wrote (desk site w turns) → kept ≡ events_in turns → IsGivenUp fault kept
 
--- which of the events are done, and that the cause of a fault of theirs is told
-pub record IsEndFor (es : List Event) (end : Result (Unit {0}) RunFault) (r : Result Ending RunFault) : Type 0 where
-  pub ok : OnOk r (end ≡ Ok tt)
-  pub is : IfErr end (IsFaultOf es)
-  pub cause : IfErr r (λ fault. IfErr end (λ f. f.cause ≡ fault.cause))
+  -- how its lines are written, and the events whose changes stand, by how it ends
+  abbrev pub IsEndOf : Option (List ℕ) → List Event → Result Ending RunFault → Type 0
+  IsEndOf left kept (Ok ending) = IsWellEnded left ending × (kept ≡ events_in turns)
+  IsEndOf left kept (Err fault) = IsGivenUp fault kept
 
 -- ---- the whole
 
@@ -128,16 +138,16 @@ module _ (echo : List ℕ → List ℕ) (site : Site) (before after : Option (Li
   -- What is typed is answered from a world on, of lines of which a read has failed where one could not be read.
   pub record IsServed (w : World) : Type 0 where
     pub turns : List Turn
-    pub run_end : Result (Unit {0}) RunFault
+    -- the events whose changes stand
+    pub kept : List Event
     pub lines : AreLines echo site.policy site.schemes before after turns
     pub broken : list_any (λ t. is_failed t.fate) turns ≡ true → Broken
-    pub written : IsEndOf site w turns Wrote after end
-    pub ends : IsEndFor (events_in turns) run_end end
+    pub written : IsEndOf site w turns Wrote after kept end
 
-  -- A desk over a content, which it leaves as another: as a run of all events that are told leaves it.
+  -- A desk over a content, which it leaves as another: as a run of the events leaves it whose changes stand.
   pub record IsDesk (first left : Content) : Type 0 where
     pub service : IsServed (first_world site first)
-    pub left_by : IsLeftBy site first (standing (events_in service.turns) service.run_end) left
+    pub left_by : IsLeftBy site first service.kept left
     -- a next one may begin with what is left
     pub sound : IsSoundContent site.policy site.schemes left
     -- each database on the way has the four integrity properties
@@ -150,45 +160,22 @@ module _ (echo : List ℕ → List ℕ) (site : Site) (before after : Option (Li
 
 -- ---- between two lines
 
--- events are answered from w, or not all are, for a fault of one of them
-pub record AreAnswered (site : Site) (w : World) (es : List Event) (was is : Option (List ℕ)) (new : World)
-    (end : Result (Unit {0}) RunFault) : Type 0 where
+-- events are answered from w, and a mark is written behind that; or it is given up, they stand or they do not, and a
+-- first part is written
+pub record IsDeskFollowed (site : Site) (w : World) (es : List Event) (mark : List ℕ) (was is : Option (List ℕ))
+    (new : World) (r : Result (Unit {0}) RunFault) : Type 0 where
+  pub stands : Bool
   pub part : List ℕ
   pub rest : List ℕ
   pub bytes : Appends was is part
-  pub whole : part ++ rest ≡ answers_to site w es
-  pub all : OnOk end (rest ≡ [])
-  pub world : new ≡ end_of site w (standing es end)
-  pub fault : IfErr end (IsFaultOf es)
-
--- of what becomes of a line the events are answered; or it is given up, for a fault of one of them, or before all
-pub record IsDone (site : Site) (w : World) (es : List Event) (was is : Option (List ℕ)) (new : World)
-    (r : Result (Unit {0}) RunFault) : Type 0 where
-  pub end : Result (Unit {0}) RunFault
-  pub answered : AreAnswered site w es was is new end
-  pub ok : OnOk r (end ≡ Ok tt)
-  pub cause : IfErr r (λ fault. IfErr end (λ f. f.cause ≡ fault.cause))
-
--- so it is, and its mark is written behind that; or it is given up, and of the mark nothing is written unless the
--- writer failed
-pub record IsDeskFollowed (site : Site) (w : World) (fate : Fate) (was is : Option (List ℕ)) (new : World)
-    (r : Result (Unit {0}) RunFault) : Type 0 where
-  pub end : Result (Unit {0}) RunFault
-  pub part : List ℕ
-  pub rest : List ℕ
-  pub bytes : Appends was is part
-  pub whole : part ++ rest ≡ answers_to site w (events_of fate) ++ mark_of fate
-  pub all : OnOk r (rest ≡ [])
-  pub no_mark : IfErr r (λ fault. fault.cause ≢ Write
-      → (more : List ℕ) × (part ++ more ≡ answers_to site w (events_of fate)))
-  pub world : new ≡ end_of site w (standing (events_of fate) end)
-  pub fault : IfErr end (IsFaultOf (events_of fate))
-  pub ok : OnOk r (end ≡ Ok tt)
-  pub cause : IfErr r (λ fault. IfErr end (λ f. f.cause ≡ fault.cause))
+  pub whole : part ++ rest ≡ answers_to site w es ++ mark
+  pub all : OnOk r ((rest ≡ []) × (stands ≡ true))
+  pub cut : IfErr r (IsCutShort [] (answers_to site w es) part stands)
+  pub world : new ≡ end_of site w (if stands then es else [])
 
 -- lines are answered, from a world to another
 pub record IsService (echo : List ℕ → List ℕ) (site : Site) (before after : Option (List ℕ)) (Broken : Type 0)
     (Wrote : List ℕ → Type 0) (end : Result Ending RunFault) (w new : World) : Type 0 where
   pub service : IsServed echo site before after Broken Wrote end w
   pub fits : EventsFit site (events_in service.turns)
-  pub world : new ≡ end_of site w (standing (events_in service.turns) service.run_end)
+  pub world : new ≡ end_of site w service.kept

@@ -13,6 +13,8 @@ pub mod Reading
 pub mod TurnRun
 pub mod Typed
 pub mod Work
+pub mod Explaining
 pub mod Shell
 pub mod ShellRun
+pub mod Steps
 pub mod Tally

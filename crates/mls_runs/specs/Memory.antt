@@ -99,6 +99,7 @@ hosting h = record {
   bars = bars h;
   shows = shows h;
   hides = hides h;
+  ignores = λ _ _. ⊤;
   is_honest = ⊤;
   has_failed = has_failed h;
   is_unclosed = ⊥;

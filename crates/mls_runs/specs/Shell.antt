@@ -1,6 +1,6 @@
 -- A shell: lines are typed, and each is answered before the next is read.
 use Rattle.std.specs.Prelude.{◌≡◌, ◌≢◌, ℕ, zero, suc, ◌+◌, ◌-◌, ◌<◌, ◌≤◌, max, nat_eq, nat_lt, Bool, true, false, not}
-use Rattle.std.specs.Prelude.{if◌then◌else◌, List, [], ◌∷◌, ◌++◌, codes, length, take, Option, is_some, ◌⊎◌, ⊤, ◌&&◌}
+use Rattle.std.specs.Prelude.{if◌then◌else◌, List, [], ◌∷◌, ◌++◌, codes, length, take, Option, None, is_some, ◌⊎◌, ⊤, ◌&&◌}
 use Rattle.std.specs.Prelude.{◌||◌, IfErr, OnOk, Result, Ok, Err, filter, flat_map, bytes_eq}
 use Rattle.std.specs.List.{AllByRecursion, list_all, list_any, starts_with}
 use Rattle.std.specs.Io.KnownBytes.{Appends, Consumes, IsAtEnd}
@@ -22,7 +22,8 @@ use Rattle.mls_machine.specs.Observation.{EventsFit, run_shows, reader_of}
 use Rattle.mls_script.specs.declared.run_fault.RunCause.TheVariants.{Store}
 use Rattle.mls_script.specs.declared.run_fault.RunFault.{RunFault}
 use Rattle.mls_sessions.specs.Engine.{MayServe}
-use Rattle.mls_sessions.specs.Run.{are_done, IsWhole, IsStopped, IsFaultOf}
+use Rattle.mls_sessions.specs.declared.notice.Notice.{Notice}
+use Rattle.mls_sessions.specs.Run.{are_done, notice_in, IsWhole, IsStopped, IsFaultOf}
 use Rattle.mls_tokens.specs.Typing.{IsNext, IsLong}
 use Rattle.mls_host.specs.declared.ending.Ending.{Ending}
 use Rattle.mls_host.specs.declared.telling.Tally.{Tally}
@@ -34,8 +35,9 @@ use Rattle.mls_runs.specs.declared.shell_session.Fate.TheVariants.{Unreadable, L
 use Rattle.mls_runs.specs.declared.tally.Verdict.{Verdict}
 use Rattle.mls_runs.specs.declared.tally.Verdict.TheVariants as verdicts
 use Rattle.mls_host.specs.Ending.{ending_if}
+use Rattle.mls_runs.specs.Explaining.{Explaining, IsExplained, heard_of}
 use Rattle.mls_runs.specs.Running.{first_world, form_of, IsRun}
-use Rattle.mls_host.specs.Telling.{IsMore, prompt_text, line_told, fault_told, tally_told}
+use Rattle.mls_host.specs.Telling.{prompt_text, line_told, fault_told, tally_told}
 
 -- ---- who sits there
 
@@ -74,10 +76,12 @@ abbrev pub fate_of_events : ShellSession → List Event → Fate
 fate_of_events session events =
     if list_all (is_own session) events then Said events else Refused (record { line = 1; column = 1; cause = Expected })
 
--- at a terminal a line asks what is declared, or for help with something
+-- at a terminal a line asks what is declared, all of it or something, or for help with something
 abbrev pub is_asked : ShellSession → List ℕ → Bool
 is_asked session line =
-    session.has_prompt && (bytes_eq line (codes "describe\n") || starts_with nat_eq line (codes "help "))
+    session.has_prompt
+    && ((bytes_eq line (codes "describe\n") || starts_with nat_eq line (codes "describe "))
+    || starts_with nat_eq line (codes "help "))
 
 -- at a terminal `quit` and `exit` mean `close`
 abbrev pub meant : ShellSession → List ℕ → List ℕ
@@ -257,23 +261,31 @@ unfoldable pub told_from : ShellSession → ℕ → List Turn → List ℕ
 told_from session number [] = []
 told_from session number (t ∷ ts) = (prompt_of session ++ told_of session number t.fate) ++ told_from session (number + 1) ts
 
--- what is told, from the line of a number on: of each line the same, and behind it perhaps more
-unfoldable pub AreTold : ShellSession → ℕ → List Turn → List ℕ → Type 0
-AreTold session number [] text = text ≡ []
-AreTold session number (t ∷ ts) text = IsMore session.is_watched (λ more.
-    (rest : List ℕ) × (text ≡ (prompt_of session ++ (told_of session number t.fate ++ more)) ++ rest)
-    × AreTold session (number + 1) ts rest)
+-- what is told beside that
+module _ (x : Explaining) (site : Site) (session : ShellSession) where
+  -- what may be told behind what is said of a line, whose events are answered from a world on
+  abbrev pub MayTell : World → Turn → List ℕ → Type 0
+  MayTell w t = x.says site session (heard_of t.fate t.line) t.fate (notice_in site w (events_of t.fate))
 
--- what is told of a shell: perhaps more behind its opening, then what is told of its lines, and the last
-pub record AreAllTold (session : ShellSession) (turns : List Turn) (last : List ℕ) (Told : List ℕ → Type 0) : Type 0 where
-  pub lines : List ℕ
-  pub are : AreTold session 1 turns lines
-  pub opening : IsMore session.is_watched (λ more. Told (more ++ lines ++ last))
+  -- what is told, from the line of a number on, from a world on: of each line the same, and behind it what may be told
+  unfoldable pub AreTold : World → ℕ → List Turn → List ℕ → Type 0
+  AreTold w number [] text = text ≡ []
+  AreTold w number (t ∷ ts) text = IsExplained session.is_watched (MayTell w t) (λ more.
+      (rest : List ℕ) × (text ≡ (prompt_of session ++ (told_of session number t.fate ++ more)) ++ rest)
+      × AreTold (end_of site w (events_of t.fate)) (number + 1) ts rest)
+
+  -- what is told of a shell: what may be told behind its opening, then what is told of its lines, and the last
+  pub record AreAllTold (w : World) (turns : List Turn) (last : List ℕ) (Told : List ℕ → Type 0) : Type 0 where
+    pub lines : List ℕ
+    pub are : AreTold (after_opening site session w) 1 turns lines
+    pub opening : IsExplained session.is_watched
+        (x.greets site session (opening session ∷ []) (notice_in site w (opening session ∷ [])))
+        (λ more. Told (more ++ lines ++ last))
 
 -- where nobody reads it, what is told of lines is what stands above
-abbrev pub PipesAreToldNoMore : Type 0
-PipesAreToldNoMore = (session : ShellSession) (number : ℕ) (turns : List Turn) (text : List ℕ) → session.is_watched ≡ false
-    → AreTold session number turns text → text ≡ told_from session number turns
+abbrev pub PipesAreToldNoMore : Explaining → Type 0
+PipesAreToldNoMore x = (site : Site) (session : ShellSession) (w : World) (number : ℕ) (turns : List Turn) (text : List ℕ)
+    → session.is_watched ≡ false → AreTold x site session w number turns text → text ≡ told_from session number turns
 
 -- no line is shown
 abbrev pub IsSilent : (List ℕ → List ℕ) → Type 0
@@ -318,23 +330,23 @@ module _ (echo : List ℕ → List ℕ) (site : Site) (session : ShellSession) w
       × IsShellTurn echo (IsShellFate site.policy site.schemes session) before left t
       × (ts ≢ [] → is_last t.fate ≡ false) × AreTurns (end_of site w (events_of t.fate)) left after ts
 
-  module _ (before after : Option (List ℕ)) (Broken : Type 0) (Wrote Told : List ℕ → Type 0)
-      (end : Result Ending RunFault) where
-    -- What is typed is answered from a world on, of lines of which a read has failed where one is told as unreadable.
-    pub record IsTalk (w : World) : Type 0 where
-      pub turns : List Turn
-      pub run_end : Result (Unit {0}) RunFault
-      pub lines : AreTurns (after_opening site session w) before after turns
-      pub broken : list_any (λ t. is_failed t.fate) turns ≡ true → Broken
-      pub told : AreAllTold session turns (last_told site session w turns end) Told
-      pub ended : IsEndOf site session w turns Wrote after run_end end
+module _ (x : Explaining) (echo : List ℕ → List ℕ) (site : Site) (session : ShellSession)
+    (before after : Option (List ℕ)) (Broken : Type 0) (Wrote Told : List ℕ → Type 0) (end : Result Ending RunFault) where
+  -- What is typed is answered from a world on, of lines of which a read has failed where one is told as unreadable.
+  pub record IsTalk (w : World) : Type 0 where
+    pub turns : List Turn
+    pub run_end : Result (Unit {0}) RunFault
+    pub lines : AreTurns echo site session (after_opening site session w) before after turns
+    pub broken : list_any (λ t. is_failed t.fate) turns ≡ true → Broken
+    pub told : AreAllTold x site session w turns (last_told site session w turns end) Told
+    pub ended : IsEndOf site session w turns Wrote after run_end end
 
-    -- A shell over a content, which it leaves as another. Where the host shows nothing of the lines, it is the run of
-    -- the opening and of all events that are told, for the session's level alone, and writes what that writes.
-    pub record IsShell (first left : Content) : Type 0 where
-      pub talk : IsTalk (first_world site first)
-      pub run : IsSilent echo
-          → IsRun site (audience_at session) (opening session ∷ events_in talk.turns) Wrote talk.run_end first left
+  -- A shell over a content, which it leaves as another. Where the host shows nothing of the lines, it is the run of
+  -- the opening and of all events that are told, for the session's level alone, and writes what that writes.
+  pub record IsShell (first left : Content) : Type 0 where
+    pub talk : IsTalk (first_world site first)
+    pub run : IsSilent echo
+        → IsRun site (audience_at session) (opening session ∷ events_in talk.turns) Wrote talk.run_end first left
 
 -- ---- between two lines
 
@@ -364,10 +376,21 @@ pub record IsLineRead (echo : List ℕ → List ℕ) (IsFateOf : List ℕ → Fa
   pub over : fate ≡ Over → IsAtEnd after
   pub broken : fate ≡ Unreadable → Broken
 
+-- so it is, and these bytes of it are known
+pub record IsShellLineRead (echo : List ℕ → List ℕ) (policy : Policy) (schemes : Schemes) (session : ShellSession)
+    (before after was is : Option (List ℕ)) (Broken : Type 0) (fate : Fate) (heard : List ℕ) : Type 0 where
+  pub read : IsLineRead echo (IsShellFate policy schemes session) before after was is Broken fate
+  pub known : is_lost fate ≡ false → heard ≡ heard_of fate read.turn.line
+
+-- why the event of a line was not done, if it told any
+abbrev pub noticed_by : Fate → Option Notice → Option Notice
+noticed_by (Said events) notice = notice
+noticed_by fate notice = None
+
 -- a talk from a world to another
-pub record IsConversation (echo : List ℕ → List ℕ) (site : Site) (session : ShellSession) (before after was is : Option (List ℕ))
-    (Broken : Type 0) (Told : List ℕ → Type 0) (end : Result Ending RunFault) (w new : World) : Type 0 where
-  pub talk : IsTalk echo site session before after Broken (Appends was is) Told end w
+pub record IsConversation (x : Explaining) (echo : List ℕ → List ℕ) (site : Site) (session : ShellSession)
+    (before after was is : Option (List ℕ)) (Broken : Type 0) (Told : List ℕ → Type 0) (end : Result Ending RunFault) (w new : World) : Type 0 where
+  pub talk : IsTalk x echo site session before after Broken (Appends was is) Told end w
   pub fits : EventsFit site (opening session ∷ events_in talk.turns)
   pub run : IsSilent echo
       → IsAnswered site (audience_at session) w (opening session ∷ events_in talk.turns) was is new talk.run_end

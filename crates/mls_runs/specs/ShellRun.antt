@@ -12,6 +12,7 @@ use Rattle.mls_host.specs.declared.job.Inputs.{Inputs}
 use Rattle.mls_host.specs.Causes.{IsNotBegun}
 use Rattle.mls_host.specs.Hosting.{Hosting, Hosted}
 use Rattle.mls_host.specs.Storing.{AreStoredWith}
+use Rattle.mls_runs.specs.Explaining.{Explaining}
 use Rattle.mls_runs.specs.Shell.{IsShell}
 use Rattle.mls_runs.specs.Work.{IsOverStore}
 
@@ -26,8 +27,8 @@ shell_session_of label user level has_prompt is_watched = record {
 }
 
 -- what the host says is typed is answered, at a label for a user, over what is stored of the transactions with the
--- certificates
-pub record IsShellRun (h : Hosted) (inputs : Inputs) (store : Option (List ℕ)) (label user : List ℕ)
+-- certificates, and what is refused is explained
+pub record IsShellRun (x : Explaining) (h : Hosted) (inputs : Inputs) (store : Option (List ℕ)) (label user : List ℕ)
     (Wrote Told : List ℕ → Type 0) (end : Result Ending RunFault) : Type 0 where
   pub stored : List Stored
   pub level : ℕ
@@ -37,7 +38,7 @@ pub record IsShellRun (h : Hosted) (inputs : Inputs) (store : Option (List ℕ))
   pub level_is : inputs.setting.reader ≡ Some level
   pub typed : h.before.types before
   pub shell : IsOverStore h inputs.setting.policy inputs.setting.file store
-      (IsShell h.echo (site_of inputs.setting.policy inputs.setting.file.schemes stored)
+      (IsShell x h.echo (site_of inputs.setting.policy inputs.setting.file.schemes stored)
       (shell_session_of label user level h.before.is_terminal h.before.is_watched)
       before after h.before.breaks Wrote Told) end
 

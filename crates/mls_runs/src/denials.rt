@@ -191,7 +191,7 @@ fn call_to(
                 text,
                 "  The arguments are not those of {tx}: it wants one for each parameter, of that parameter's kind."
             )?;
-            text.push_str("  See its parameters in the file of transactions.\n")
+            writeln!(text, "  `describe {tx}` shows them, at a terminal.")
         }
     }
 }

@@ -1,11 +1,13 @@
 //! What is told where a line asks how a command is typed, or what is declared.
 //! It leaves out what the session does not see. It advises, and is no contract.
-use crate::explaining::Listener;
-use crate::help::TOPICS;
+use crate::explaining::{Listener, MORE_HELP};
+use crate::help::{HELP, TOPICS};
 use crate::words::{attribute_name, is_dominated, label_name, relation_of};
 use bitflags::Flags;
 use mls_lattice::{LabelNo, Modes, Policy, is_name_byte};
 use mls_scheme::{Attributes, Column, RelNo, Scheme};
+use mls_sessions::Stored;
+use mls_translang::Tx;
 use std::alloc::AllocError;
 
 const NO_TOPIC: &str =
@@ -13,10 +15,17 @@ const NO_TOPIC: &str =
   call, audit, describe, help, close, quit and exit.
 ";
 
+const NO_OBJECT: &str =
+    "  No relation that you see, and no transaction that you may call, is called so. `describe` shows them all.
+";
+
 /// What is told of a line that asks for more.
 pub(crate) fn asked_text(to: &Listener<'_>, line: &[u8]) -> Result<String, AllocError> {
-    match line.strip_prefix(b"help ") {
-        Some(words) => String::from_str(to.alloc, topic_of(words)),
+    if let Some(words) = line.strip_prefix(b"help ") {
+        return help_text(to, name_in(words));
+    }
+    match line.strip_prefix(b"describe ") {
+        Some(words) => described(to, name_in(words)),
         None => description(to),
     }
 }
@@ -33,9 +42,25 @@ fn first_word(words: &[u8]) -> &[u8] {
     words.get(..count).unwrap_or(&[])
 }
 
-/// How the command that is named first is typed.
-fn topic_of(words: &[u8]) -> &'static str {
-    let name = first_word(behind_blanks(words));
+/// The first name among some words.
+fn name_in(words: &[u8]) -> &[u8] {
+    first_word(behind_blanks(words))
+}
+
+/// How the command of a name is typed, or, without a name, which commands there are.
+fn help_text(to: &Listener<'_>, name: &[u8]) -> Result<String, AllocError> {
+    let mut text = String::new(to.alloc);
+    if name.is_empty() {
+        text.push_str(HELP)?;
+        text.push_str(MORE_HELP)?;
+    } else {
+        text.push_str(topic_of(name))?;
+    }
+    Ok(text)
+}
+
+/// How the command of a name is typed.
+fn topic_of(name: &[u8]) -> &'static str {
     match TOPICS.iter().find(|topic| topic.0.as_bytes() == name) {
         Some(topic) => topic.1,
         None => NO_TOPIC,
@@ -47,8 +72,23 @@ fn topic_of(words: &[u8]) -> &'static str {
 fn description(to: &Listener<'_>) -> Result<String, AllocError> {
     let mut text = String::new(to.alloc);
     relations_to(&mut text, to)?;
+    transactions_to(&mut text, to)?;
     rights_to(&mut text, to)?;
     labels_to(&mut text, to)?;
+    Ok(text)
+}
+
+/// The relation or the transaction of a name, or, without one, all that is declared.
+fn described(to: &Listener<'_>, name: &[u8]) -> Result<String, AllocError> {
+    if name.is_empty() {
+        return description(to);
+    }
+    let mut text = String::new(to.alloc);
+    relation_named_to(&mut text, to, name)?;
+    transaction_named_to(&mut text, to, name)?;
+    if text.as_bytes().is_empty() {
+        text.push_str(NO_OBJECT)?;
+    }
     Ok(text)
 }
 
@@ -172,6 +212,83 @@ fn relations_to(text: &mut String, to: &Listener<'_>) -> Result<(), AllocError> 
     }
     Ok(())
 }
+
+/// Appends the relation of a name, if the session sees it.
+fn relation_named_to(text: &mut String, to: &Listener<'_>, name: &[u8]) -> Result<(), AllocError> {
+    to.schemes.use_invariant();
+    for place in 0..to.schemes.count() {
+        match relation_of(to.schemes, RelNo::new(place as u8)) {
+            Some(scheme) if scheme.name().as_bytes() == name => relation_to(text, to, scheme)?,
+            _ => {}
+        }
+    }
+    Ok(())
+}
+
+// ---- transactions
+
+/// Whether the user may call a transaction in some session whose label this one sees.
+fn may_call(to: &Listener<'_>, tx: &Tx) -> bool {
+    match to.policy.user(to.session.user.as_str()) {
+        Some(user) => {
+            is_seen(to, tx.lo()) && to.policy.modes(user, tx.name()).contains(Modes::EXECUTE)
+        }
+        None => false,
+    }
+}
+
+/// Appends a transaction: its parameters, the label at which it runs, and whether it has no certificate.
+fn transaction_to(text: &mut String, to: &Listener<'_>, stored: &Stored) -> Result<(), AllocError> {
+    let tx = stored.tx();
+    let params = tx.params();
+    text.push_str("    ")?;
+    text.push_str(tx.name())?;
+    text.push_str(" (")?;
+    for place in 0..params.len() {
+        if place > 0 {
+            text.push_str(", ")?;
+        }
+        text.push_str(params.name(place))?;
+        text.push_str(" ")?;
+        text.push_str(params.get(place).kind.word())?;
+    }
+    text.push_str(")  at ")?;
+    text.push_str(label_name(to.policy, tx.lo()))?;
+    match stored {
+        Stored::Certified(_) => text.push_str("\n"),
+        Stored::Plain(_) => text.push_str(", without a certificate that holds\n"),
+    }
+}
+
+/// Appends the transactions that the user may call.
+fn transactions_to(text: &mut String, to: &Listener<'_>) -> Result<(), AllocError> {
+    let mut front = "  Transactions\n";
+    for stored in to.stored {
+        if may_call(to, stored.tx()) {
+            text.push_str(front)?;
+            transaction_to(text, to, stored)?;
+            front = "";
+        }
+    }
+    Ok(())
+}
+
+/// Appends the transaction of a name, if the user may call it.
+fn transaction_named_to(
+    text: &mut String,
+    to: &Listener<'_>,
+    name: &[u8],
+) -> Result<(), AllocError> {
+    for stored in to.stored {
+        let tx = stored.tx();
+        if tx.name().as_bytes() == name && may_call(to, tx) {
+            transaction_to(text, to, stored)?;
+        }
+    }
+    Ok(())
+}
+
+// ---- rights and labels
 
 /// Whether an object is no relation that the session does not see.
 fn is_told(to: &Listener<'_>, object: &str) -> bool {

@@ -1,13 +1,14 @@
 //! A desk: lines of many sessions, each answered before the next is read.
 //! Blank lines and comments tell no events: no case of their own. A mark that tells a fault is made before any of it is
 //! written. A read that fails is told as a refusal, since all that was answered stands; no mark is printed.
-ghost use Rattle.std.specs.Prelude.{◌≡◌, ◌≤◌, false, length, OnOk};
+ghost use Rattle.std.specs.Prelude.{◌≡◌, ◌≤◌, false, [], length, OnOk};
 ghost use Rattle.mls_machine.specs.Observation.{EventsFit};
 ghost use Rattle.mls_sessions.specs.Engine.{site, world_of, MayServe, IsAtRest, IsEngineReady, Continues, Leaves};
 ghost use Rattle.mls_host.specs.Hosting.{IsAppended};
 ghost use Rattle.mls_certcheck.specs.Site.{site_of};
 ghost use Rattle.mls_runs.specs.Shell.{events_of, is_failed, is_lost};
-ghost use Rattle.mls_runs.specs.Desk.{TellsOne, IsDone, IsDeskFollowed, IsService, IsDesk};
+ghost use Rattle.mls_runs.specs.Desk.{TellsOne, IsDeskFollowed, IsService, IsDesk};
+ghost use Rattle.mls_runs.specs.Marks.{mark_of};
 
 use crate::marks::write_mark;
 use crate::reading::next_fate;
@@ -34,8 +35,8 @@ fn answer<B: Base, W: Write>(
     requires fits { EventsFit (site engine.old) events.now }
     requires one { length events.now ≤ 1 }
     ensures continues { Continues B.seen engine.old engine.new result }
-    ensures done { (B.seen engine.new.base).is_clean → IsDone (site engine.old) (world_of B.seen engine.old) events.now
-        (W.contents out.old) (W.contents out.new) (world_of B.seen engine.new) result }
+    ensures done { (B.seen engine.new.base).is_clean → IsDeskFollowed (site engine.old) (world_of B.seen engine.old)
+        events.now [] (W.contents out.old) (W.contents out.new) (world_of B.seen engine.new) result }
 {
     match events {
         [] => Ok(()),
@@ -58,8 +59,8 @@ fn perform<B: Base, W: Write>(
     requires ready { IsEngineReady B.seen engine.old }
     requires line { TellsOne (site engine.old).policy (site engine.old).schemes fate.now }
     ensures continues { Continues B.seen engine.old engine.new result }
-    ensures done { (B.seen engine.new.base).is_clean → IsDone (site engine.old) (world_of B.seen engine.old)
-        (events_of fate.now) (W.contents out.old) (W.contents out.new) (world_of B.seen engine.new) result }
+    ensures done { (B.seen engine.new.base).is_clean → IsDeskFollowed (site engine.old) (world_of B.seen engine.old)
+        (events_of fate.now) [] (W.contents out.old) (W.contents out.new) (world_of B.seen engine.new) result }
     ensures found { OnOk result (is_lost fate.now ≡ false) }
 {
     match fate {
@@ -84,7 +85,7 @@ fn follow<B: Base, W: Write>(
     requires line { TellsOne (site engine.old).policy (site engine.old).schemes fate.now }
     ensures continues { Continues B.seen engine.old engine.new result }
     ensures followed { (B.seen engine.new.base).is_clean → IsDeskFollowed (site engine.old)
-        (world_of B.seen engine.old) fate.now
+        (world_of B.seen engine.old) (events_of fate.now) (mark_of fate.now)
         (W.contents out.old) (W.contents out.new) (world_of B.seen engine.new) result }
     ensures found { OnOk result (is_lost fate.now ≡ false) }
 {

@@ -1,15 +1,19 @@
 //! Why a line is refused, or what it asks for is not done, in sentences.
+ghost use Rattle.std.specs.Prelude.{IfOk, string_bytes};
+ghost use Rattle.mls_certcheck.specs.Site.{site_of};
+ghost use Rattle.mls_runs.specs.Explaining.{Explaining};
+
 use crate::denials::denial_text;
 use crate::describing::asked_text;
 use crate::refusals::refusal_text;
 use crate::shell_session::{Fate, ShellSession};
 use crate::telling::column_of;
 use crate::typed::text_of;
-use mls_advice::{advice_of, declared_names, form_at, nearest_line, token_at, typed_excerpt};
+use mls_advice::{Names, Slip, command_advice, form_at, typed_excerpt};
 use mls_lattice::Policy;
 use mls_scheme::Schemes;
 use mls_script::{Event, ScriptCause, ScriptFault};
-use mls_sessions::Notice;
+use mls_sessions::{Notice, Stored};
 use std::alloc::{AllocError, Global};
 
 const TOO_LONG: &str =
@@ -24,27 +28,80 @@ const MORE_WORDS: &str =
 const GREETING: &str =
     "  Type a command, `help` for examples, `describe` for what is declared, or `close` to leave.\n";
 
-const MORE_HELP: &str = "\
+/// What can be asked for at a terminal beside the commands.
+pub(crate) const MORE_HELP: &str = "\
 help COMMAND                                                   tells how a command is typed
-describe                                                       shows the relations that you see, your rights and the labels
+describe                                                       shows relations, transactions, your rights and the labels
+describe SOD                                                   shows one relation, or one transaction
 ";
 
-/// Who is told why, under which policy and schemes.
+/// Who is told why: a session, at the policy, the schemes and the stored transactions that it is under.
 #[derive(Drop)]
-pub(crate) struct Listener<'a> {
-    pub(crate) alloc: Global,
-    pub(crate) policy: &'a Policy,
-    pub(crate) schemes: &'a Schemes,
-    pub(crate) session: &'a ShellSession,
+pub struct Listener<'a> {
+    pub alloc: Global,
+    pub policy: &'a Policy,
+    pub schemes: &'a Schemes,
+    pub stored: &'a [Stored],
+    pub session: &'a ShellSession,
+}
+
+/// What is told beside all else where somebody reads standard error at a terminal.
+///
+/// Whoever tells it is given what a session has said and why that was not done, and has nothing else to tell of: no content, and nothing
+/// that is kept from one call to the next.
+pub trait Explains {
+    // What may be told.
+    ghost explaining: { Explaining };
+
+    /// What is told behind the opening of a session: why it was not done, or, to who types at a terminal, what can be typed.
+    fn greeting(
+        to: &Listener<'_>,
+        events: &[Event],
+        notice: Option<Notice>,
+    ) -> Result<String, AllocError>
+        ensures { IfOk result (λ text. explaining.greets (site_of to.now.policy.now to.now.schemes.now to.now.stored.now)
+            to.now.session.now events.now notice (string_bytes text)) };
+
+    /// What is told behind what is said of a line: why nothing was done of it, or what it asks for.
+    fn words(
+        to: &Listener<'_>,
+        line: &[u8],
+        fate: &Fate,
+        notice: Option<Notice>,
+    ) -> Result<String, AllocError>
+        ensures { IfOk result (λ text. explaining.says (site_of to.now.policy.now to.now.schemes.now to.now.stored.now)
+            to.now.session.now line.now fate.now notice (string_bytes text)) };
+}
+
+/// The sentences of this crate. Contracts know nothing of their words.
+pub struct Advice;
+
+impl Explains for Advice {
+    ghost use Rattle.mls_runs.specs.Explaining.{any_text};
+
+    ghost explaining = { any_text };
+
+    fn greeting(
+        to: &Listener<'_>,
+        events: &[Event],
+        notice: Option<Notice>,
+    ) -> Result<String, AllocError> {
+        to.opening_text(events, notice)
+    }
+
+    fn words(
+        to: &Listener<'_>,
+        line: &[u8],
+        fate: &Fate,
+        notice: Option<Notice>,
+    ) -> Result<String, AllocError> {
+        to.line_text(line, fate, notice)
+    }
 }
 
 impl Listener<'_> {
     /// What is told behind the opening: why it was not done, or, to who types at a terminal, what can be typed.
-    pub(crate) fn opening_text(
-        &self,
-        events: &[Event],
-        notice: Option<Notice>,
-    ) -> Result<String, AllocError> {
+    fn opening_text(&self, events: &[Event], notice: Option<Notice>) -> Result<String, AllocError> {
         if notice.is_none() && self.session.has_prompt {
             return String::from_str(self.alloc, GREETING);
         }
@@ -69,7 +126,7 @@ impl Listener<'_> {
     }
 
     /// What is told behind what is said of a line: why nothing was done of it, or what it asks for.
-    pub(crate) fn line_text(
+    fn line_text(
         &self,
         line: &[u8],
         fate: &Fate,
@@ -89,19 +146,28 @@ impl Listener<'_> {
     fn fault_text(&self, line: &[u8], fault: &ScriptFault) -> Result<String, AllocError> {
         let column = column_of(self.session, fault.column);
         let mut text = typed_excerpt(self.alloc, column, line)?;
-        match fault.cause {
-            ScriptCause::Expected => self.form_to(&mut text, line)?,
-            ScriptCause::UnknownName => self.nearest_to(&mut text, line, column)?,
-            _ => {}
+        let whole = text_of(self.alloc, self.session, line)?;
+        if let ScriptCause::Expected = fault.cause {
+            self.form_to(&mut text, &whole)?;
         }
-        text.push_str(advice_of(fault.cause.code()))?;
+        let names = Names {
+            alloc: self.alloc,
+            policy: self.policy,
+            schemes: self.schemes,
+        };
+        let slip = Slip {
+            code: fault.cause.code(),
+            line: 1,
+            column: fault.column,
+            bytes: &whole,
+        };
+        text.push_str(&command_advice(names, slip)?)?;
         Ok(text)
     }
 
     /// Appends the form of the command in a line.
-    fn form_to(&self, text: &mut String, line: &[u8]) -> Result<(), AllocError> {
-        let whole = text_of(self.alloc, self.session, line)?;
-        match form_at(1, &whole).split_once("LABEL SESSION ") {
+    fn form_to(&self, text: &mut String, whole: &[u8]) -> Result<(), AllocError> {
+        match form_at(1, whole).split_once("LABEL SESSION ") {
             Some((_, form)) => write!(text, "  The form: {form}"),
             None if self.session.has_prompt => {
                 text.push_str(NO_VERB)?;
@@ -109,12 +175,5 @@ impl Listener<'_> {
             }
             None => text.push_str(NO_VERB),
         }
-    }
-
-    /// Appends the declared name that is the nearest to what stands at a column.
-    fn nearest_to(&self, text: &mut String, line: &[u8], column: usize) -> Result<(), AllocError> {
-        let names = declared_names(self.alloc, self.policy, self.schemes)?;
-        let nearest = nearest_line(self.alloc, token_at(line, 1, column), &names)?;
-        text.push_str(&nearest)
     }
 }

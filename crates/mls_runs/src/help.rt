@@ -4,12 +4,13 @@
 pub(crate) const HELP: &str = "\
 insert SOD key (\"Enterprise\") values (\"Exploration\", null)     adds a tuple at your label
 view SOD at U                                                  shows what is seen of a relation at a label
-view SOD at U highest where Objective = \"Spying\"               shows, of what holds, the rows that a condition finds
+view SOD at U highest where Objective = \"Spying\"               shows the rows that a condition finds, without cover stories
 count SOD at U class = U                                       counts the rows that a view would show
 dump SOD                                                       shows what you see of a relation as lines of a script
 update SOD key (\"Enterprise\") class U from U set Objective = \"Spying\"
-                                                               gives attributes of a tuple new values at your label
-delete SOD key (\"Enterprise\") class U                          removes your label's tuple of a key
+                                                               gives attributes of a tuple new values at your label; tuples
+                                                               above it that have them from it get the new ones too
+delete SOD key (\"Enterprise\") class U                          removes your label's tuple of a key, and every one above it
 call Known (1, \"x\", null)                                      runs a stored transaction
 audit                                                          shows the audit list up to your label
 close                                                          ends the session, and the shell
@@ -25,7 +26,7 @@ pub(crate) static TOPICS: [(&str, &str); 13] = [
         "view",
         "  view RELATION at LABEL [highest] [class OP LABEL] [first N] [where CONDITION]
   For example: view SOD at U highest where Objective = \"Spying\"
-  It shows the rows of a relation that are seen at a label.
+  It shows the rows of a relation that are seen at a label; with highest, without cover stories.
 ",
     ),
     (
@@ -53,14 +54,17 @@ pub(crate) static TOPICS: [(&str, &str); 13] = [
         "update",
         "  update RELATION key (VALUE, ..) class LABEL from LABEL set ATTRIBUTE = VALUE, ..
   For example: update SOD key (\"Enterprise\") class U from U set Objective = \"Spying\"
-  It gives a tuple new values at the session's label; after class stands the class of its key, after from its own.
+  It gives a tuple new values at the session's label. A view shows both of its classes: for class the one beside the key,
+  for from the one at the end of the row.
+  Every tuple above it that has those values from it gets the new ones too.
 ",
     ),
     (
         "delete",
         "  delete RELATION key (VALUE, ..) class LABEL
   For example: delete SOD key (\"Enterprise\") class U
-  It removes the tuple of a key, and of the class of that key, at the session's label.
+  It removes the tuple of a key, and of the class of that key, at the session's label,
+  and every tuple of that key and that class above it.
 ",
     ),
     (
@@ -78,8 +82,10 @@ pub(crate) static TOPICS: [(&str, &str); 13] = [
     ),
     (
         "describe",
-        "  describe
-  It shows the relations, the rights and the labels that the session sees.
+        "  describe [RELATION]
+  For example: describe SOD
+  It shows the relations, the rights and the labels that the session sees, and the transactions that the user may call;
+  or one of them.
 ",
     ),
     (

@@ -1,15 +1,15 @@
 //! A shell: a session whose commands are typed, each answered before the next is read.
-ghost use Rattle.std.specs.Prelude.{◌≡◌, ◌<◌, ◌∷◌, ◌||◌, [], false, not, length, Some, is_some, OnOk, Err};
+ghost use Rattle.std.specs.Prelude.{◌≡◌, ◌<◌, ◌∷◌, ◌||◌, [], false, not, length, Some, OnOk, Err};
 ghost use Rattle.mls_machine.specs.Observation.{EventsFit};
 ghost use Rattle.mls_sessions.specs.Engine.{site, world_of, IsAtRest, IsEngineReady, Continues, Leaves};
-ghost use Rattle.mls_sessions.specs.Run.{are_done};
+ghost use Rattle.mls_sessions.specs.Run.{notice_in};
 ghost use Rattle.mls_host.specs.Ending.{ending_if};
 ghost use Rattle.mls_host.specs.Hosting.{IsAppended, IsTold};
 ghost use Rattle.mls_certcheck.specs.Site.{site_of};
-ghost use Rattle.mls_runs.specs.Shell.{opening, audience_at, events_of, verdict_of, is_short, end_told, is_last};
-ghost use Rattle.mls_runs.specs.Shell.{is_lost, FateFits, MayTalk, IsShellFollowed, IsConversation, IsShell};
+ghost use Rattle.mls_runs.specs.Shell.{opening, audience_at, events_of, is_short, end_told, is_last};
+ghost use Rattle.mls_runs.specs.Shell.{is_lost, noticed_by, FateFits, MayTalk, IsShellFollowed, IsConversation, IsShell};
 
-use crate::explaining::Listener;
+use crate::explaining::{Explains, Listener};
 use crate::form::form_of;
 use crate::shell_session::{Fate, ShellSession};
 use crate::tally::{is_short, tally_with};
@@ -21,7 +21,7 @@ use mls_lattice::{Items, Policy};
 use mls_machine::Audience;
 use mls_scheme::Schemes;
 use mls_script::Event;
-use mls_sessions::{Engine, RunCause, RunFault, Stored, run_to};
+use mls_sessions::{Engine, Notice, RunCause, RunFault, Stored, run_to};
 use mls_tokens::TypedLines;
 use std::alloc::Global;
 use std::io::Write;
@@ -51,8 +51,8 @@ fn answer<B: Base, W: Write>(
     ensures followed { (B.seen engine.new.base).is_clean → IsShellFollowed (site engine.old) (audience_at session.now)
         (world_of B.seen engine.old) events.now (W.contents out.old) (W.contents out.new)
         (world_of B.seen engine.new) line result }
-    ensures noticed { (B.seen engine.new.base).is_clean → OnOk result (is_some engine.new.notice
-        ≡ not (are_done (site engine.old) (world_of B.seen engine.old) events.now)) }
+    ensures noticed { (B.seen engine.new.base).is_clean → OnOk result (engine.new.notice
+        ≡ notice_in (site engine.old) (world_of B.seen engine.old) events.now) }
 {
     match run_to(engine, events, audience_at(session), out) {
         Ok(()) => Ok(()),
@@ -80,9 +80,8 @@ fn follow<B: Base, W: Write>(
         (world_of B.seen engine.old) (events_of fate.now) (W.contents out.old) (W.contents out.new)
         (world_of B.seen engine.new) line result }
     ensures found { OnOk result (is_lost fate.now ≡ false) }
-    ensures noticed { (B.seen engine.new.base).is_clean → OnOk result (verdict_of (not
-        (is_some engine.new.notice)) fate.now
-        ≡ verdict_of (are_done (site engine.old) (world_of B.seen engine.old) (events_of fate.now)) fate.now) }
+    ensures noticed { (B.seen engine.new.base).is_clean → OnOk result (noticed_by fate.now engine.new.notice
+        ≡ notice_in (site engine.old) (world_of B.seen engine.old) (events_of fate.now)) }
 {
     match fate {
         Fate::Said(events) => answer(engine, session, line, events, out),
@@ -92,6 +91,16 @@ fn follow<B: Base, W: Write>(
             done: false,
         }),
         _ => Ok(()),
+    }
+}
+
+/// Why the event of a line was not done, if it told any.
+fn noticed<B: Base>(engine: &Engine<B>, fate: &Fate) -> Option<Notice>
+    ensures { result ≡ noticed_by fate.now engine.now.notice }
+{
+    match fate {
+        Fate::Said(_) => engine.notice(),
+        _ => None,
     }
 }
 
@@ -121,7 +130,7 @@ fn finish<E: Write>(
 
 /// Opens the session, and answers each line before it reads the next, as long as the session is open and there are lines. What is
 /// refused is explained where somebody reads that.
-fn converse<B: Base, L: TypedLines, W: Write, E: Write>(
+fn converse<X: Explains, B: Base, L: TypedLines, W: Write, E: Write>(
     alloc: Global,
     engine: &mut Engine<B>,
     policy: &Policy,
@@ -139,18 +148,20 @@ fn converse<B: Base, L: TypedLines, W: Write, E: Write>(
     requires fits { EventsFit (site engine.old) (opening session.now ∷ []) }
     requires level { session.now.level < length policy.now.labels }
     ensures continues { Continues B.seen engine.old engine.new result }
-    ensures conversation { (B.seen engine.new.base).is_clean → IsConversation L.echo (site engine.old) session.now
-        (L.remaining lines.old) (L.remaining lines.new) (W.contents out.old) (W.contents out.new) (L.breaks lines.new)
+    ensures conversation { (B.seen engine.new.base).is_clean → IsConversation X.explaining L.echo (site engine.old)
+        session.now (L.remaining lines.old) (L.remaining lines.new) (W.contents out.old) (W.contents out.new) (L.breaks lines.new)
         (IsTold E.contents err.old err.new) result (world_of B.seen engine.old) (world_of B.seen engine.new) }
 {
-    let listener = Listener {
+    answer(engine, session, 0, first, out)?;
+    let to = Listener {
         alloc,
         policy,
         schemes,
+        stored: engine.stored(),
         session,
     };
-    answer(engine, session, 0, first, out)?;
-    tell_more(err, session, listener.opening_text(first, engine.notice()));
+    let greeting = X::greeting(&to, first, engine.notice());
+    tell_more(err, session, greeting);
     let was_opened = engine.is_open(session.level, session.user.as_str());
     let mut tally = Tally {
         lines: 0,
@@ -166,8 +177,16 @@ fn converse<B: Base, L: TypedLines, W: Write, E: Write>(
         let fate = next_fate(alloc, policy, schemes, session, lines, out, &mut heard);
         tell_fate(err, session, before + 1, &fate);
         follow(engine, session, before + 1, &fate, out)?;
-        let notice = engine.notice();
-        tell_more(err, session, listener.line_text(&heard, &fate, notice));
+        let notice = noticed(engine, &fate);
+        let to = Listener {
+            alloc,
+            policy,
+            schemes,
+            stored: engine.stored(),
+            session,
+        };
+        let words = X::words(&to, &heard, &fate, notice);
+        tell_more(err, session, words);
         tally = tally_with(tally, &fate, notice);
         if is_last(&fate) {
             return Ok(finish(err, session, was_opened, &tally));
@@ -185,7 +204,7 @@ fn converse<B: Base, L: TypedLines, W: Write, E: Write>(
 ///
 /// What is written is what a run writes of these events for the level of the session alone, and each answer stands before the next line
 /// is read: a host that shows each line among what is written shows it right before its answer.
-pub(crate) fn shell_over_base<B: Base, L: TypedLines, W: Write, E: Write>(
+pub(crate) fn shell_over_base<X: Explains, B: Base, L: TypedLines, W: Write, E: Write>(
     alloc: Global,
     policy: &Policy,
     schemes: &Schemes,
@@ -200,12 +219,12 @@ pub(crate) fn shell_over_base<B: Base, L: TypedLines, W: Write, E: Write>(
     requires may { MayTalk (site_of policy.now schemes.now stored) session.now first.now }
     requires rest { IsAtRest B.seen policy.now schemes.now base }
     ensures leaves { Leaves B.seen base result.1 result.0 }
-    ensures shell { (B.seen result.1).is_clean → IsShell L.echo (site_of policy.now schemes.now stored) session.now
-        (L.remaining lines.old) (L.remaining lines.new) (L.breaks lines.new) (IsAppended W.contents out.old out.new)
+    ensures shell { (B.seen result.1).is_clean → IsShell X.explaining L.echo (site_of policy.now schemes.now stored)
+        session.now (L.remaining lines.old) (L.remaining lines.new) (L.breaks lines.new) (IsAppended W.contents out.old out.new)
         (IsTold E.contents err.old err.new) result.0 (B.seen base).state.now (B.seen result.1).state.now }
 {
     let mut engine = Engine::new(alloc, base, policy, schemes, stored);
-    let outcome = converse(
+    let outcome = converse::<X, B, L, W, E>(
         alloc,
         &mut engine,
         policy,

@@ -5,7 +5,7 @@ use mls_sessions::RunCause;
 
 /// Who sits at a shell: a user, at a level. The session has the name of the user.
 #[derive(Drop)]
-pub(crate) struct ShellSession {
+pub struct ShellSession {
     pub level: LabelNo,
     /// The name of the level.
     pub label: Str,
@@ -18,7 +18,7 @@ pub(crate) struct ShellSession {
 
 /// What becomes of a line.
 #[derive(Drop)]
-pub(crate) enum Fate {
+pub enum Fate {
     /// There is none: the lines are over.
     Over,
     /// It says nothing.

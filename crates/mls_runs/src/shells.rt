@@ -9,6 +9,7 @@ ghost use Rattle.mls_host.specs.Reading.{FitSetting};
 ghost use Rattle.mls_runs.specs.Shell.{opening, MayTalk, IsShell};
 ghost use Rattle.mls_runs.specs.ShellRun.{shell_session_of, IsShellRun, IsShellRefused};
 
+use crate::explaining::Explains;
 use crate::shell::shell_over_base;
 use crate::shell_session::ShellSession;
 use crate::typed::opening;
@@ -22,10 +23,12 @@ use mls_sessions::{RunFault, Stored};
 use mls_tokens::TypedLines;
 use std::alloc::{AllocError, Global};
 use std::io::Write;
+use std::marker::PhantomData;
 
 /// A shell: the opening of a session, and lines that are answered.
 #[derive(Drop)]
-pub(crate) struct Shell<'s, 'f, 'l, 'o, 'e, L: TypedLines, W: Write, E: Write> {
+pub(crate) struct Shell<'s, 'f, 'l, 'o, 'e, X: Explains, L: TypedLines, W: Write, E: Write> {
+    explains: PhantomData<X>,
     session: &'s ShellSession,
     first: &'f [Event],
     lines: &'l mut L,
@@ -33,14 +36,14 @@ pub(crate) struct Shell<'s, 'f, 'l, 'o, 'e, L: TypedLines, W: Write, E: Write> {
     err: &'e mut Errors<E>,
 }
 
-impl<'s, 'f, 'l, 'o, 'e, L: TypedLines, W: Write, E: Write> Work
-    for Shell<'s, 'f, 'l, 'o, 'e, L, W, E> {
+impl<'s, 'f, 'l, 'o, 'e, X: Explains, L: TypedLines, W: Write, E: Write> Work
+    for Shell<'s, 'f, 'l, 'o, 'e, X, L, W, E> {
     type End = Ending;
 
     ghost may = { λ w site. MayTalk site w.session.now w.first.now };
 
-    ghost leads = { λ old new site end first left. IsShell L.echo site old.session.now (L.remaining old.lines.now)
-        (L.remaining new.lines.now) (L.breaks new.lines.now) (IsAppended W.contents old.out.now new.out.now)
+    ghost leads = { λ old new site end first left. IsShell X.explaining L.echo site old.session.now
+        (L.remaining old.lines.now) (L.remaining new.lines.now) (L.breaks new.lines.now) (IsAppended W.contents old.out.now new.out.now)
         (IsTold E.contents old.err.now new.err.now) end first left };
 
     ghost is_same = { λ old new. (new.lines.ghost_name ≡ old.lines.ghost_name)
@@ -57,7 +60,7 @@ impl<'s, 'f, 'l, 'o, 'e, L: TypedLines, W: Write, E: Write> Work
         base: B,
     ) -> (Result<Ending, RunFault>, B) {
         let (session, first) = (self.session, self.first);
-        shell_over_base(
+        shell_over_base::<X, B, L, W, E>(
             alloc, policy, schemes, stored, base, session, first, self.lines, self.out, self.err,
         )
     }
@@ -88,7 +91,7 @@ fn seated(
 
 /// A shell for a user, at the label of a name, over what a job stores. The opening is made as an event and
 /// never as text. The status is the same at a pipe and at a terminal, and tells no more than the replies do.
-pub fn run_shell<H: Host, W: Write, E: Write>(
+pub fn run_shell<X: Explains, H: Host, W: Write, E: Write>(
     alloc: Global,
     host: &mut H,
     store: Option<&str>,
@@ -100,8 +103,8 @@ pub fn run_shell<H: Host, W: Write, E: Write>(
 ) -> Result<Ending, Stop>
     requires fit { FitSetting inputs.setting inputs.transactions inputs.events }
     requires user { is_name user.now ≡ true }
-    ensures shell { IsEnd (IsShellRun (hosted H.hosting H.Lines.echo host.old host.new) inputs (named store.entry) label.now
-        user.now (IsAppended W.contents out.old out.new) (IsTold E.contents err.old err.new))
+    ensures shell { IsEnd (IsShellRun X.explaining (hosted H.hosting H.Lines.echo host.old host.new) inputs
+        (named store.entry) label.now user.now (IsAppended W.contents out.old out.new) (IsTold E.contents err.old err.new))
         (λ reason. IsShellRefused (H.hosting host.old) inputs.setting (named store.entry) reason
         × IsAppended W.contents out.old out.new [] × IsTold E.contents err.old err.new []) result }
     ensures caused { IsCaused (hosted H.hosting H.Lines.echo host.old host.new) (named store.entry) result }
@@ -126,7 +129,9 @@ pub fn run_shell<H: Host, W: Write, E: Write>(
         host.is_watched(),
     )?;
     let mut lines = host.lines();
+    let explains: PhantomData<X> = PhantomData;
     let mut shell = Shell {
+        explains,
         session: &session,
         first: &first,
         lines: &mut lines,

@@ -1,8 +1,8 @@
 //! What a shell says on standard error.
-ghost use Rattle.std.specs.Prelude.{◌≡◌};
+ghost use Rattle.std.specs.Prelude.{◌≡◌, string_bytes};
 ghost use Rattle.mls_host.specs.Hosting.{IsTold};
 ghost use Rattle.mls_runs.specs.Shell.{prompt_of, column_of, told_of, end_told};
-ghost use Rattle.mls_host.specs.Telling.{IsMore};
+ghost use Rattle.mls_runs.specs.Explaining.{IsExplained, IsTextOf};
 
 use crate::help::HELP;
 use crate::shell_session::{Fate, ShellSession};
@@ -70,7 +70,7 @@ pub(crate) fn tell_more<E: Write>(
     session: &ShellSession,
     text: Result<String, AllocError>,
 )
-    ensures { IsMore session.now.is_watched (IsTold E.contents err.old err.new) }
+    ensures { IsExplained session.now.is_watched (IsTextOf string_bytes text) (IsTold E.contents err.old err.new) }
 {
     match text {
         Ok(text) if session.is_watched => err.tell(text.as_bytes()),

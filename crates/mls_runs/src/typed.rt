@@ -4,8 +4,7 @@ ghost use Rattle.std.specs.List.{AllByRecursion, list_all};
 ghost use Rattle.mls_script.specs.Event.{EventFits};
 ghost use Rattle.mls_script.specs.Reading.{GivesScript, script_at};
 ghost use Rattle.mls_runs.specs.Shell.{prefix_of, opening, is_own, fate_of_events, is_asked, meant};
-ghost use Rattle.mls_runs.specs.Shell.{IsShellFate, FateFits};
-ghost use Rattle.mls_runs.specs.Shell.{IsLineRead};
+ghost use Rattle.mls_runs.specs.Shell.{FateFits, IsShellLineRead};
 ghost use Rattle.mls_runs.specs.Typed.{fate_of_fault, fate_of, Becomes};
 
 use crate::shell_session::{Fate, ShellSession};
@@ -132,7 +131,10 @@ fn is_help(line: &[u8]) -> bool
 fn is_asked(session: &ShellSession, line: &[u8]) -> bool
     ensures { result ≡ is_asked session.now line.now }
 {
-    session.has_prompt && (line == b"describe\n".as_slice() || line.starts_with(b"help "))
+    session.has_prompt
+        && (line == b"describe\n".as_slice()
+            || line.starts_with(b"describe ")
+            || line.starts_with(b"help "))
 }
 
 fn is_farewell(line: &[u8]) -> bool
@@ -190,9 +192,9 @@ pub(crate) fn next_fate<L: TypedLines, W: Write>(
     out: &mut W,
     heard: &mut Vec<u8>,
 ) -> Fate
-    ensures read { IsLineRead L.echo (IsShellFate policy.now schemes.now session.now)
-        (L.remaining lines.old) (L.remaining lines.new)
-        (W.contents out.old) (W.contents out.new) (L.breaks lines.new) result }
+    requires { heard.old.items ≡ [] }
+    ensures read { IsShellLineRead L.echo policy.now schemes.now session.now (L.remaining lines.old)
+        (L.remaining lines.new) (W.contents out.old) (W.contents out.new) (L.breaks lines.new) result heard.new.items }
     ensures fits { FateFits policy.now schemes.now result }
 {
     policy.use_invariant();

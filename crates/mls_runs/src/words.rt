@@ -102,7 +102,16 @@ pub(crate) fn first_outside(
 
 // ---- values
 
-/// Appends a character of a text between quotes. No control character is one of a screen.
+/// Whether a character is invisible, or turns a line round.
+fn is_unseen(character: char) -> bool {
+    match character {
+        '\u{61c}' | '\u{feff}' => true,
+        '\u{200b}'..='\u{200f}' | '\u{202a}'..='\u{202e}' | '\u{2060}'..='\u{2069}' => true,
+        _ => false,
+    }
+}
+
+/// Appends a character of a text between quotes. No control character is one of a screen, nor is one that is not seen there.
 fn char_to(text: &mut String, character: char) -> Result<(), AllocError> {
     match character {
         '"' | '\\' => {
@@ -112,6 +121,11 @@ fn char_to(text: &mut String, character: char) -> Result<(), AllocError> {
         _ if character.is_control() => {
             let number = u32::from(character);
             write!(text, "\\x{number:02x}")
+        }
+        _ if is_unseen(character) => {
+            let number = u32::from(character);
+            let (high, low) = (number / 256, number % 256);
+            write!(text, "\\u{high:02x}{low:02x}")
         }
         _ => text.push(character),
     }

@@ -1,5 +1,5 @@
 -- One event of a run, and a run up to an event.
-use Rattle.std.proofs.Common.{◌≡◌, ℕ, ◌+◌, ◌-◌, ◌<◌, ◌≤◌, ◌&&◌, ◌||◌, Bool, true, false, not, cond, List, [], ◌∷◌, ◌++◌, Option, None, length, take, get_or, refl, sym, ap, ◌∙◌, subst, append_assoc, arith, is_some}
+use Rattle.std.proofs.Common.{◌≡◌, ℕ, ◌+◌, ◌-◌, ◌<◌, ◌≤◌, ◌&&◌, ◌||◌, Bool, true, false, not, cond, List, [], ◌∷◌, ◌++◌, Option, Some, None, length, take, get_or, refl, sym, ap, ◌∙◌, subst, append_assoc, arith, is_some}
 use Rattle.std.specs.Io.KnownBytes.{Appends}
 use Rattle.std.proofs.KnownBytes.{Appends-nil, Appends-trans}
 use Rattle.std.proofs.lemmas.List.{take_more}
@@ -10,7 +10,10 @@ use Rattle.mls_filterview.specs.Content.{Seen}
 use Rattle.mls_script.specs.declared.event.Event.{Event}
 use Rattle.mls_script.specs.Event.{EventFits}
 use Rattle.mls_machine.specs.declared.form.Audience.{Audience}
+use Rattle.mls_updates.specs.declared.outcome.Outcome.{Outcome}
+use Rattle.mls_updates.specs.Outcome.{is_done as is_write_done}
 use Rattle.mls_machine.specs.declared.reply.Reply.{Reply}
+use Rattle.mls_machine.specs.declared.reply.Reply.TheVariants.{Denied, Wrote}
 use Rattle.mls_certcheck.specs.Site.{Site, site_labels}
 use Rattle.mls_machine.specs.Machine.{World, step, end_of}
 use Rattle.mls_machine.specs.Output.{run_lines, ReplyIsKnown}
@@ -22,10 +25,11 @@ use Rattle.mls_script.specs.declared.run_fault.RunFault.{RunFault}
 use Rattle.mls_script.specs.declared.run_fault.RunCause.TheVariants.{Store, Memory}
 use Rattle.mls_sessions.specs.declared.engine.Engine.{Engine}
 use Rattle.mls_sessions.specs.declared.notice.Notice.{Notice}
+use Rattle.mls_sessions.specs.declared.notice.Notice.TheVariants as notices
 use Rattle.mls_sessions.specs.Cause.{cause_of}
 use Rattle.mls_sessions.specs.Sessions.{site_of_run}
 use Rattle.mls_sessions.specs.Engine.{site, world_of, IsEngineReady, IsEngineStep, IsKept}
-use Rattle.mls_sessions.specs.Run.{is_done, are_done, printed_to, world_after, IsStopped, answer_text, IsEventAnswered, IsHalted}
+use Rattle.mls_sessions.specs.Run.{is_done, are_done, notice_of, last_of, notice_in, printed_to, world_after, IsStopped, answer_text, IsEventAnswered, IsHalted}
 use Rattle.mls_sessions.proofs.StepLemmas.{entries_known}
 
 -- ---- one event
@@ -93,31 +97,56 @@ only_store faults.Memory h k = absurd (let e : Memory ≡ Store = k in cc)
 only_store faults.NotBegun h k = absurd (h.0 refl)
 only_store faults.Begun h k = absurd (h.1 refl)
 
--- ---- whether events are done
+-- ---- why events are not done
+
+last_none : (n : Option Notice) → last_of n None ≡ n
+last_none None = refl
+last_none (Some n) = refl
+
+last_assoc : (a b c : Option Notice) → last_of (last_of a b) c ≡ last_of a (last_of b c)
+last_assoc None b c = refl
+last_assoc (Some n) b c = refl
+
+last_some : (a b : Option Notice) → is_some (last_of a b) ≡ (is_some b || is_some a)
+last_some None None = refl
+last_some None (Some n) = refl
+last_some (Some m) None = refl
+last_some (Some m) (Some n) = refl
+
+is_refused : (outcome : Outcome) (done : Bool) → is_some (cond done None (Some (notices.Refused outcome))) ≡ not done
+is_refused outcome true = refl
+is_refused outcome false = refl
+
+noticed_one : (r : Reply) → is_some (notice_of r) ≡ not (is_done r)
+noticed_one (Wrote outcome) = is_refused outcome (is_write_done outcome)
+noticed_one (Denied denial) = refl
+noticed_one _ = refl
 
 module _ (site : Site) where
-  pub are_done-snoc : (w : World) (es : List Event) (e : Event) → are_done site w (es ++ e ∷ []) ≡ (are_done site w es && is_done (step site (end_of site w es) e).reply)
-  unfolding are_done end_of
-  are_done-snoc w [] e = and_true (is_done (step site w e).reply)
-    where
-      and_true : (b : Bool) → (b && true) ≡ b
-      and_true true = refl
-      and_true false = refl
-  are_done-snoc w (x ∷ es) e =
-      ap (λ b. is_done (step site w x).reply && b) (are_done-snoc (step site w x).world es e) ∙ and_assoc (is_done (step site w x).reply) _ _
-    where
-      and_assoc : (a b c : Bool) → (a && (b && c)) ≡ ((a && b) && c)
-      and_assoc true b c = refl
-      and_assoc false b c = refl
+  notice_in-snoc : (w : World) (es : List Event) (e : Event) → notice_in site w (es ++ e ∷ []) ≡ last_of (notice_of (step site (end_of site w es) e).reply) (notice_in site w es)
+  unfolding notice_in end_of
+  notice_in-snoc w [] e = sym (last_none (notice_of (step site w e).reply))
+  notice_in-snoc w (x ∷ es) e =
+      ap (λ n. last_of n (notice_of (step site w x).reply)) (notice_in-snoc (step site w x).world es e) ∙ last_assoc (notice_of (step site (end_of site (step site w x).world es) e).reply) _ _
 
   -- one event more
-  done_more : (w : World) (es : List Event) (i : ℕ) (e : Event) → i < length es → get_or es i e ≡ e
-      → are_done site w (take (i + 1) es) ≡ (are_done site w (take i es) && is_done (step site (end_of site w (take i es)) e).reply)
-  done_more w es i e within is = ap (are_done site w) (take_more es i e within ∙ ap (λ x. take i es ++ x ∷ []) is) ∙ are_done-snoc w (take i es) e
+  notice_more : (w : World) (es : List Event) (i : ℕ) (e : Event) → i < length es → get_or es i e ≡ e
+      → notice_in site w (take (i + 1) es) ≡ last_of (notice_of (step site (end_of site w (take i es)) e).reply) (notice_in site w (take i es))
+  notice_more w es i e within is = ap (notice_in site w) (take_more es i e within ∙ ap (λ x. take i es ++ x ∷ []) is) ∙ notice_in-snoc w (take i es) e
 
-not_both : (a b : Bool) → (not a || not b) ≡ not (a && b)
-not_both true b = refl
-not_both false b = refl
+  -- something is noticed where not all are done
+  pub is_noticed : (w : World) (es : List Event) → is_some (notice_in site w es) ≡ not (are_done site w es)
+  unfolding notice_in are_done
+  is_noticed w [] = refl
+  is_noticed w (e ∷ es) =
+      last_some (notice_in site (step site w e).world es) (notice_of (step site w e).reply)
+      ∙ ap (λ b. b || is_some (notice_in site (step site w e).world es)) (noticed_one (step site w e).reply)
+      ∙ ap (λ b. not (is_done (step site w e).reply) || b) (is_noticed (step site w e).world es)
+      ∙ not_both (is_done (step site w e).reply) (are_done site (step site w e).world es)
+    where
+      not_both : (a b : Bool) → (not a || not b) ≡ not (a && b)
+      not_both true b = refl
+      not_both false b = refl
 
 -- ---- a run up to an event
 
@@ -128,14 +157,14 @@ pub record Running {B : Type 0} (seen : B → Seen) (audience : Audience) (es : 
   pub kept : IsKept seen first now
   pub bytes : (seen now.base).is_clean → Appends start held (printed_to (site first) audience (world_of seen first) es i)
   pub world : (seen now.base).is_clean → world_of seen now ≡ world_after (site first) (world_of seen first) es i
-  pub noticed : (seen now.base).is_clean → is_some now.notice ≡ not (are_done (site first) (world_of seen first) (take i es))
+  pub noticed : (seen now.base).is_clean → now.notice ≡ notice_in (site first) (world_of seen first) (take i es)
 
 moved : (P : Site → World → Type 0) (p q : Site) (v w : World) → p ≡ q → v ≡ w → P p v → P q w
 moved P p q v w a b h = subst (λ x. P x w) a (subst (P p) b h)
 
 module _ {B : Type 0} (seen : B → Seen) (audience : Audience) (es : List Event) (first : Engine B) (start : Option (List ℕ)) where
   pub running_start : IsEngineReady seen first → Running seen audience es first start 0 (record first { notice = None }) start
-  unfolding end_of run_lines are_done
+  unfolding end_of run_lines notice_in
   running_start ready = record {
     clean = λ c. c;
     count = omega arith;
@@ -161,7 +190,7 @@ module _ {B : Type 0} (seen : B → Seen) (audience : Audience) (es : List Event
 
     pub running_more : (seen now.base).failures ≤ (seen new.base).failures → IsKept seen now new
         → ((seen new.base).is_clean → IsEventAnswered (site now) audience (world_of seen now) e held after (world_of seen new))
-        → ((seen new.base).is_clean → is_some new.notice ≡ (is_some now.notice || not (is_done (step (site now) (world_of seen now) e).reply)))
+        → ((seen new.base).is_clean → new.notice ≡ last_of (notice_of (step (site now) (world_of seen now) e).reply) now.notice)
         → Running seen audience es first start (i + 1) new after
     running_more count kept answer notice =
         let h : (seen new.base).is_clean → IsEventAnswered (site first) audience (at i) e held after (world_of seen new) =
@@ -173,10 +202,9 @@ module _ {B : Type 0} (seen : B → Seen) (audience : Audience) (es : List Event
           bytes = λ c. subst (Appends start after) (sym (printed_more (site first) w es i e within is audience)) (Appends-trans start held after (to i) _ (r.bytes (clean c)) (h c).bytes);
           world = λ c. (h c).world ∙ sym (end_more (site first) w es i e within is);
           noticed = λ c.
-              moved (λ p v. is_some new.notice ≡ (is_some now.notice || not (is_done (step p v e).reply))) (site now) (site first) (world_of seen now) (at i) same_site (r.world (clean c)) (notice c)
-              ∙ ap (λ b. b || not (is_done (step (site first) (at i) e).reply)) (r.noticed (clean c))
-              ∙ not_both (are_done (site first) w (take i es)) (is_done (step (site first) (at i) e).reply)
-              ∙ ap not (sym (done_more (site first) w es i e within is));
+              moved (λ p v. new.notice ≡ last_of (notice_of (step p v e).reply) now.notice) (site now) (site first) (world_of seen now) (at i) same_site (r.world (clean c)) (notice c)
+              ∙ ap (last_of (notice_of (step (site first) (at i) e).reply)) (r.noticed (clean c))
+              ∙ sym (notice_more (site first) w es i e within is);
         }
       where
         least : {a b c : ℕ} → a ≤ b → b ≤ c → a ≤ c

@@ -1,6 +1,6 @@
 -- What a run writes for an audience, and where a run that stops leaves things.
 use Rattle.std.specs.Prelude.{◌≡◌, ◌≢◌, ℕ, ◌-◌, ◌≤◌, if◌then◌else◌, ◌&&◌, Bool, true, false, List, [], ◌∷◌, ◌++◌}
-use Rattle.std.specs.Prelude.{length, take, Option}
+use Rattle.std.specs.Prelude.{length, take, Option, Some, None}
 use Rattle.std.specs.Io.KnownBytes.{Appends}
 use Rattle.mls_script.specs.declared.event.Event.{Event}
 use Rattle.mls_updates.specs.Outcome.{is_done as is_write_done}
@@ -13,6 +13,8 @@ use Rattle.mls_machine.specs.Observation.{reply_shows, run_shows}
 use Rattle.mls_script.specs.declared.run_fault.RunCause.{RunCause}
 use Rattle.mls_script.specs.declared.run_fault.RunCause.TheVariants.{Write}
 use Rattle.mls_script.specs.declared.run_fault.RunFault.{RunFault}
+use Rattle.mls_sessions.specs.declared.notice.Notice.{Notice}
+use Rattle.mls_sessions.specs.declared.notice.Notice.TheVariants as notices
 
 -- the world after the first n events of a run from w
 abbrev pub world_after : Site → World → List Event → ℕ → World
@@ -28,6 +30,22 @@ is_done reply = true
 unfoldable pub are_done : Site → World → List Event → Bool
 are_done site w [] = true
 are_done site w (e ∷ es) = is_done (step site w e).reply && are_done site (step site w e).world es
+
+-- why an event with this reply was not done
+abbrev pub notice_of : Reply → Option Notice
+notice_of (Denied denial) = Some (notices.Denied denial)
+notice_of (Wrote outcome) = if is_write_done outcome then None else Some (notices.Refused outcome)
+notice_of reply = None
+
+-- the later one, or else the earlier
+abbrev pub last_of : Option Notice → Option Notice → Option Notice
+last_of None earlier = earlier
+last_of (Some later) earlier = Some later
+
+-- why the last event of a run from a world that was not done was not
+unfoldable pub notice_in : Site → World → List Event → Option Notice
+notice_in site w [] = None
+notice_in site w (e ∷ es) = last_of (notice_in site (step site w e).world es) (notice_of (step site w e).reply)
 
 -- a run from w, of which the lines are written whose labels the reader dominates, or all, in the audience's form
 module _ (site : Site) (audience : Audience) (w : World) (es : List Event) where

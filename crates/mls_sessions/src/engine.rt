@@ -95,6 +95,13 @@ impl<'a, B: Base> Engine<'a, B> {
         self.notice
     }
 
+    /// What is stored of the transactions.
+    pub fn stored(&self) -> &[Stored]
+        ensures { result.now ≡ (site self.now).stored }
+    {
+        &self.site.stored
+    }
+
     /// Answers an event whose session is not open. It asks nothing of the base.
     fn outside(&mut self, event: &Event) -> Result<Reply, BaseFault>
         requires ready { IsEngineReady B.seen self.old }

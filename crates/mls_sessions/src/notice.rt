@@ -1,6 +1,6 @@
 //! What there is to explain of an answer.
-ghost use Rattle.std.specs.Prelude.{◌≡◌, ◌||◌, not, is_some};
-ghost use Rattle.mls_sessions.specs.Run.{is_done};
+ghost use Rattle.std.specs.Prelude.{◌≡◌};
+ghost use Rattle.mls_sessions.specs.Run.{notice_of, last_of};
 
 use mls_machine::{Denial, Reply};
 use mls_updates::Outcome;
@@ -15,7 +15,7 @@ pub enum Notice {
 
 /// Why an event with this reply was not done. What became of the statements of a call is no part of that.
 fn notice_of(reply: &Reply) -> Option<Notice>
-    ensures { is_some result ≡ not (is_done reply.now) }
+    ensures { result ≡ notice_of reply.now }
 {
     match reply {
         Reply::Denied(denial) => Some(Notice::Denied(*denial)),
@@ -26,7 +26,7 @@ fn notice_of(reply: &Reply) -> Option<Notice>
 
 /// Why the last event that was not done was not, from what is known of the events before one with this reply.
 pub(crate) fn next_notice(earlier: Option<Notice>, reply: &Reply) -> Option<Notice>
-    ensures { is_some result ≡ (is_some earlier || not (is_done reply.now)) }
+    ensures { result ≡ last_of (notice_of reply.now) earlier }
 {
     match notice_of(reply) {
         Some(notice) => Some(notice),

@@ -1,5 +1,5 @@
 //! Runs: events answered in order, and their replies written, whole or what one reader may see of them.
-ghost use Rattle.std.specs.Prelude.{◌≡◌, ◌≢◌, ℕ, ◌<◌, ◌||◌, true, not, length, take, is_some, IfOk, IfErr, OnOk};
+ghost use Rattle.std.specs.Prelude.{◌≡◌, ◌≢◌, ℕ, ◌<◌, true, length, take, IfOk, IfErr, OnOk};
 ghost use Rattle.std.specs.Prelude.{IfSome};
 ghost use Rattle.mls_script.specs.Event.{EventFits};
 ghost use Rattle.mls_machine.specs.Machine.{step};
@@ -9,7 +9,7 @@ ghost use Rattle.mls_machine.specs.Laws.{KeepsIntegrity};
 ghost use Rattle.mls_sessions.specs.Sessions.{site_of_run};
 ghost use Rattle.mls_machine.specs.Known.{HasKnownNumbers};
 ghost use Rattle.mls_sessions.specs.Engine.{site, world_of, IsEngineReady, Continues};
-ghost use Rattle.mls_sessions.specs.Run.{is_done, are_done, IsWhole, IsStopped, IsFaultOf, IsEventAnswered, IsHalted};
+ghost use Rattle.mls_sessions.specs.Run.{notice_of, last_of, notice_in, IsWhole, IsStopped, IsFaultOf, IsEventAnswered, IsHalted};
 
 use crate::cause::{cause_of, fault_at};
 use crate::engine::Engine;
@@ -72,9 +72,8 @@ fn answer<B: Base, W: Write>(
         (λ f. IsHalted (site engine.old) audience.now (world_of B.seen engine.old) event.now
         (W.contents out.old) (W.contents out.new) (world_of B.seen engine.new) f.cause f.done) }
     ensures fault { IfErr result (λ f. (f.event ≡ number) × (f.cause ≡ RunCause.Write → f.done ≡ true)) }
-    ensures noticed { (B.seen engine.new.base).is_clean → OnOk result (is_some engine.new.notice
-        ≡ (is_some engine.old.notice || not (is_done
-        (step (site engine.old) (world_of B.seen engine.old) event.now).reply))) }
+    ensures noticed { (B.seen engine.new.base).is_clean → OnOk result (engine.new.notice ≡ last_of (notice_of
+        (step (site engine.old) (world_of B.seen engine.old) event.now).reply) engine.old.notice) }
 {
     let earlier = engine.notice;
     let reply = match engine.step(event) {
@@ -124,9 +123,9 @@ pub fn run_to<B: Base, W: Write>(
     // No information flows down but what is released: over all events, and over the first n of them.
     ensures secret { (B.seen engine.new.base).is_clean → (n : ℕ) → PassesOnlyReleasesDown (site engine.old)
         (world_of B.seen engine.old) (take n events.now) }
-    // There is a notice afterwards where an event was not done.
-    ensures noticed { (B.seen engine.new.base).is_clean → OnOk result (is_some engine.new.notice
-        ≡ not (are_done (site engine.old) (world_of B.seen engine.old) events.now)) }
+    // What is noticed afterwards is why the last of them that was not done was not.
+    ensures noticed { (B.seen engine.new.base).is_clean → OnOk result (engine.new.notice
+        ≡ notice_in (site engine.old) (world_of B.seen engine.old) events.now) }
 {
     engine.notice = None;
     let audience = &audience;

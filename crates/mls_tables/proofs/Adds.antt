@@ -132,7 +132,7 @@ module _ (old new : State) (ready : IsSchemaReady old.now) where
       → OnOk r (Changes (AddsCells (map (cell_beside n) cs)) old new)
   adds_own n cs text (Err e) means h = tt
   adds_own n cs text (Ok count) means h =
-      let did = adds old new (schema ready.0.others) ready.0.is text 1 cell refl (at_rest ready.0.others ready.0.apart cell.tree) (own_values n cs) count h (own_terms 4 (length cs)) 7 (means.0 ready.0.others) in
+      let did = adds old new (schema ready.0.others) ready.0.is text 1 cell refl (at_rest ready.0.others ready.0.apart cell.tree) (own_values n cs) count h (own_terms 4 (length cs)) 7 (means.0 ready.0.others).0 in
       let given = own_values n cs ++ [] in
       let rows = ap (λ k. value_rows given 7 k (own_terms 4 (length cs))) means.1 ∙ ap (λ ps. value_rows ps 7 (length cs) (own_terms 4 (length cs))) (append-nil (own_values n cs)) ∙ own_rows n [] cs in
       own_put n cs (did.0, subst (λ rs. Applies (schema ready.0.others) Enforced old.now.trees (edit_of old.now.trees cell [] Chosen 0 rs) new.now.trees) rows did.1, did.2)

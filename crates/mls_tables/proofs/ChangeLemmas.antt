@@ -22,8 +22,8 @@ goes old new within did = record {
 }
 
 pub writes_within : {Rows : Tables → Tables → Type 0} (old new : State) (r : Result ℕ Error) → IsWrite Rows old new r → AreWrites Rows old new r
-writes_within old new (Ok count) wrote = record { clean = wrote.clean; done = λ now within. goes old new within (wrote.done now within.ready); err = λ now within. tt }
-writes_within old new (Err e) wrote = record { clean = wrote.clean; done = λ now within. tt; err = λ now within. keeps old new (wrote.err now) }
+writes_within old new (Ok count) wrote = record { clean = wrote.clean; done = λ now within. goes old new within (wrote.done now within.ready); cause = λ now within. tt; err = λ now within. tt }
+writes_within old new (Err e) wrote = record { clean = wrote.clean; done = λ now within. tt; cause = λ now within. wrote.cause now (λ on. within.ready); err = λ now within. keeps old new (wrote.err now) }
 
 -- one after the other
 pub then_goes : {First Then Both : Tables → Tables → Type 0} (old mid new : State) → ((a b c : Tables) → First a b → Then b c → Both a c) → GoesOn First old mid → GoesOn Then mid new → GoesOn Both old new
@@ -41,11 +41,13 @@ module _ {First Next Both : Tables → Tables → Type 0} {A B : Type 0} (old mi
   writes_then x (Ok y) first next = record {
     clean = λ now. first.clean (next.clean now);
     done = λ now within. let went = first.done (next.clean now) within in then_goes old mid new both went (next.done now went.within);
+    cause = λ now within. tt;
     err = λ now within. tt;
   }
   writes_then x (Err e) first next = record {
     clean = λ now. first.clean (next.clean now);
     done = λ now within. tt;
+    cause = λ now within. next.cause now (first.done (next.clean now) within).within;
     err = λ now within. let went = first.done (next.clean now) within in let kept = next.err now went.within in record { was_open = λ shows. within.is_open; committed = λ shows. kept.committed shows ∙ went.committed };
   }
 

@@ -1,5 +1,5 @@
 -- What calls leave of a connection, whatever their texts, and where changes begin and end.
-use Rattle.std.proofs.Common.{◌≡◌, ◌⊎◌, inl, inr, ℕ, List, [], true, false, if◌then◌else◌, Option, Some, None, Ok, Err, Result, IsTrue, OnOk, OnErr, codes, length, refl, sym, ap, subst, subst₂, true≢false, ◌∙◌, arith}
+use Rattle.std.proofs.Common.{◌≡◌, ◌⊎◌, inl, inr, ℕ, List, [], true, false, if◌then◌else◌, Option, Some, None, Ok, Err, Result, IsTrue, IfErr, OnOk, OnErr, codes, length, refl, sym, ap, subst, subst₂, true≢false, ◌∙◌, arith}
 use Rattle.std.proofs.lemmas.Bool.{cases_Bool}
 use Rattle.sqlite.specs.Order.{Row}
 use Rattle.sqlite.specs.Tree.{Trees}
@@ -17,7 +17,7 @@ use Rattle.sqlite.specs.Effect.{Database}
 use Rattle.mls_tables.specs.Adopting.{HasRead}
 use Rattle.mls_tables.specs.Rows.{Tables}
 use Rattle.mls_tables.specs.Schema.{HasTables, IsMade}
-use Rattle.mls_tables.specs.Statements.{IsSchemaReady, IsNext, IsEnded, IsWrite, IsMaking, Changes, Begins}
+use Rattle.mls_tables.specs.Statements.{IsSchemaReady, IsNext, IsEnded, IsOfRun, IsWrite, IsMaking, Changes, Begins}
 use Rattle.mls_tables.specs.Store.{HasEnded}
 use Rattle.mls_tables.proofs.Texts.{begin_is, commit_is, rollback_is, rollback_whole, IsWhole}
 
@@ -45,8 +45,14 @@ fails_ended old new sql params e (inr h) = fails_show old new sql h.0 _ e h.0.re
 
 -- a statement that does what its text says
 pub wrote : {Rows : Tables → Tables → Type 0} {Commits : Trees → Type 0} (old new : State) (sql : List ℕ) (params : Row) (r : Result ℕ Error) → (IsSchemaReady old.now → Executes sql params old new r → OnOk r (Changes Rows old new))
+    → ((IsTrue old.is_open → IsSchemaReady old.now) → Executes sql params old new r → IfErr r IsOfRun)
     → (HasCleanDisk new → Executes sql params old new r) → Survives old new Commits → IsWrite Rows old new r
-wrote old new sql params r did runs survives = record { clean = λ now. omega (arith, survives.clean); done = λ now ready. did ready (runs now); err = λ now. ended old new sql params r (runs now) }
+wrote old new sql params r did cause runs survives = record {
+  clean = λ now. omega (arith, survives.clean);
+  done = λ now ready. did ready (runs now);
+  cause = λ now ready. cause ready (runs now);
+  err = λ now. ended old new sql params r (runs now);
+}
 
 pub making : {before after : Schema} {Commits : Trees → Type 0} (old new : State) (sql : List ℕ) (r : Result ℕ Error) → (IsMade before old.now → Executes sql [] old new r → OnOk r (IsMade after new.now × IsNext old new))
     → (HasCleanDisk new → Executes sql [] old new r) → Survives old new Commits → IsMaking before after old new r
@@ -163,6 +169,16 @@ module _ (old begun read end : State) (begins : Begins old begun) where
     same = done.0.now_is ∙ (same.0.now_is ∙ begins.now);
     committed = done.0.committed_is ∙ (same.0.now_is ∙ begins.now);
   }
+
+-- nothing is added to what a change has made
+pub nothing_added : (old first made end : State) → Begins old first → IsNext first made → IsEnded made end → KeepsCommit old end
+nothing_added old first made end begins makes h =
+    let as_made : made.committed ≡ first.committed = makes.committed ∙ ap (λ on. if on then first.committed else made.now) begins.mode in
+    let same = as_made ∙ begins.committed in
+    elim h [
+      | inl nothing ↦ record { was_open = λ o. begins.was_open; committed = λ o. nothing.0.committed_is ∙ same }
+      | inr rolled ↦ record { was_open = λ o. begins.was_open; committed = λ o. (rolled.undone o).1 ∙ same }
+    ]
 
 -- a change that was begun, went on, and ended with an error has committed nothing
 pub nothing_kept : (old first made added end : State) (r : Result ℕ Error) → Begins old first → IsNext first made → IsNext made added → OnErr r (IsEnded added end) → OnErr r (KeepsCommit old end)

@@ -1,6 +1,7 @@
 pub mod Adds
 pub mod ApartRows
 pub mod CauseLemmas
+pub mod Causes
 pub mod ChangeLemmas
 pub mod Clears
 pub mod Creates
@@ -16,6 +17,7 @@ pub mod PlainWrites
 pub mod QueryAnswers
 pub mod ReadLemmas
 pub mod ReadyLemmas
+pub mod RefusalLemmas
 pub mod RowLists
 pub mod RowValues
 pub mod SchemaLemmas

@@ -25,9 +25,17 @@ use Rattle.mls_tables.specs.Schema.{Others, no_schema, with_node, with_cell, wit
 use Rattle.mls_tables.proofs.EditParts.{alone}
 use Rattle.mls_tables.proofs.QueryAnswers.{rows_by, rows_sorted}
 
+abbrev pub IsTaken : ℕ → List ℕ → Result Compiled CompileError → Type 0
+IsTaken count text (Ok c) = (length text ≤ c.tail) × (length c.names ≡ count)
+IsTaken count text (Err e) = ⊥
+
 -- the text is this command, and shows nothing and reads no time beside
 abbrev pub Means : Schema → List ℕ → Command → Type 0
 Means s text command = (command_of (understood s text) ≡ command) × IsPlain (understood s text)
+
+-- the text is one statement with so many parameters
+abbrev pub Takes : ℕ → Schema → List ℕ → Type 0
+Takes count s text = IsTaken count text (understood s text)
 
 -- so it is of a query, which does not read the list of tables
 abbrev pub Asks : Schema → List ℕ → Command → Type 0
@@ -79,6 +87,10 @@ pub add_node_is : (o : Others) → Means (schema o) add_node (Insert 0 (Values n
 unfolding understood everything
 add_node_is o = (refl, (refl, refl))
 
+pub add_node_takes : (o : Others) → Takes 5 (schema o) add_node
+unfolding understood everything
+add_node_takes o = (lit≤ tt, refl)
+
 abbrev pub cell_terms : List Term
 cell_terms = lit Null ∷ col 0 0 ∷ col 0 1 ∷ col 0 2 ∷ col 0 3 ∷ col 0 4 ∷ col 0 5 ∷ []
 
@@ -89,6 +101,10 @@ pub add_cell_is : (o : Others) → Means (schema o) add_cell (Insert 1 (Values c
 unfolding understood everything
 add_cell_is o = (refl, (refl, refl))
 
+pub add_cell_takes : (o : Others) → Takes 6 (schema o) add_cell
+unfolding understood everything
+add_cell_takes o = (lit≤ tt, refl)
+
 -- the same of cells beside one node: the key, and then two parameters a cell
 abbrev pub own_terms : ℕ → ℕ → List Term
 own_terms at zero = []
@@ -96,7 +112,8 @@ own_terms at (suc count) = lit Null ∷ col 0 0 ∷ col 0 1 ∷ col 0 2 ∷ col 
 
 -- the text adds so many cells
 abbrev pub AddsOwn : List ℕ → ℕ → Type 0
-AddsOwn text count = ((o : Others) → Means (schema o) text (Insert 1 (Values (own_terms 4 count) 7))) × (length (own_terms 4 count) / 7 ≡ count)
+AddsOwn text count =
+    ((o : Others) → Means (schema o) text (Insert 1 (Values (own_terms 4 count) 7)) × Takes (4 + 2 * count) (schema o) text) × (length (own_terms 4 count) / 7 ≡ count)
 
 -- the statement that adds so many
 abbrev pub add_own : ℕ → List ℕ
@@ -109,7 +126,7 @@ AddEach count (suc more) = AddsOwn (add_own count) count × AddEach (suc count) 
 
 add_each_is : AddEach 1 15
 unfolding understood everything
-add_each_is = (((λ o. (refl, (refl, refl))), refl), (((λ o. (refl, (refl, refl))), refl), (((λ o. (refl, (refl, refl))), refl), (((λ o. (refl, (refl, refl))), refl), (((λ o. (refl, (refl, refl))), refl), (((λ o. (refl, (refl, refl))), refl), (((λ o. (refl, (refl, refl))), refl), (((λ o. (refl, (refl, refl))), refl), (((λ o. (refl, (refl, refl))), refl), (((λ o. (refl, (refl, refl))), refl), (((λ o. (refl, (refl, refl))), refl), (((λ o. (refl, (refl, refl))), refl), (((λ o. (refl, (refl, refl))), refl), (((λ o. (refl, (refl, refl))), refl), (((λ o. (refl, (refl, refl))), refl), tt)))))))))))))))
+add_each_is = (((λ o. ((refl, (refl, refl)), (lit≤ tt, refl))), refl), (((λ o. ((refl, (refl, refl)), (lit≤ tt, refl))), refl), (((λ o. ((refl, (refl, refl)), (lit≤ tt, refl))), refl), (((λ o. ((refl, (refl, refl)), (lit≤ tt, refl))), refl), (((λ o. ((refl, (refl, refl)), (lit≤ tt, refl))), refl), (((λ o. ((refl, (refl, refl)), (lit≤ tt, refl))), refl), (((λ o. ((refl, (refl, refl)), (lit≤ tt, refl))), refl), (((λ o. ((refl, (refl, refl)), (lit≤ tt, refl))), refl), (((λ o. ((refl, (refl, refl)), (lit≤ tt, refl))), refl), (((λ o. ((refl, (refl, refl)), (lit≤ tt, refl))), refl), (((λ o. ((refl, (refl, refl)), (lit≤ tt, refl))), refl), (((λ o. ((refl, (refl, refl)), (lit≤ tt, refl))), refl), (((λ o. ((refl, (refl, refl)), (lit≤ tt, refl))), refl), (((λ o. ((refl, (refl, refl)), (lit≤ tt, refl))), refl), (((λ o. ((refl, (refl, refl)), (lit≤ tt, refl))), refl), tt)))))))))))))))
 
 one_of : (count more at : ℕ) → AddEach count more → at < more → AddsOwn (add_own (count + at)) (count + at)
 one_of count zero at adds within = absurd (omega (arith, within))
@@ -131,6 +148,10 @@ pub add_entry_is : (o : Others) → Means (schema o) add_entry (Insert 2 (Values
 unfolding understood everything
 add_entry_is o = (refl, (refl, refl))
 
+pub add_entry_takes : (o : Others) → Takes 2 (schema o) add_entry
+unfolding understood everything
+add_entry_takes o = (lit≤ tt, refl)
+
 abbrev pub meta_terms : List Term
 meta_terms = lit (Int (pos 1)) ∷ lit Null ∷ col 0 0 ∷ col 0 1 ∷ col 0 2 ∷ []
 
@@ -140,6 +161,10 @@ add_meta = codes "INSERT INTO meta (id, version, lattice, schemes) VALUES (1, ?1
 pub add_meta_is : (o : Others) → Means (schema o) add_meta (Insert 3 (Values meta_terms 5))
 unfolding understood everything
 add_meta_is o = (refl, (refl, refl))
+
+pub add_meta_takes : (o : Others) → Takes 3 (schema o) add_meta
+unfolding understood everything
+add_meta_takes o = (lit≤ tt, refl)
 
 -- ---- rows are dropped and set
 
@@ -157,12 +182,20 @@ pub drop_node_is : (o : Others) → Means (schema o) drop_node (Delete 0 (alone 
 unfolding understood everything
 drop_node_is o = (refl, (refl, refl))
 
+pub drop_node_takes : (o : Others) → Takes 4 (schema o) drop_node
+unfolding understood everything
+drop_node_takes o = (lit≤ tt, refl)
+
 abbrev pub drop_cells : List ℕ
 drop_cells = codes "DELETE FROM cell WHERE rel = ?1 AND ent = ?2 AND kclass = ?3 AND label = ?4"
 
 pub drop_cells_is : (o : Others) → Means (schema o) drop_cells (Delete 1 (alone (rows_by 2 by_class (col 1 0 ∷ []))))
 unfolding understood everything
 drop_cells_is o = (refl, (refl, refl))
+
+pub drop_cells_takes : (o : Others) → Takes 4 (schema o) drop_cells
+unfolding understood everything
+drop_cells_takes o = (lit≤ tt, refl)
 
 abbrev pub by_cell : List Term
 by_cell = same 1 0 ∷ same 2 1 ∷ same 3 2 ∷ same 4 3 ∷ same 5 4 ∷ []
@@ -178,6 +211,10 @@ pub set_cell_is : (o : Others) → Means (schema o) set_cell (Update 1 (alone (r
 unfolding understood everything
 set_cell_is o = (refl, (refl, refl))
 
+pub set_cell_takes : (o : Others) → Takes 6 (schema o) set_cell
+unfolding understood everything
+set_cell_takes o = (lit≤ tt, refl)
+
 -- ---- tables are cleared
 
 -- every row of a tree, as the statement finds it
@@ -191,12 +228,20 @@ pub clear_nodes_is : (o : Others) → Means (schema o) clear_nodes (Delete 0 (al
 unfolding understood everything
 clear_nodes_is o = (refl, (refl, refl))
 
+pub clear_nodes_takes : (o : Others) → Takes 0 (schema o) clear_nodes
+unfolding understood everything
+clear_nodes_takes o = (lit≤ tt, refl)
+
 abbrev pub clear_cells : List ℕ
 clear_cells = codes "DELETE FROM cell"
 
 pub clear_cells_is : (o : Others) → Means (schema o) clear_cells (Delete 1 (alone (every 2)))
 unfolding understood everything
 clear_cells_is o = (refl, (refl, refl))
+
+pub clear_cells_takes : (o : Others) → Takes 0 (schema o) clear_cells
+unfolding understood everything
+clear_cells_takes o = (lit≤ tt, refl)
 
 abbrev pub clear_entries : List ℕ
 clear_entries = codes "DELETE FROM audit"
@@ -205,12 +250,20 @@ pub clear_entries_is : (o : Others) → Means (schema o) clear_entries (Delete 2
 unfolding understood everything
 clear_entries_is o = (refl, (refl, refl))
 
+pub clear_entries_takes : (o : Others) → Takes 0 (schema o) clear_entries
+unfolding understood everything
+clear_entries_takes o = (lit≤ tt, refl)
+
 abbrev pub clear_meta : List ℕ
 clear_meta = codes "DELETE FROM meta"
 
 pub clear_meta_is : (o : Others) → Means (schema o) clear_meta (Delete 3 (alone (every 5)))
 unfolding understood everything
 clear_meta_is o = (refl, (refl, refl))
+
+pub clear_meta_takes : (o : Others) → Takes 0 (schema o) clear_meta
+unfolding understood everything
+clear_meta_takes o = (lit≤ tt, refl)
 
 -- ---- rows are shown
 
@@ -234,6 +287,10 @@ pub nodes_of_class_is : (o : Others) → Asks (schema o) nodes_of_class (Select 
 unfolding understood everything
 nodes_of_class_is o = (refl, (refl, refl), refl)
 
+pub nodes_of_class_takes : (o : Others) → Takes 2 (schema o) nodes_of_class
+unfolding understood everything
+nodes_of_class_takes o = (lit≤ tt, refl)
+
 abbrev pub nodes_among : List ℕ
 nodes_among = codes "SELECT rel, ent, kclass, label, pattern FROM node WHERE rel = ?1 AND ?2 & (1 << label)"
 
@@ -241,12 +298,20 @@ pub nodes_among_is : (o : Others) → Asks (schema o) nodes_among (Select (alone
 unfolding understood everything
 nodes_among_is o = (refl, (refl, refl), refl)
 
+pub nodes_among_takes : (o : Others) → Takes 2 (schema o) nodes_among
+unfolding understood everything
+nodes_among_takes o = (lit≤ tt, refl)
+
 abbrev pub nodes_of_key : List ℕ
 nodes_of_key = codes "SELECT rel, ent, kclass, label, pattern FROM node WHERE rel = ?1 AND ent = ?2 AND kclass = ?3 AND label = ?4"
 
 pub nodes_of_key_is : (o : Others) → Asks (schema o) nodes_of_key (Select (alone (rows_by 0 by_class node_shown)) node_names)
 unfolding understood everything
 nodes_of_key_is o = (refl, (refl, refl), refl)
+
+pub nodes_of_key_takes : (o : Others) → Takes 4 (schema o) nodes_of_key
+unfolding understood everything
+nodes_of_key_takes o = (lit≤ tt, refl)
 
 abbrev pub cell_names : List (List ℕ)
 cell_names = codes "rel" ∷ codes "ent" ∷ codes "kclass" ∷ codes "label" ∷ codes "attr" ∷ codes "value" ∷ []
@@ -261,6 +326,10 @@ pub cells_of_class_is : (o : Others) → Asks (schema o) cells_of_class (Select 
 unfolding understood everything
 cells_of_class_is o = (refl, (refl, refl), refl)
 
+pub cells_of_class_takes : (o : Others) → Takes 2 (schema o) cells_of_class
+unfolding understood everything
+cells_of_class_takes o = (lit≤ tt, refl)
+
 abbrev pub cells_among : List ℕ
 cells_among = codes "SELECT rel, ent, kclass, label, attr, value FROM cell WHERE rel = ?1 AND ?2 & (1 << label)"
 
@@ -268,12 +337,20 @@ pub cells_among_is : (o : Others) → Asks (schema o) cells_among (Select (alone
 unfolding understood everything
 cells_among_is o = (refl, (refl, refl), refl)
 
+pub cells_among_takes : (o : Others) → Takes 2 (schema o) cells_among
+unfolding understood everything
+cells_among_takes o = (lit≤ tt, refl)
+
 abbrev pub cells_of_tuple : List ℕ
 cells_of_tuple = codes "SELECT rel, ent, kclass, label, attr, value FROM cell WHERE rel = ?1 AND ent = ?2 AND kclass = ?3 AND label = ?4"
 
 pub cells_of_tuple_is : (o : Others) → Asks (schema o) cells_of_tuple (Select (alone (rows_by 2 by_class cell_shown)) cell_names)
 unfolding understood everything
 cells_of_tuple_is o = (refl, (refl, refl), refl)
+
+pub cells_of_tuple_takes : (o : Others) → Takes 4 (schema o) cells_of_tuple
+unfolding understood everything
+cells_of_tuple_takes o = (lit≤ tt, refl)
 
 abbrev pub audit_names : List (List ℕ)
 audit_names = codes "number" ∷ codes "bytes" ∷ []
@@ -304,6 +381,10 @@ all_entries = codes "SELECT number, bytes FROM audit ORDER BY number"
 pub all_entries_is : (o : Others) → Asks (schema o) all_entries (Select (alone (rows_sorted 4 [] audit_shown ((col 1 0, ascending Binary) ∷ []))) audit_names)
 unfolding understood everything
 all_entries_is o = (refl, (refl, refl), refl)
+
+pub all_entries_takes : (o : Others) → Takes 0 (schema o) all_entries
+unfolding understood everything
+all_entries_takes o = (lit≤ tt, refl)
 
 abbrev pub all_meta : List ℕ
 all_meta = codes "SELECT id, version, lattice, schemes FROM meta"

@@ -1,6 +1,6 @@
 -- What the statements do to the four tables.
-use Rattle.std.specs.Prelude.{◌≡◌, ◌⊎◌, ℕ, Bool, true, false, not, if◌then◌else◌, List, [], ◌∷◌, ◌++◌, filter, IsTrue}
-use Rattle.std.specs.Prelude.{IsPermutation, Result, Vec, IfOk, OnOk, OnErr}
+use Rattle.std.specs.Prelude.{◌≡◌, ◌⊎◌, ℕ, ◌<◌, ◌^◌, Bool, true, false, not, if◌then◌else◌, List, [], ◌∷◌, ◌++◌, filter, IsTrue}
+use Rattle.std.specs.Prelude.{IsPermutation, Result, Vec, IfOk, IfErr, OnOk, OnErr}
 use Rattle.std.specs.List.{AllByRecursion}
 use Rattle.std.specs.Ordering.{is_eq}
 use Rattle.std.specs.declared.alloc.Global.{Global}
@@ -10,6 +10,8 @@ use Rattle.sqlite.specs.Effect.{Database}
 use Rattle.sqlite.specs.Schema.{Schema}
 use Rattle.sqlite.specs.State.{State, IsUnchanged, IsRolledBack, HasCleanDisk, KeepsCommit}
 use Rattle.sqlite.specs.declared.error.Error.{Error}
+use Rattle.sqlite.specs.declared.error.Error.TheVariants.{SqliteFailure}
+use Rattle.sqlite.specs.declared.error.ErrorCode.TheVariants as code
 use Rattle.mls_tables.specs.declared.rows.NodeRow.{NodeRow}
 use Rattle.mls_tables.specs.declared.rows.CellRow.{CellRow}
 use Rattle.mls_tables.specs.declared.rows.AuditRow.{AuditRow}
@@ -148,16 +150,49 @@ pub record IsRewritten (nodes : List NodeRow) (cells : List CellRow) (version : 
 abbrev pub IsEnded : State → State → Type 0
 IsEnded old new = IsUnchanged old new ⊎ IsRolledBack old new
 
+-- The statement was understood and run: the store failed; or the database refused these rows, since they break a rule of their
+-- table, are of other kinds than it takes, or go past a limit.
+abbrev pub is_of_run : Error → Bool
+is_of_run (SqliteFailure code.OutOfMemory) = true
+is_of_run (SqliteFailure code.SystemIoFailure) = true
+is_of_run (SqliteFailure code.DatabaseCorrupt) = true
+is_of_run (SqliteFailure code.DiskFull) = true
+is_of_run (SqliteFailure code.Closed) = true
+is_of_run (SqliteFailure code.TooBig) = true
+is_of_run (SqliteFailure (code.ConstraintViolation rule)) = true
+is_of_run (SqliteFailure code.ForeignKeyMismatch) = true
+is_of_run (SqliteFailure code.TooDeep) = true
+is_of_run (SqliteFailure code.NoRowid) = true
+is_of_run (SqliteFailure code.TypeMismatch) = true
+is_of_run (SqliteFailure code.IntegerOverflow) = true
+is_of_run (SqliteFailure code.OperationInterrupted) = true
+is_of_run _ = false
+
+abbrev pub IsOfRun : Error → Type 0
+IsOfRun e = is_of_run e ≡ true
+
+-- every number of the tables' rows fits 32 bits
+abbrev pub FitsNode : NodeRow → Type 0
+FitsNode n = (n.rel < 2 ^ 32) × ((n.kclass < 2 ^ 32) × (n.label < 2 ^ 32))
+
+abbrev pub FitsCell : CellRow → Type 0
+FitsCell c = (c.rel < 2 ^ 32) × ((c.kclass < 2 ^ 32) × ((c.label < 2 ^ 32) × (c.attr < 2 ^ 32)))
+
+abbrev pub AreInRange : Tables → Type 0
+AreInRange t = AllByRecursion FitsNode t.nodes × AllByRecursion FitsCell t.cells
+
 -- a statement that does this to the rows of the four tables; an error leaves what was there, or undoes the transaction
 pub record IsWrite (Rows : Tables → Tables → Type 0) (old new : State) (result : Result ℕ Error) : Type 0 where
   pub clean : HasCleanDisk new → HasCleanDisk old
   pub done : HasCleanDisk new → IsSchemaReady old.now → OnOk result (Changes Rows old new)
+  pub cause : HasCleanDisk new → (IsTrue old.is_open → IsSchemaReady old.now) → IfErr result IsOfRun
   pub err : HasCleanDisk new → OnErr result (IsEnded old new)
 
 -- statements in a change, which goes on; an error keeps what was committed
 pub record AreWrites {A : Type 0} (Rows : Tables → Tables → Type 0) (old new : State) (result : Result A Error) : Type 0 where
   pub clean : HasCleanDisk new → HasCleanDisk old
   pub done : HasCleanDisk new → IsWithin old → OnOk result (GoesOn Rows old new)
+  pub cause : HasCleanDisk new → IsWithin old → IfErr result IsOfRun
   pub err : HasCleanDisk new → IsWithin old → OnErr result (KeepsCommit old new)
 
 -- a statement that makes a table, from one schema to the next
@@ -173,6 +208,7 @@ pub record IsQuery {X : Type 0} (Finds : List X → Type 0) (old new : State) (r
   pub was_open : HasCleanDisk new → OnOk result (IsTrue old.is_open)
   pub found : HasCleanDisk new → IsSchemaReady old.now → IfOk result (λ xs. Finds xs.items)
   pub same : HasCleanDisk new → IsSchemaReady old.now → OnOk result (IsUnchanged old new)
+  pub cause : HasCleanDisk new → (IsTrue old.is_open → IsSchemaReady old.now) → IfErr result (λ e. IsOfRun e ⊎ (¬ AreInRange (tables_of old.now.trees)))
   pub err : HasCleanDisk new → (IsTrue old.is_open → IsSchemaReady old.now) → OnErr result (IsEnded old new)
 
 -- exactly one item passes the test

@@ -232,9 +232,8 @@ impl<S: Alter> TableStore<S> {
         self.begun
     }
 
-    /// Begins a change. That a `Store` has a cause is said of the begin and the ends of a change: a statement
-    /// on rows may also be refused for a constraint, a size or a limit of steps, and that none of these comes
-    /// is not said.
+    /// Begins a change. That a `Store` has a cause is said of the begin and the ends of a change. A statement on rows is understood,
+    /// but may be refused for a constraint, a size or a limit of steps: that none of these comes is not said.
     pub fn begin(&mut self) -> Result<(), StoreFault>
         requires begun { self.old.begun ≡ false }
         ensures { IsStoreTurn true self.old.now self.old self.new result }

@@ -12,6 +12,7 @@ pub mod PassingSteps
 pub mod PassedLemmas
 pub mod NextLemmas
 pub mod EscapingLemmas
+pub mod EscapingSteps
 pub mod TableSteps
 pub mod HarmlessLemmas
 pub mod TypingLemmas

@@ -1,13 +1,15 @@
 //! A machine with the files of a desk, whose stores are lists, and whose lines own their bytes: a function that
 //! makes a machine and calls `act` takes none whose lines are borrowed.
 use crate::desk::{file_of, lines_of};
+use mls_command::{Advises, ignored_of};
 use mls_fragments::OpenFault;
-use mls_host::{CloseFault, Host, HostFault, StoreCause, StoreFiles, read_whole};
+use mls_host::{CloseFault, Documents, Host, HostFault, StoreCause, StoreFiles, read_whole};
 use mls_lattice::Policy;
+use mls_runs::Advice;
 use mls_scheme::SchemesFile;
 use mls_tokens::{AnyReader, LinesOf};
 use mls_updates::ListBase;
-use std::alloc::Global;
+use std::alloc::{AllocError, Global};
 use std::io::Cursor;
 use std::rt::Files;
 
@@ -33,6 +35,7 @@ impl<'a, R: Files + AllocGlobal> Host for Lists<'a, R> {
       bars = λ _ _ _ _. Unit {0};
       shows = λ _ _ _. Unit {0};
       hides = λ _ _. Unit {0};
+      ignores = λ _ _. Unit {0};
       is_honest = Unit {0};
       has_failed = ⊥;
       is_unclosed = ⊥;
@@ -85,5 +88,13 @@ impl<'a, R: Files + AllocGlobal> Host for Lists<'a, R> {
 
     fn keep(&mut self, path: &str, store: ListBase) -> Result<(), CloseFault> {
         Ok(())
+    }
+}
+
+impl<'a, R: Files + AllocGlobal> Advises for Lists<'a, R> {
+    type Advice = Advice;
+
+    fn ignored(&self, alloc: Global, documents: Option<Documents>) -> Result<String, AllocError> {
+        ignored_of(alloc, self, documents)
     }
 }

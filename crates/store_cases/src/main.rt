@@ -9,6 +9,7 @@ mod cuts;
 mod damage;
 mod disks;
 mod histories;
+mod labels;
 mod migrations;
 mod narrow;
 mod runs;

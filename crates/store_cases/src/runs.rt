@@ -9,6 +9,7 @@ ghost use Rattle.mls_certcheck.specs.Site.{AreRead, site_of};
 ghost use Rattle.mls_sessions.specs.Engine.{IsAtRest};
 ghost use Rattle.mls_runs.specs.History.{IsPrepared};
 
+use crate::labels::labels_over;
 use crate::narrow::Narrow;
 use crate::site::Site;
 use mls_certcheck::{Certified, Stored};
@@ -30,13 +31,15 @@ pub enum Task<'a> {
     Evaluate,
     /// The audit list is turned.
     Turn,
+    /// What each label holds of each relation is written.
+    Labels,
 }
 
 /// The script of a task, which only a run has.
 fn script_of<'a>(task: Task<'a>) -> &'a str {
     match task {
         Task::Run(text) => text,
-        Task::Evaluate | Task::Turn => "",
+        Task::Evaluate | Task::Turn | Task::Labels => "",
     }
 }
 
@@ -67,8 +70,8 @@ fn cause_of(fault: BaseFault) -> Option<RunCause> {
     }
 }
 
-/// How an evaluation ends that a fault of its base stops.
-fn stop_of(fault: BaseFault) -> End {
+/// How calls of a base end that a fault of it stops.
+pub fn stop_of(fault: BaseFault) -> End {
     match cause_of(fault) {
         Some(cause) => End::Stopped(RunFault {
             event: 1,
@@ -199,5 +202,6 @@ pub fn do_task<B: Base>(
         Task::Run(_) => run_over(alloc, site, run, base, out),
         Task::Evaluate => evaluate_over(alloc, site, &run, base),
         Task::Turn => turn_over(alloc, site, base, out),
+        Task::Labels => labels_over(alloc, site, base, out),
     }
 }

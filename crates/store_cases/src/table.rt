@@ -1,6 +1,6 @@
 //! The tables, in the order in which they are told.
 use crate::texts::Texts;
-use crate::{again, damage, histories, migrations, stopping};
+use crate::{again, damage, histories, labels, migrations, stopping};
 use case_tables::Told;
 use std::alloc::Global;
 use std::io;
@@ -15,13 +15,15 @@ pub enum Table {
     Histories,
     Migrations,
     Turnings,
+    Labels,
 }
 
-pub const TABLES: [(&str, Table); 7] = [
+pub const TABLES: [(&str, Table); 8] = [
     ("again.txt", Table::Again),
     ("damage.txt", Table::Damage),
     ("evaluations.txt", Table::Evaluations),
     ("histories.txt", Table::Histories),
+    ("labels.txt", Table::Labels),
     ("migrations.txt", Table::Migrations),
     ("stops.txt", Table::Stops),
     ("turnings.txt", Table::Turnings),
@@ -43,6 +45,7 @@ fn tell_lines(
         Table::Migrations => migrations::tell_lines(alloc, texts, lines, out),
         Table::Again => again::tell_lines(alloc, texts, lines, out),
         Table::Histories => histories::tell_lines(alloc, texts, lines, out),
+        Table::Labels => labels::tell_lines(alloc, texts, lines, out),
     }
 }
 

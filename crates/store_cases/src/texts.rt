@@ -2,7 +2,7 @@
 use std::rt::Files;
 use std::{fs, io};
 
-const NAMES: [&str; 23] = [
+const NAMES: [&str; 24] = [
     "again.txt",
     "certificates.txt",
     "damage.script",
@@ -11,6 +11,7 @@ const NAMES: [&str; 23] = [
     "evaluations.txt",
     "five.policy.toml",
     "histories.txt",
+    "labels.txt",
     "migration.script",
     "migrations.txt",
     "other.policy.toml",

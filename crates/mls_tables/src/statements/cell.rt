@@ -1,14 +1,14 @@
 //! Statements on the table of cells. Its key has `attr` before `label`: the rows of an entity at a key class
 //! are looked up by what the key begins with, and those of a class are chosen among them.
-ghost use Rattle.std.specs.Prelude.{◌≡◌, ◌<◌, ◌≤◌, ◌+◌, ◌*◌, length, take, map, filter, IfOk, OnOk, OnErr};
-ghost use Rattle.std.specs.Prelude.{IsPermutation};
+ghost use Rattle.std.specs.Prelude.{◌≡◌, ◌<◌, ◌≤◌, ◌+◌, ◌*◌, length, take, map, filter, IfOk, IfErr, OnOk, OnErr};
+ghost use Rattle.std.specs.Prelude.{IsTrue, IsPermutation};
 ghost use Rattle.sqlite.specs.State.{HasCleanDisk};
 ghost use Rattle.sqlite.specs.Held.{state};
 ghost use Rattle.sqlite.specs.Values.{bound};
 ghost use Rattle.mls_tables.specs.declared.rows.CellRow.{CellRow as SpecCell};
 ghost use Rattle.mls_tables.specs.Rows.{tables_of, is_cell_at, is_cell_among, is_cell_in, cell_beside, own_values};
 ghost use Rattle.mls_tables.specs.Statements.{IsSchemaReady, Changes, IsWrite, AreWrites, IsQuery, AddsCell, AddsCells};
-ghost use Rattle.mls_tables.specs.Statements.{ClearsCells, SetsCell, DropsCells, IsOne, has_key_of, IsEnded};
+ghost use Rattle.mls_tables.specs.Statements.{ClearsCells, SetsCell, DropsCells, IsOne, has_key_of, IsEnded, IsOfRun};
 
 use crate::rows::{CellRow, NodeRow, OwnCell, TupleKey};
 use crate::statements::streaming::select;
@@ -122,6 +122,8 @@ pub fn set_cell<S: Alter>(conn: &mut Connection<S>, cell: &CellRow) -> Result<us
     ensures set { HasCleanDisk (state S.Store conn.new) → IsSchemaReady (state S.Store conn.old).now → (was : SpecCell)
         → IsOne (has_key_of cell.now) (tables_of (state S.Store conn.old).now.trees).cells was
         → OnOk result (Changes (SetsCell cell.now) (state S.Store conn.old) (state S.Store conn.new)) }
+    ensures cause { HasCleanDisk (state S.Store conn.new)
+        → (IsTrue (state S.Store conn.old).is_open → IsSchemaReady (state S.Store conn.old).now) → IfErr result IsOfRun }
     ensures err { HasCleanDisk (state S.Store conn.new)
         → OnErr result (IsEnded (state S.Store conn.old) (state S.Store conn.new)) }
     ensures clean { HasCleanDisk (state S.Store conn.new) → HasCleanDisk (state S.Store conn.old) }

@@ -1,12 +1,14 @@
 use Rattle.std.proofs.Common.{◌≡◌, ◌+◌, false, ◌||◌, Ok, Err, not, refl, sym, ap, ◌∙◌, subst, rules, is_some}
+use Rattle.mls_certcheck.specs.Site.{site_of}
 use Rattle.mls_sessions.specs.Sessions.{site_of_run}
 use Rattle.mls_sessions.specs.Engine.{site, world_of, Continues}
 use Rattle.mls_host.specs.Ending.{ending_if}
 use Rattle.mls_host.specs.Hosting.{IsTold}
-use Rattle.mls_runs.specs.Shell.{audience_at, verdict_of, is_short, end_told, IsShellFollowed, IsConversation}
+use Rattle.mls_sessions.specs.Run.{notice_in}
+use Rattle.mls_runs.specs.Shell.{audience_at, events_of, verdict_of, is_short, end_told, IsShellFollowed, IsConversation}
 use Rattle.mls_runs.specs.Tally.{tally_with}
-use Rattle.mls_runs.proofs.ShellLemmas.{said_more, said_once}
-use Rattle.mls_runs.proofs.TalkLemmas.{SoFar, Line, so_far_start, so_far_more, broken, broken_first, over_closed, over_last, worn_out, fits_at, level_at, read_at}
+use Rattle.mls_runs.proofs.ShellLemmas.{said_more, explained_as}
+use Rattle.mls_runs.proofs.TalkLemmas.{SoFar, Line, IsSaid, MayGreet, may_greet, may_tell, site_made, verdict_noticed, so_far_start, so_far_more, broken, broken_first, over_closed, over_last, worn_out, fits_at, level_at, heard_at}
 use Rattle.mls_sessions.proofs.FrameLemmas.{carried, goes_first, goes_well, goes_on, goes_to, worn_frame}
 use Rattle.mls_runs.proofs.shell.converse.Goals as goal
 
@@ -17,21 +19,27 @@ returns-in_err-answer-clause-continues g c =
 
 pub returns-in_err-answer-clause-conversation : goal.returns-in_err-answer-clause-conversation
 returns-in_err-answer-clause-conversation g c = λ clean.
-    carried (λ r. IsConversation g.L.TypedLines.echo (site c.args.engine.now) c.args.session.now (g.L.TypedLines.remaining c.args.lines.now) (g.L.TypedLines.remaining c.args.lines.now) (g.W.Write.contents c.args.out.now) (g.W.Write.contents c.answer.new.out) (g.L.TypedLines.breaks c.args.lines.now) (IsTold g.E.Write.contents c.args.err.now c.args.err.now) r (world_of g.B.Base.seen c.args.engine.now) (world_of g.B.Base.seen c.answer.new.engine))
+    carried (λ r. IsConversation g.X.Explains.explaining g.L.TypedLines.echo (site c.args.engine.now) c.args.session.now (g.L.TypedLines.remaining c.args.lines.now) (g.L.TypedLines.remaining c.args.lines.now) (g.W.Write.contents c.args.out.now) (g.W.Write.contents c.answer.new.out) (g.L.TypedLines.breaks c.args.lines.now) (IsTold g.E.Write.contents c.args.err.now c.args.err.now) r (world_of g.B.Base.seen c.args.engine.now) (world_of g.B.Base.seen c.answer.new.engine))
     c.from_residual.result c.in_err-answer.field-0.0 c.from_residual.ensures.1
-    (broken_first g.B.Base.seen g.E.Write.contents g.L.TypedLines.echo c.args.session.now c.args.engine.now c.args.err.now (g.L.TypedLines.remaining c.args.lines.now) (g.W.Write.contents c.args.out.now) c.requires.fits (g.L.TypedLines.breaks c.args.lines.now) c.answer.new.engine (g.W.Write.contents c.answer.new.out) c.in_err-answer.field-0.0
+    (broken_first g.B.Base.seen g.E.Write.contents g.X.Explains.explaining g.L.TypedLines.echo c.args.session.now c.args.engine.now c.args.err.now (g.L.TypedLines.remaining c.args.lines.now) (g.W.Write.contents c.args.out.now) c.requires.fits (g.L.TypedLines.breaks c.args.lines.now) c.answer.new.engine (g.W.Write.contents c.answer.new.out) c.in_err-answer.field-0.0
     (subst (λ es. IsShellFollowed (site c.args.engine.now) (audience_at c.args.session.now) (world_of g.B.Base.seen c.args.engine.now) es (g.W.Write.contents c.args.out.now) (g.W.Write.contents c.answer.new.out) (world_of g.B.Base.seen c.answer.new.engine) 0 (Err c.in_err-answer.field-0.0)) c.requires.first (c.in_err-answer.ensures.followed clean)))
 
 pub loop-before-init : goal.loop-before-init
 loop-before-init g c = (
   goes_well g.B.Base.seen c.args.engine.now c.answer.new.engine tt c.in_ok-answer.ensures.continues tt,
-  so_far_start g.B.Base.seen g.E.Write.contents g.L.TypedLines.echo c.args.session.now c.args.engine.now c.args.err.now (g.L.TypedLines.remaining c.args.lines.now) (g.W.Write.contents c.args.out.now) c.answer.new.engine (g.W.Write.contents c.answer.new.out) c.is_open-was_opened.result
+  so_far_start g.B.Base.seen g.E.Write.contents g.X.Explains.explaining g.L.TypedLines.echo c.args.session.now c.args.engine.now c.args.err.now (g.L.TypedLines.remaining c.args.lines.now) (g.W.Write.contents c.args.out.now) c.answer.new.engine (g.W.Write.contents c.answer.new.out) c.is_open-was_opened.result
       (record {
         clean = c.answer.ensures.continues.clean;
         kept = c.answer.ensures.continues.kept;
         followed = λ clean. subst (λ es. IsShellFollowed (site c.args.engine.now) (audience_at c.args.session.now) (world_of g.B.Base.seen c.args.engine.now) es (g.W.Write.contents c.args.out.now) (g.W.Write.contents c.answer.new.out) (world_of g.B.Base.seen c.answer.new.engine) 0 (Ok tt)) c.requires.first (c.in_ok-answer.ensures.followed clean);
         opened_is = c.is_open-was_opened.ensures ∙ ap (λ n. is_some ((world_of g.B.Base.seen c.answer.new.engine).sessions c.args.session.now.level n)) c.as_str.ensures;
-      }) c.tell_more.new.err c.tell_more.ensures,
+      }) c.tell_more.new.err (λ clean.
+      explained_as _ c.greeting-greeting.result c.args.session.now.is_watched (g.X.Explains.explaining.greets (site_of c.args.policy.now c.args.schemes.now c.stored.result.now) c.args.session.now c.args.first.now c.notice.result)
+      (MayGreet g.B.Base.seen g.E.Write.contents g.X.Explains.explaining g.L.TypedLines.echo c.args.session.now c.args.engine.now c.args.err.now (g.L.TypedLines.remaining c.args.lines.now) (g.W.Write.contents c.args.out.now)) _
+      (may_greet g.B.Base.seen g.E.Write.contents g.X.Explains.explaining g.L.TypedLines.echo c.args.session.now c.args.engine.now c.args.err.now (g.L.TypedLines.remaining c.args.lines.now) (g.W.Write.contents c.args.out.now)
+      (site_of c.args.policy.now c.args.schemes.now c.stored.result.now)
+      (site_made (site c.answer.new.engine) (site c.args.engine.now) c.args.policy.now c.args.schemes.now c.stored.result.now (ap site_of_run c.answer.ensures.continues.kept.site) c.requires.policy c.requires.schemes c.stored.ensures) c.args.first.now c.notice.result c.requires.first (c.notice.ensures ∙ c.in_ok-answer.ensures.noticed clean))
+      c.greeting-greeting.ensures c.tell_more.ensures),
 )
 
 pub returns-then-not-is_open-clause-continues : goal.returns-then-not-is_open-clause-continues
@@ -40,8 +48,8 @@ returns-then-not-is_open-clause-continues g c = goes_well g.B.Base.seen c.args.e
 pub returns-then-not-is_open-clause-conversation : goal.returns-then-not-is_open-clause-conversation
 returns-then-not-is_open-clause-conversation g c = λ clean.
     let closed = ap (λ n. is_some ((world_of g.B.Base.seen c.loop-before.engine).sessions c.args.session.now.level n)) (sym c.as_str-in-loop-before.ensures) ∙ sym c.is_open.ensures ∙ c.if-not-is_open.true in
-    subst (λ e. IsConversation g.L.TypedLines.echo (site c.args.engine.now) c.args.session.now (g.L.TypedLines.remaining c.args.lines.now) (g.L.TypedLines.remaining c.loop-before.lines) (g.W.Write.contents c.args.out.now) (g.W.Write.contents c.loop-before.out) (g.L.TypedLines.breaks c.loop-before.lines) (IsTold g.E.Write.contents c.args.err.now c.finish.new.err) (Ok e) (world_of g.B.Base.seen c.args.engine.now) (world_of g.B.Base.seen c.loop-before.engine)) (sym c.finish.ensures.is)
-    (over_closed g.B.Base.seen g.E.Write.contents g.L.TypedLines.echo c.args.session.now c.args.engine.now c.args.err.now (g.L.TypedLines.remaining c.args.lines.now) (g.W.Write.contents c.args.out.now) c.requires.fits (g.L.TypedLines.breaks c.loop-before.lines) c.loop-before.before c.loop-before.engine c.loop-before.err (g.L.TypedLines.remaining c.loop-before.lines) (g.W.Write.contents c.loop-before.out) c.is_open-was_opened.result c.loop-before.tally c.loop-before.invariant.1 clean closed c.finish.new.err c.finish.ensures.told)
+    subst (λ e. IsConversation g.X.Explains.explaining g.L.TypedLines.echo (site c.args.engine.now) c.args.session.now (g.L.TypedLines.remaining c.args.lines.now) (g.L.TypedLines.remaining c.loop-before.lines) (g.W.Write.contents c.args.out.now) (g.W.Write.contents c.loop-before.out) (g.L.TypedLines.breaks c.loop-before.lines) (IsTold g.E.Write.contents c.args.err.now c.finish.new.err) (Ok e) (world_of g.B.Base.seen c.args.engine.now) (world_of g.B.Base.seen c.loop-before.engine)) (sym c.finish.ensures.is)
+    (over_closed g.B.Base.seen g.E.Write.contents g.X.Explains.explaining g.L.TypedLines.echo c.args.session.now c.args.engine.now c.args.err.now (g.L.TypedLines.remaining c.args.lines.now) (g.W.Write.contents c.args.out.now) c.requires.fits (g.L.TypedLines.breaks c.loop-before.lines) c.loop-before.before c.loop-before.engine c.loop-before.err (g.L.TypedLines.remaining c.loop-before.lines) (g.W.Write.contents c.loop-before.out) c.is_open-was_opened.result c.loop-before.tally c.loop-before.invariant.1 clean closed c.finish.new.err c.finish.ensures.told)
 
 pub follow-requires-clause-ready : goal.follow-requires-clause-ready
 follow-requires-clause-ready g c = c.loop-before.invariant.1.heard.kept.ready
@@ -61,56 +69,72 @@ returns-in_err-follow-clause-continues g c =
 
 pub returns-in_err-follow-clause-conversation : goal.returns-in_err-follow-clause-conversation
 returns-in_err-follow-clause-conversation g c = λ clean.
-    let line : Line g.B.Base.seen g.E.Write.contents g.L.TypedLines.echo c.args.session.now c.args.engine.now c.args.err.now (g.L.TypedLines.remaining c.args.lines.now) (g.W.Write.contents c.args.out.now) c.loop-before.before c.loop-before.engine c.loop-before.err (g.L.TypedLines.remaining c.loop-before.lines) (g.W.Write.contents c.loop-before.out) c.is_open-was_opened.result c.loop-before.tally c.loop-before.invariant.1 c.next_fate-fate.result c.ask.new.err c.tell_fate.new.err (g.L.TypedLines.remaining c.next_fate-fate.new.lines) (g.W.Write.contents c.next_fate-fate.new.out) (g.L.TypedLines.breaks c.next_fate-fate.new.lines) = record {
+    let heard_line = heard_at g.L.TypedLines.echo (site c.args.engine.now) c.args.policy.now c.args.schemes.now c.args.session.now _ _ _ _ _ _ _ c.requires.policy c.requires.schemes c.next_fate-fate.ensures.read in
+    let line : Line g.B.Base.seen g.E.Write.contents g.X.Explains.explaining g.L.TypedLines.echo c.args.session.now c.args.engine.now c.args.err.now (g.L.TypedLines.remaining c.args.lines.now) (g.W.Write.contents c.args.out.now) c.loop-before.before c.loop-before.engine c.loop-before.err (g.L.TypedLines.remaining c.loop-before.lines) (g.W.Write.contents c.loop-before.out) c.is_open-was_opened.result c.loop-before.tally c.loop-before.invariant.1 c.next_fate-fate.result c.ask.new.err (g.L.TypedLines.remaining c.next_fate-fate.new.lines) (g.W.Write.contents c.next_fate-fate.new.out) (g.L.TypedLines.breaks c.next_fate-fate.new.lines) = record {
       was_open = ap (λ n. is_some ((world_of g.B.Base.seen c.loop-before.engine).sessions c.args.session.now.level n)) (sym c.as_str-in-loop-before.ensures) ∙ sym c.is_open.ensures ∙ c.if-not-is_open.false;
       asked_is = c.ask.ensures;
-      read = read_at g.L.TypedLines.echo (site c.args.engine.now) c.args.policy.now c.args.schemes.now c.args.session.now _ _ _ _ _ _ c.requires.policy c.requires.schemes c.next_fate-fate.ensures.read;
+      read = heard_line.read;
       fits = fits_at (site c.args.engine.now) (site c.args.engine.now) c.args.policy.now c.args.schemes.now refl c.requires.policy c.requires.schemes _ c.next_fate-fate.ensures.fits;
-      said_is = said_once g.E.Write.contents c.args.session.now c.ask.new.err c.tell_fate.new.err _ c.tell_fate.ensures;
     } in
-    carried (λ r. IsConversation g.L.TypedLines.echo (site c.args.engine.now) c.args.session.now (g.L.TypedLines.remaining c.args.lines.now) (g.L.TypedLines.remaining c.next_fate-fate.new.lines) (g.W.Write.contents c.args.out.now) (g.W.Write.contents c.follow.new.out) (g.L.TypedLines.breaks c.next_fate-fate.new.lines) (IsTold g.E.Write.contents c.args.err.now c.tell_fate.new.err) r (world_of g.B.Base.seen c.args.engine.now) (world_of g.B.Base.seen c.follow.new.engine))
+    carried (λ r. IsConversation g.X.Explains.explaining g.L.TypedLines.echo (site c.args.engine.now) c.args.session.now (g.L.TypedLines.remaining c.args.lines.now) (g.L.TypedLines.remaining c.next_fate-fate.new.lines) (g.W.Write.contents c.args.out.now) (g.W.Write.contents c.follow.new.out) (g.L.TypedLines.breaks c.next_fate-fate.new.lines) (IsTold g.E.Write.contents c.args.err.now c.tell_fate.new.err) r (world_of g.B.Base.seen c.args.engine.now) (world_of g.B.Base.seen c.follow.new.engine))
     c.from_residual-in_err-follow.result c.in_err-follow.field-0.0 c.from_residual-in_err-follow.ensures.1
-    (broken g.B.Base.seen g.E.Write.contents g.L.TypedLines.echo c.args.session.now c.args.engine.now c.args.err.now (g.L.TypedLines.remaining c.args.lines.now) (g.W.Write.contents c.args.out.now) c.loop-before.before c.loop-before.engine c.loop-before.err (g.L.TypedLines.remaining c.loop-before.lines) (g.W.Write.contents c.loop-before.out) c.is_open-was_opened.result c.loop-before.tally c.loop-before.invariant.1 c.next_fate-fate.result c.ask.new.err c.tell_fate.new.err (g.L.TypedLines.remaining c.next_fate-fate.new.lines) (g.W.Write.contents c.next_fate-fate.new.out) (g.L.TypedLines.breaks c.next_fate-fate.new.lines) line c.follow.new.engine (g.W.Write.contents c.follow.new.out) c.follow.ensures.continues.clean c.follow.ensures.continues.kept c.requires.fits c.in_err-follow.field-0.0 clean (c.in_err-follow.ensures.followed clean))
+    (broken g.B.Base.seen g.E.Write.contents g.X.Explains.explaining g.L.TypedLines.echo c.args.session.now c.args.engine.now c.args.err.now (g.L.TypedLines.remaining c.args.lines.now) (g.W.Write.contents c.args.out.now) c.loop-before.before c.loop-before.engine c.loop-before.err (g.L.TypedLines.remaining c.loop-before.lines) (g.W.Write.contents c.loop-before.out) c.is_open-was_opened.result c.loop-before.tally c.loop-before.invariant.1 c.next_fate-fate.result c.ask.new.err c.tell_fate.new.err (g.L.TypedLines.remaining c.next_fate-fate.new.lines) (g.W.Write.contents c.next_fate-fate.new.out) (g.L.TypedLines.breaks c.next_fate-fate.new.lines) line c.follow.new.engine (g.W.Write.contents c.follow.new.out) c.follow.ensures.continues.clean c.follow.ensures.continues.kept c.requires.fits c.in_err-follow.field-0.0 clean c.tell_fate.ensures (c.in_err-follow.ensures.followed clean))
 
 pub returns-then-is_last-clause-continues : goal.returns-then-is_last-clause-continues
 returns-then-is_last-clause-continues g c = goes_on g.B.Base.seen c.args.engine.now c.loop-before.engine c.follow.new.engine tt c.loop-before.invariant.0 tt _ c.in_ok-follow.ensures.continues
 
 pub returns-then-is_last-clause-conversation : goal.returns-then-is_last-clause-conversation
 returns-then-is_last-clause-conversation g c = λ clean.
-    let line : Line g.B.Base.seen g.E.Write.contents g.L.TypedLines.echo c.args.session.now c.args.engine.now c.args.err.now (g.L.TypedLines.remaining c.args.lines.now) (g.W.Write.contents c.args.out.now) c.loop-before.before c.loop-before.engine c.loop-before.err (g.L.TypedLines.remaining c.loop-before.lines) (g.W.Write.contents c.loop-before.out) c.is_open-was_opened.result c.loop-before.tally c.loop-before.invariant.1 c.next_fate-fate.result c.ask.new.err c.tell_more-in-loop-before.new.err (g.L.TypedLines.remaining c.next_fate-fate.new.lines) (g.W.Write.contents c.next_fate-fate.new.out) (g.L.TypedLines.breaks c.next_fate-fate.new.lines) = record {
+    let heard_line = heard_at g.L.TypedLines.echo (site c.args.engine.now) c.args.policy.now c.args.schemes.now c.args.session.now _ _ _ _ _ _ _ c.requires.policy c.requires.schemes c.next_fate-fate.ensures.read in
+    let line : Line g.B.Base.seen g.E.Write.contents g.X.Explains.explaining g.L.TypedLines.echo c.args.session.now c.args.engine.now c.args.err.now (g.L.TypedLines.remaining c.args.lines.now) (g.W.Write.contents c.args.out.now) c.loop-before.before c.loop-before.engine c.loop-before.err (g.L.TypedLines.remaining c.loop-before.lines) (g.W.Write.contents c.loop-before.out) c.is_open-was_opened.result c.loop-before.tally c.loop-before.invariant.1 c.next_fate-fate.result c.ask.new.err (g.L.TypedLines.remaining c.next_fate-fate.new.lines) (g.W.Write.contents c.next_fate-fate.new.out) (g.L.TypedLines.breaks c.next_fate-fate.new.lines) = record {
       was_open = ap (λ n. is_some ((world_of g.B.Base.seen c.loop-before.engine).sessions c.args.session.now.level n)) (sym c.as_str-in-loop-before.ensures) ∙ sym c.is_open.ensures ∙ c.if-not-is_open.false;
       asked_is = c.ask.ensures;
-      read = read_at g.L.TypedLines.echo (site c.args.engine.now) c.args.policy.now c.args.schemes.now c.args.session.now _ _ _ _ _ _ c.requires.policy c.requires.schemes c.next_fate-fate.ensures.read;
+      read = heard_line.read;
       fits = fits_at (site c.args.engine.now) (site c.args.engine.now) c.args.policy.now c.args.schemes.now refl c.requires.policy c.requires.schemes _ c.next_fate-fate.ensures.fits;
-      said_is = said_more g.E.Write.contents c.args.session.now c.ask.new.err c.tell_fate.new.err _ c.tell_fate.ensures c.tell_more-in-loop-before.new.err c.tell_more-in-loop-before.ensures;
     } in
-    let notice = c.notice-notice.result in
-    let same : is_some notice ≡ is_some c.follow.new.engine.notice = ap is_some c.notice-notice.ensures in
-    subst (λ e. IsConversation g.L.TypedLines.echo (site c.args.engine.now) c.args.session.now (g.L.TypedLines.remaining c.args.lines.now) (g.L.TypedLines.remaining c.next_fate-fate.new.lines) (g.W.Write.contents c.args.out.now) (g.W.Write.contents c.follow.new.out) (g.L.TypedLines.breaks c.next_fate-fate.new.lines) (IsTold g.E.Write.contents c.args.err.now c.finish-then-is_last.new.err) (Ok e) (world_of g.B.Base.seen c.args.engine.now) (world_of g.B.Base.seen c.follow.new.engine)) (sym (c.finish-then-is_last.ensures.is ∙ ap (λ t. ending_if (not c.is_open-was_opened.result || is_short t)) c.tally_with-tally.ensures))
-    (over_last g.B.Base.seen g.E.Write.contents g.L.TypedLines.echo c.args.session.now c.args.engine.now c.args.err.now (g.L.TypedLines.remaining c.args.lines.now) (g.W.Write.contents c.args.out.now) c.requires.fits (g.L.TypedLines.breaks c.next_fate-fate.new.lines) c.loop-before.before c.loop-before.engine c.loop-before.err (g.L.TypedLines.remaining c.loop-before.lines) (g.W.Write.contents c.loop-before.out) c.is_open-was_opened.result c.loop-before.tally c.loop-before.invariant.1 c.next_fate-fate.result c.ask.new.err c.tell_more-in-loop-before.new.err (g.L.TypedLines.remaining c.next_fate-fate.new.lines) (g.W.Write.contents c.next_fate-fate.new.out) line c.follow.new.engine (g.W.Write.contents c.follow.new.out) c.follow.ensures.continues.clean c.follow.ensures.continues.kept c.in_ok-follow.ensures.found c.in_ok-follow.ensures.followed
-    (not (is_some notice)) (λ h. ap (λ b. verdict_of (not b) c.next_fate-fate.result) same ∙ c.in_ok-follow.ensures.noticed h) (sym c.is_last.ensures ∙ c.if-is_last.true) clean
+    let notice = c.noticed-notice.result in
+    let Clean : Type 0 = (g.B.Base.seen c.follow.new.engine.base).is_clean in
+    let why : Clean → notice ≡ notice_in (site c.loop-before.engine) (world_of g.B.Base.seen c.loop-before.engine) (events_of c.next_fate-fate.result) = λ h. c.noticed-notice.ensures ∙ c.in_ok-follow.ensures.noticed h in
+    let says : Clean → IsSaid g.B.Base.seen g.E.Write.contents g.X.Explains.explaining g.L.TypedLines.echo c.args.session.now c.args.engine.now c.args.err.now (g.L.TypedLines.remaining c.args.lines.now) (g.W.Write.contents c.args.out.now) c.loop-before.before c.loop-before.engine c.loop-before.err (g.L.TypedLines.remaining c.loop-before.lines) (g.W.Write.contents c.loop-before.out) c.is_open-was_opened.result c.loop-before.tally c.loop-before.invariant.1 c.next_fate-fate.result c.ask.new.err c.tell_more-in-loop-before.new.err (g.L.TypedLines.remaining c.next_fate-fate.new.lines) (g.W.Write.contents c.next_fate-fate.new.out) (g.L.TypedLines.breaks c.next_fate-fate.new.lines) line = λ h.
+    said_more g.E.Write.contents c.args.session.now c.ask.new.err c.tell_fate.new.err _ _ c.tell_fate.ensures c.tell_more-in-loop-before.new.err
+    (explained_as _ c.words-words.result c.args.session.now.is_watched (g.X.Explains.explaining.says (site_of c.args.policy.now c.args.schemes.now c.stored-in-loop-before.result.now) c.args.session.now c.deref.result.now c.next_fate-fate.result notice) _ _
+    (may_tell g.B.Base.seen g.E.Write.contents g.X.Explains.explaining g.L.TypedLines.echo c.args.session.now c.args.engine.now c.args.err.now (g.L.TypedLines.remaining c.args.lines.now) (g.W.Write.contents c.args.out.now) c.loop-before.before c.loop-before.engine c.loop-before.err (g.L.TypedLines.remaining c.loop-before.lines) (g.W.Write.contents c.loop-before.out) c.is_open-was_opened.result c.loop-before.tally c.loop-before.invariant.1 c.next_fate-fate.result c.ask.new.err c.tell_more-in-loop-before.new.err (g.L.TypedLines.remaining c.next_fate-fate.new.lines) (g.W.Write.contents c.next_fate-fate.new.out) (g.L.TypedLines.breaks c.next_fate-fate.new.lines) line (site_of c.args.policy.now c.args.schemes.now c.stored-in-loop-before.result.now)
+    (site_made (site c.follow.new.engine) (site c.args.engine.now) c.args.policy.now c.args.schemes.now c.stored-in-loop-before.result.now (ap site_of_run (c.follow.ensures.continues.kept.site ∙ c.loop-before.invariant.1.heard.kept.site)) c.requires.policy c.requires.schemes c.stored-in-loop-before.ensures) c.deref.result.now notice
+    (c.deref.ensures.value ∙ heard_line.known c.in_ok-follow.ensures.found) (why h) (c.follow.ensures.continues.clean h))
+    c.words-words.ensures c.tell_more-in-loop-before.ensures) in
+    subst (λ e. IsConversation g.X.Explains.explaining g.L.TypedLines.echo (site c.args.engine.now) c.args.session.now (g.L.TypedLines.remaining c.args.lines.now) (g.L.TypedLines.remaining c.next_fate-fate.new.lines) (g.W.Write.contents c.args.out.now) (g.W.Write.contents c.follow.new.out) (g.L.TypedLines.breaks c.next_fate-fate.new.lines) (IsTold g.E.Write.contents c.args.err.now c.finish-then-is_last.new.err) (Ok e) (world_of g.B.Base.seen c.args.engine.now) (world_of g.B.Base.seen c.follow.new.engine)) (sym (c.finish-then-is_last.ensures.is ∙ ap (λ t. ending_if (not c.is_open-was_opened.result || is_short t)) c.tally_with-tally.ensures))
+    (over_last g.B.Base.seen g.E.Write.contents g.X.Explains.explaining g.L.TypedLines.echo c.args.session.now c.args.engine.now c.args.err.now (g.L.TypedLines.remaining c.args.lines.now) (g.W.Write.contents c.args.out.now) c.requires.fits (g.L.TypedLines.breaks c.next_fate-fate.new.lines) c.loop-before.before c.loop-before.engine c.loop-before.err (g.L.TypedLines.remaining c.loop-before.lines) (g.W.Write.contents c.loop-before.out) c.is_open-was_opened.result c.loop-before.tally c.loop-before.invariant.1 c.next_fate-fate.result c.ask.new.err c.tell_more-in-loop-before.new.err (g.L.TypedLines.remaining c.next_fate-fate.new.lines) (g.W.Write.contents c.next_fate-fate.new.out) line c.follow.new.engine (g.W.Write.contents c.follow.new.out) c.follow.ensures.continues.clean c.follow.ensures.continues.kept c.in_ok-follow.ensures.found c.in_ok-follow.ensures.followed
+    (not (is_some notice)) (λ h. verdict_noticed (site c.loop-before.engine) (world_of g.B.Base.seen c.loop-before.engine) c.next_fate-fate.result notice (why h)) says (sym c.is_last.ensures ∙ c.if-is_last.true) clean
     c.finish-then-is_last.new.err (subst (λ t. IsTold g.E.Write.contents c.tell_more-in-loop-before.new.err c.finish-then-is_last.new.err (end_told c.args.session.now t)) c.tally_with-tally.ensures c.finish-then-is_last.ensures.told))
 
 pub loop-before-preserved : goal.loop-before-preserved
 loop-before-preserved g c =
-    let line : Line g.B.Base.seen g.E.Write.contents g.L.TypedLines.echo c.args.session.now c.args.engine.now c.args.err.now (g.L.TypedLines.remaining c.args.lines.now) (g.W.Write.contents c.args.out.now) c.loop-before.before c.loop-before.engine c.loop-before.err (g.L.TypedLines.remaining c.loop-before.lines) (g.W.Write.contents c.loop-before.out) c.is_open-was_opened.result c.loop-before.tally c.loop-before.invariant.1 c.next_fate-fate.result c.ask.new.err c.tell_more-in-loop-before.new.err (g.L.TypedLines.remaining c.next_fate-fate.new.lines) (g.W.Write.contents c.next_fate-fate.new.out) (g.L.TypedLines.breaks c.next_fate-fate.new.lines) = record {
+    let heard_line = heard_at g.L.TypedLines.echo (site c.args.engine.now) c.args.policy.now c.args.schemes.now c.args.session.now _ _ _ _ _ _ _ c.requires.policy c.requires.schemes c.next_fate-fate.ensures.read in
+    let line : Line g.B.Base.seen g.E.Write.contents g.X.Explains.explaining g.L.TypedLines.echo c.args.session.now c.args.engine.now c.args.err.now (g.L.TypedLines.remaining c.args.lines.now) (g.W.Write.contents c.args.out.now) c.loop-before.before c.loop-before.engine c.loop-before.err (g.L.TypedLines.remaining c.loop-before.lines) (g.W.Write.contents c.loop-before.out) c.is_open-was_opened.result c.loop-before.tally c.loop-before.invariant.1 c.next_fate-fate.result c.ask.new.err (g.L.TypedLines.remaining c.next_fate-fate.new.lines) (g.W.Write.contents c.next_fate-fate.new.out) (g.L.TypedLines.breaks c.next_fate-fate.new.lines) = record {
       was_open = ap (λ n. is_some ((world_of g.B.Base.seen c.loop-before.engine).sessions c.args.session.now.level n)) (sym c.as_str-in-loop-before.ensures) ∙ sym c.is_open.ensures ∙ c.if-not-is_open.false;
       asked_is = c.ask.ensures;
-      read = read_at g.L.TypedLines.echo (site c.args.engine.now) c.args.policy.now c.args.schemes.now c.args.session.now _ _ _ _ _ _ c.requires.policy c.requires.schemes c.next_fate-fate.ensures.read;
+      read = heard_line.read;
       fits = fits_at (site c.args.engine.now) (site c.args.engine.now) c.args.policy.now c.args.schemes.now refl c.requires.policy c.requires.schemes _ c.next_fate-fate.ensures.fits;
-      said_is = said_more g.E.Write.contents c.args.session.now c.ask.new.err c.tell_fate.new.err _ c.tell_fate.ensures c.tell_more-in-loop-before.new.err c.tell_more-in-loop-before.ensures;
     } in
-    let notice = c.notice-notice.result in
-    let same : is_some notice ≡ is_some c.follow.new.engine.notice = ap is_some c.notice-notice.ensures in
-    let next = so_far_more g.B.Base.seen g.E.Write.contents g.L.TypedLines.echo c.args.session.now c.args.engine.now c.args.err.now (g.L.TypedLines.remaining c.args.lines.now) (g.W.Write.contents c.args.out.now) c.loop-before.before c.loop-before.engine c.loop-before.err (g.L.TypedLines.remaining c.loop-before.lines) (g.W.Write.contents c.loop-before.out) c.is_open-was_opened.result c.loop-before.tally c.loop-before.invariant.1 c.next_fate-fate.result c.ask.new.err c.tell_more-in-loop-before.new.err (g.L.TypedLines.remaining c.next_fate-fate.new.lines) (g.W.Write.contents c.next_fate-fate.new.out) (g.L.TypedLines.breaks c.next_fate-fate.new.lines) line c.follow.new.engine (g.W.Write.contents c.follow.new.out) c.follow.ensures.continues.clean c.follow.ensures.continues.kept c.in_ok-follow.ensures.found c.in_ok-follow.ensures.followed
-    (not (is_some notice)) (λ h. ap (λ b. verdict_of (not b) c.next_fate-fate.result) same ∙ c.in_ok-follow.ensures.noticed h) in (
+    let notice = c.noticed-notice.result in
+    let Clean : Type 0 = (g.B.Base.seen c.follow.new.engine.base).is_clean in
+    let why : Clean → notice ≡ notice_in (site c.loop-before.engine) (world_of g.B.Base.seen c.loop-before.engine) (events_of c.next_fate-fate.result) = λ h. c.noticed-notice.ensures ∙ c.in_ok-follow.ensures.noticed h in
+    let says : Clean → IsSaid g.B.Base.seen g.E.Write.contents g.X.Explains.explaining g.L.TypedLines.echo c.args.session.now c.args.engine.now c.args.err.now (g.L.TypedLines.remaining c.args.lines.now) (g.W.Write.contents c.args.out.now) c.loop-before.before c.loop-before.engine c.loop-before.err (g.L.TypedLines.remaining c.loop-before.lines) (g.W.Write.contents c.loop-before.out) c.is_open-was_opened.result c.loop-before.tally c.loop-before.invariant.1 c.next_fate-fate.result c.ask.new.err c.tell_more-in-loop-before.new.err (g.L.TypedLines.remaining c.next_fate-fate.new.lines) (g.W.Write.contents c.next_fate-fate.new.out) (g.L.TypedLines.breaks c.next_fate-fate.new.lines) line = λ h.
+    said_more g.E.Write.contents c.args.session.now c.ask.new.err c.tell_fate.new.err _ _ c.tell_fate.ensures c.tell_more-in-loop-before.new.err
+    (explained_as _ c.words-words.result c.args.session.now.is_watched (g.X.Explains.explaining.says (site_of c.args.policy.now c.args.schemes.now c.stored-in-loop-before.result.now) c.args.session.now c.deref.result.now c.next_fate-fate.result notice) _ _
+    (may_tell g.B.Base.seen g.E.Write.contents g.X.Explains.explaining g.L.TypedLines.echo c.args.session.now c.args.engine.now c.args.err.now (g.L.TypedLines.remaining c.args.lines.now) (g.W.Write.contents c.args.out.now) c.loop-before.before c.loop-before.engine c.loop-before.err (g.L.TypedLines.remaining c.loop-before.lines) (g.W.Write.contents c.loop-before.out) c.is_open-was_opened.result c.loop-before.tally c.loop-before.invariant.1 c.next_fate-fate.result c.ask.new.err c.tell_more-in-loop-before.new.err (g.L.TypedLines.remaining c.next_fate-fate.new.lines) (g.W.Write.contents c.next_fate-fate.new.out) (g.L.TypedLines.breaks c.next_fate-fate.new.lines) line (site_of c.args.policy.now c.args.schemes.now c.stored-in-loop-before.result.now)
+    (site_made (site c.follow.new.engine) (site c.args.engine.now) c.args.policy.now c.args.schemes.now c.stored-in-loop-before.result.now (ap site_of_run (c.follow.ensures.continues.kept.site ∙ c.loop-before.invariant.1.heard.kept.site)) c.requires.policy c.requires.schemes c.stored-in-loop-before.ensures) c.deref.result.now notice
+    (c.deref.ensures.value ∙ heard_line.known c.in_ok-follow.ensures.found) (why h) (c.follow.ensures.continues.clean h))
+    c.words-words.ensures c.tell_more-in-loop-before.ensures) in
+    let next = so_far_more g.B.Base.seen g.E.Write.contents g.X.Explains.explaining g.L.TypedLines.echo c.args.session.now c.args.engine.now c.args.err.now (g.L.TypedLines.remaining c.args.lines.now) (g.W.Write.contents c.args.out.now) c.loop-before.before c.loop-before.engine c.loop-before.err (g.L.TypedLines.remaining c.loop-before.lines) (g.W.Write.contents c.loop-before.out) c.is_open-was_opened.result c.loop-before.tally c.loop-before.invariant.1 c.next_fate-fate.result c.ask.new.err c.tell_more-in-loop-before.new.err (g.L.TypedLines.remaining c.next_fate-fate.new.lines) (g.W.Write.contents c.next_fate-fate.new.out) (g.L.TypedLines.breaks c.next_fate-fate.new.lines) line c.follow.new.engine (g.W.Write.contents c.follow.new.out) c.follow.ensures.continues.clean c.follow.ensures.continues.kept c.in_ok-follow.ensures.found c.in_ok-follow.ensures.followed
+    (not (is_some notice)) (λ h. verdict_noticed (site c.loop-before.engine) (world_of g.B.Base.seen c.loop-before.engine) c.next_fate-fate.result notice (why h)) says in (
       goes_on g.B.Base.seen c.args.engine.now c.loop-before.engine c.follow.new.engine tt c.loop-before.invariant.0 tt tt c.in_ok-follow.ensures.continues,
-      subst (λ t. SoFar g.B.Base.seen g.E.Write.contents g.L.TypedLines.echo c.args.session.now c.args.engine.now c.args.err.now (g.L.TypedLines.remaining c.args.lines.now) (g.W.Write.contents c.args.out.now) (c.loop-before.before + 1) c.follow.new.engine c.tell_more-in-loop-before.new.err (g.L.TypedLines.remaining c.next_fate-fate.new.lines) (g.W.Write.contents c.follow.new.out) c.is_open-was_opened.result t false) (sym c.tally_with-tally.ensures)
-          (subst (λ b. SoFar g.B.Base.seen g.E.Write.contents g.L.TypedLines.echo c.args.session.now c.args.engine.now c.args.err.now (g.L.TypedLines.remaining c.args.lines.now) (g.W.Write.contents c.args.out.now) (c.loop-before.before + 1) c.follow.new.engine c.tell_more-in-loop-before.new.err (g.L.TypedLines.remaining c.next_fate-fate.new.lines) (g.W.Write.contents c.follow.new.out) c.is_open-was_opened.result (tally_with c.loop-before.tally (verdict_of (not (is_some notice)) c.next_fate-fate.result)) b) (sym c.is_last.ensures ∙ c.if-is_last.false) next),
+      subst (λ t. SoFar g.B.Base.seen g.E.Write.contents g.X.Explains.explaining g.L.TypedLines.echo c.args.session.now c.args.engine.now c.args.err.now (g.L.TypedLines.remaining c.args.lines.now) (g.W.Write.contents c.args.out.now) (c.loop-before.before + 1) c.follow.new.engine c.tell_more-in-loop-before.new.err (g.L.TypedLines.remaining c.next_fate-fate.new.lines) (g.W.Write.contents c.follow.new.out) c.is_open-was_opened.result t false) (sym c.tally_with-tally.ensures)
+          (subst (λ b. SoFar g.B.Base.seen g.E.Write.contents g.X.Explains.explaining g.L.TypedLines.echo c.args.session.now c.args.engine.now c.args.err.now (g.L.TypedLines.remaining c.args.lines.now) (g.W.Write.contents c.args.out.now) (c.loop-before.before + 1) c.follow.new.engine c.tell_more-in-loop-before.new.err (g.L.TypedLines.remaining c.next_fate-fate.new.lines) (g.W.Write.contents c.follow.new.out) c.is_open-was_opened.result (tally_with c.loop-before.tally (verdict_of (not (is_some notice)) c.next_fate-fate.result)) b) (sym c.is_last.ensures ∙ c.if-is_last.false) next),
     )
 
 pub returns-clause-continues : goal.returns-clause-continues
 returns-clause-continues g c = worn_frame g.B.Base.seen c.args.engine.now c.loop-before.engine tt c.loop-before.invariant.0 _ refl
 
 pub returns-clause-conversation : goal.returns-clause-conversation
-returns-clause-conversation g c = λ clean. worn_out g.B.Base.seen g.E.Write.contents g.L.TypedLines.echo c.args.session.now c.args.engine.now c.args.err.now (g.L.TypedLines.remaining c.args.lines.now) (g.W.Write.contents c.args.out.now) c.requires.fits (g.L.TypedLines.breaks c.loop-before.lines) c.loop-before.before c.loop-before.engine c.loop-before.err (g.L.TypedLines.remaining c.loop-before.lines) (g.W.Write.contents c.loop-before.out) c.is_open-was_opened.result c.loop-before.tally c.loop-before.invariant.1 clean _ (search rules)
+returns-clause-conversation g c = λ clean. worn_out g.B.Base.seen g.E.Write.contents g.X.Explains.explaining g.L.TypedLines.echo c.args.session.now c.args.engine.now c.args.err.now (g.L.TypedLines.remaining c.args.lines.now) (g.W.Write.contents c.args.out.now) c.requires.fits (g.L.TypedLines.breaks c.loop-before.lines) c.loop-before.before c.loop-before.engine c.loop-before.err (g.L.TypedLines.remaining c.loop-before.lines) (g.W.Write.contents c.loop-before.out) c.is_open-was_opened.result c.loop-before.tally c.loop-before.invariant.1 clean _ (search rules)

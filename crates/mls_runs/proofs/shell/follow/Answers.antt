@@ -1,9 +1,8 @@
-use Rattle.std.proofs.Common.{not, subst, is_some}
+use Rattle.std.proofs.Common.{subst}
 use Rattle.std.proofs.lemmas.Result.{on_ok_weaker}
-use Rattle.mls_sessions.specs.Run.{are_done}
 use Rattle.mls_sessions.specs.Engine.{site, world_of}
 use Rattle.mls_runs.specs.Shell.{audience_at, events_of, FateFits}
-use Rattle.mls_runs.proofs.TalkLemmas.{followed_lost, followed_none, none_is_lost, verdict_same, verdict_noticed}
+use Rattle.mls_runs.proofs.TalkLemmas.{followed_lost, followed_none, none_is_lost, noticed_said, noticed_none}
 use Rattle.mls_sessions.proofs.FrameLemmas.{goes_nowhere}
 use Rattle.mls_runs.proofs.shell.follow.Goals as goal
 
@@ -25,12 +24,8 @@ returns-in_default-clause-found g c = none_is_lost c.args.fate.now c.in_default.
 
 pub returns-in-Said-clause-noticed : goal.returns-in-Said-clause-noticed
 returns-in-Said-clause-noticed g c = λ clean.
-    let at = site c.args.engine.now in
-    let w = world_of g.B.Base.seen c.args.engine.now in
-    on_ok_weaker c.answer.result (verdict_noticed at w c.args.fate.now c.in-Said.events _ (is_some c.answer.new.engine.notice) c.in-Said.is c.deref.ensures) (c.answer.ensures.noticed clean)
+    on_ok_weaker c.answer.result (noticed_said (site c.args.engine.now) (world_of g.B.Base.seen c.args.engine.now) c.args.fate.now c.in-Said.events _ c.answer.new.engine.notice c.in-Said.is c.deref.ensures) (c.answer.ensures.noticed clean)
 
 pub returns-in_default-clause-noticed : goal.returns-in_default-clause-noticed
 returns-in_default-clause-noticed g c = λ clean.
-    let at = site c.args.engine.now in
-    let w = world_of g.B.Base.seen c.args.engine.now in
-    verdict_same c.args.fate.now (not (is_some c.args.engine.now.notice)) (are_done at w (events_of c.args.fate.now)) c.in_default.not-Said
+    noticed_none (site c.args.engine.now) (world_of g.B.Base.seen c.args.engine.now) c.args.fate.now c.args.engine.now.notice c.in_default.not-Said

@@ -29,13 +29,13 @@ returns-in-None-clause-shell g c = (no_level c.in-None.is refl, Appends-nil _, t
 
 pub returns-in_err-stored-clause-shell : goal.returns-in_err-stored-clause-shell
 returns-in_err-stored-clause-shell g c =
-    shell_before (hosted g.H.Host.hosting g.H.Lines.TypedLines.echo c.args.host.now c.args.host.now) c.args.inputs (named c.args.store) c.args.label.now c.args.user.now
+    shell_before g.X.Explains.explaining (hosted g.H.Host.hosting g.H.Lines.TypedLines.echo c.args.host.now c.args.host.now) c.args.inputs (named c.args.store) c.args.label.now c.args.user.now
     (IsAppended g.W.Write.contents c.args.out.now c.args.out.now) (IsTold g.E.Write.contents c.args.err.now c.args.err.now) c.from_residual.result c.from_residual.ensures.1
     (Appends-nil _) (told_nothing g.E.Write.contents c.args.err.now)
 
 pub returns-in_err-session-clause-shell : goal.returns-in_err-session-clause-shell
 returns-in_err-session-clause-shell g c =
-    shell_before (hosted g.H.Host.hosting g.H.Lines.TypedLines.echo c.args.host.now c.args.host.now) c.args.inputs (named c.args.store) c.args.label.now c.args.user.now
+    shell_before g.X.Explains.explaining (hosted g.H.Host.hosting g.H.Lines.TypedLines.echo c.args.host.now c.args.host.now) c.args.inputs (named c.args.store) c.args.label.now c.args.user.now
     (IsAppended g.W.Write.contents c.args.out.now c.args.out.now) (IsTold g.E.Write.contents c.args.err.now c.args.err.now) c.from_residual-in_err-session.result c.from_residual-in_err-session.ensures.1
     (Appends-nil _) (told_nothing g.E.Write.contents c.args.err.now)
 
@@ -46,9 +46,9 @@ returns-clause-shell g c =
     let Wrote : g.row.W.Denot → List ℕ → Type 0 = λ out. IsAppended g.W.Write.contents c.args.out.now out in
     let Told : Errors g.row.E.Denot → List ℕ → Type 0 = λ err. IsTold g.E.Write.contents c.args.err.now err in
     let i = c.args.inputs in
-    let EndsAt : g.row.W.Denot → Errors g.row.E.Denot → Type 0 = λ out err. Ends h i (named c.args.store) c.args.label.now c.args.user.now (Wrote out) (Told err) c.over_store.result in
+    let EndsAt : g.row.W.Denot → Errors g.row.E.Denot → Type 0 = λ out err. Ends g.X.Explains.explaining h i (named c.args.store) c.args.label.now c.args.user.now (Wrote out) (Told err) c.over_store.result in
     let ends : EndsAt new.out.now new.err.now =
-    shell_over_stored h i (named c.args.store) c.args.label.now c.args.user.now (Wrote new.out.now) (Told new.err.now) c.in_ok-stored.stored c.in-Some.level
+    shell_over_stored g.X.Explains.explaining h i (named c.args.store) c.args.label.now c.args.user.now (Wrote new.out.now) (Told new.err.now) c.in_ok-stored.stored c.in-Some.level
     (g.H.Lines.TypedLines.remaining c.lines-lines.result) (g.H.Lines.TypedLines.remaining new.lines.now) (g.H.Lines.TypedLines.breaks new.lines.now)
     (subst (λ blocks. AreStoredWith i.setting.policy blocks i.transactions c.in_ok-stored.stored) c.deref.ensures c.in_ok-stored.ensures) c.in-Some.is c.lines-lines.ensures.typed (c.lines-lines.ensures.broken new.lines.now)
     (new ≡ _) (λ same. (subst (λ out. Wrote out []) (sym (ap (λ work. work.out.now) same)) (Appends-nil _), subst (λ err. Told err []) (sym (ap (λ work. work.err.now) same)) (told_nothing g.E.Write.contents c.args.err.now)))

@@ -1,8 +1,8 @@
 use Rattle.std.proofs.Common.{[], Some, None, Ok}
 use Rattle.std.proofs.KnownBytes.{Appends-nil}
 use Rattle.mls_host.specs.Hosting.{hosted, IsAppended}
-use Rattle.mls_host.specs.Causes.{IsBarred}
 use Rattle.mls_host.proofs.StoppingLemmas.{untouched, caused_at}
+use Rattle.mls_runs.specs.TurnRun.{IsTurnRefused}
 use Rattle.mls_runs.proofs.TurningLemmas.{no_list, at_store}
 use Rattle.mls_runs.proofs.turning.turn_store.Goals as goal
 
@@ -10,13 +10,13 @@ pub returns-in-None-clause-ends : goal.returns-in-None-clause-ends
 returns-in-None-clause-ends g c =
     let Wrote = IsAppended g.W.Write.contents c.args.out.now c.args.out.now in
     no_list c.args.setting.now Wrote (hosted g.H.Host.hosting g.H.Lines.TypedLines.echo c.args.host.now c.args.host.now)
-    (λ store reason. IsBarred (g.H.Host.hosting c.args.host.now) c.args.setting.now.policy c.args.setting.now.file store reason × Wrote []) c.args.store c.in-None.is (Appends-nil _)
+    (λ store reason. IsTurnRefused (g.H.Host.hosting c.args.host.now) c.args.setting.now store reason × Wrote []) c.args.store c.in-None.is (Appends-nil _)
 
 pub returns-in-Some-clause-ends : goal.returns-in-Some-clause-ends
 returns-in-Some-clause-ends g c =
     let Wrote = IsAppended g.W.Write.contents c.args.out.now c.turn_in_store.new.out in
     at_store c.args.setting.now Wrote (hosted g.H.Host.hosting g.H.Lines.TypedLines.echo c.args.host.now c.turn_in_store.new.host)
-    (λ store reason. IsBarred (g.H.Host.hosting c.args.host.now) c.args.setting.now.policy c.args.setting.now.file store reason × Wrote []) c.args.store c.in-Some.path c.in-Some.is c.turn_in_store.result c.turn_in_store.ensures.ends
+    (λ store reason. IsTurnRefused (g.H.Host.hosting c.args.host.now) c.args.setting.now store reason × Wrote []) c.args.store c.in-Some.path c.in-Some.is c.turn_in_store.result c.turn_in_store.ensures.ends
 
 pub returns-in-None-clause-caused : goal.returns-in-None-clause-caused
 returns-in-None-clause-caused g c =

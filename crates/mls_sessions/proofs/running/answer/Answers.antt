@@ -1,7 +1,7 @@
-use Rattle.std.proofs.Common.{◌||◌, not, sym, ap, ◌∙◌, subst, is_some}
+use Rattle.std.proofs.Common.{sym, ap, ◌∙◌, subst}
 use Rattle.mls_script.specs.declared.run_fault.RunFault.{RunFault}
 use Rattle.mls_sessions.specs.Engine.{site, world_of}
-use Rattle.mls_sessions.specs.Run.{is_done, IsHalted}
+use Rattle.mls_sessions.specs.Run.{notice_of, last_of, IsHalted}
 use Rattle.mls_sessions.proofs.AnswerLemmas.{halted_before, halted_unprinted, reply_known, not_store, only_store, noted}
 use Rattle.mls_sessions.proofs.running.answer.Goals as goal
 
@@ -51,4 +51,4 @@ returns-in-Ok-write_whole-clause-continues g c =
     }
 
 pub returns-in-Ok-write_whole-clause-noticed : goal.returns-in-Ok-write_whole-clause-noticed
-returns-in-Ok-write_whole-clause-noticed g c = λ h. c.next_notice-engine.ensures ∙ ap (λ r. is_some c.args.engine.now.notice || not (is_done r)) (c.in-Ok.ensures.answers.done h).reply
+returns-in-Ok-write_whole-clause-noticed g c = λ h. c.next_notice-engine.ensures ∙ ap (λ r. last_of (notice_of r) c.args.engine.now.notice) (c.in-Ok.ensures.answers.done h).reply

@@ -1,5 +1,6 @@
 use Rattle.sqlite.specs.Held.{state}
 use Rattle.mls_tables.proofs.Clears.{clears_entries}
+use Rattle.mls_tables.proofs.Causes.{clear_entries_fails}
 use Rattle.mls_tables.proofs.EndLemmas.{wrote}
 use Rattle.mls_tables.proofs.statements.audit.clear_entries.Goals as goal
 
@@ -7,4 +8,4 @@ pub returns : goal.returns
 returns g c =
     let old = state g.S.Store c.args.conn.now in
     let new = state g.S.Store c.execute.new.self in
-    wrote old new _ _ c.execute.result (λ ready. clears_entries old new ready c.execute.result) c.execute.ensures.runs c.execute.ensures.survives
+    wrote old new _ _ c.execute.result (λ ready. clears_entries old new ready c.execute.result) (λ ready. clear_entries_fails old new c.execute.result ready) c.execute.ensures.runs c.execute.ensures.survives

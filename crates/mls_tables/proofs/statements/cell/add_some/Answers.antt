@@ -4,6 +4,7 @@ use Rattle.sqlite.specs.State.{HasCleanDisk, Executes}
 use Rattle.sqlite.specs.Values.{bound}
 use Rattle.mls_tables.specs.Rows.{own_values}
 use Rattle.mls_tables.proofs.Adds.{adds_own}
+use Rattle.mls_tables.proofs.Causes.{add_own_fails}
 use Rattle.mls_tables.proofs.Texts.{AddsOwn, add_own_is}
 use Rattle.mls_tables.proofs.ChangeLemmas.{writes_within}
 use Rattle.mls_tables.proofs.EndLemmas.{wrote}
@@ -18,5 +19,5 @@ returns g c =
     let text = c.adding.result.now in
     let means : AddsOwn text (length cells) = subst (λ it. AddsOwn it (length cells)) (sym c.adding.ensures) (add_own_is (length cells) c.requires.some c.requires.few) in
     let params : bound c.deref.result.now ≡ own_values node cells = search rules in
-    writes_within old new c.execute.result (wrote old new text (own_values node cells) c.execute.result (λ ready. adds_own old new ready node cells text c.execute.result means)
+    writes_within old new c.execute.result (wrote old new text (own_values node cells) c.execute.result (λ ready. adds_own old new ready node cells text c.execute.result means) (λ ready. add_own_fails old new c.execute.result ready node cells text means)
     (subst (λ ps. HasCleanDisk new → Executes text ps old new c.execute.result) params c.execute.ensures.runs) c.execute.ensures.survives)

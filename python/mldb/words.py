@@ -115,12 +115,19 @@ SCRIPTS = _table(
         "no token begins there: a byte or a number that has no place, a text that is not closed, a name of "
         "more than 32 characters, bytes that are not UTF-8. Mend that place; texts have double quotes",
     ),
-    (22, "Expected", "", "a token, or the end, with which nothing goes on: see the grammar"),
-    (23, "UnknownName", "", "a name that means nothing there: declare it, or spell it as it is declared"),
+    (
+        22, "Expected", "",
+        "a token, or the end, with which nothing goes on: explain shows the form, see the grammar",
+    ),
+    (
+        23, "UnknownName", "",
+        "a name that means nothing there: declare it, or spell it as it is declared; explain lists what could"
+        " stand there",
+    ),
     (
         24, "Kind", "",
-        "a value of the wrong kind, a negative number of rows, or a list of the wrong length: see the "
-        "schemes; write not (A = 1)",
+        "a value of the wrong kind, a negative number of rows, or a list of the wrong length: explain says "
+        "what is wanted; write not (A = 1)",
     ),
     (25, "Repeated", "", "a name is given twice"),
     (

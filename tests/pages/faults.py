@@ -47,8 +47,8 @@ FAULTS = (
     ("mlpages/report.py", "gone = [fact for fact in then.get(whom, []) if fact not in now.get(whom, [])]", "gone = []"),
     (
         "mlpages/lattice.py",
-        "for label in found.upwards() for low in found.covers[label]]",
-        "for label in found.upwards() for low in found.covers[label][:1]]",
+        "for low in found.covers[label]:\n            u, v",
+        "for low in found.covers[label][:1]:\n            u, v",
     ),
     ("mlpages/audit.py", "if one.kind == kind] for kind in KINDS}", "if one.kind == kind][:1] for kind in KINDS}"),
     ("mlpages/audit.py", ".lines:target { display: block; }", ""),

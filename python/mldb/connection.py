@@ -10,7 +10,7 @@ from mldb.cursor import Cursor
 from mldb.errors import InterfaceError, NotSupportedError, OperationalError, ProgrammingError
 from mldb.local import Local
 from mldb.program import Path, Program, serve
-from mldb.session import Session
+from mldb.session import NAME, Session
 from mldb.wire import ProcessWire, SocketWire
 
 BELOW = ("leave", "derive")
@@ -24,7 +24,6 @@ class Connection:
     DataError, OperationalError, IntegrityError = errors.DataError, errors.OperationalError, errors.IntegrityError
     InternalError, ProgrammingError = errors.InternalError, errors.ProgrammingError
     NotSupportedError = errors.NotSupportedError
-    autocommit = True
 
     def __init__(self, session: Session, relations: dict[str, Relation], below: str, leave: Callable[[], None]):
         if below not in BELOW:
@@ -64,6 +63,9 @@ class Connection:
         if scheme is None or len(key) != scheme.key_size:
             told = f"{relation}: no relation of that name and {len(key)} key attributes: see the schemes"
             raise ProgrammingError(told)
+        for label in (key_class, from_class or key_class):
+            if not isinstance(label, str) or not NAME.match(label):
+                raise ProgrammingError(f"{label!r}: a class is the name of a label")
         kinds = {one.name: one.kind for one in scheme.others}
         if not changes or not kinds.keys() >= changes.keys():
             told = ", ".join(changes) or "no change"
@@ -86,6 +88,16 @@ class Connection:
         """A new cursor that has executed a statement for each row."""
         return self.cursor().executemany(sql, rows)
 
+    @property
+    def autocommit(self) -> bool:
+        """True: each command is kept when it is done."""
+        return True
+
+    @autocommit.setter
+    def autocommit(self, value: bool) -> None:
+        if not value:
+            raise NotSupportedError("each command is kept when it is done: nothing waits for a commit")
+
     def commit(self) -> None:
         """Nothing: each command is kept when it is done."""
         self.session()
@@ -96,7 +108,7 @@ class Connection:
         raise NotSupportedError("each command is kept when it is done: nothing can be taken back")
 
     def interrupt(self) -> None:
-        """Ends the SQL that is at work, which raises KeyboardInterrupt. Any thread may call it."""
+        """Ends the statement that is at work, which raises KeyboardInterrupt. Any thread may call it."""
         if self._local is not None:
             self._local.interrupt()
 

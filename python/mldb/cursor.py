@@ -34,7 +34,9 @@ class Cursor:
         if self._is_closed:
             raise ProgrammingError("the cursor is closed: make another")
         self._forget()
-        return self.connection.local()
+        local = self.connection.local()
+        local.begin()
+        return local
 
     def execute(self, sql: str, parameters: Sequence | Mapping = ()) -> "Cursor":
         """Does a statement. Where it writes several rows, they are sent one by one: the first that is refused ends
@@ -52,7 +54,7 @@ class Cursor:
 
     def executemany(self, sql: str, rows: Iterable[Sequence | Mapping]) -> "Cursor":
         """Does a statement that writes, for each of some parameters. What reads no relation is one piece of work, of
-        which 64 lines are under way: where a row is bad, nothing is sent."""
+        which 64 lines are under way. Where a row gives a value that mldb cannot hold, nothing is sent."""
         local = self._ready()
         given = [values.parameters(one, True) for one in rows]
         self.rowcount = 0
@@ -64,6 +66,8 @@ class Cursor:
         if not plan.reads:
             self.rowcount = self._write(local, plan, given)
         else:
+            for one in given:
+                plan.check(one)
             for row, one in enumerate(given):
                 self.rowcount = resumed(lambda some=one: self._write(local, plan, [some]), self.rowcount, row)
         return self
@@ -71,6 +75,8 @@ class Cursor:
     def _write(self, local: Local, plan: Plan, given: Sequence[Sequence | Mapping]) -> int:
         """Does a statement that writes: how many rows it changed."""
         session = self.connection.session()
+        for one in given:
+            plan.check(one)
         derives = plan.deed == "update" and self.connection.below == "derive"
         local.fill(plan, given[0], derives)
         notes = local.note(plan, given)

@@ -18,7 +18,9 @@ class Error(Exception):
 
     `code` and `name` are those of docs/codes.md, `words` what mldb printed; each is None where no line told the error.
     `column` is the place in the command as it was given, counted from 1. `done` is the number of rows that this
-    statement had changed before."""
+    statement had changed before, `sent` that of the rows that were sent, and `refused` has the places of those among
+    them that were refused, with the words of each. Of a wire that was cut `asked` counts the lines that went, and
+    `answered` has the answers that came."""
 
     def __init__(self, message: str, *, code: int | None = None, name: str | None = None, told: str | None = None,
                  column: int | None = None):
@@ -27,6 +29,8 @@ class Error(Exception):
         self.done = 0
         self.sent = 0
         self.refused: list[tuple[int, str]] = []
+        self.asked = 0
+        self.answered: list[bytes] = []
 
 
 class InterfaceError(Error):

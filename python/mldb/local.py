@@ -6,7 +6,7 @@ import sqlite3
 from collections.abc import Iterable, Mapping, Sequence
 from typing import NamedTuple
 
-from mldb import statements
+from mldb import statements, values
 from mldb.catalogue import Relation
 from mldb.errors import NotSupportedError, ProgrammingError
 from mldb.pushing import Test, tests_of
@@ -17,6 +17,9 @@ from mldb.statements import quoted
 from mldb.tables import Table, tables_of
 
 DEEDS = {sqlite3.SQLITE_INSERT: "insert", sqlite3.SQLITE_UPDATE: "update", sqlite3.SQLITE_DELETE: "delete"}
+# What a statement may begin with; what SQLite would do for others, as VACUUM, it does not always ask about.
+STATEMENTS = {"SELECT", "VALUES", "WITH", "INSERT", "REPLACE", "UPDATE", "DELETE", "EXPLAIN"}
+ALONE = "SELECT, INSERT, UPDATE and DELETE alone: relations are declared in the schemes file"
 ALLOWED = {sqlite3.SQLITE_SELECT, sqlite3.SQLITE_READ, sqlite3.SQLITE_FUNCTION, sqlite3.SQLITE_RECURSIVE}
 # What SQLite says where Ctrl-C came while it was at work, in one of the functions below or in that of each tick.
 INTERRUPTED = {"interrupted", "user-defined function raised exception"}
@@ -27,13 +30,24 @@ TICK = 100_000
 
 class Plan(NamedTuple):
     """What a statement does: the tables that it reads; tests that all rows pass which it needs; the relation that it
-    writes, and how."""
+    writes, and how; the parameters that it assigns as they are."""
 
     sql: str
     reads: tuple[Table, ...]
     tests: tuple[Test, ...]
     writes: Relation | None
     deed: str | None
+    assigned: tuple[int | str, ...] = ()
+
+    def check(self, parameters: Sequence | Mapping) -> None:
+        """That what is assigned as it is can be held."""
+        for one in self.assigned:
+            try:
+                value = parameters[one]
+            except (LookupError, TypeError):
+                continue
+            if isinstance(value, str):
+                values.spelt(value)
 
 
 class Note(NamedTuple):
@@ -57,9 +71,10 @@ class Local:
         self._loaded: dict[str, bytes] = {}
         self._plans: dict[str, Plan] = {}
         self._notes: list[Note] = []
-        self._is_noting = False
+        self._is_noting = self._is_stopped = False
         self._judge: _Judge | None = None
         self._db = self._made()
+        self._pages = dict(self._db.execute("SELECT rootpage, lower(name) FROM sqlite_master WHERE type = 'table'"))
 
     def _made(self) -> sqlite3.Connection:
         """The database, with its empty tables."""
@@ -71,7 +86,7 @@ class Local:
             for trigger in table.triggers() if not table.form else ():
                 made.execute(trigger)
         made.set_authorizer(lambda *asked: self._judge.allows(*asked) if self._judge else sqlite3.SQLITE_OK)
-        made.set_progress_handler(lambda: 0, TICK)
+        made.set_progress_handler(lambda: self._is_stopped, TICK)
         return made
 
     def _note(self, deed: str, size: int, row: int, *cells: object) -> None:
@@ -80,8 +95,11 @@ class Local:
 
     def plan(self, sql: str, parameters: Sequence | Mapping) -> Plan:
         """What a statement does. Nothing is done."""
+        if not isinstance(sql, str):
+            raise ProgrammingError(f"{sql!r}: a statement is a text")
         found = self._plans.get(sql)
         if found is None:
+            values.encoded_size(sql)
             found = self._planned(sql, parameters)
             if len(self._plans) >= PLANS:
                 self._plans.pop(next(iter(self._plans)))
@@ -90,19 +108,27 @@ class Local:
 
     def _planned(self, sql: str, parameters: Sequence | Mapping) -> Plan:
         words = tokens(sql)
+        first = words[0].word if words else ""
         told = statements.with_columns(sql, words, self._written)
         judge = self._judge = _Judge(self.tables)
         try:
-            self._db.execute(told if words and words[0].word == "EXPLAIN" else f"EXPLAIN {told}", parameters).close()
+            steps = self._db.execute(told if first == "EXPLAIN" else f"EXPLAIN {told}", parameters)
+            # Whom USING and NATURAL alone read, SQLite opens, and does not tell of.
+            judge.reads |= {self._pages.get(step[3]) for step in steps if step[1] == "OpenRead"}
         except (sqlite3.Error, sqlite3.Warning) as fault:
             raise judge.refusal or self._fault(fault) from fault
         finally:
             self._judge = None
+        if first not in STATEMENTS:
+            raise NotSupportedError(ALONE)
+        if first == "EXPLAIN":
+            return Plan(told, (), (), None, None)
         if judge.deed:
             statements.check_words(words)
         reads = tuple(table for name, table in self.tables.items() if name.lower() in judge.reads)
         tests = tests_of(words, reads[0].name, reads[0].relation) if len(reads) == 1 else ()
-        return Plan(told, reads, tests, judge.writes.relation if judge.writes else None, judge.deed)
+        sets = statements.assigned(words) if judge.deed == "update" else ()
+        return Plan(told, reads, tests, judge.writes.relation if judge.writes else None, judge.deed, sets)
 
     def _fault(self, fault: Exception) -> BaseException:
         """What is raised for what SQLite says."""
@@ -123,6 +149,8 @@ class Local:
             asked.setdefault(f"view {table.relation.name} at {self._session.label}{words}{where}", []).append(table)
         if asked:
             for tables, answer in zip(asked.values(), self._session.answers([*asked])):
+                if self._is_stopped:
+                    raise KeyboardInterrupt
                 self._load([table for table in tables if self._loaded.get(table.name) != answer], answer)
 
     def _load(self, tables: list[Table], answer: bytes) -> None:
@@ -172,8 +200,13 @@ class Local:
             self._is_noting = False
         return self._notes
 
+    def begin(self) -> None:
+        """A statement begins: what was to stop an earlier one is forgotten."""
+        self._is_stopped = False
+
     def interrupt(self) -> None:
-        """Ends the statement that is at work, from another thread."""
+        """Ends the statement that is at work, from another thread; one that awaits an answer ends behind it."""
+        self._is_stopped = True
         self._db.interrupt()
 
 
@@ -183,7 +216,7 @@ class _Judge:
 
     def __init__(self, tables: Mapping[str, Table]):
         self._tables = {name.lower(): table for name, table in tables.items()}
-        self.reads: set[str] = set()
+        self.reads: set[str | None] = set()
         self.writes: Table | None = None
         self.deed: str | None = None
         self.refusal: Exception | None = None
@@ -199,8 +232,7 @@ class _Judge:
             self.reads.add((one or "").lower())
         if operation in ALLOWED and not (two or "").startswith("mldb_"):
             return sqlite3.SQLITE_OK
-        told = "SELECT, INSERT, UPDATE and DELETE alone: relations are declared in the schemes file"
-        self.refusal = NotSupportedError(told)
+        self.refusal = NotSupportedError(ALONE)
         return sqlite3.SQLITE_DENY
 
     def _changes(self, table: Table | None, name: str | None, deed: str) -> int:

@@ -2,13 +2,13 @@
 
 What is asked may find more rows than SQL does, never fewer: SQLite tests each of them again."""
 
-from collections.abc import Iterator, Mapping, Sequence
+from collections.abc import Mapping, Sequence
 from typing import NamedTuple
 
 from mldb import values
 from mldb.catalogue import Attribute, Relation
 from mldb.errors import DataError
-from mldb.sqltokens import Token
+from mldb.sqltokens import Token, at_top, numbers
 
 SIGNS = {"=": "=", "==": "=", "<": "<", "<=": "<=", ">": ">", ">=": ">="}
 TURNED = {"=": "=", "<": ">", "<=": ">=", ">": "<", ">=": "<="}
@@ -73,21 +73,12 @@ def _where(tokens: Sequence[Token], place: int) -> int | None:
     if between is None or len(between) == 2 and between[0] != "AS":
         return None
     at = place + 1 + len(between)
-    return at if not is_update else next((at + k for k, one in _at_top(tokens[at:]) if one.word == "WHERE"), None)
-
-
-def _at_top(tokens: Sequence[Token]) -> Iterator[tuple[int, Token]]:
-    """The tokens outside of parentheses, with their places."""
-    depth = 0
-    for k, one in enumerate(tokens):
-        depth += (one.text == "(") - (one.text == ")")
-        if depth == 0 and one.text != ")":
-            yield k, one
+    return at if not is_update else next((at + k for k, one in at_top(tokens[at:]) if one.word == "WHERE"), None)
 
 
 def _parts(tokens: Sequence[Token]) -> list[Sequence[Token]]:
     """What AND joins at the top of a WHERE; nothing where it is more than that."""
-    top = [*_at_top(tokens)]
+    top = [*at_top(tokens)]
     end = next((k for k, one in top if one.word in ENDS or one.text == ";"), len(tokens))
     inside = [(k, one.word) for k, one in top if k < end]
     if any(word in MORE for _, word in inside):
@@ -101,8 +92,7 @@ class _Reader:
 
     def __init__(self, tokens: Sequence[Token], own: set[str], relation: Relation):
         self._own, self._names = own, {one.name.lower(): one for one in relation.attributes}
-        asked = [one for one in tokens if one.kind == "parameter"]
-        self._numbers = {one.end: k for k, one in enumerate(asked)} if all(one.text == "?" for one in asked) else {}
+        self._numbers = numbers(tokens)
 
     def test(self, part: Sequence[Token]) -> Test | None:
         """A test, if a part is one."""
@@ -137,6 +127,4 @@ class _Reader:
             return int(one.text) * (-1 if is_minus else 1), None
         if one.kind == "string":
             return one.text[1:-1].replace("''", "'"), None
-        if one.end in self._numbers:
-            return None, self._numbers[one.end]
-        return (None, one.text[1:]) if one.kind == "parameter" and one.text[0] in ":@$" else None
+        return (None, self._numbers[one.end]) if one.end in self._numbers else None

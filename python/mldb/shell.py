@@ -8,7 +8,7 @@ import shutil
 import signal
 import sys
 import time
-from collections.abc import Iterable
+from collections.abc import Callable, Iterable
 from typing import Any, TextIO
 
 import mldb
@@ -36,6 +36,7 @@ class Shell:
         self.mode, self.null = "table", "null"
         self.is_typed = False
         self.is_timed = False
+        self.may_stop = False
         self.has_failed = False
         self.depth = 0
         self.source = ""
@@ -85,6 +86,7 @@ class Shell:
     def do(self, item: Item) -> bool:
         """Does one thing; whether it was done. Where things are typed, Ctrl-C ends it and nothing else."""
         begun = time.monotonic()
+        self.may_stop = True
         try:
             {"sql": self.do_sql, "command": self.do_command, "dot": self.do_dot}[item.kind](item)
         except KeyboardInterrupt:
@@ -261,27 +263,43 @@ class Shell:
             except Leave:
                 return
 
-    def type_in(self, ask: Any) -> None:
-        """Does what is typed at a terminal, up to its end. `ask` shows a prompt and gives a line."""
+    def type_in(self, ask: Callable[[str], str]) -> None:
+        """Does what is typed at a terminal, up to its end. `ask` shows a prompt and gives a line. Ctrl-C drops what is
+        typed, or ends what is done; it never ends the shell, whenever it comes."""
         self.is_typed = True
         splitter = Splitter()
         who = f"{self.connection.user} at {self.connection.label}"
         self.tell(f"mldb: {who}. SQL ends with ;  .help shows the other commands, .quit leaves.")
-        signal.signal(signal.SIGINT, signal.default_int_handler)
-        while True:
+        signal.signal(signal.SIGINT, self.stop)
+        is_over = False
+        while not is_over:
             try:
-                line = ask("...> " if splitter.is_waiting() else f"{self.connection.label} {self.connection.user}> ")
+                self.may_stop = True
+                is_over = self.type_line(splitter, ask)
+                self.may_stop = False
             except KeyboardInterrupt:
                 splitter.forget()
                 self.tell("")
-                continue
-            except EOFError:
-                self.tell("")
-                return
-            try:
-                self.do_all(splitter.feed(line), False)
-            except Leave:
-                return
+
+    def stop(self, *_: object) -> None:
+        """Ctrl-C: once for each line and each thing to do, so that none comes while one is dealt with."""
+        if self.may_stop:
+            self.may_stop = False
+            raise KeyboardInterrupt
+
+    def type_line(self, splitter: Splitter, ask: Callable[[str], str]) -> bool:
+        """One line that is typed; whether it was the last."""
+        try:
+            line = ask("...> " if splitter.is_waiting() else f"{self.connection.label} {self.connection.user}> ")
+        except EOFError:
+            self.may_stop = False
+            self.tell("")
+            return True
+        try:
+            self.do_all(splitter.feed(line), False)
+        except Leave:
+            return True
+        return False
 
     def at(self, label: str) -> None:
         """Goes on at another label, in a session of its own."""

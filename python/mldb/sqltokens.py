@@ -1,6 +1,7 @@
 """The tokens of SQL, as SQLite reads them."""
 
 import re
+from collections.abc import Iterable, Iterator, Sequence
 from typing import NamedTuple
 
 TOKEN = re.compile(
@@ -43,3 +44,20 @@ def tokens(sql: str) -> list[Token]:
             text = one[0]
             found.append(Token(one.lastgroup, text, text.upper() if one.lastgroup == "word" else "", one.end()))
     return found
+
+
+def at_top(tokens: Sequence[Token]) -> Iterator[tuple[int, Token]]:
+    """The tokens outside of parentheses, with their places."""
+    depth = 0
+    for k, one in enumerate(tokens):
+        depth += (one.text == "(") - (one.text == ")")
+        if depth == 0 and one.text != ")":
+            yield k, one
+
+
+def numbers(tokens: Iterable[Token]) -> dict[int, int | str]:
+    """The parameters, each by where it ends: the number of a `?`, or a name. None of a `?` beside others."""
+    asked = [one for one in tokens if one.kind == "parameter"]
+    are_plain = all(one.text == "?" for one in asked)
+    named = {one.end: one.text[1:] for one in asked if one.text[0] in ":@$"}
+    return {one.end: k for k, one in enumerate(asked)} if are_plain else named

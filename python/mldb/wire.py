@@ -33,19 +33,23 @@ class Wire:
     def converse(self, lines: Sequence[bytes], is_bad: Callable[[bytes], bool] | None = None,
                  under_way: int = UNDER_WAY) -> list[bytes]:
         """The answers to lines, of which at most some are under way. Where `is_bad` is given, the first is answered
-        before others are sent, and none is sent after a bad answer: then there are fewer answers than lines."""
+        before others are sent, and none is sent after a bad answer: then there are fewer answers than lines. An error
+        of a wire that is cut has how many were sent, and the answers that came."""
         answers: list[bytes] = []
         sent, most, half = 0, len(lines), max(1, under_way // 2)
         with self._lock:
             self._pass_over()
-            while len(answers) < most:
-                if sent < most and sent - len(answers) <= under_way - half:
-                    until = 1 if is_bad and not sent else sent + half
-                    self._send(lines[sent:until])
-                    sent = min(until, most)
-                answers.append(self._answer())
-                if is_bad and is_bad(answers[-1]):
-                    most = sent
+            try:
+                while len(answers) < most:
+                    if sent < most and sent - len(answers) <= under_way - half:
+                        before, sent = sent, min(1 if is_bad and not sent else sent + half, most)
+                        self._send(lines[before:sent])
+                    answers.append(self._answer())
+                    if is_bad and is_bad(answers[-1]):
+                        most = sent
+            except OperationalError as fault:
+                fault.asked, fault.answered = sent, answers
+                raise
         return answers
 
     def send_first(self, line: bytes) -> None:

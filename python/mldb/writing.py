@@ -4,7 +4,7 @@ from collections.abc import Callable, Iterable, Sequence
 
 from mldb import values
 from mldb.catalogue import Relation
-from mldb.errors import Error, NotSupportedError
+from mldb.errors import Error, NotSupportedError, OperationalError
 from mldb.local import Local, Note
 from mldb.session import Session
 
@@ -61,19 +61,32 @@ class Changes:
 def send(session: Session, commands: Sequence[str | None], under_way: int) -> int:
     """Sends the commands of rows: how many rows are done. A row that is not there any more counts as none."""
     places = [k for k, one in enumerate(commands) if one is not None]
-    answers = session.answers([commands[k] for k in places], _is_bad, under_way)
-    bad = [k for k, answer in enumerate(answers) if _is_bad(answer)]
-    done = sum(answer.endswith(DONE) for answer in answers)
-    if not bad:
-        return done + len(commands) - len(places)
     try:
-        session.told(session.lines(answers[bad[0]]))
-    except Error as fault:
-        sent = places[len(answers) - 1] + 1
-        fault.sent, fault.done = sent, done + sum(one is None for one in commands[:sent])
-        fault.refused = [(places[k], _words(answers[k])) for k in bad]
+        answers = session.answers([commands[k] for k in places], _is_bad, under_way)
+    except OperationalError as fault:
+        _tell(fault, commands, places[: fault.asked], fault.answered)
         raise
-    return done
+    bad = next(filter(_is_bad, answers), None)
+    if bad is None:
+        return _done(answers) + len(commands) - len(places)
+    try:
+        session.told(session.lines(bad))
+    except Error as fault:
+        _tell(fault, commands, places[: len(answers)], answers)
+        raise
+    return _done(answers)
+
+
+def _tell(fault: Error, commands: Sequence[str | None], places: Sequence[int], answers: Sequence[bytes]) -> None:
+    """Puts into an error how far the rows went: the commands at some places were sent, and the first were answered."""
+    fault.sent = places[-1] + 1 if places else 0
+    fault.done = _done(answers) + sum(one is None for one in commands[: fault.sent])
+    fault.refused = [(place, _words(answer)) for place, answer in zip(places, answers) if _is_bad(answer)]
+
+
+def _done(answers: Iterable[bytes]) -> int:
+    """How many rows are done."""
+    return sum(answer.endswith(DONE) for answer in answers)
 
 
 def _is_bad(answer: bytes) -> bool:

@@ -53,8 +53,16 @@ def try_refused(connection, asked):
             connection.executemany("INSERT INTO SOD (Starship, Objective) VALUES (?, ?)",
                                    [("good", "a"), ("bad", value), ("other", None)])
         tried.expect(f"{value!r:.30}: nothing is sent", asked.taken(), [])
+        update = "UPDATE SOD SET Destination = 'x', Objective = ? WHERE Starship = 'before'"
         with tried.raises(f"{value!r:.30} in an update", mldb.DataError):
-            connection.execute("UPDATE SOD SET Objective = ? WHERE Starship = 'before'", (value,))
+            connection.execute(update, (value,))
+        with tried.raises(f"{value!r:.30} by a name", mldb.DataError):
+            connection.execute(update.replace("?", ":v"), {"v": value})
+        with tried.raises(f"{value!r:.30} in the second of two updates", mldb.DataError):
+            connection.executemany(update, [("good",), (value,)])
+        tried.expect(f"{value!r:.30}: nothing is sent of an update", asked.taken(), [])
+        with tried.raises(f"{value!r:.30} made in an update", mldb.DataError):
+            connection.execute("UPDATE SOD SET Objective = ifnull(NULL, ?) WHERE Starship = 'before'", (value,))
         tried.expect(f"{value!r:.30}: nothing is changed",
                      [line for line in asked.taken() if not line.startswith("view")], [])
         with tried.raises(f"{value!r:.30} derived", mldb.DataError):
@@ -64,9 +72,13 @@ def try_refused(connection, asked):
     for sql in ("INSERT INTO SOD (Starship) SELECT 'good' UNION ALL SELECT 'a' || char(10)",
                 "INSERT INTO SOD (Starship) VALUES ('a'), (x'00')",
                 "INSERT INTO CREW (Id) VALUES (1), (1.5)", "INSERT INTO CREW (Id) VALUES (1), ('one')",
-                "INSERT INTO CREW (Id) VALUES (9223372036854775808)"):
-        with tried.raises(sql, mldb.DataError):
+                "INSERT INTO CREW (Id) VALUES (9223372036854775808)", "INSERT INTO SOD (Starship) VALUES ('\ud800')",
+                f"INSERT INTO SOD (Starship) VALUES ('{LONG}')", "INSERT INTO SOD (Starship) VALUES ('a\nb')",
+                "SELECT '\ud800'"):
+        asked.taken()
+        with tried.raises(repr(sql), mldb.DataError):
             connection.execute(sql)
+        tried.expect(f"{sql!r:.60}: nothing is sent", asked.taken(), [])
     for line in ("view SOD at U\nclose", "view SOD at U\n", "insert SOD key (\"\ud800\") values (null, null)",
                  "# " + "x" * (1 << 20), 5):
         asked.taken()

@@ -3,14 +3,17 @@ played."""
 
 import os
 import signal
+import socket
 import subprocess
 import sys
 import tempfile
+import threading
 import time
 
 import mldb
 import tried
 
+MOST_SECONDS = 180
 # The gateway over a kernel that takes the name of whoever connects from a file.
 PLAYED = """
 import pwd, runpy, sys, types
@@ -41,14 +44,26 @@ class Gate:
         self.path = f"{work}/sock"
         words = [tried.PROGRAM, "serve", "--store", f"{work}/fleet.db", tried.POLICY, tried.SCHEMES]
         gate = [sys.executable, "-c", PLAYED, self.path, f"{tried.ROOT}/samples/running/mlgate", self.path]
+        self.be("ann")
         self.process = subprocess.Popen([*gate, *words], cwd=work)
-        while not os.path.exists(self.path):
+        end = time.monotonic() + MOST_SECONDS
+        while not self.listens() and self.process.poll() is None and time.monotonic() < end:
             time.sleep(0.05)
 
-    def connect(self, user, label, target=None, **options):
+    def listens(self):
+        """Whether somebody takes a connection there."""
+        with socket.socket(socket.AF_UNIX) as probe:
+            return probe.connect_ex(self.path) == 0
+
+    def be(self, user):
+        """Whoever connects from now on is this user."""
         with open(f"{self.path}.who", "w", encoding="utf-8") as file:
-            file.write(options.pop("really", user))
-        return mldb.connect(target or self.path, label, user=user, schemes=tried.SCHEMES, timeout=60, **options)
+            file.write(user)
+
+    def connect(self, user, label, target=None, **options):
+        self.be(options.pop("really", user))
+        more = {"schemes": tried.SCHEMES, "timeout": MOST_SECONDS, **options}
+        return mldb.connect(target or self.path, label, user=user, **more)
 
 
 def try_two(gate):
@@ -73,7 +88,31 @@ def try_two(gate):
         gate.connect("bob", "U", really="ann")
     with tried.raises("a label beyond her", mldb.OperationalError, 37):
         gate.connect("ann", "S")
+    try_together(gate, bob)
     return bob
+
+
+def try_together(gate, bob):
+    """Both at once: each gets the answers to his own lines, and sees what his label may."""
+    ann, rows, found = gate.connect("ann", "U"), 200, {"ann": [], "bob": []}
+
+    def work(name, connection):
+        for number in range(rows):
+            connection.execute("INSERT INTO SOD VALUES (?, ?, NULL)", (f"{name} {number}", connection.label))
+            asked = "SELECT Starship, class FROM SOD WHERE Starship = ?", (f"{name} {number}",)
+            found[name] += connection.execute(*asked).fetchall()
+
+    threads = [threading.Thread(target=work, args=pair) for pair in (("ann", ann), ("bob", bob))]
+    for one in threads:
+        one.start()
+    for one in threads:
+        one.join()
+    for name, label in (("ann", "U"), ("bob", "S")):
+        tried.expect(f"together: {name}", found[name], [(f"{name} {number}", label) for number in range(rows)])
+    counts = [one.execute("SELECT count(*) FROM SOD WHERE Objective IN ('U', 'S')").fetchone() for one in (ann, bob)]
+    tried.expect("together: what each sees", counts, [(rows,), (2 * rows,)])
+    ann.execute("DELETE FROM SOD WHERE Objective = 'U'")
+    ann.close()
 
 
 def try_all():

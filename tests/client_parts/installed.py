@@ -1,6 +1,7 @@
-"""The package as it is installed: by pip, without a network, and by a copy of its folder; its version is the
-program's."""
+"""The package as it is installed: by pip into an environment of its own, without a network, and by a copy of its
+folder; its version is the program's."""
 
+import glob
 import os
 import re
 import shutil
@@ -12,6 +13,7 @@ import tomllib
 import mldb
 import tried
 
+NO_NETWORK = {name: "http://127.0.0.1:9" for name in ("http_proxy", "https_proxy", "HTTP_PROXY", "HTTPS_PROXY")}
 ASKED = """import mldb, sys
 with mldb.serve(sys.argv[2], sys.argv[3], program=sys.argv[1]) as program:
     print(mldb.__file__, mldb.connect(program, "U", user="ann").execute("SELECT count(*) FROM SOD").fetchone())
@@ -42,9 +44,19 @@ def try_all():
         shutil.copytree(f"{tried.ROOT}/python", f"{work}/python",
                         ignore=shutil.ignore_patterns("__pycache__", "build", "*.egg-info"))
         try_python("a copy", sys.executable, work, {**environment, "PYTHONPATH": f"{work}/python"})
-        words = [sys.executable, "-m", "pip", "install", "--quiet", "--no-index", "--target", f"{work}/by_pip",
-                 f"{work}/python"]
-        child = subprocess.run(words, env=environment, capture_output=True, text=True, check=False)
+        subprocess.run([sys.executable, "-m", "venv", f"{work}/venv"], env=environment, check=True)
+        python = f"{work}/venv/bin/python"
+        # As a user writes it; whatever asks a network finds none.
+        words = [python, "-m", "pip", "install", "./python"]
+        child = subprocess.run(words, cwd=work, env={**environment, **NO_NETWORK}, capture_output=True, text=True,
+                               check=False)
         tried.expect("pip", (child.returncode, child.stderr[-500:] if child.returncode else ""), (0, ""))
-        try_python("pip", sys.executable, f"{work}/by_pip", {**environment, "PYTHONPATH": f"{work}/by_pip"})
-        tried.expect("it is typed", os.path.exists(f"{work}/by_pip/mldb/py.typed"), True)
+        try_python("pip", python, f"{work}/venv", environment)
+        tried.expect("it is typed", glob.glob(f"{work}/venv/lib/*/site-packages/mldb/py.typed") != [], True)
+        for words in (["-m", "mldb", "--help"], ["-m", "mldb.pg", "--help"], ["-m", "pip", "check"]):
+            child = subprocess.run([python, *words], cwd=work, env=environment, capture_output=True, check=False)
+            tried.expect(f"{words[1]} is there", child.returncode, 0)
+        child = subprocess.run([python, "-m", "pip", "uninstall", "-y", "mldb"], env=environment, capture_output=True,
+                               check=False)
+        left = glob.glob(f"{work}/venv/lib/*/site-packages/mldb*")
+        tried.expect("and it goes", (child.returncode, left), (0, []))

@@ -6,6 +6,7 @@ import time
 import mldb
 import tried
 
+INSERT = "INSERT INTO main . CREW AS c VALUES ( 9 , NULL )".split()
 ERRORS = {"InterfaceError": mldb.Error, "DatabaseError": mldb.Error, "DataError": mldb.DatabaseError,
           "OperationalError": mldb.DatabaseError,
           "IntegrityError": mldb.DatabaseError, "InternalError": mldb.DatabaseError,
@@ -102,6 +103,10 @@ def try_statements(connection):
              ("CREATE TEMP TABLE x (a)", (), mldb.NotSupportedError), ("DROP TABLE CREW", (), mldb.NotSupportedError),
              ("ATTACH '/tmp/x' AS x", (), mldb.NotSupportedError),
              ("PRAGMA writable_schema = 1", (), mldb.NotSupportedError), ("BEGIN", (), mldb.NotSupportedError),
+             ("VACUUM", (), mldb.NotSupportedError), ("VACUUM INTO '/nowhere/x'", (), mldb.NotSupportedError),
+             ("REINDEX", (), mldb.NotSupportedError), ("SAVEPOINT x", (), mldb.NotSupportedError),
+             *((sql, (), mldb.ProgrammingError) for sql in (None, b"SELECT 1", "", "-- SELECT 1", "SELECT 1\0")),
+             *((" ".join(INSERT[:size]), (), mldb.ProgrammingError) for size in range(1, len(INSERT))),
              ("DROP TRIGGER \"mldb insert CREW\"", (), mldb.NotSupportedError),
              ("SELECT mldb_note('insert', 0, 0)", (), mldb.NotSupportedError),
              ("INSERT INTO CREW_highest (Id) VALUES (1)", (), mldb.ProgrammingError),
@@ -125,7 +130,9 @@ def try_statements(connection):
                         ("SELECT name FROM sqlite_schema WHERE type = 'table' AND name LIKE 'C%' ORDER BY 1",
                          [("CREW",), ("CREW_classes",), ("CREW_highest",)])):
         tried.expect(sql, connection.execute(sql).fetchall(), wanted)
-    tried.expect("a plan", connection.execute("EXPLAIN QUERY PLAN SELECT * FROM CREW").description is not None, True)
+    for sql in ("EXPLAIN QUERY PLAN SELECT * FROM CREW", "EXPLAIN DELETE FROM CREW"):
+        tried.expect(sql, connection.execute(sql).description is not None, True)
+    tried.expect("a plan does nothing", connection.execute("SELECT count(*) FROM CREW").fetchone(), (5,))
     tried.expect("names", connection.execute("SELECT :a, :b", {"a": 1, "b": "x"}).fetchone(), (1, "x"))
 
 
@@ -136,6 +143,9 @@ def try_connection(program):
         with tried.raises("rollback", mldb.NotSupportedError):
             connection.rollback()
         tried.expect("each command is kept", connection.autocommit, True)
+        connection.autocommit = True
+        with tried.raises("autocommit stays", mldb.NotSupportedError):
+            connection.autocommit = False
         tried.expect("label and user", (connection.label, connection.user), ("U", "ann"))
         relation = connection.relations["SOD"]
         tried.expect("relations", (relation.names, relation.key_size, relation.attributes[0]),
@@ -152,7 +162,9 @@ def try_connection(program):
     tried.expect("close twice", connection.close(), None)
     for call in (lambda one: one.derive("NOPE", (1,), "U", Post="x"),
                  lambda one: one.derive("CREW", (1, 2), "U", Post="x"), lambda one: one.derive("CREW", (1,), "U"),
-                 lambda one: one.derive("CREW", (1,), "U", Id=3)):
+                 lambda one: one.derive("CREW", (1,), "U", Id=3), lambda one: one.derive("CREW", (1,), None, Post="x"),
+                 lambda one: one.derive("CREW", (1,), "U from U set Post = null", Post="x"),
+                 lambda one: one.derive("CREW", (1,), "U", "U set Post = null --", Post="x")):
         with mldb.connect(program, "U", user="ann") as again, tried.raises("derive", mldb.ProgrammingError):
             call(again)
 

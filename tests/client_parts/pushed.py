@@ -27,9 +27,19 @@ CASES = [
     ("DELETE FROM CREW WHERE Id = ?", (1,), [SOME + "Id = 1"]),
     ("DELETE FROM CREW", (), [ALL]),
     ("INSERT INTO SOD (Starship) SELECT Post FROM CREW WHERE Id = ?", (1,), [SOME + "Id = 1"]),
+    ("INSERT INTO main.SOD AS s SELECT Post, NULL, NULL FROM CREW WHERE Id = ?", (1,), [SOME + "Id = 1"]),
     ("SELECT * FROM CREW JOIN SOD ON Post = Starship WHERE Id = 1", (), ["view SOD at U", ALL]),
     ("SELECT * FROM CREW, CREW_classes c WHERE c.Id = 1", (), [ALL]),
+    ("SELECT count(*) FROM CREW a JOIN CREW_highest b USING (Id)", (), [ALL, "view CREW at U highest"]),
+    ("SELECT Post FROM SOD NATURAL JOIN CREW_highest", (), ["view SOD at U", "view CREW at U highest"]),
+    ("INSERT INTO CREW (Id) SELECT Id FROM CREW_highest JOIN CREW_classes USING (Id)", (),
+     ["view CREW at U highest", ALL]),
     ("SELECT * FROM CREW WHERE Id = 1 OR Id = 2", (), [ALL]),
+    ("SELECT * FROM CREW WHERE Id = 1 AND Post = 'a' OR Id = 2", (), [ALL]),
+    ("SELECT * FROM CREW WHERE Id = 2 OR Post = 'a' AND Id = 1", (), [ALL]),
+    ("SELECT * FROM CREW WHERE Id = 1 AND (Post = 'a' OR Id = 2)", (), [SOME + "Id = 1"]),
+    ("UPDATE CREW SET Post = 'b' WHERE Id = ? AND Post = ? OR Id > ?", (1, "a", 2), [ALL]),
+    ("DELETE FROM CREW WHERE Id < ? OR Post IS NULL AND Id = ?", (2, 5), [ALL]),
     ("SELECT * FROM CREW WHERE Id BETWEEN 1 AND Post = 'a'", (), [ALL]),
     ("SELECT * FROM CREW WHERE CASE WHEN Id = 1 AND Post = 'a' THEN 1 END", (), [ALL]),
     ("SELECT * FROM CREW WHERE NOT Id = 1 AND Id = 1 + 1 AND Post = Post", (), [ALL]),
@@ -62,3 +72,19 @@ def try_all():
         connection.execute("UPDATE CREW SET Post = 'b' WHERE Id = 1")
         tried.expect("an update that changes nothing", asked.taken(), [SOME + "Id = 1"])
         tried.expect("counts the row", connection.execute("UPDATE CREW SET Post = 'b' WHERE Id = 1").rowcount, 1)
+        try_parsed(connection)
+
+
+def try_parsed(connection):
+    """A relation that was fetched is parsed once in a statement, and not again while it answers the same."""
+    connection.execute("DELETE FROM CREW WHERE Id > 1")
+    reader, parsed = connection.local()._readers["CREW"], []
+    read = reader.read
+    reader.read = lambda answer, *more: parsed.append(answer) or read(answer, *more)
+    thrice = "SELECT count(*) FROM CREW a JOIN CREW b USING (Id) JOIN CREW_classes c USING (Id) WHERE a.Post = 'b'"
+    for what, wanted in (("once in a statement", 1), ("not again while it is the same", 1)):
+        tried.expect("its rows", connection.execute(thrice).fetchone(), (1,))
+        tried.expect(f"parsed: {what}", len(parsed), wanted)
+    connection.execute("INSERT INTO CREW (Id, Post) VALUES (2, 'b')")
+    tried.expect("its rows, of which one is new", connection.execute(thrice).fetchone(), (2,))
+    tried.expect("parsed: again after a change", len(parsed), 2)

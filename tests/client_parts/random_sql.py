@@ -41,8 +41,8 @@ class Dice:
             part = self.rng.choice([TESTS, WORD_TESTS, FIXED][kind])
             given += [self.number() if kind == 0 else self.word()] * part.count("?")
             parts.append(part)
-        sign = " AND " if self.rng.random() < 0.8 else " OR "
-        return sign.join(parts), tuple(given)
+        signs = [self.rng.choice((" AND ", " AND ", " AND ", " OR ")) for _ in parts[1:]]
+        return "".join(word for pair in zip(parts, [*signs, ""]) for word in pair), tuple(given)
 
     def pushed(self):
         where, given = self.condition()
@@ -91,6 +91,10 @@ class Dice:
             lambda: ("INSERT INTO SOD (Starship, Objective) SELECT Post || Id, Post FROM CREW WHERE Id > ? ORDER BY Id",
                      (number(),)),
             lambda: ("SELECT EXISTS (SELECT 1 FROM SOD WHERE Starship = ?)", (word(),)),
+            lambda: ("SELECT count(*) FROM SOD JOIN (SELECT Post AS Starship FROM CREW) USING (Starship)", ()),
+            lambda: ("SELECT Id FROM CREW NATURAL JOIN (SELECT Id, Post AS p FROM CREW WHERE Post > ?)", (word(),)),
+            lambda: ("INSERT INTO CREW (Id) SELECT a.Id + 30 FROM CREW a JOIN CREW b USING (Post) WHERE a.Id <> b.Id "
+                     "AND b.Post = ?", (word(),)),
             lambda: ("select count(*) from sod, crew", ()),
             self.pushed, self.pushed, self.pushed, self.pushed, self.pushed, self.pushed, self.pushed,
         ])()

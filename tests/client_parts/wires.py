@@ -12,11 +12,12 @@ import mldb
 import tried
 
 OPENED = [b"U U/ann denied 31 NoSession\n=\n", b"U U/ann opened ann\n=\n"]
+ENDLESS = "WITH RECURSIVE n(k) AS (SELECT 1 UNION ALL SELECT k + 1 FROM n) SELECT count(*) FROM n"
 ONE = b'U U/ann view CREW at U: Id Post\nU U/ann row 1 U | "a" U | U\n=\n'
 
 
 class Played:
-    """A gateway that says what it is told to: bytes, seconds to wait, or None to hang up."""
+    """A gateway that says what it is told to: bytes, something to be awaited or a pause, or None to hang up."""
 
     def __init__(self, *script):
         self.work = tempfile.TemporaryDirectory()
@@ -33,6 +34,9 @@ class Played:
         with client, client.makefile("rb") as lines:
             lines.readline()
             for said in self.script:
+                if callable(said):
+                    said()
+                    continue
                 if isinstance(said, float):
                     time.sleep(said)
                     continue
@@ -58,9 +62,18 @@ def try_cuts():
             connection.ask("audit")
         tried.expect(f"cut {what}: says so", "hung up" in str(found), True)
         connection.close()
-    connection = Played(b"U U/ann done\n=\n", b"U U/ann done\n=\n", None).connect()
-    with tried.raises("cut among many", mldb.OperationalError):
-        connection.executemany("INSERT INTO CREW (Id) VALUES (?)", [(number,) for number in range(100)])
+    done, there = b"U U/ann done\n=\n", b"U U/ann refused 12 Duplicate\n=\n"
+    many = "INSERT INTO CREW (Id) VALUES (?)", [(number,) for number in range(33)]
+    for what, script, wanted in (("among many", [done, done, done], (3, 33, [])), ("at the first", [], (0, 1, [])),
+                                 ("behind a bad one", [done, there, done], (2, 33, [(1, "refused 12 Duplicate")]))):
+        connection = Played(*script, None).connect()
+        with tried.raises(f"cut {what}", mldb.OperationalError) as found:
+            connection.executemany(*many)
+        told = found and (found[0].done, found[0].sent, found[0].refused)
+        tried.expect(f"cut {what}: which rows stand, and which may", told, wanted)
+        with tried.raises(f"cut {what}: then nothing goes", mldb.OperationalError) as found:
+            connection.executemany(*many)
+        tried.expect(f"cut {what}: none of them", found and (found[0].done, found[0].sent), (0, 0))
 
 
 def try_refused():
@@ -103,24 +116,61 @@ def interrupted(what, work):
 
 def try_interrupted():
     """Ctrl-C while an answer is awaited, and while SQLite is at work: the next answer is that of the next question."""
-    connection = Played(0.4, b"U U/ann audit\nU U/ann entry late\n=\n", ONE).connect()
+    may_answer = threading.Event()
+    connection = Played(may_answer.wait, b"U U/ann audit\nU U/ann entry late\n=\n", ONE).connect()
     handler = signal.signal(signal.SIGALRM, signal.default_int_handler)
-    endless = "WITH RECURSIVE n(k) AS (SELECT 1 UNION ALL SELECT k + 1 FROM n) SELECT count(*) FROM n"
     try:
-        signal.setitimer(signal.ITIMER_REAL, 0.1)
+        when_it_waits(connection, lambda: os.kill(os.getpid(), signal.SIGALRM))
         interrupted("an answer", lambda: connection.ask("audit"))
+        may_answer.set()
         tried.expect("the next one", connection.execute("SELECT Id, Post FROM CREW").fetchall(), [(1, "a")])
-        signal.setitimer(signal.ITIMER_REAL, 0.3)
-        interrupted("SQL", lambda: connection.execute(endless))
-        threading.Timer(0.2, connection.interrupt).start()
-        interrupted("SQL, by another thread", lambda: connection.execute(endless))
+        once_at_work(lambda: os.kill(os.getpid(), signal.SIGALRM))
+        interrupted("SQL", lambda: connection.execute(ENDLESS))
+        once_at_work(connection.interrupt)
+        interrupted("SQL, by another thread", lambda: connection.execute(ENDLESS))
         tried.expect("and after it", connection.execute("SELECT 1").fetchone(), (1,))
     finally:
-        signal.setitimer(signal.ITIMER_REAL, 0)
         signal.signal(signal.SIGALRM, handler)
-    connection = Played(1.0, ONE).connect(timeout=0.2)
+    may_answer = threading.Event()
+    connection = Played(may_answer.wait, ONE).connect()
+    when_it_waits(connection, lambda: (connection.interrupt(), may_answer.set()))
+    interrupted("a view, by another thread", lambda: connection.execute("SELECT * FROM CREW"))
+    never = threading.Event()
+    connection = Played(never.wait, ONE).connect(timeout=0.2)
     with tried.raises("no answer in time", mldb.OperationalError):
         connection.execute("SELECT * FROM CREW")
+    never.set()
+
+
+def when_it_waits(connection, deed):
+    """Does something once, in a thread, when a connection begins to wait for bytes, and a little later."""
+    wire, is_waiting = connection.session().wire, threading.Event()
+    read = wire._read
+
+    def reading(most):
+        wire._read = read
+        is_waiting.set()
+        return read(most)
+
+    def late():
+        is_waiting.wait()
+        time.sleep(0.2)
+        deed()
+
+    wire._read = reading
+    threading.Thread(target=late, daemon=True).start()
+
+
+def once_at_work(deed):
+    """Does something in a thread when this process has been at work for a while."""
+    begun = time.process_time()
+
+    def late():
+        while time.process_time() < begun + 0.3:
+            time.sleep(0.02)
+        deed()
+
+    threading.Thread(target=late, daemon=True).start()
 
 
 def try_programs():
@@ -144,6 +194,32 @@ def try_programs():
                     {"label": "U", "below": "up", "policy": tried.POLICY, "schemes": tried.SCHEMES}, {"label": "U\nS"}):
         with tried.raises(f"{options}", mldb.InterfaceError):
             mldb.connect(None, **{"user": "ann", "program": tried.PROGRAM, **options})
+
+
+def try_killed():
+    """A program that is killed among many rows: what was answered is in the store, and of the others a first part."""
+    with tempfile.TemporaryDirectory() as work:
+        words = [tried.PROGRAM, "serve", "--store", f"{work}/fleet.db", tried.POLICY, tried.SCHEMES]
+        connection = mldb.connect(words, "U", user="ann", schemes=tried.SCHEMES)
+        wire, count = connection.session().wire, 0
+        answer = wire._answer
+
+        def answering():
+            nonlocal count
+            count += 1
+            if count == 100:
+                os.kill(wire._process.pid, signal.SIGKILL)
+            return answer()
+
+        wire._answer = answering
+        with tried.raises("killed among many", mldb.OperationalError) as found:
+            connection.executemany("INSERT INTO CREW (Id) VALUES (?)", [(number,) for number in range(500)])
+        connection.close()
+        with mldb.connect(words, "U", user="ann", schemes=tried.SCHEMES) as again:
+            rows = [row[0] for row in again.execute("SELECT Id FROM CREW ORDER BY 1")]
+        done, sent = (found[0].done, found[0].sent) if found else (0, 0)
+        tried.expect("killed: the rows there are the first ones", rows, [*range(len(rows))])
+        tried.expect(f"killed: {done} <= {len(rows)} <= {sent}", 99 <= done <= len(rows) <= sent < 200, True)
 
 
 def try_names():
@@ -173,4 +249,5 @@ def try_all():
     try_wrong()
     try_interrupted()
     try_programs()
+    try_killed()
     try_names()

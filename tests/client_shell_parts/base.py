@@ -14,6 +14,10 @@ POLICY, SCHEMES = f"{SAMPLES}/policy.toml", f"{SAMPLES}/schemes.toml"
 TRANSACTIONS = ["--transactions", f"{SAMPLES}/transactions.txt", "--certificates", f"{SAMPLES}/certificates.txt"]
 ENVIRONMENT = {**os.environ, "PYTHONPATH": PYTHON, "TERM": "xterm", "LC_ALL": "C.UTF-8"}
 TURN = "\u202e"
+# What is waited for at most, by whatever is expected: far more than a busy machine takes.
+SECONDS = 180
+# Of an endless statement: it has certainly begun when this much of a processor has gone into it.
+WORK_SECONDS = 0.3
 sys.path.insert(0, PYTHON)
 
 
@@ -39,10 +43,27 @@ def holds(what, is_so, told=""):
     expect(f"{what}{f' ({told!r:.300})' if not is_so else ''}", bool(is_so), True)
 
 
-def wait_for(path, seconds=60):
+def processor(process):
+    """The seconds that a process has had of processors."""
+    with open(f"/proc/{process}/stat", encoding="utf-8") as file:
+        words = file.read().rpartition(")")[2].split()
+    return (int(words[11]) + int(words[12])) / os.sysconf("SC_CLK_TCK")
+
+
+def works(process):
+    """Waits until a process has been at work for a while since this was called; whether it was."""
+    begun, end = processor(process), time.monotonic() + SECONDS
+    while processor(process) < begun + WORK_SECONDS:
+        if time.monotonic() > end:
+            return False
+        time.sleep(0.02)
+    return True
+
+
+def wait_for(path):
     """Waits for a socket that listens."""
-    end = time.time() + seconds
-    while time.time() < end:
+    end = time.monotonic() + SECONDS
+    while time.monotonic() < end:
         with socket.socket(socket.AF_UNIX) as probe:
             try:
                 probe.connect(path)

@@ -9,7 +9,7 @@ import subprocess
 import sys
 import tempfile
 
-from base import ENVIRONMENT, MLDB, POLICY, SAMPLES, SCHEMES, Counts, expect, holds, wait_for
+from base import ENVIRONMENT, MLDB, POLICY, SAMPLES, SCHEMES, SECONDS, Counts, expect, holds, wait_for
 from protocol import Client, bridge, try_copy_messages, try_protocol
 
 PYTHONS = list(dict.fromkeys([sys.executable, "/usr/bin/python3"]))
@@ -18,7 +18,8 @@ PYTHONS = list(dict.fromkeys([sys.executable, "/usr/bin/python3"]))
 def psql(folder, *words, label="S", given=None):
     """What psql printed, told and ended with."""
     line = ["psql", "-X", "-h", folder, "-U", "bob", "-A", "-t", *words, label]
-    child = subprocess.run(line, input=given, capture_output=True, env=ENVIRONMENT, check=False, timeout=60, text=True)
+    child = subprocess.run(line, input=given, capture_output=True, env=ENVIRONMENT, check=False, timeout=SECONDS,
+        text=True)
     return child.returncode, child.stdout, child.stderr
 
 
@@ -130,7 +131,8 @@ def try_psycopg(folder):
     if not found:
         Counts.over.append("psycopg2 (not installed)")
         return
-    child = subprocess.run([found[0], "-c", PSYCOPG, folder], capture_output=True, check=False, timeout=60, text=True)
+    child = subprocess.run([found[0], "-c", PSYCOPG, folder], capture_output=True, check=False, timeout=SECONDS,
+        text=True)
     print(child.stdout if "not so" in child.stdout else "", end="")
     holds("psycopg2: all is so", child.returncode == 0 and child.stdout.strip() == "21",
         child.stdout[-300:] + child.stderr[-600:])
@@ -138,12 +140,12 @@ def try_psycopg(folder):
 
 def try_folders(folder):
     line = bridge(folder).line
-    child = subprocess.run(line, capture_output=True, env=ENVIRONMENT, check=False, timeout=20)
+    child = subprocess.run(line, capture_output=True, env=ENVIRONMENT, check=False, timeout=SECONDS)
     holds("folder: a second bridge", child.returncode == 2 and b"a bridge is at work there" in child.stderr,
         child.stderr)
     with tempfile.TemporaryDirectory() as other:
         os.chmod(other, 0o755)
-        child = subprocess.run(bridge(other).line, capture_output=True, env=ENVIRONMENT, check=False, timeout=20)
+        child = subprocess.run(bridge(other).line, capture_output=True, env=ENVIRONMENT, check=False, timeout=SECONDS)
         holds("folder: open to others", child.returncode == 2 and b"chmod 700" in child.stderr, child.stderr)
         os.chmod(other, 0o700)
         with socket.socket(socket.AF_UNIX) as stale:

@@ -7,9 +7,8 @@ import socket
 import struct
 import subprocess
 import sys
-import time
 
-from base import ENVIRONMENT, MLDB, POLICY, SCHEMES, TRANSACTIONS, expect, holds, wait_for
+from base import ENVIRONMENT, MLDB, POLICY, SCHEMES, SECONDS, TRANSACTIONS, expect, holds, wait_for, works
 
 
 class bridge:  # noqa: N801 (it is used as a function)
@@ -29,7 +28,7 @@ class bridge:  # noqa: N801 (it is used as a function)
 
     def __exit__(self, *_):
         self.process.terminate()
-        expect("bridge: ends at SIGTERM", self.process.wait(20), 0)
+        expect("bridge: ends at SIGTERM", self.process.wait(SECONDS), 0)
         told = self.process.stderr.read()
         holds("bridge: no fault of its own", b"Traceback" not in told, told)
         holds("bridge: takes its socket away", not os.path.exists(self.path))
@@ -40,7 +39,7 @@ class Client:
 
     def __init__(self, path, label, user, first=None):
         self.door = socket.socket(socket.AF_UNIX)
-        self.door.settimeout(20)
+        self.door.settimeout(SECONDS)
         self.door.connect(path)
         self.lines = self.door.makefile("rb")
         if first is not None:
@@ -70,6 +69,10 @@ class Client:
         while not found or found[-1][0] not in (last, b""):
             found.append(self.receive())
         return found
+
+    def bridge(self):
+        """The number of the bridge's process."""
+        return struct.unpack("3i", self.door.getsockopt(socket.SOL_SOCKET, socket.SO_PEERCRED, 12))[0]
 
     def query(self, sql):
         """Names, rows, tags and fault of a simple query, and the state after it."""
@@ -277,7 +280,6 @@ def try_bad_messages(path):
     pick = random.Random(3)
     for _ in range(60):
         client = Client(path, "S", "bob")
-        client.door.settimeout(3)
         body = bytes(pick.randrange(256) for _ in range(pick.randrange(30)))
         client.send(pick.choice([b"P", b"B", b"D", b"E", b"C", b"d", b"c", b"H"]), body)
         client.send(b"S")
@@ -287,7 +289,7 @@ def try_bad_messages(path):
     client = Client(path, "S", "bob")
     key = next(body for kind, body in client.greeting if kind == b"K")
     client.send(b"Q", b"with recursive n(i) as (select 1 union all select i + 1 from n) select count(*) from n\0")
-    time.sleep(1)
+    holds("protocol: a statement is at work", works(client.bridge()))
     Client(path, "S", "bob", struct.pack("!ii", 16, 80877102) + struct.pack("!i", struct.unpack("!i",
         key[:4])[0]) + b"\0\0\0\0")
     holds("protocol: cancel without the secret", not select.select([client.door], [], [], 1)[0])

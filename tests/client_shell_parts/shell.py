@@ -5,7 +5,7 @@ import subprocess
 import sys
 import tempfile
 
-from base import ENVIRONMENT, MLDB, POLICY, SCHEMES, TRANSACTIONS, TURN, expect, holds
+from base import ENVIRONMENT, MLDB, POLICY, SCHEMES, SECONDS, TRANSACTIONS, TURN, expect, holds
 
 
 def shell(label, *words, user="bob", given="", policy=POLICY, terminal=False, store=None):
@@ -15,7 +15,8 @@ def shell(label, *words, user="bob", given="", policy=POLICY, terminal=False, st
         MLDB, "--user", user, label, *words]
     if terminal:
         return line
-    child = subprocess.run(line, input=given.encode(), capture_output=True, env=ENVIRONMENT, check=False, timeout=120)
+    child = subprocess.run(line, input=given.encode(), capture_output=True, env=ENVIRONMENT, check=False,
+        timeout=SECONDS)
     return child.returncode, child.stdout.decode(), child.stderr.decode()
 
 

@@ -2,9 +2,11 @@
 
 from __future__ import annotations
 
+import re
 import sqlite3
 from collections.abc import Callable, Mapping, Sequence
 from dataclasses import dataclass, field
+from itertools import pairwise
 from typing import Any
 
 from . import pg_catalog, pg_describe, pg_types
@@ -37,6 +39,7 @@ BEGINS, COMMITS, ROLLBACKS = {"begin", "start"}, {"commit", "end"}, {"rollback",
 GIVES_ROWS = {"select", "values", "show", "call", "explain", "table"}
 WRITES = {"insert", "update", "delete", "replace"}
 NO_PATTERNS = "SQL here has no ~: write LIKE or GLOB"
+NO_TABLE = re.compile(r"no such table: (\w+)")
 DECLARED, ALONE = "relations are declared in the schemes file", "the program sees to its store"
 NOT_HERE = {
     **dict.fromkeys(["savepoint", "release"], "there are no savepoints"),
@@ -86,6 +89,16 @@ def query_tokens(sql: str) -> list[list[Token]]:
         return statements_of(sql)
     except Unclosed as fault:
         raise Refused("42601", str(fault), position=fault.at + 1) from fault
+
+
+def hint_of(fault: Exception, told: Translation | None) -> str:
+    """What to write instead, where that is known."""
+    if "no such function: REGEXP" in str(fault):
+        return NO_PATTERNS
+    lacking = NO_TABLE.fullmatch(str(fault))
+    if lacking and told and [lacking[1].lower(), "("] in [[one.low, two.low] for one, two in pairwise(told.tokens)]:
+        return f"CALL {lacking[1]}(..) calls a stored transaction"
+    return ""
 
 
 class Engine:
@@ -366,8 +379,7 @@ class Engine:
         self.kept += done
         detail = f"{done} row{'s' * (done != 1)} of this statement stand" if done else ""
         position = told.origin(str(fault)) if told and getattr(fault, "code", None) is None else 0
-        hint = NO_PATTERNS if "no such function: REGEXP" in str(fault) else ""
-        refused = Refused(state_of(fault), str(fault), position=position, hint=hint, detail=detail)
+        refused = Refused(state_of(fault), str(fault), position=position, hint=hint_of(fault, told), detail=detail)
         refused.done = done
         return refused
 

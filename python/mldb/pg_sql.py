@@ -7,7 +7,7 @@ from __future__ import annotations
 import re
 import sqlite3
 from collections.abc import Iterable, Iterator, Mapping, Sequence
-from dataclasses import dataclass
+from dataclasses import dataclass, replace
 
 TOKEN = re.compile(
     r"""(?P<blank>\s+|--[^\n]*)
@@ -135,6 +135,15 @@ def quoted(text: str) -> str:
     return "'" + text.replace("'", "''") + "'"
 
 
+def literal_of(kind: str, text: str) -> str | None:
+    """A literal of a type that no CAST of SQLite makes: bytes, and a time of day behind a date as the module has it."""
+    if kind == "bytea" and (found := re.fullmatch(r"'\\x((?:[0-9a-fA-F]{2})*)'", text)):
+        return f"X'{found[1]}'"
+    if kind in ("timestamp", "timestamptz") and re.fullmatch(r"'[0-9]{4}-[0-9]{2}-[0-9]{2}T[^']*'", text):
+        return text.replace("T", " ", 1)
+    return None
+
+
 def name_of(token: Token) -> str | None:
     """The name that a token is, if it can be one."""
     return text_inside(token) if token.kind in ("word", "quoted") else None
@@ -243,7 +252,9 @@ class Translation:
         while self.peek(0) == "[" or self.peek(0) == "]":
             self.at += 1
         known = TYPES.get(name.strip('"'))
-        if known and self.pieces:
+        if self.pieces and (made := literal_of(name, self.pieces[-1].text)):
+            self.pieces[-1] = replace(self.pieces[-1], text=made)
+        elif known and self.pieces:
             place = self.primary()
             self.pieces.insert(place, Piece("CAST(", self.pieces[place].at, self.pieces[place].spaced))
             self.pieces.append(Piece(f"AS {known})", token.at))

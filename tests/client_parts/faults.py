@@ -44,6 +44,8 @@ FAULTS = [
      ["pushed", "random_sql"]),
     ("what is the same is parsed again", "local.py", " if self._loaded.get(table.name) != answer]", "]", ["pushed"]),
     ("too many lines are under way", "wire.py", "UNDER_WAY = 64", "UNDER_WAY = 100", ["several"]),
+    ("an interruption is lost while an answer is awaited", "local.py",
+     "                if self._is_stopped:\n                    raise KeyboardInterrupt\n", "", ["wires"]),
     ("late answers are taken", "wire.py", "        while self._owed:\n            self._answer()\n", "", ["wires"]),
     ("a denial is an IntegrityError", "errors.py", 'OperationalError if found[1] == "denied"',
      'IntegrityError if found[1] == "denied"', ["each_number"]),

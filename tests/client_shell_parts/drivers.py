@@ -104,6 +104,19 @@ for sql, kind, code in [("INSERT INTO SOD (Starship) VALUES ('\\')", psycopg2.er
     except psycopg2.Error as fault:
         expect(sql, (type(fault), fault.pgcode), (kind, code))
     db.rollback()
+for value in (b"ab", "a\nb", "\u00e9" * 513):
+    try:
+        cur.execute("INSERT INTO SOD (Starship) VALUES (%s)", (value,))
+        expect(f"{value!r:.20}", "done", "refused")
+    except psycopg2.Error as fault:
+        expect(f"{value!r:.20}", (type(fault), fault.pgcode), (psycopg2.errors.DataException, "22000"))
+    db.rollback()
+at = datetime.datetime(2026, 1, 2, 3, 4, 5)
+cur.execute("UPDATE SOD SET Objective = %s WHERE Starship = %s", (at, texts[0]))
+cur.execute("SELECT Objective, %s FROM SOD WHERE Starship = %s", (b"ab", texts[0]))
+found = cur.fetchone()
+expect("a time as the module writes it, and bytes", (found[0], bytes(found[1])), ("2026-01-02 03:04:05", b"ab"))
+db.commit()
 with db, db.cursor() as other:
     other.executemany("DELETE FROM SOD WHERE Starship = %s", [(one,) for one in texts])
 db.autocommit = True
@@ -134,7 +147,7 @@ def try_psycopg(folder):
     child = subprocess.run([found[0], "-c", PSYCOPG, folder], capture_output=True, check=False, timeout=SECONDS,
         text=True)
     print(child.stdout if "not so" in child.stdout else "", end="")
-    holds("psycopg2: all is so", child.returncode == 0 and child.stdout.strip() == "21",
+    holds("psycopg2: all is so", child.returncode == 0 and child.stdout.strip() == "25",
         child.stdout[-300:] + child.stderr[-600:])
 
 

@@ -84,6 +84,8 @@ def try_sql():
         ("select s.n::text from SOD s", "7"),
         ("select length(a)::text || '!' from SOD", "4!"), ("select '2026-01-02'::date", "2026-01-02"),
         ("select date '2026-01-02'", "2026-01-02"),
+        ("select '2026-01-02T03:04:05'::timestamp", "2026-01-02 03:04:05"),
+        ("select hex('\\x61fF'::bytea)", "61FF"), ("select ''::bytea", ""),
         ("select 'A' ilike 'a'", 1), ("select current_user || current_database()", "annS"),
         ("select 1 /* a /* b */ c */ + 1 -- x", 2),
         ("select 5::double precision / 2", 2.5), ("select '{}'::text[]", "{}"),

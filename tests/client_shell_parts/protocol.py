@@ -181,11 +181,18 @@ def try_protocol(path):
         ("call Known()", "42501"), ("set client_encoding to latin1", "0A000"), ("show nope", "42704"),
         ("insert into CREW (Id) values (1)", "23514"),
         ("select E'\\x00'", "22021"), ("select E'\\ud800'", "22021"), ("select pg_nope() from pg_class", "0A000"),
-        ("delete from SOD_highest", "42000"),
+        ("delete from SOD_highest", "42000"), ("insert into SOD (Starship) values ('\\x6162'::bytea)", "22000"),
+        ("insert into SOD (Starship) values (1.5)", None), ("delete from SOD where Starship = '1.5'", None),
+        ("insert into CREW (Id) values (1.5)", "22000"), ("vacuum", "0A000"), ("reindex", "0A000"),
     ]:
         got = client.query(sql)
         expect(f"protocol: {sql}", got[3].get("C"), state)
     expect("protocol: still there", client.query("select 1")[1], [["1"]])
+    fault = client.query("select * from Known()")[3]
+    expect("protocol: a call as a function", (fault["C"], fault.get("H")),
+        ("42P01", "CALL Known(..) calls a stored transaction"))
+    expect("protocol: a join by USING", client.query("select count(*) from SOD join SOD_highest using (Starship)")[1],
+        [["1"]])
     try_transactions(client)
     try_extended(client)
     client.close()

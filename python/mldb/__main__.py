@@ -24,8 +24,8 @@ from .shell_typing import Typing
 def words_of(arguments: list[str]) -> tuple[argparse.Namespace, list[str]]:
     """The command line."""
     before, command = shell_target.split(arguments)
-    form = {"description": __doc__, "formatter_class": argparse.RawDescriptionHelpFormatter}
-    parser = argparse.ArgumentParser(prog="python3 -m mldb", allow_abbrev=False, **form)
+    parser = argparse.ArgumentParser(prog="python3 -m mldb", allow_abbrev=False, description=__doc__,
+                                     formatter_class=argparse.RawDescriptionHelpFormatter)
     parser.add_argument("places", metavar="[SOCKET] LABEL", nargs="+", help="a gateway's socket, if any; a label")
     parser.add_argument("-c", metavar="SQL", dest="texts", action="append", help="do this and end; may be given again")
     parser.add_argument("--mode", choices=shell_show.MODES, default="table", help="how rows are shown (table)")
@@ -51,7 +51,7 @@ def run(shell: Shell, words: argparse.Namespace) -> None:
         finally:
             typing.keep()
     else:
-        sys.stdin.reconfigure(encoding="utf-8-sig", errors="surrogateescape")  # type: ignore[union-attr]
+        sys.stdin.reconfigure(encoding="utf-8-sig", errors="surrogateescape")  # type: ignore
         try:
             shell.read_lines(sys.stdin, words.bail)
         except Leave:
@@ -61,8 +61,8 @@ def run(shell: Shell, words: argparse.Namespace) -> None:
 def main(arguments: list[str]) -> int:
     """The shell; its status."""
     words, command = words_of(arguments)
-    sys.stdout.reconfigure(encoding="utf-8", errors="backslashreplace")  # type: ignore[union-attr]
-    sys.stderr.reconfigure(encoding="utf-8", errors="backslashreplace")  # type: ignore[union-attr]
+    sys.stdout.reconfigure(encoding="utf-8", errors="backslashreplace")  # type: ignore
+    sys.stderr.reconfigure(encoding="utf-8", errors="backslashreplace")  # type: ignore
     try:
         target = shell_target.Target(words, words.places[0] if len(words.places) == 2 else None, command)
     except mldb.Error as fault:

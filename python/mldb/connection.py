@@ -3,6 +3,7 @@
 import getpass
 import os
 from collections.abc import Callable, Iterable, Mapping, Sequence
+from functools import partial
 
 from mldb import catalogue, errors, values
 from mldb.catalogue import Relation
@@ -11,7 +12,7 @@ from mldb.errors import InterfaceError, NotSupportedError, OperationalError, Pro
 from mldb.local import Local
 from mldb.program import Path, Program, serve
 from mldb.session import NAME, Session
-from mldb.wire import ProcessWire, SocketWire
+from mldb.wire import ProcessWire, SocketWire, Wire
 
 BELOW = ("leave", "derive")
 
@@ -171,13 +172,22 @@ def connect(target: Path | Sequence[Path] | Program | None = None, label: str | 
     if target is None:
         if policy is None or schemes is None:
             raise InterfaceError("give a socket, a command or a program; or policy= and schemes= to start one here")
-        options = {"store": store, "transactions": transactions, "certificates": certificates, "program": program}
-        return _of_own_program(serve(policy, schemes, **options), label, user, None, below)
-    is_path = isinstance(target, (str, os.PathLike))
-    if not is_path and not (gateway if gateway is not None else "serve" not in target):
-        return _of_own_program(Program(target, schemes), label, user, None, below)
+        own = serve(policy, schemes, store=store, transactions=transactions, certificates=certificates, program=program)
+        return _of_own_program(own, label, user, None, below)
+    if isinstance(target, (str, os.PathLike)):
+        return _of_gateway(partial(SocketWire, os.fspath(target), timeout), label, user, schemes, below)
+    words = [os.fspath(word) for word in target]
+    if not words:
+        raise InterfaceError("give the words of a command: none is there")
+    if gateway is False or gateway is None and "serve" in words:
+        return _of_own_program(Program(words, schemes), label, user, None, below)
+    return _of_gateway(partial(ProcessWire, words), label, user, schemes, below)
+
+
+def _of_gateway(make: Callable[[], Wire], label: str, user: str, schemes: Path | None, below: str) -> Connection:
+    """A connection to a gateway, to which a wire leads."""
     relations = catalogue.read_schemes(schemes) if schemes is not None else {}
-    wire = SocketWire(os.fspath(target), timeout) if is_path else ProcessWire([os.fspath(word) for word in target])
+    wire = make()
     try:
         session = Session(wire, label, user, is_gateway=True)
         session.open()

@@ -1,6 +1,7 @@
 """Cursors: statements, and the rows that they found."""
 
 from collections.abc import Iterable, Iterator, Mapping, Sequence
+from functools import partial
 from typing import TYPE_CHECKING
 
 from mldb import results, values
@@ -69,11 +70,12 @@ class Cursor:
             for one in given:
                 plan.check(one)
             for row, one in enumerate(given):
-                self.rowcount = resumed(lambda some=one: self._write(local, plan, [some]), self.rowcount, row)
+                self.rowcount = resumed(partial(self._write, local, plan, [one]), self.rowcount, row)
         return self
 
     def _write(self, local: Local, plan: Plan, given: Sequence[Sequence | Mapping]) -> int:
         """Does a statement that writes: how many rows it changed."""
+        assert plan.writes
         session = self.connection.session()
         for one in given:
             plan.check(one)
@@ -98,7 +100,8 @@ class Cursor:
         told = ", ".join(values.spelt(values.parameter(value, True)) for value in arguments)
         first, *lines = session.ask(f"call {name} ({told})")
         session.told([first])
-        rows = [(deed, label, values.read(value)) for label, _, deed, value in (line.split(" ", 3) for line in lines)]
+        parts = [line.split(" ", 3) for line in lines]
+        rows: list[tuple] = [(deed, label, values.read(value)) for label, _, deed, value in parts]
         self._keep(("deed", "label", "value"), rows)
         return list(arguments)
 

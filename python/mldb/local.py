@@ -4,7 +4,7 @@ there is noted."""
 import re
 import sqlite3
 from collections.abc import Iterable, Mapping, Sequence
-from typing import NamedTuple
+from typing import Any, NamedTuple
 
 from mldb import statements, values
 from mldb.catalogue import Relation
@@ -39,7 +39,7 @@ class Plan(NamedTuple):
     deed: str | None
     assigned: tuple[int | str, ...] = ()
 
-    def check(self, parameters: Sequence | Mapping) -> None:
+    def check(self, parameters: Any) -> None:
         """That what is assigned as it is can be held."""
         for one in self.assigned:
             try:
@@ -142,9 +142,11 @@ class Local:
         relation that it writes."""
         tests = [told for one in plan.tests if (told := one.spelt(parameters))]
         where = f" where {' and '.join(tests)}" if tests else ""
-        highest = self.tables[f"{plan.writes.name}_highest"] if with_highest else None
+        reads = [*plan.reads]
+        if with_highest and plan.writes and (highest := self.tables[f"{plan.writes.name}_highest"]) not in reads:
+            reads.append(highest)
         asked: dict[str, list[Table]] = {}
-        for table in plan.reads if highest in (None, *plan.reads) else (*plan.reads, highest):
+        for table in reads:
             words = " highest" if table.form == "_highest" else ""
             asked.setdefault(f"view {table.relation.name} at {self._session.label}{words}{where}", []).append(table)
         if asked:

@@ -125,8 +125,8 @@ def account() -> str:
 def words_of(arguments: list[str]) -> tuple[argparse.Namespace, list[str]]:
     """The command line."""
     before, command = shell_target.split(arguments)
-    form = {"description": __doc__, "formatter_class": argparse.RawDescriptionHelpFormatter}
-    parser = argparse.ArgumentParser(prog="python3 -m mldb.pg", allow_abbrev=False, **form)
+    parser = argparse.ArgumentParser(prog="python3 -m mldb.pg", allow_abbrev=False, description=__doc__,
+                                     formatter_class=argparse.RawDescriptionHelpFormatter)
     parser.add_argument("place", metavar="SOCKET", nargs="?", help="the socket of a gateway")
     parser.add_argument("--folder", default="~/.mldb", help="where the socket stands, for psql -h (~/.mldb)")
     parser.add_argument("--port", type=int, default=5432, help="its number, for psql -p (5432)")

@@ -7,6 +7,7 @@ import struct
 import threading
 from collections.abc import Callable, Sequence
 from dataclasses import dataclass, field
+from functools import partial
 from typing import Any
 
 from . import pg_copy, pg_describe, pg_types
@@ -116,7 +117,8 @@ class Session:
             first = self.wire.startup()
         if first.code == CANCEL:
             if len(first.rest) == 8:
-                self.clients.cancel(struct.unpack("!ii", first.rest))
+                number, secret = struct.unpack("!ii", first.rest)
+                self.clients.cancel((number, secret))
             return False
         if first.code >> 16 != PROTOCOL >> 16:
             self.last_words("0A000", f"protocol {first.code >> 16}.{first.code & 65535}: this is 3.0")
@@ -215,7 +217,7 @@ class Session:
         try:
             statements = query_tokens(sql)
             for tokens in statements:
-                self.guarded(lambda tokens=tokens: self.simple(tokens))
+                self.guarded(partial(self.simple, tokens))
             if not statements:
                 self.wire.send(message(b"I"))
         except Refused as fault:
@@ -308,7 +310,7 @@ class Session:
         if kind == b"S":
             statement = self.statement(name)
             if statement.tokens:
-                statement.columns = self.guarded(lambda: self.engine.described(statement))
+                statement.columns = self.guarded(partial(self.engine.described, statement))
             self.wire.send(parameter_description(statement.types))
             columns = statement.columns
         else:

@@ -30,7 +30,7 @@ TYPES = {
     **dict.fromkeys("int int2 int4 int8 integer bigint smallint oid bool boolean".split(), "INTEGER"),
     **dict.fromkeys(["float4", "float8", "real", "double", "numeric", "decimal"], "REAL"),
 }
-ENDS_CASE = {"varying": {"character"}, "precision": {"double"}, "time": set()}
+ENDS_CASE: dict[str, set[str]] = {"varying": {"character"}, "precision": {"double"}, "time": set()}
 WORDS = {"current_catalog", "current_user", "session_user", "user", "current_role", "current_schema"}
 DROPPED = {"public", "pg_catalog"}
 NO_FUNCTIONS = set(
@@ -348,9 +348,9 @@ def parameter_kinds(tokens: Sequence[Token], kinds: Mapping[str, str]) -> dict[i
             continue
         number = int(one.text[1:])
         names = [listed.get(place, "")]
-        for sign, name in ((place - 1, place - 2), (place + 1, place + 2)):
-            if 0 <= min(sign, name) and max(sign, name) < len(tokens) and tokens[sign].text in COMPARES:
-                names.append((name_of(tokens[name]) or "").lower())
+        for sign, side in ((place - 1, place - 2), (place + 1, place + 2)):
+            if 0 <= min(sign, side) and max(sign, side) < len(tokens) and tokens[sign].text in COMPARES:
+                names.append((name_of(tokens[side]) or "").lower())
         if place and tokens[place - 1].low in ("limit", "offset"):
             found[number] = "int"
         for name in names:

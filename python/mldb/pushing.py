@@ -2,8 +2,8 @@
 
 What is asked may find more rows than SQL does, never fewer: SQLite tests each of them again."""
 
-from collections.abc import Mapping, Sequence
-from typing import NamedTuple
+from collections.abc import Sequence
+from typing import Any, NamedTuple
 
 from mldb import values
 from mldb.catalogue import Attribute, Relation
@@ -28,7 +28,7 @@ class Test(NamedTuple):
     value: values.Value
     parameter: int | str | None
 
-    def spelt(self, parameters: Sequence | Mapping) -> str | None:
+    def spelt(self, parameters: Any) -> str | None:
         """The test as mldb has it; None where its value is none that the attribute can have, so that SQLite alone tests
         it."""
         try:
@@ -45,7 +45,7 @@ def tests_of(tokens: Sequence[Token], table: str, relation: Relation) -> tuple[T
     table twice."""
     place = _only_place(tokens, table.lower())
     where = None if place is None else _where(tokens, place)
-    if where is None:
+    if place is None or where is None:
         return ()
     own = {(one.name or "").lower() for one in tokens[place:place + 3]}
     reader = _Reader(tokens, own, relation)
@@ -73,7 +73,9 @@ def _where(tokens: Sequence[Token], place: int) -> int | None:
     if between is None or len(between) == 2 and between[0] != "AS":
         return None
     at = place + 1 + len(between)
-    return at if not is_update else next((at + k for k, one in at_top(tokens[at:]) if one.word == "WHERE"), None)
+    if not is_update:
+        return at
+    return next((at + k for k, one in at_top(tokens[at:]) if one.word == "WHERE"), None)
 
 
 def _parts(tokens: Sequence[Token]) -> list[Sequence[Token]]:

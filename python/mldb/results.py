@@ -20,7 +20,8 @@ TYPES = {int: NUMBER, float: NUMBER, str: STRING, bytes: BINARY}
 
 def described(names: Sequence[str], rows: list[tuple], kinds: Mapping[str, str]) -> tuple[list[tuple], list[tuple]]:
     """The description of columns, and their rows. A column `AS "Due [date]"` is Due, and has dates."""
-    told, readers = [], {}
+    told: list[tuple] = []
+    readers: dict[int, Callable] = {}
     for at, name in enumerate(names):
         asked = ASKED.match(name)
         if asked and asked[2].lower() in READERS:
@@ -34,7 +35,7 @@ def described(names: Sequence[str], rows: list[tuple], kinds: Mapping[str, str])
 def _type(name: str, at: int, rows: Sequence[tuple], kinds: Mapping[str, str]) -> Type:
     """The type of a column: of its first value, or else of the attribute that has its name."""
     first = next((row[at] for row in rows if row[at] is not None), None)
-    return KINDS.get(kinds.get(name, "text")) if first is None else TYPES[type(first)]
+    return KINDS[kinds.get(name, "text")] if first is None else TYPES[type(first)]
 
 
 def _dated(row: tuple, readers: Mapping[int, Callable]) -> tuple:

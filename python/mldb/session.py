@@ -38,7 +38,10 @@ class Session:
         """Opens the session where it is not open. `audit` asks without an entry in the audit list, which a denied
         opening makes."""
         try:
-            if any(line.endswith(" denied 31 NoSession") for line in self.ask("audit")[:1]):
+            first = self.ask("audit")[:1]
+            if not all(line.startswith(f"{self.label} {self.label}/{self.user} ") for line in first):
+                raise InterfaceError(f"the gateway knows you by another name than {self.user}: give user=")
+            if any(line.endswith(" denied 31 NoSession") for line in first):
                 self.command(f"open {self.user}")
         except ProgrammingError as fault:
             if fault.code == UNKNOWN_NAME:
@@ -87,9 +90,9 @@ class Session:
             texts = [line.split(" ", 2)[2] for line in lines]
         except IndexError as fault:
             raise InternalError(f"{lines!r:.200}: a line of a reply begins with two words") from fault
-        fault = errors.of_reply(texts[0]) if texts else None
-        if fault:
-            raise fault
+        refusal = errors.of_reply(texts[0]) if texts else None
+        if refusal:
+            raise refusal
         return texts
 
     def answers(self, commands: Sequence[str], is_bad: Callable[[bytes], bool] | None = None,

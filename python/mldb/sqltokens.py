@@ -40,9 +40,9 @@ def tokens(sql: str) -> list[Token]:
     """The tokens of a statement, without blanks and comments."""
     found = []
     for one in TOKEN.finditer(sql):
-        if one.lastgroup != "space":
-            text = one[0]
-            found.append(Token(one.lastgroup, text, text.upper() if one.lastgroup == "word" else "", one.end()))
+        kind, text = one.lastgroup or "", one[0]
+        if kind != "space":
+            found.append(Token(kind, text, text.upper() if kind == "word" else "", one.end()))
     return found
 
 
@@ -58,6 +58,6 @@ def at_top(tokens: Sequence[Token]) -> Iterator[tuple[int, Token]]:
 def numbers(tokens: Iterable[Token]) -> dict[int, int | str]:
     """The parameters, each by where it ends: the number of a `?`, or a name. None of a `?` beside others."""
     asked = [one for one in tokens if one.kind == "parameter"]
-    are_plain = all(one.text == "?" for one in asked)
-    named = {one.end: one.text[1:] for one in asked if one.text[0] in ":@$"}
-    return {one.end: k for k, one in enumerate(asked)} if are_plain else named
+    if all(one.text == "?" for one in asked):
+        return {one.end: k for k, one in enumerate(asked)}
+    return {one.end: one.text[1:] for one in asked if one.text[0] in ":@$"}

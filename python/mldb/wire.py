@@ -8,6 +8,7 @@ import tempfile
 import threading
 from collections import deque
 from collections.abc import Callable, Sequence
+from functools import partial
 
 from mldb.errors import OperationalError
 
@@ -20,7 +21,11 @@ class Wire:
     """One conversation, which several connections and threads may share: each exchange is whole.
 
     An exchange that was interrupted while it waited leaves answers that nobody reads: the next one passes over them.
-    One that was interrupted while it sent leaves a line that nobody knows: then the wire is cut."""
+    One that was interrupted while it sent leaves a line that nobody knows: then the wire is cut. `_read` is a function
+    of C: an interruption comes before it or behind what keeps its bytes."""
+
+    _read: Callable[[int], bytes]
+    _write: Callable[[bytes], None]
 
     def __init__(self):
         self._lock = threading.RLock()
@@ -109,12 +114,6 @@ class Wire:
         self._cut = self._why(fault)
         raise OperationalError(self._cut) from fault
 
-    def _read(self, most: int) -> bytes:
-        raise NotImplementedError
-
-    def _write(self, data: bytes) -> None:
-        raise NotImplementedError
-
     def _hang_up(self) -> None:
         raise NotImplementedError
 
@@ -161,19 +160,20 @@ class ProcessWire(Wire):
         self._command = command[0]
         self._process = subprocess.Popen(words, bufsize=0, stdin=subprocess.PIPE, stdout=subprocess.PIPE,
                                          stderr=self._errors)
+        assert self._process.stdin and self._process.stdout
+        self._to, self._from = self._process.stdin, self._process.stdout
+        self._read = partial(os.read, self._from.fileno())
+        self._write = self._write_all
 
-    def _read(self, most: int) -> bytes:
-        return os.read(self._process.stdout.fileno(), most)
-
-    def _write(self, data: bytes) -> None:
+    def _write_all(self, data: bytes) -> None:
         view = memoryview(data)
         while view:
-            view = view[os.write(self._process.stdin.fileno(), view):]
+            view = view[os.write(self._to.fileno(), view):]
 
     def _hang_up(self) -> None:
-        self._process.stdin.close()
+        self._to.close()
         self._wait()
-        self._process.stdout.close()
+        self._from.close()
         self._errors.close()
 
     def _wait(self) -> int:
@@ -185,7 +185,7 @@ class ProcessWire(Wire):
             return self._process.wait()
 
     def _why(self, fault: OSError | None) -> str:
-        self._process.stdin.close()
+        self._to.close()
         status = self._wait()
         self._errors.seek(0)
         words = self._errors.read().decode(errors="backslashreplace").strip()

@@ -62,7 +62,7 @@ def send(session: Session, commands: Sequence[str | None], under_way: int) -> in
     """Sends the commands of rows: how many rows are done. A row that is not there any more counts as none."""
     places = [k for k, one in enumerate(commands) if one is not None]
     try:
-        answers = session.answers([commands[k] for k in places], _is_bad, under_way)
+        answers = session.answers([one for one in commands if one is not None], _is_bad, under_way)
     except OperationalError as fault:
         _tell(fault, commands, places[: fault.asked], fault.answered)
         raise

@@ -11,6 +11,15 @@ LONG = "x" * 1025
 REFUSED = ["a\nb", "a\r", "a\tb", "\x00", "\x7f", "\x1b[2J", "\ud800", LONG, "\u00e9" * 513, 1.5, 5.0, float("nan"),
            float("inf"), b"a", bytearray(b"a"),
            1 << 63, -(1 << 63) - 1, decimal.Decimal("1.5"), object(), ("a",)]
+BAD_SQL = [
+    "INSERT INTO SOD (Starship) SELECT 'good' UNION ALL SELECT 'a' || char(10)",
+    "INSERT INTO SOD (Starship) VALUES ('a'), (x'00')", "INSERT INTO CREW (Id) VALUES (1), (1.5)",
+    "INSERT INTO CREW (Id) VALUES (1), ('one')", "INSERT INTO CREW (Id) VALUES (9223372036854775808)",
+    "INSERT INTO SOD (Starship) VALUES ('\ud800')", f"INSERT INTO SOD (Starship) VALUES ('{LONG}')",
+    "INSERT INTO SOD (Starship) VALUES ('a\nb')", "SELECT '\ud800'",
+]
+BAD_LINES = ["view SOD at U\nclose", "view SOD at U\n", 'insert SOD key ("\ud800") values (null, null)',
+             "# " + "x" * (1 << 20), 5]
 NUMBERS = [0, -1, True, (1 << 63) - 1, -(1 << 63)]
 
 
@@ -45,6 +54,26 @@ def try_values(connection, asked):
 def try_refused(connection, asked):
     """Nothing is sent, and the rows before are not lost."""
     connection.execute("INSERT INTO SOD (Starship) VALUES ('before')")
+    try_parameters(connection, asked)
+    for sql in BAD_SQL:
+        asked.taken()
+        with tried.raises(repr(sql), mldb.DataError):
+            connection.execute(sql)
+        tried.expect(f"{sql!r:.60}: nothing is sent", asked.taken(), [])
+    for line in BAD_LINES:
+        asked.taken()
+        with tried.raises(f"{line!r:.30} as a line", mldb.DataError):
+            connection.ask(line)
+        tried.expect(f"{line!r:.30}: nothing is sent", asked.taken(), [])
+    tried.expect("all is as before", connection.execute("SELECT * FROM SOD").fetchall(), [("before", None, None, "U")])
+    tried.expect("and in CREW", connection.execute("SELECT * FROM CREW").fetchall(), [])
+    tried.expect("a fraction asks", connection.execute("SELECT ? > 1, ?", (1.5, "a\nb")).fetchone(), (1, "a\nb"))
+    with tried.raises("no number", mldb.DataError):
+        connection.execute("SELECT ?", (float("nan"),))
+
+
+def try_parameters(connection, asked):
+    """Bad values where a parameter may stand."""
     for value in REFUSED:
         asked.taken()
         with tried.raises(f"{value!r:.30} as a value", mldb.DataError):
@@ -69,27 +98,6 @@ def try_refused(connection, asked):
             connection.derive("SOD", ("before",), "U", Objective=value)
         with tried.raises(f"{value!r:.30} as an argument", mldb.DataError):
             connection.cursor().callproc("Known", (value,))
-    for sql in ("INSERT INTO SOD (Starship) SELECT 'good' UNION ALL SELECT 'a' || char(10)",
-                "INSERT INTO SOD (Starship) VALUES ('a'), (x'00')",
-                "INSERT INTO CREW (Id) VALUES (1), (1.5)", "INSERT INTO CREW (Id) VALUES (1), ('one')",
-                "INSERT INTO CREW (Id) VALUES (9223372036854775808)", "INSERT INTO SOD (Starship) VALUES ('\ud800')",
-                f"INSERT INTO SOD (Starship) VALUES ('{LONG}')", "INSERT INTO SOD (Starship) VALUES ('a\nb')",
-                "SELECT '\ud800'"):
-        asked.taken()
-        with tried.raises(repr(sql), mldb.DataError):
-            connection.execute(sql)
-        tried.expect(f"{sql!r:.60}: nothing is sent", asked.taken(), [])
-    for line in ("view SOD at U\nclose", "view SOD at U\n", "insert SOD key (\"\ud800\") values (null, null)",
-                 "# " + "x" * (1 << 20), 5):
-        asked.taken()
-        with tried.raises(f"{line!r:.30} as a line", mldb.DataError):
-            connection.ask(line)
-        tried.expect(f"{line!r:.30}: nothing is sent", asked.taken(), [])
-    tried.expect("all is as before", connection.execute("SELECT * FROM SOD").fetchall(), [("before", None, None, "U")])
-    tried.expect("and in CREW", connection.execute("SELECT * FROM CREW").fetchall(), [])
-    tried.expect("a fraction asks", connection.execute("SELECT ? > 1, ?", (1.5, "a\nb")).fetchone(), (1, "a\nb"))
-    with tried.raises("no number", mldb.DataError):
-        connection.execute("SELECT ?", (float("nan"),))
 
 
 def try_dates(connection):

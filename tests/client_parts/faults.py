@@ -51,6 +51,8 @@ FAULTS = [
      'IntegrityError if found[1] == "denied"', ["each_number"]),
     ("a row that is gone is an error", "writing.py", " and not answer.endswith(NO_TUPLE)", "", ["each_number"]),
     ("a column counts the names before it", "errors.py", "int(found[3]) - before", "int(found[3])", ["each_number"]),
+    ("another one's name is taken", "session.py",
+     'not all(line.startswith(f"{self.label} {self.label}/{self.user} ") for line in first)', "False", ["gateway"]),
     ("a connection enters a denial", "session.py", '.endswith(" denied 31 NoSession")', '.endswith("")',
      ["each_number"]),
     ("a date is the time of day", "values.py", "value.isoformat(\" \") if isinstance(value, datetime.datetime) else",

@@ -81,6 +81,8 @@ def try_two(gate):
     tried.expect("its place", found and found[0].column, 6)
     again = gate.connect("ann", "U")
     tried.expect("one session", again.ask("audit"), ["U U/ann audit"])
+    with tried.raises("a name that is not hers, while her session is open", mldb.InterfaceError):
+        gate.connect("bob", "U", really="ann")
     ann.close()
     tried.expect("which stays open", again.execute("SELECT count(*) FROM SOD").fetchone(), (150,))
     again.close()

@@ -12,6 +12,32 @@ ERRORS = {"InterfaceError": mldb.Error, "DatabaseError": mldb.Error, "DataError"
           "IntegrityError": mldb.DatabaseError, "InternalError": mldb.DatabaseError,
           "ProgrammingError": mldb.DatabaseError,
           "NotSupportedError": mldb.DatabaseError, "Error": Exception, "Warning": Exception}
+BAD = [
+    ("SELECT ?", (), mldb.ProgrammingError), ("SELECT 1", (1,), mldb.ProgrammingError),
+    ("SELECT ?", "a", mldb.ProgrammingError), ("SELEC 1", (), mldb.ProgrammingError),
+    ("SELECT 1; SELECT 2", (), mldb.ProgrammingError), ("SELECT ?", 5, mldb.ProgrammingError),
+    ("SELECT :a", {"b": 1}, mldb.ProgrammingError),
+    ("CREATE TABLE x (a)", (), mldb.NotSupportedError),
+    ("CREATE TEMP TABLE x (a)", (), mldb.NotSupportedError), ("DROP TABLE CREW", (), mldb.NotSupportedError),
+    ("ATTACH '/tmp/x' AS x", (), mldb.NotSupportedError),
+    ("PRAGMA writable_schema = 1", (), mldb.NotSupportedError), ("BEGIN", (), mldb.NotSupportedError),
+    ("VACUUM", (), mldb.NotSupportedError), ("VACUUM INTO '/nowhere/x'", (), mldb.NotSupportedError),
+    ("REINDEX", (), mldb.NotSupportedError), ("SAVEPOINT x", (), mldb.NotSupportedError),
+    *((sql, (), mldb.ProgrammingError) for sql in (None, b"SELECT 1", "", "-- SELECT 1", "SELECT 1\0")),
+    *((" ".join(INSERT[:size]), (), mldb.ProgrammingError) for size in range(1, len(INSERT))),
+    ("DROP TRIGGER \"mldb insert CREW\"", (), mldb.NotSupportedError),
+    ("SELECT mldb_note('insert', 0, 0)", (), mldb.NotSupportedError),
+    ("INSERT INTO CREW_highest (Id) VALUES (1)", (), mldb.ProgrammingError),
+    ("DELETE FROM CREW_classes", (), mldb.ProgrammingError),
+    ("DELETE FROM sqlite_schema", (), mldb.ProgrammingError),
+    ("INSERT OR REPLACE INTO CREW (Id) VALUES (1)", (), mldb.NotSupportedError),
+    ("REPLACE INTO CREW (Id) VALUES (1)", (), mldb.NotSupportedError),
+    ("INSERT INTO CREW (Id) VALUES (1) ON CONFLICT DO NOTHING", (), mldb.NotSupportedError),
+    ("UPDATE OR IGNORE CREW SET Post = 'x'", (), mldb.NotSupportedError),
+    ("DELETE FROM CREW RETURNING Id", (), mldb.NotSupportedError),
+    ("INSERT INTO CREW VALUES (1)", (), mldb.ProgrammingError),
+    ("SELECT * FROM nowhere", (), mldb.ProgrammingError),
+]
 
 
 def try_module():
@@ -95,32 +121,7 @@ def try_places(cursor):
 
 def try_statements(connection):
     """What a statement may be, and how it is wrong."""
-    cases = [("SELECT ?", (), mldb.ProgrammingError), ("SELECT 1", (1,), mldb.ProgrammingError),
-             ("SELECT ?", "a", None), ("SELEC 1", (), mldb.ProgrammingError),
-             ("SELECT 1; SELECT 2", (), mldb.ProgrammingError), ("SELECT ?", 5, mldb.ProgrammingError),
-             ("SELECT :a", {"b": 1}, mldb.ProgrammingError),
-             ("CREATE TABLE x (a)", (), mldb.NotSupportedError),
-             ("CREATE TEMP TABLE x (a)", (), mldb.NotSupportedError), ("DROP TABLE CREW", (), mldb.NotSupportedError),
-             ("ATTACH '/tmp/x' AS x", (), mldb.NotSupportedError),
-             ("PRAGMA writable_schema = 1", (), mldb.NotSupportedError), ("BEGIN", (), mldb.NotSupportedError),
-             ("VACUUM", (), mldb.NotSupportedError), ("VACUUM INTO '/nowhere/x'", (), mldb.NotSupportedError),
-             ("REINDEX", (), mldb.NotSupportedError), ("SAVEPOINT x", (), mldb.NotSupportedError),
-             *((sql, (), mldb.ProgrammingError) for sql in (None, b"SELECT 1", "", "-- SELECT 1", "SELECT 1\0")),
-             *((" ".join(INSERT[:size]), (), mldb.ProgrammingError) for size in range(1, len(INSERT))),
-             ("DROP TRIGGER \"mldb insert CREW\"", (), mldb.NotSupportedError),
-             ("SELECT mldb_note('insert', 0, 0)", (), mldb.NotSupportedError),
-             ("INSERT INTO CREW_highest (Id) VALUES (1)", (), mldb.ProgrammingError),
-             ("DELETE FROM CREW_classes", (), mldb.ProgrammingError),
-             ("DELETE FROM sqlite_schema", (), mldb.ProgrammingError),
-             ("INSERT OR REPLACE INTO CREW (Id) VALUES (1)", (), mldb.NotSupportedError),
-             ("REPLACE INTO CREW (Id) VALUES (1)", (), mldb.NotSupportedError),
-             ("INSERT INTO CREW (Id) VALUES (1) ON CONFLICT DO NOTHING", (), mldb.NotSupportedError),
-             ("UPDATE OR IGNORE CREW SET Post = 'x'", (), mldb.NotSupportedError),
-             ("DELETE FROM CREW RETURNING Id", (), mldb.NotSupportedError),
-             ("INSERT INTO CREW VALUES (1)", (), mldb.ProgrammingError),
-             ("SELECT * FROM nowhere", (), mldb.ProgrammingError)]
-    for sql, given, kind in cases:
-        kind = kind or mldb.ProgrammingError
+    for sql, given, kind in BAD:
         with tried.raises(sql, kind):
             connection.execute(sql, given)
     tried.expect("nothing was done", connection.execute("SELECT count(*) FROM CREW").fetchone(), (5,))

@@ -57,8 +57,11 @@ class Dice:
         ])
 
     def statement(self):
+        return self.rng.choice([*self.changes(), *self.questions(), *[self.pushed] * 7])()
+
+    def changes(self):
         word, number = self.word, self.number
-        return self.rng.choice([
+        return [
             lambda: ("INSERT INTO SOD (Starship, Objective, Destination) VALUES (?, ?, ?)", (word(), word(), word())),
             lambda: ("INSERT INTO SOD VALUES (?, ?, NULL)", (word(), word())),
             lambda: ("INSERT INTO CREW (Id, Post) VALUES (?, ?)", (number(), word())),
@@ -74,6 +77,16 @@ class Dice:
             lambda: ("DELETE FROM SOD WHERE Objective IS ? AND Starship <> ?", (word(), word())),
             lambda: ("DELETE FROM CREW WHERE Id = ?", (number(),)),
             lambda: ("DELETE FROM CREW WHERE Id IN (SELECT Id FROM CREW ORDER BY Id LIMIT 2) AND Post IS NOT NULL", ()),
+            lambda: ("INSERT INTO CREW (Id, Post) SELECT count(*) + 20, max(Objective) FROM SOD", ()),
+            lambda: ("INSERT INTO SOD (Starship, Objective) SELECT Post || Id, Post FROM CREW WHERE Id > ? ORDER BY Id",
+                     (number(),)),
+            lambda: ("INSERT INTO CREW (Id) SELECT a.Id + 30 FROM CREW a JOIN CREW b USING (Post) WHERE a.Id <> b.Id "
+                     "AND b.Post = ?", (word(),)),
+        ]
+
+    def questions(self):
+        word, number = self.word, self.number
+        return [
             lambda: ("SELECT Objective, count(*), min(Starship) FROM SOD GROUP BY 1 ORDER BY 1, 2", ()),
             lambda: ("SELECT s.Starship, c.Id FROM SOD s JOIN CREW c ON c.Post = s.Objective ORDER BY 1, 2", ()),
             lambda: ("SELECT s.Starship, c.Id FROM SOD s LEFT JOIN CREW c ON c.Post = s.Starship AND c.Id > ?",
@@ -87,17 +100,11 @@ class Dice:
             lambda: ("SELECT Id, Post FROM CREW WHERE Id = ? AND Post IN (SELECT Starship FROM SOD)", (number(),)),
             lambda: ("SELECT a.Id FROM CREW a, CREW b WHERE a.Id = b.Id + 1 AND b.Id = ?", (number(),)),
             lambda: ("SELECT sum(Id), avg(Id), total(length(Post)) FROM CREW WHERE NOT (Post = ?)", (word(),)),
-            lambda: ("INSERT INTO CREW (Id, Post) SELECT count(*) + 20, max(Objective) FROM SOD", ()),
-            lambda: ("INSERT INTO SOD (Starship, Objective) SELECT Post || Id, Post FROM CREW WHERE Id > ? ORDER BY Id",
-                     (number(),)),
             lambda: ("SELECT EXISTS (SELECT 1 FROM SOD WHERE Starship = ?)", (word(),)),
             lambda: ("SELECT count(*) FROM SOD JOIN (SELECT Post AS Starship FROM CREW) USING (Starship)", ()),
             lambda: ("SELECT Id FROM CREW NATURAL JOIN (SELECT Id, Post AS p FROM CREW WHERE Post > ?)", (word(),)),
-            lambda: ("INSERT INTO CREW (Id) SELECT a.Id + 30 FROM CREW a JOIN CREW b USING (Post) WHERE a.Id <> b.Id "
-                     "AND b.Post = ?", (word(),)),
             lambda: ("select count(*) from sod, crew", ()),
-            self.pushed, self.pushed, self.pushed, self.pushed, self.pushed, self.pushed, self.pushed,
-        ])()
+        ]
 
 
 def outcome(work):

@@ -194,6 +194,8 @@ def try_programs():
                     {"label": "U", "below": "up", "policy": tried.POLICY, "schemes": tried.SCHEMES}, {"label": "U\nS"}):
         with tried.raises(f"{options}", mldb.InterfaceError):
             mldb.connect(None, **{"user": "ann", "program": tried.PROGRAM, **options})
+    with tried.raises("a command of no words", mldb.InterfaceError):
+        mldb.connect([], "U", user="ann", schemes=tried.SCHEMES)
 
 
 def try_killed():

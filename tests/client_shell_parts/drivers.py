@@ -46,6 +46,11 @@ def try_psql(folder):
     holds("psql: the place", status == 1 and "LINE 1: select * form SOD\n                 ^" in told, told)
     status, out, told = psql(folder, "-v", "VERBOSITY=verbose", "-c", "insert into SOD (Starship) values ('a')")
     holds("psql: SQLSTATE and words", "ERROR:  23505: refused 12 Duplicate: a tuple has this key" in told, told)
+    try_psql_rows(folder)
+
+
+def try_psql_rows(folder):
+    """\\copy, two labels, a script, a join."""
     with tempfile.TemporaryDirectory() as place:
         with open(f"{place}/in.csv", "w", encoding="utf-8") as file:
             file.write("Id,Post\n1,a\n2,\"b, c\"\n3,\n")

@@ -95,6 +95,13 @@ def try_sql():
         got = told(sql, {"current_user": "ann", "current_database": "S"})
         expect(f"sql: {sql}", base.execute(got[0]).fetchone()[0], wanted)
     expect("sql: statements", len(told("select 1;; select ';' ; ")), 2)
+    try_places(base)
+
+
+def try_places(base):
+    """Parameters, places of faults, and kinds of parameters."""
+    from mldb import pg_sql
+
     one = pg_sql.Translation(pg_sql.statements_of("select $2, $1, $2")[0], {})
     expect("sql: parameters", (one.sql, one.order, one.parameters), ("select ?, ?, ?", [2, 1, 2], 2))
     for sql, wanted in [("select * form SOD where x", 10), ("select a a a, b from", 12), ("select nope from SOD", 8),

@@ -148,6 +148,22 @@ def read_answer(messages):
     return columns, rows, tags, fault, state
 
 
+STATES = [
+    ("insert into SOD (Starship) values ('a')", "23505"), ("insert into SOD (Starship) values (null)", "23502"),
+    ("select * form SOD", "42601"),
+    ("select 1 from NOPE", "42P01"), ("select nope(1)", "42883"),
+    ("insert into SOD (Starship) values ('a\tb')", "22000"), ("create table x (a int)", "0A000"),
+    ("select 'x", "42601"), ("savepoint a", "0A000"), ("call Nope()", "42883"), ("copy NOPE to stdout", "42P01"),
+    ("execute nope", "26000"),
+    ("call Known()", "42501"), ("set client_encoding to latin1", "0A000"), ("show nope", "42704"),
+    ("insert into CREW (Id) values (1)", "23514"),
+    ("select E'\\x00'", "22021"), ("select E'\\ud800'", "22021"), ("select pg_nope() from pg_class", "0A000"),
+    ("delete from SOD_highest", "42000"), ("insert into SOD (Starship) values ('\\x6162'::bytea)", "22000"),
+    ("insert into SOD (Starship) values (1.5)", None), ("delete from SOD where Starship = '1.5'", None),
+    ("insert into CREW (Id) values (1.5)", "22000"), ("vacuum", "0A000"), ("reindex", "0A000"),
+]
+
+
 def try_protocol(path):
     for code in (80877103, 80877104):
         client = Client(path, "S", "bob", struct.pack("!ii", 8, code))
@@ -171,20 +187,7 @@ def try_protocol(path):
     answer = client.query("select 1; select nope from SOD; select 2")
     expect("protocol: ends at a fault", (answer[2], answer[3]["C"], answer[3]["P"], answer[4]),
         (["SELECT 1"], "42703", "18", "I"))
-    for sql, state in [
-        ("insert into SOD (Starship) values ('a')", "23505"), ("insert into SOD (Starship) values (null)", "23502"),
-        ("select * form SOD", "42601"),
-        ("select 1 from NOPE", "42P01"), ("select nope(1)", "42883"),
-        ("insert into SOD (Starship) values ('a\tb')", "22000"), ("create table x (a int)", "0A000"),
-        ("select 'x", "42601"), ("savepoint a", "0A000"), ("call Nope()", "42883"), ("copy NOPE to stdout", "42P01"),
-        ("execute nope", "26000"),
-        ("call Known()", "42501"), ("set client_encoding to latin1", "0A000"), ("show nope", "42704"),
-        ("insert into CREW (Id) values (1)", "23514"),
-        ("select E'\\x00'", "22021"), ("select E'\\ud800'", "22021"), ("select pg_nope() from pg_class", "0A000"),
-        ("delete from SOD_highest", "42000"), ("insert into SOD (Starship) values ('\\x6162'::bytea)", "22000"),
-        ("insert into SOD (Starship) values (1.5)", None), ("delete from SOD where Starship = '1.5'", None),
-        ("insert into CREW (Id) values (1.5)", "22000"), ("vacuum", "0A000"), ("reindex", "0A000"),
-    ]:
+    for sql, state in STATES:
         got = client.query(sql)
         expect(f"protocol: {sql}", got[3].get("C"), state)
     expect("protocol: still there", client.query("select 1")[1], [["1"]])
@@ -244,6 +247,11 @@ def try_extended(client):
            ([(1, 20)], [[("Id", 20), ("Post", 25), ("n", 20)]]))
     expect("extended: no rows of a write", b"".join(kind for kind,
         _ in client.extended("delete from SOD where Starship = $1", [b"zz"])), b"12nCZ")
+    try_portals(client)
+
+
+def try_portals(client):
+    """Portals that wait, faults up to Sync, names."""
     messages = client.extended("values (1), (2), (3)", most=2)
     expect("extended: a portal that waits", b"".join(kind for kind, _ in messages), b"12TDDsZ")
     client.query("begin")

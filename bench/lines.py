@@ -77,7 +77,7 @@ def three_machines():
                 cluster.start_server(place)
             for place in range(3):
                 cluster.start(place)
-            cluster.wait("three", lambda: all("is there, at line" in cluster.log(place) for place in range(3)))
+            cluster.wait("three", lambda: cluster.are_there(0, 1, 2))
             return speed([f"{folder}/{name}/sock" for name in "abc"])
         finally:
             cluster.stop()

@@ -8,6 +8,8 @@ import time
 
 STREAM, SUBJECT = "MLDB", "mldb.lines"
 SECONDS = 3
+# JetStream's numbers: no such stream; a server could not write the line, and others may have done so.
+NOT_THERE, NOT_WRITTEN = 10059, 10077
 
 
 class Unavailable(Exception):
@@ -16,6 +18,10 @@ class Unavailable(Exception):
 
 class Unknown(Exception):
     """Nobody said whether the line is taken."""
+
+
+class Gone(Exception):
+    """The stream is not there, or another one is."""
 
 
 class Server:
@@ -83,11 +89,13 @@ class Server:
             raise Unavailable("no server of the stream is there")
         found = json.loads(answer)
         if "error" in found:
-            raise Unavailable(found["error"].get("description", "refused"))
+            why, number = found["error"].get("description", "refused"), found["error"].get("err_code")
+            raise {NOT_THERE: Gone, NOT_WRITTEN: Unknown}.get(number, Unavailable)(why)
         return found
 
     def follow(self, first):
-        """The lines from a number on, each with its number; None where there is none for a second. It ends where a server has gone."""
+        """The lines from a number on, each with its number; None where there is none for a second. It ends where a server has gone. Where another
+        server goes on with it, some lines may come again."""
         box = self.subscribe()
         config = {
             "deliver_subject": box, "deliver_policy": "by_start_sequence", "opt_start_seq": first, "ack_policy": "none", "replay_policy": "instant",
@@ -100,10 +108,11 @@ class Server:
             if reply.startswith("$JS.ACK."):
                 words = reply.split(".")
                 number = int(words[5 if len(words) == 9 else 7])
-                if number != first:
+                if number > first:
                     raise ConnectionError(f"line {number} came for line {first}")
-                yield number, data
-                first += 1
+                if number == first:
+                    yield number, data
+                    first += 1
             elif status.startswith(b"NATS/1.0 503") or not status and b'"error"' in data[:200]:
                 raise ConnectionError("the stream is not there")
             else:
@@ -127,25 +136,33 @@ class Log:
         self.server = None
 
     def tries(self, work, seconds):
-        """What some work gives, tried again for some seconds."""
-        until, was_sent, why = time.monotonic() + seconds, False, "the server is not there"
+        """What some work gives, tried again for some seconds. A server that has just begun may not know the stream yet."""
+        until, was_sent, why, gone = time.monotonic() + seconds, False, "the server is not there", None
         while time.monotonic() < until:
             before = was_sent
             try:
                 server = self.connected()
                 was_sent = True
                 return work(server)
+            except Gone:
+                was_sent, gone = before, gone or time.monotonic()
+                if time.monotonic() > gone + SECONDS:
+                    raise
+                time.sleep(0.5)
+                continue
             except Unavailable as fault:
                 was_sent, why = before, str(fault)
-            except (OSError, ValueError) as fault:
+            except (OSError, ValueError, Unknown) as fault:
                 why = str(fault)
+            gone = None
             self.drop()
             time.sleep(0.05)
         raise (Unknown if was_sent else Unavailable)(why)
 
     def put(self, data, name, seconds):
-        """The number of a line that is kept by most servers. A line that is said again with its name is kept once."""
-        return self.tries(lambda server: server.ask(SUBJECT, data, {"Nats-Msg-Id": name})["seq"], seconds)
+        """The number of a line that is kept by most servers, and whether it was so before. A line that is said again with its name is kept once."""
+        answer = self.tries(lambda server: server.ask(SUBJECT, data, {"Nats-Msg-Id": name}), seconds)
+        return answer["seq"], answer.get("duplicate", False)
 
     def last(self, seconds):
         """The number of the last line."""
@@ -157,10 +174,4 @@ class Log:
             "name": STREAM, "subjects": [SUBJECT], "retention": "limits", "storage": "file", "num_replicas": self.replicas, "discard": "new",
             "duplicate_window": 120_000_000_000, "max_msgs": -1, "max_bytes": -1, "max_age": 0, "deny_delete": True, "deny_purge": True,
         }
-
-        def work(server):
-            try:
-                return server.ask(f"$JS.API.STREAM.INFO.{STREAM}")
-            except Unavailable:
-                return server.ask(f"$JS.API.STREAM.CREATE.{STREAM}", json.dumps(config).encode())
-        return self.tries(work, seconds)
+        return self.tries(lambda server: server.ask(f"$JS.API.STREAM.CREATE.{STREAM}", json.dumps(config).encode()), seconds)

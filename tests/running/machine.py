@@ -61,7 +61,7 @@ if name == "useradd":
     os.makedirs(f"{work}/home")
     os.chown(f"{work}/home", mldb, mldb)
 if name == "nc":
-    become(people[caller])
+    if caller != "root": become(people[caller])
     with socket.socket(socket.AF_UNIX) as door:
         door.connect(words[-1])
         door.sendall(sys.stdin.buffer.read())
@@ -186,7 +186,7 @@ class Machine:
                 self.write(f"played/{name}", PLAYED, 0o755)
         os.makedirs(f"{work}/desk/crates/mldb/out")
         shutil.copy(mldb, f"{work}/desk/crates/mldb/out/mldb")
-        for folder in ("samples", "tools", "samples/running"):
+        for folder in ("samples", "tools", "samples/running", "samples/running/cluster"):
             os.mkdir(f"{work}/desk/{folder}")
             for name in os.listdir(f"{ROOT}/{folder}"):
                 if os.path.isfile(f"{ROOT}/{folder}/{name}"):

@@ -1,0 +1,3 @@
+pub mod ReplicaLemmas
+pub mod AgainLemmas
+pub mod RecoveryLemmas

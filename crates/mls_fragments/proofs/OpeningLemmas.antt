@@ -1,5 +1,5 @@
 -- What an open of files finds, and what an opening leaves of a connection.
-use Rattle.std.proofs.Common.{◌≡◌, inl, inr, ◌∙◌, ap, refl, sym, subst, IsTrue, ◌≢◌}
+use Rattle.std.proofs.Common.{◌≡◌, inl, inr, ◌∙◌, ap, refl, sym, subst, IsTrue, ◌≢◌, Option, Some, None, Result, Ok, Err, IfOk, IfErr, IfSome, IsErrAnd}
 use Rattle.sqlite.specs.Files.{AreFoundIn}
 use Rattle.sqlite.specs.Recovery.{Image}
 use Rattle.sqlite.specs.State.{State, Opens, IsLive, HasCleanDisk}
@@ -12,14 +12,18 @@ use Rattle.mls_filterview.specs.Content.{Content}
 use Rattle.mls_tables.specs.declared.adopting.AdoptFault.{AdoptFault}
 use Rattle.mls_tables.specs.declared.adopting.AdoptFault.TheVariants as adopt
 use Rattle.mls_tables.specs.declared.adopting.AllRows.{AllRows}
-use Rattle.mls_tables.specs.Adopting.{Blames, HasDescription, HasReadRows, IsAdopted}
+use Rattle.mls_tables.specs.Adopting.{Blames, HasDescription, HasReadRows, IsAdopted, AreAll, IsDescribed}
+use Rattle.mls_tables.specs.Rows.{tables_of}
+use Rattle.mls_tables.specs.declared.rows.MetaRow.{MetaRow}
+use Rattle.sqlite.specs.Effect.{Database}
 use Rattle.mls_tables.specs.Store.{HasEnded}
 use Rattle.mls_fragments.specs.declared.open_fault.OpenFault.{OpenFault}
 use Rattle.mls_fragments.specs.declared.open_fault.OpenFault.TheVariants.{OtherPolicy, BadRows}
 use Rattle.mls_rows.specs.declared.reading.BadRow.{BadRow}
+use Rattle.mls_rows.specs.Finding.{IsMemory}
 use Rattle.mls_fragments.specs.Creating.{IsBlankImage}
 use Rattle.mls_fragments.specs.OpenFault.{adopting_fault, finding_fault}
-use Rattle.mls_fragments.specs.Opening.{HoldsSound, IsFoundIn, IsRefused, IsStoreOrMemory, IsUnopened, IsUntaken, not_described}
+use Rattle.mls_fragments.specs.Opening.{HoldsSound, IsFoundIn, IsRefused, IsStoreOrMemory, IsUnopened, IsUntaken, IsBad, not_described, not_sound, not_sound_before, AreBad, of_these, of_older}
 
 -- a connection that has just been opened shows what was found
 pub found_now : (start : Image) (s : State) → Opens s → IsLive s → ¬ IsBlankImage start → FindsIn start s → IsFoundIn start s.now
@@ -103,3 +107,19 @@ module _ (old new : State) where
     was_open = λ here. was_open back.clean;
     committed = λ here. inr (elim (back.committed here) [ inl a ↦ a ∙ committed back.clean | inr b ↦ b ∙ now back.clean ]);
   }
+
+-- what is judged is bad where the judging stops, and not for want of memory
+pub not_found : {A : Type 0} (r : Result A (Failed BadRow)) → IsErrAnd r (λ e. ¬ IsMemory e) → ¬ IfErr r IsMemory
+not_found (Ok a) stopped memory = stopped
+not_found (Err e) stopped memory = stopped memory
+
+pub some_weaker : {A E P Q : Type 0} (r : Result (Option A) E) → (P → Q) → IfOk r (λ o. IfSome o (λ _. P)) → IfOk r (λ o. IfSome o (λ _. Q))
+some_weaker (Ok None) f h = tt
+some_weaker (Ok (Some a)) f h = f h
+some_weaker (Err e) f h = tt
+
+-- rows that hold no sound content are those of a store that is bad
+pub bad_rows : (policy : Policy) (file : SchemesFile) (m : MetaRow) (db : Database) (rows : AllRows) → IsDescribed m db → AreAll (tables_of db.trees) rows → AreBad policy file m rows → IsBad policy file db
+bad_rows policy file m db rows described all (of_these texts none) = not_sound m described texts (λ sound. none (tables_of db.trees) all sound.1.0 sound.1.1 sound.1.2)
+bad_rows policy file m db rows described all (of_older labels counts extended none) =
+    not_sound_before m labels counts described extended (λ sound. none (tables_of db.trees) all sound.1.0 sound.1.1 sound.1.2)

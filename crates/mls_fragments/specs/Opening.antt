@@ -16,8 +16,9 @@ use Rattle.mls_scheme.specs.declared.file.SchemesFile.{SchemesFile}
 use Rattle.mls_filterview.specs.Content.{Content}
 use Rattle.mls_audit.specs.Sound.{IsSoundContent}
 use Rattle.mls_tables.specs.declared.rows.MetaRow.{MetaRow}
-use Rattle.mls_tables.specs.Adopting.{IsDescribed, HasDescription, HasReadRows}
-use Rattle.mls_tables.specs.Rows.{tables_of}
+use Rattle.mls_tables.specs.Adopting.{AreAll, IsDescribed, HasDescription, HasReadRows}
+use Rattle.mls_tables.specs.declared.adopting.AllRows.{AllRows}
+use Rattle.mls_tables.specs.Rows.{Tables, tables_of}
 use Rattle.mls_tables.specs.Schema.{no_schema}
 use Rattle.mls_tables.specs.Store.{IsClean}
 use Rattle.mls_fragments.specs.declared.open_fault.OpenFault.{OpenFault}
@@ -45,6 +46,15 @@ pub data IsBad (policy : Policy) (file : SchemesFile) (db : Database) : Type 0 w
   not_sound_before : (m : MetaRow) (labels : ℕ) (counts : List ℕ) → IsDescribed m db
       → IsExtended policy file m labels counts → ¬ HoldsSound (IsSoundBefore policy file.schemes labels counts) db
       → IsBad policy file db
+
+-- rows that hold no sound content, of a store of these texts or of older ones
+pub data AreBad (policy : Policy) (file : SchemesFile) (m : MetaRow) (rows : AllRows) : Type 0 where
+  of_these : HasTexts policy file m
+      → ((t : Tables) → AreAll t rows → (c : Content) → Holds t c → ¬ IsSoundContent policy file.schemes c)
+      → AreBad policy file m rows
+  of_older : (labels : ℕ) (counts : List ℕ) → IsExtended policy file m labels counts
+      → ((t : Tables) → AreAll t rows → (c : Content) → Holds t c → ¬ IsSoundBefore policy file.schemes labels counts c)
+      → AreBad policy file m rows
 
 abbrev pub IsStoreOrMemory : OpenFault → Type 0
 IsStoreOrMemory e = (e ≡ Store) ⊎ (e ≡ Memory)

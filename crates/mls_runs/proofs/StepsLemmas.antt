@@ -1,5 +1,5 @@
 -- Calls over a store are steps of a history.
-use Rattle.std.proofs.Common.{◌≡◌, ℕ, zero, suc, ◌-◌, if◌then◌else◌, Bool, true, false, cond, List, [], ◌∷◌, ◌++◌, length, take, Option, Some, Result, Ok, Err, refl, sym, ap, ◌∙◌, subst, append-nil, arith, take_all}
+use Rattle.std.proofs.Common.{◌≡◌, ◌⊎◌, inl, inr, ℕ, zero, suc, ◌-◌, if◌then◌else◌, Bool, true, false, cond, List, [], ◌∷◌, ◌++◌, length, take, Option, Some, Result, Ok, Err, refl, sym, ap, ◌∙◌, subst, append-nil, arith, take_all}
 use Rattle.std.proofs.Math.Seq.{take-append_seam}
 use Rattle.mls_lattice.specs.Labels.{AreDistinct}
 use Rattle.mls_lattice.specs.Policy.{Policy, labels_of}
@@ -7,7 +7,11 @@ use Rattle.mls_scheme.specs.Scheme.{Schemes}
 use Rattle.mls_scheme.specs.declared.file.SchemesFile.{SchemesFile}
 use Rattle.mls_filterview.specs.Content.{Content}
 use Rattle.mls_audit.specs.Sound.{IsSoundContent}
-use Rattle.mls_fragments.specs.Holdings.{Holdings, Takes, holdings_of}
+use Rattle.mls_fragments.specs.Holdings.{Holdings, Takes, holdings_of, made, as_it_was, widened}
+use Rattle.mls_fragments.specs.Migrating.{IsWidenedContent, more}
+use Rattle.mls_filterview.proofs.WidenLemmas.{view_of_widened_table}
+use Rattle.mls_audit.specs.Entry.{visible}
+use Rattle.mls_sessions.specs.World.{entries_in}
 use Rattle.mls_fragments.proofs.HoldingsLemmas.{sound_is_taken}
 use Rattle.mls_script.specs.declared.event.Event.{Event}
 use Rattle.mls_script.specs.declared.run_fault.RunFault.{RunFault}
@@ -35,7 +39,7 @@ use Rattle.mls_runs.specs.ScriptRun.{site_of_setting}
 use Rattle.mls_runs.specs.Shell.{Turn, opening, events_of, events_in, audience_at}
 use Rattle.mls_runs.specs.Desk.{IsDesk, IsEndOf, IsGivenUp, IsCutAt, at_line, between}
 use Rattle.mls_runs.specs.TurnRun.{IsTurning}
-use Rattle.mls_runs.specs.Steps.{StoreStep, AreStoreSteps, StepsAreHistories, CallsAreSteps, CallsAreInTurn, turning_at}
+use Rattle.mls_runs.specs.Steps.{StoreStep, AreStoreSteps, StepsAreHistories, WideningPassesNothingDown, OpeningsAreSteps, CallsAreSteps, CallsAreInTurn, turning_at}
 use Rattle.mls_runs.proofs.ShellLemmas.{events-snoc}
 
 -- ---- first events
@@ -83,6 +87,30 @@ steps_are_histories policy schemes distinct rs first last h = record {
   integrity = steps_whole policy schemes rs first last h;
   secret = histories_pass (labels_of policy) schemes distinct (world_of policy first) rs (steps_under policy schemes rs first last h) (steps_pass policy schemes rs first last h);
 }
+
+-- ---- a store that is opened under later files
+
+widening_passes : (policy : Policy) (schemes : Schemes) (counts : List ℕ) (first left : Content) → IsWidenedContent schemes counts first left → WideningPassesNothingDown policy schemes counts first left
+widening_passes policy schemes counts first left w c other next v alike =
+    let ls = labels_of policy in
+    let seen : List (List ℕ) → _ = λ audit. visible ls c (entries_in (length policy.labels) audit) in
+    record {
+      views = λ relation t.
+          let n = more schemes counts relation in
+          let one = view_of_widened_table ls n (first.db relation) (left.db relation) (w.tables relation) c t in
+          let two = view_of_widened_table ls n (other.db relation) (next.db relation) (v.tables relation) c t in (
+            (λ h. let s = one.0 h in two.1 (s.0, (alike.views relation s.0).0 s.1, s.2)),
+            (λ h. let s = two.0 h in one.1 (s.0, (alike.views relation s.0).1 s.1, s.2)),
+          );
+      sessions = λ level name low. refl;
+      entries = ap seen w.audit ∙ alike.entries ∙ sym (ap seen v.audit);
+    }
+
+pub openings_are_steps : OpeningsAreSteps
+openings_are_steps policy file had now (made none is) sound = inl (ap (λ (h : Holdings). h.content) is ∙ sym (ap (λ (h : Holdings). h.content) none))
+openings_are_steps policy file had now (as_it_was m meta texts is) sound = inl (ap (λ (h : Holdings). h.content) is)
+openings_are_steps policy file had now (widened m labels counts meta extended was wide row) sound =
+    inr (counts, record { widened = wide; sound = sound; secret = widening_passes policy file.schemes counts had.content now.content wide })
 
 -- ---- calls
 

@@ -1,17 +1,18 @@
 -- Calls of the program over one store, one after another: each is a step of a history, a run, a shell, a desk or a turning
--- of the audit list alike.
-use Rattle.std.specs.Prelude.{◌≡◌, ℕ, Bool, true, List, [], ◌∷◌, Option, Some, Result, Ok, Err}
+-- of the audit list alike; and before a call the store may be opened under later files, which is a step too.
+use Rattle.std.specs.Prelude.{◌≡◌, ◌⊎◌, ℕ, Bool, true, List, [], ◌∷◌, Option, Some, Result, Ok, Err}
 use Rattle.mls_lattice.specs.Labels.{AreDistinct}
 use Rattle.mls_lattice.specs.Policy.{Policy, labels_of}
 use Rattle.mls_scheme.specs.Scheme.{Schemes}
 use Rattle.mls_scheme.specs.declared.file.SchemesFile.{SchemesFile}
 use Rattle.mls_filterview.specs.Content.{Content}
 use Rattle.mls_audit.specs.Sound.{IsSoundContent}
-use Rattle.mls_fragments.specs.Holdings.{Holdings}
+use Rattle.mls_fragments.specs.Holdings.{Holdings, Takes}
+use Rattle.mls_fragments.specs.Migrating.{IsWidenedContent}
 use Rattle.mls_certcheck.specs.Site.{Site, site_of}
 use Rattle.mls_machine.specs.History.{RunAt, run_at, run_start, run_end, IsSiteUnder}
 use Rattle.mls_machine.specs.Laws.{KeepsIntegrity}
-use Rattle.mls_machine.specs.Observation.{PassesOnlyReleasesDown}
+use Rattle.mls_machine.specs.Observation.{AgreeAt, PassesOnlyReleasesDown}
 use Rattle.mls_script.specs.declared.run_fault.RunFault.{RunFault}
 use Rattle.mls_sessions.specs.Engine.{MayServe}
 use Rattle.mls_host.specs.declared.ending.Ending.{Ending}
@@ -48,6 +49,29 @@ StepsAreHistories =
     (policy : Policy) (schemes : Schemes) → AreDistinct (labels_of policy) → (rs : List RunAt) (first last : Content)
     → AreStoreSteps policy schemes rs first last
     → IsHistory (labels_of policy) schemes rs (world_of policy first) (world_of policy last)
+
+-- ---- a store that is opened under later files
+
+-- two contents that look alike to a label do so still, once both are widened
+abbrev pub WideningPassesNothingDown : Policy → Schemes → List ℕ → Content → Content → Type 0
+WideningPassesNothingDown policy schemes counts first left =
+    (c : ℕ) (other next : Content) → IsWidenedContent schemes counts other next
+    → AgreeAt (labels_of policy) c (world_of policy first) (world_of policy other)
+    → AgreeAt (labels_of policy) c (world_of policy left) (world_of policy next)
+
+-- from a content to the same, each relation of which has its new attributes
+pub record MigrationStep (policy : Policy) (schemes : Schemes) (counts : List ℕ) (first left : Content) : Type 0 where
+  pub widened : IsWidenedContent schemes counts first left
+  pub sound : IsSoundContent policy schemes left
+  pub secret : WideningPassesNothingDown policy schemes counts first left
+
+-- what a store has is taken as it was, or that is a step
+abbrev pub OpeningsAreSteps : Type 0
+OpeningsAreSteps =
+    (policy : Policy) (file : SchemesFile) (had now : Holdings) → Takes policy file had now
+    → IsSoundContent policy file.schemes now.content
+    → (now.content ≡ had.content)
+    ⊎ ((counts : List ℕ) × MigrationStep policy file.schemes counts had.content now.content)
 
 -- ---- calls
 

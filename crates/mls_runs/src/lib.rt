@@ -37,7 +37,9 @@ pub use crate::history::{HistoryCause, HistoryFault, Run, run_history};
 pub use crate::memory::{HeldFile, MemoryHost};
 pub use crate::running::{run_over_base, run_script};
 pub use crate::shells::run_shell;
-pub use crate::steps::{calls_are_in_turn, calls_are_steps, steps_are_histories};
+pub use crate::steps::{
+    calls_are_in_turn, calls_are_steps, openings_are_steps, steps_are_histories,
+};
 pub use crate::turning::turn_store;
 
 /// A shell is a desk of one session: where nobody types at a terminal, it answers to events of its session what a desk answers to them.

@@ -1,7 +1,7 @@
 //! Calls over one store, one after another.
 ghost use Rattle.mls_host.specs.Hosting.{hosted, IsAppended, IsTold};
 ghost use Rattle.mls_host.specs.declared.errors.Errors.{Errors as SpecErrors};
-ghost use Rattle.mls_runs.specs.Steps.{CallsAreInTurn, CallsAreSteps, StepsAreHistories};
+ghost use Rattle.mls_runs.specs.Steps.{CallsAreInTurn, CallsAreSteps, OpeningsAreSteps, StepsAreHistories};
 
 use crate::explaining::Explains;
 use mls_host::Host;
@@ -18,6 +18,11 @@ pub fn calls_are_steps<X: Explains, H: Host, W: Write, E: Write>()
 pub fn calls_are_in_turn<H: Host, K: Host>()
     ensures { (old middle : H) (later new : K) → CallsAreInTurn (hosted H.hosting H.Lines.echo old middle)
         (hosted K.hosting K.Lines.echo later new) }
+{}
+
+/// What a store had is taken as it was; or, under later files, with its relations widened, which passes nothing down either.
+pub fn openings_are_steps()
+    ensures { OpeningsAreSteps }
 {}
 
 /// Steps, each from what the one before it left, are a history: the promises of a history hold of all of them together, also where some

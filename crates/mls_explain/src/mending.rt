@@ -7,6 +7,9 @@ use mls_lattice::LabelNo;
 use mls_translang::Stmt;
 use std::alloc::AllocError;
 
+const FOR_EACH: &str =
+    "   To let something down for each low row, loop over low rows outside, over high ones inside, and release between.\n";
+
 /// How something comes out of a statement.
 #[derive(Clone, Copy, PartialEq, Eq)]
 pub(crate) enum SinkKind {
@@ -91,7 +94,11 @@ impl Teller<'_> {
             SinkKind::Write => ("release that to ", label, ", and write there"),
         };
         write!(text, "; or {how}, {release}{to} behind the {kind}")?;
-        writeln!(text, " at {around}{then}.")
+        writeln!(text, " at {around}{then}.")?;
+        if out.kind == SinkKind::Release && kind == "loop" {
+            text.push_str(FOR_EACH)?;
+        }
+        Ok(())
     }
 
     /// Ends them with a release of the value in front of the statement.

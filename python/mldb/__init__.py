@@ -39,7 +39,7 @@ from mldb.values import (
     TimestampFromTicks,
 )
 
-__version__ = "2.0.0"
+__version__ = "2.1.0"
 apilevel = "2.0"
 threadsafety = 1
 paramstyle = "qmark"

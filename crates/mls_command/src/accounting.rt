@@ -13,6 +13,7 @@ use crate::listing::Listing;
 use crate::looking::store_account;
 use crate::opening::{denied_text, opening_denial};
 use crate::telling::told_of;
+use mls_advice::{Names, unnamed_objects};
 use mls_host::{Ending, Errors, Host, Inputs, Job, Reason, Stop, inputs_of};
 use std::alloc::{AllocError, Global};
 use std::io::Write;
@@ -30,6 +31,23 @@ pub(crate) fn listing_of(alloc: Global, text: Vec<u8>, ending: Ending) -> Listin
     }
 }
 
+/// Rights to what neither the schemes nor the transactions have, a line for each; none where no transactions are named.
+fn objects_lines(alloc: Global, job: Job, inputs: &Inputs) -> Result<String, AllocError> {
+    if job.files.transactions.is_none() {
+        return Ok(String::new(alloc));
+    }
+    let mut names = Vec::new(alloc);
+    for tx in inputs.transactions.iter() {
+        names.push(tx.name())?;
+    }
+    let known = Names {
+        alloc,
+        policy: &inputs.setting.policy,
+        schemes: &inputs.setting.file.schemes,
+    };
+    unnamed_objects(known, &names)
+}
+
 /// What is told where all inputs are accepted, with the fields that nobody reads: of the session of a shell, where that would be denied;
 /// else of the store, where the job names one.
 fn accepted_listing<H: Advises>(
@@ -43,12 +61,21 @@ fn accepted_listing<H: Advises>(
 {
     let setting = &inputs.setting;
     let ignored = host.ignored(alloc, job.documents)?;
+    let objects = objects_lines(alloc, job, inputs)?;
     match opening_denial(&setting.policy, setting.reader, job.task) {
         Some(denial) => {
             let text = denied_text(alloc, &setting.policy, job.task, denial, &ignored)?;
             Ok(listing_of(alloc, text, Ending::Refused))
         }
-        None => store_account(alloc, host, setting, job.task, job.files.store, &ignored),
+        None => store_account(
+            alloc,
+            host,
+            setting,
+            job.task,
+            job.files.store,
+            &ignored,
+            &objects,
+        ),
     }
 }
 

@@ -1,5 +1,6 @@
 //! The store that a command names, which is looked at and not opened.
-ghost use Rattle.std.specs.Prelude.{◌≡◌, ◌≢◌, ◌&&◌, length, nat_eq, true, false, Some, [], string_bytes, IfOk, IfSome};
+ghost use Rattle.std.specs.Prelude.{◌≡◌, ◌≢◌, ◌&&◌, ◌++◌, length, nat_eq, true, false, Some, None, [], string_bytes};
+ghost use Rattle.std.specs.Prelude.{IfOk, OnOk, IfSome};
 ghost use Rattle.mls_host.specs.Words.{named};
 ghost use Rattle.mls_host.specs.declared.host.StoreCause.TheVariants as causes;
 ghost use Rattle.mls_advice.specs.Excerpt.{Begins};
@@ -143,12 +144,29 @@ fn lines_of(alloc: Global, store: Option<&str>, found: &Diagnosis) -> Result<Vec
     Ok(text)
 }
 
-/// The line that tells that all inputs are accepted, or why the store is not opened, with what is found of it.
-fn found_text(alloc: Global, store: Option<&str>, found: &Diagnosis) -> Result<Vec<u8>, AllocError>
+/// Appends the line that tells that all inputs are accepted.
+fn push_accepted(text: &mut Vec<u8>) -> Result<(), AllocError>
+    ensures { OnOk result (text.new.items ≡ text.old.items ++ found_text None) }
+{
+    text.extend_from_slice(ACCEPTED.as_bytes())
+}
+
+/// The line that tells that all inputs are accepted, with lines about rights, or why the store is not opened, with what is found of it.
+fn found_text(
+    alloc: Global,
+    store: Option<&str>,
+    found: &Diagnosis,
+    objects: &str,
+) -> Result<Vec<u8>, AllocError>
     ensures { IfOk result (λ v. Begins (found_text found.now.fault) v.items) }
 {
     match found.fault {
-        None => Vec::from_slice(alloc, ACCEPTED.as_bytes()),
+        None => {
+            let mut text = Vec::new(alloc);
+            push_accepted(&mut text)?;
+            text.extend_from_slice(objects.as_bytes())?;
+            Ok(text)
+        }
         Some(fault) => {
             let lines = lines_of(alloc, store, found)?;
             let mut text = Vec::new(alloc);
@@ -169,7 +187,7 @@ fn found_ending(found: &Diagnosis, ignored: &str) -> Ending
     }
 }
 
-/// What is told where all inputs are accepted: of the store, where one is named, and of fields that nobody reads.
+/// What is told where all inputs are accepted: of the store, where one is named, of rights, and of fields that nobody reads.
 pub(crate) fn store_account<H: Host>(
     alloc: Global,
     host: &H,
@@ -177,12 +195,13 @@ pub(crate) fn store_account<H: Host>(
     task: Task,
     store: Option<&str>,
     ignored: &str,
+    objects: &str,
 ) -> Result<Listing, AllocError>
     ensures { IfOk result (λ l. IsStoreAccount (H.hosting host.now) setting.now task.entry (λ text. text ≡ ignored.now)
         (named store.entry) l.text.items (string_bytes l.told) l.ending) }
 {
     let found = found_of(alloc, host, setting, task, store)?;
-    let mut text = found_text(alloc, store, &found)?;
+    let mut text = found_text(alloc, store, &found, objects)?;
     text.extend_from_slice(ignored.as_bytes())?;
     Ok(listing_of(alloc, text, found_ending(&found, ignored)))
 }

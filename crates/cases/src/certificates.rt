@@ -5,34 +5,26 @@ use mls_certcheck::{Cert, Cert2, CertCause, CertFault, Certificate, certs_read};
 use mls_lattice::Str;
 use std::alloc::{AllocError, Global};
 
-/// Adds a text, a bar for each end of a line.
-fn push_barred(text: &str, out: &mut Told) {
-    out.push(" ");
-    for line in text.lines() {
-        out.push(line);
-        out.push("|");
-    }
-}
-
-fn push_printed(printed: Result<String, AllocError>, out: &mut Told) {
-    match printed {
-        Ok(text) => push_barred(&text, out),
-        Err(_) => out.fail(),
-    }
-}
-
-/// The text of a certificate of version 2, which has as many rows as statements.
-pub fn print2(alloc: Global, cert: &Cert2) -> Result<String, AllocError> {
-    if cert.rows.len() != cert.pc_labels.len() {
-        return Err(AllocError);
-    }
-    cert.print(alloc)
-}
-
-fn push_certificate(alloc: Global, certificate: &Certificate, out: &mut Told) {
+/// The text of a certificate. One of version 2 has as many rows as statements.
+pub fn print(alloc: Global, certificate: &Certificate) -> Result<String, AllocError> {
     match certificate {
-        Certificate::One(cert) => push_printed(cert.print(alloc), out),
-        Certificate::Two(cert) => push_printed(print2(alloc, cert), out),
+        Certificate::One(cert) => cert.print(alloc),
+        Certificate::Two(cert) if cert.rows.len() == cert.pc_labels.len() => cert.print(alloc),
+        Certificate::Two(_) => Err(AllocError),
+    }
+}
+
+/// Adds the text of a certificate, a bar for each end of a line.
+fn push_certificate(alloc: Global, certificate: &Certificate, out: &mut Told) {
+    out.push(" ");
+    match print(alloc, certificate) {
+        Ok(text) => {
+            for line in text.lines() {
+                out.push(line);
+                out.push("|");
+            }
+        }
+        Err(_) => out.fail(),
     }
 }
 
@@ -43,29 +35,26 @@ fn push_fault_at(fault: CertFault, out: &mut Told) {
     out.push_count(fault.line);
 }
 
-fn tell_cert(alloc: Global, bytes: &[u8], out: &mut Told) {
-    match Cert::read(alloc, bytes) {
-        Ok(cert) => push_printed(cert.print(alloc), out),
-        Err(fault) => push_fault_at(fault, out),
-    }
-}
-
-fn tell_cert2(alloc: Global, bytes: &[u8], out: &mut Told) {
-    match Cert2::read(alloc, bytes) {
-        Ok(cert) => push_printed(print2(alloc, &cert), out),
-        Err(fault) => push_fault_at(fault, out),
+/// The certificate that a text is.
+fn certificate_in(alloc: Global, is_second: bool, bytes: &[u8]) -> Result<Certificate, CertFault> {
+    if is_second {
+        Ok(Certificate::Two(Cert2::read(alloc, bytes)?))
+    } else {
+        Ok(Certificate::One(Cert::read(alloc, bytes)?))
     }
 }
 
 /// The certificate that a folded text is, if it is one: of version 2 where it begins with `pcs`.
 pub fn certificate_of(alloc: Global, text: &str) -> Option<Certificate> {
     let bytes = unfolded(alloc, text).ok()?;
-    if text.starts_with("pcs") {
-        let cert = Cert2::read(alloc, &bytes).ok()?;
-        return Some(Certificate::Two(cert));
+    certificate_in(alloc, text.starts_with("pcs"), &bytes).ok()
+}
+
+fn tell_certificate(alloc: Global, is_second: bool, bytes: &[u8], out: &mut Told) {
+    match certificate_in(alloc, is_second, bytes) {
+        Ok(certificate) => push_certificate(alloc, &certificate, out),
+        Err(fault) => push_fault_at(fault, out),
     }
-    let cert = Cert::read(alloc, &bytes).ok()?;
-    Some(Certificate::One(cert))
 }
 
 fn push_blocks(alloc: Global, blocks: &[(Str, Certificate)], out: &mut Told) {
@@ -82,32 +71,17 @@ fn tell_file(alloc: Global, bytes: &[u8], out: &mut Told) {
     }
 }
 
-fn push_count(count: usize, out: &mut Told) {
-    out.push(" ");
-    out.push_count(count);
-}
-
-fn tell_prefix(alloc: Global, bytes: &[u8], out: &mut Told) {
-    match certs_read(alloc, bytes) {
-        Ok(_) => push_count(bytes.len(), out),
-        Err(fault) if fault.cause == CertCause::Line => {}
-        Err(fault) => push_fault_at(fault, out),
-    }
-}
-
 /// Tells how long the parts of a file are that are read, and the fault of each other, where another than Line.
 fn tell_prefixes(alloc: Global, bytes: &[u8], out: &mut Told) {
     for count in 0..bytes.len() {
-        tell_prefix(alloc, &bytes[..count], out);
-    }
-}
-
-fn tell_bytes(alloc: Global, kind: &str, bytes: &[u8], out: &mut Told) {
-    match kind {
-        "cert" => tell_cert(alloc, bytes, out),
-        "cert2" => tell_cert2(alloc, bytes, out),
-        "file" => tell_file(alloc, bytes, out),
-        _ => tell_prefixes(alloc, bytes, out),
+        match certs_read(alloc, &bytes[..count]) {
+            Ok(_) => {
+                out.push(" ");
+                out.push_count(count);
+            }
+            Err(fault) if fault.cause == CertCause::Line => {}
+            Err(fault) => push_fault_at(fault, out),
+        }
     }
 }
 
@@ -117,7 +91,12 @@ pub fn tell(alloc: Global, head: &str, out: &mut Told) {
     out.push(head);
     out.push(":");
     match unfolded(alloc, text) {
-        Ok(bytes) => tell_bytes(alloc, kind, &bytes, out),
+        Ok(bytes) => match kind {
+            "cert" => tell_certificate(alloc, false, &bytes, out),
+            "cert2" => tell_certificate(alloc, true, &bytes, out),
+            "file" => tell_file(alloc, &bytes, out),
+            _ => tell_prefixes(alloc, &bytes, out),
+        },
         Err(_) => out.fail(),
     }
     out.push("\n");

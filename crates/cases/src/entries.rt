@@ -9,16 +9,7 @@ use crate::tuples::label_of;
 use case_tables::{Case, Told, inner};
 use mls_audit::{Entry, entry_bytes, entry_of, visible};
 use mls_lattice::{LabelNo, Policy};
-use mls_scheme::Value;
 use std::alloc::{AllocError, Global};
-
-/// Adds what was released.
-fn push_released(value: &Option<Value>, out: &mut Told) {
-    match value {
-        Some(value) => push_value(value, out),
-        None => out.push(" null"),
-    }
-}
 
 /// Adds what was done by whom.
 fn push_done(word: &str, user: &str, session: &str, out: &mut Told) {
@@ -57,7 +48,10 @@ fn push_entry(entry: &Entry, out: &mut Told) {
             ..
         } => {
             push_done("released", user.as_str(), session.as_str(), out);
-            push_released(value, out);
+            match value {
+                Some(value) => push_value(value, out),
+                None => out.push(" null"),
+            }
         }
     }
 }
@@ -91,15 +85,10 @@ fn push_letters(count: u8, bytes: &mut Vec<u8>) -> Result<(), AllocError> {
 fn call_of(alloc: Global, count: u8) -> Result<Vec<u8>, AllocError> {
     let mut bytes = Vec::new(alloc);
     bytes.extend_from_slice(&[1, 0])?;
-    push_letters(count, &mut bytes)?;
-    push_letters(count, &mut bytes)?;
-    push_letters(count, &mut bytes)?;
+    for _ in 0..3 {
+        push_letters(count, &mut bytes)?;
+    }
     Ok(bytes)
-}
-
-fn push_length(name: &str, out: &mut Told) {
-    out.push(" ");
-    out.push_count(name.len());
 }
 
 /// Adds how long the names of a call are.
@@ -111,9 +100,10 @@ fn push_lengths(entry: &Entry, out: &mut Told) {
             transaction,
             ..
         } => {
-            push_length(user.as_str(), out);
-            push_length(session.as_str(), out);
-            push_length(transaction.as_str(), out);
+            for name in [user, session, transaction] {
+                out.push(" ");
+                out.push_count(name.as_str().len());
+            }
         }
         _ => out.push(" no call"),
     }
@@ -146,17 +136,13 @@ fn tell_names(alloc: Global, count: &str, out: &mut Told) {
     }
 }
 
-fn tell_prefix(alloc: Global, bytes: &[u8], out: &mut Told) {
-    match entry_of(alloc, bytes) {
-        Ok(_) => push_word("read", out),
-        Err(fault) => push_word(fault.word(), out),
-    }
-}
-
 /// Tells what each part of the bytes that is shorter is read as.
 fn tell_prefixes(alloc: Global, bytes: &[u8], out: &mut Told) {
     for count in 0..bytes.len() {
-        tell_prefix(alloc, &bytes[..count], out);
+        match entry_of(alloc, &bytes[..count]) {
+            Ok(_) => push_word("read", out),
+            Err(fault) => push_word(fault.word(), out),
+        }
     }
 }
 

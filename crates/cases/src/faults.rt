@@ -11,15 +11,16 @@ mod runs;
 mod steps;
 mod stored;
 
-use self::outcomes::{Trials, told};
+use self::outcomes::{Trials, tell_script};
 use self::runs::{Scripts, What};
 use crate::sample::Sample;
-use mls_script::script;
-use std::fs;
-use std::io::{self, Error, ErrorKind, Write};
+use crate::texts::Texts;
+use case_tables::Told;
+use mls_script::{Event, script};
+use std::alloc::Global;
 
 /// The scripts, in the order in which they are told.
-const FILES: [(&str, Trials); 9] = [
+static FILES: [(&str, Trials); 9] = [
     ("first.script", Trials::Each(What::Write)),
     ("audit.script", Trials::Calls),
     ("writes.script", Trials::Calls),
@@ -31,41 +32,32 @@ const FILES: [(&str, Trials); 9] = [
     ("calls.script", Trials::Each(What::Piece)),
 ];
 
-fn tell_file(
-    rt: &HostRuntime,
+fn tell_scripts(
+    alloc: Global,
     sample: &Sample<'_>,
-    file: (&str, Trials),
-    scripts: Scripts<'_>,
-) -> io::Result<()>
-    requires { AllByRecursion (EventFits sample.now.policy.now sample.now.schemes.now) scripts.questions.now }
+    texts: &Texts,
+    questions: &[Event],
+    out: &mut Told,
+)
+    requires { AllByRecursion (EventFits sample.now.policy.now sample.now.schemes.now) questions.now }
 {
-    let text = fs::read_to_string(rt, file.0)?;
-    let told = told(rt.alloc(), sample, file, &text, scripts)?;
-    rt.stdout().write_all(told.as_bytes())
-}
-
-fn tell_scripts(rt: &HostRuntime, sample: &Sample<'_>, scripts: Scripts<'_>) -> io::Result<()>
-    requires { AllByRecursion (EventFits sample.now.policy.now sample.now.schemes.now) scripts.questions.now }
-{
-    for file in FILES {
-        tell_file(rt, sample, file, scripts)?;
+    let scripts = Scripts {
+        events: &[],
+        questions,
+        transactions: texts.named("transactions.txt"),
+    };
+    for &(file, trials) in &FILES {
+        out.push("== ");
+        out.push_line(file);
+        tell_script(alloc, sample, trials, texts.named(file), scripts, out);
     }
-    Ok(())
 }
 
 /// Tells what the scripts leave.
-pub fn tell_files(rt: &HostRuntime, sample: &Sample<'_>) -> io::Result<()> {
-    let transactions = fs::read_to_string(rt, "transactions.txt")?;
-    let text = fs::read_to_string(rt, "questions.script")?;
-    match script(rt.alloc(), sample.policy, sample.schemes, text.as_bytes()) {
-        Ok(questions) => {
-            let scripts = Scripts {
-                events: &[],
-                questions: &questions,
-                transactions: &transactions,
-            };
-            tell_scripts(rt, sample, scripts)
-        }
-        Err(_) => Err(Error::from(ErrorKind::InvalidData)),
+pub fn tell_files(alloc: Global, sample: &Sample<'_>, texts: &Texts, out: &mut Told) {
+    let text = texts.named("questions.script").as_bytes();
+    match script(alloc, sample.policy, sample.schemes, text) {
+        Ok(questions) => tell_scripts(alloc, sample, texts, &questions, out),
+        Err(_) => out.fail(),
     }
 }

@@ -40,25 +40,13 @@ fn tell_value(alloc: Global, bytes: &[u8], out: &mut Told) {
     }
 }
 
-fn tell_prefix(alloc: Global, bytes: &[u8], out: &mut Told) {
-    match key_of(alloc, bytes) {
-        Ok(_) => push_word("read", out),
-        Err(fault) => push_word(fault.word(), out),
-    }
-}
-
 /// Tells what each part of the bytes that is shorter is read as.
 fn tell_prefixes(alloc: Global, bytes: &[u8], out: &mut Told) {
     for count in 0..bytes.len() {
-        tell_prefix(alloc, &bytes[..count], out);
-    }
-}
-
-fn tell_bytes(alloc: Global, kind: &str, bytes: &[u8], out: &mut Told) {
-    match kind {
-        "key" => tell_key(alloc, bytes, out),
-        "value" => tell_value(alloc, bytes, out),
-        _ => tell_prefixes(alloc, bytes, out),
+        match key_of(alloc, &bytes[..count]) {
+            Ok(_) => push_word("read", out),
+            Err(fault) => push_word(fault.word(), out),
+        }
     }
 }
 
@@ -68,7 +56,11 @@ pub fn tell(alloc: Global, head: &str, out: &mut Told) {
     out.push(head);
     out.push(":");
     match hex::decode(alloc, digits) {
-        Ok(bytes) => tell_bytes(alloc, kind, &bytes, out),
+        Ok(bytes) => match kind {
+            "key" => tell_key(alloc, &bytes, out),
+            "value" => tell_value(alloc, &bytes, out),
+            _ => tell_prefixes(alloc, &bytes, out),
+        },
         Err(_) => out.push(" no hexadecimal digits"),
     }
     out.push("\n");

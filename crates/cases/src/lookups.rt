@@ -5,7 +5,7 @@ use crate::show::push_word;
 use crate::tuples::name_of;
 use bitflags::Flags;
 use case_tables::Told;
-use mls_lattice::{Label, LabelNo, Policy, UserNo};
+use mls_lattice::{Label, Policy, UserNo};
 
 /// Adds the rank of a label, and its categories as bits.
 pub fn push_label(label: Label, out: &mut Told) {
@@ -59,13 +59,6 @@ fn tell_labels(policy: &Policy, names: &str, out: &mut Told) {
     }
 }
 
-fn push_trusted(policy: &Policy, low: LabelNo, high: LabelNo, out: &mut Told) {
-    out.push(" trusted ");
-    out.push(name_of(policy, low));
-    out.push(" to ");
-    out.push(name_of(policy, high));
-}
-
 /// Adds the number of a user, its clearance and its trusted interval.
 fn push_user(policy: &Policy, user: UserNo, out: &mut Told)
     requires { user < length policy.now.users }
@@ -75,7 +68,10 @@ fn push_user(policy: &Policy, user: UserNo, out: &mut Told)
     push_word(policy.user_name(user), out);
     push_word(name_of(policy, policy.clearance(user)), out);
     if let Some((low, high)) = policy.trusted(user) {
-        push_trusted(policy, low, high, out);
+        out.push(" trusted ");
+        out.push(name_of(policy, low));
+        out.push(" to ");
+        out.push(name_of(policy, high));
     }
 }
 
@@ -87,15 +83,13 @@ fn tell_user(policy: &Policy, name: &str, out: &mut Told) {
 }
 
 /// Adds the bits of what a user may do with an object.
-fn push_modes(policy: &Policy, user: UserNo, object: &str, out: &mut Told) {
-    out.push(" ");
-    out.push_count(policy.modes(user, object).bits() as usize);
-}
-
 fn tell_modes(policy: &Policy, names: &str, out: &mut Told) {
     let (user, object) = names.split_once(' ').unwrap_or((names, ""));
     match policy.user(user) {
-        Some(user) => push_modes(policy, user, object, out),
+        Some(user) => {
+            out.push(" ");
+            out.push_count(policy.modes(user, object).bits() as usize);
+        }
         None => out.push(" none"),
     }
 }

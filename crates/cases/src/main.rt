@@ -15,53 +15,17 @@ mod reads;
 mod sample;
 mod show;
 mod table;
+mod texts;
 mod transactions;
 mod tuples;
 mod views;
 
-use crate::sample::Sample;
-use crate::table::{TABLES, Table, told};
-use mls_lattice::Policy;
-use mls_scheme::SchemesFile;
-use std::fs;
-use std::io::{self, Error, ErrorKind, Write};
-
-fn tell_table(rt: &HostRuntime, sample: &Sample<'_>, file: &str, table: Table) -> io::Result<()> {
-    let text = fs::read_to_string(rt, file)?;
-    let told = told(rt.alloc(), sample, file, table, &text)?;
-    rt.stdout().write_all(told.as_bytes())
-}
-
-fn tell_tables(rt: &HostRuntime, sample: &Sample<'_>) -> io::Result<()> {
-    for &(file, table) in &TABLES {
-        tell_table(rt, sample, file, table)?;
-    }
-    Ok(())
-}
-
-fn tell_all(rt: &HostRuntime, sample: &Sample<'_>) -> io::Result<()> {
-    tell_tables(rt, sample)?;
-    faults::tell_files(rt, sample)
-}
-
-fn tell_under(rt: &HostRuntime, policy: &Policy) -> io::Result<()> {
-    let text = fs::read_to_string(rt, "schemes.toml")?;
-    match SchemesFile::read(rt.alloc(), policy, text.as_bytes()) {
-        Ok(file) => {
-            let sample = Sample {
-                policy,
-                schemes: &file.schemes,
-            };
-            tell_all(rt, &sample)
-        }
-        Err(_) => Err(Error::from(ErrorKind::InvalidData)),
-    }
-}
+use crate::table::told;
+use crate::texts::Texts;
+use std::io::{self, Write};
 
 fn main(rt: HostRuntime) -> io::Result<()> {
-    let text = fs::read_to_string(&rt, "policy.toml")?;
-    match Policy::read(rt.alloc(), text.as_bytes()) {
-        Ok(policy) => tell_under(&rt, &policy),
-        Err(_) => Err(Error::from(ErrorKind::InvalidData)),
-    }
+    let texts = Texts::read(&rt)?;
+    let told = told(rt.alloc(), &texts)?;
+    rt.stdout().write_all(told.as_bytes())
 }

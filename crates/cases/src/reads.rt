@@ -26,13 +26,23 @@ struct Broken {
     failures: u64,
 }
 
+/// Adds the node of a row, and its cells.
+fn push_row(
+    alloc: Global,
+    row: &Row,
+    nodes: &mut Vec<Node>,
+    cells: &mut Vec<Cell>,
+) -> Result<(), AllocError> {
+    nodes.push(node_of(alloc, &row.place, &row.elements)?)?;
+    add_cells(cells, &row.place, &row.elements)
+}
+
 fn fragments_of(alloc: Global, rows: &[Row], labels: &[LabelNo]) -> Result<Fragment, AllocError> {
     let mut nodes = Vec::new(alloc);
     let mut cells = Vec::new(alloc);
     for row in rows {
         if labels.contains(&row.place.class) {
-            nodes.push(node_of(alloc, &row.place, &row.elements)?)?;
-            add_cells(&mut cells, &row.place, &row.elements)?;
+            push_row(alloc, row, &mut nodes, &mut cells)?;
         }
     }
     Ok(Fragment {
@@ -152,21 +162,27 @@ fn class_of(policy: &Policy, tuple: &Tuple) -> LabelNo
     tuple.key_class
 }
 
+/// A tuple at the place of its class.
+fn row_of(policy: &Policy, tuple: Tuple) -> Row
+    requires { HasClassesBelow (length policy.now.labels) tuple }
+{
+    let class = class_of(policy, &tuple);
+    Row {
+        place: Place {
+            key: tuple.key,
+            key_class: tuple.key_class,
+            class,
+        },
+        elements: tuple.elements,
+    }
+}
+
 fn rows_of(alloc: Global, policy: &Policy, tuples: Vec<Tuple>) -> Result<Vec<Row>, AllocError>
     requires { AllByRecursion (HasClassesBelow (length policy.now.labels)) tuples.items }
 {
     let mut rows = Vec::new(alloc);
     for tuple in tuples {
-        let class = class_of(policy, &tuple);
-        let place = Place {
-            key: tuple.key,
-            key_class: tuple.key_class,
-            class,
-        };
-        rows.push(Row {
-            place,
-            elements: tuple.elements,
-        })?;
+        rows.push(row_of(policy, tuple))?;
     }
     Ok(rows)
 }

@@ -1,13 +1,19 @@
 //! The tables, in the order in which they are told.
+use crate::documents::{Document, tell_line};
 use crate::sample::Sample;
+use crate::texts::Texts;
 use crate::transactions::{checks, evaluations, limits as text_limits, texts};
-use crate::{certificates, documents, entries, extending, keys, limits, lookups, reads, views};
+use crate::{
+    certificates, documents, entries, extending, faults, keys, limits, lookups, reads, views,
+};
 use case_tables::{Case, Told, case_at};
+use mls_lattice::Policy;
+use mls_scheme::SchemesFile;
 use std::alloc::{AllocError, Global};
 
 /// How a file is told.
 #[derive(Clone, Copy)]
-pub enum Table {
+enum Table {
     /// Each case by itself.
     Each(Subject),
     /// Certificates for the transactions of the file.
@@ -38,7 +44,7 @@ pub enum Subject {
     Ranges,
 }
 
-pub static TABLES: [(&str, Table); 19] = [
+static TABLES: [(&str, Table); 19] = [
     ("policies.txt", Table::Each(Subject::Policies)),
     ("schemes.txt", Table::Each(Subject::Schemes)),
     ("documents.txt", Table::Each(Subject::Documents)),
@@ -59,22 +65,6 @@ pub static TABLES: [(&str, Table); 19] = [
     ("labels2.txt", Table::Each(Subject::Labels2)),
     ("ranges.txt", Table::Each(Subject::Ranges)),
 ];
-
-/// What is told of the cases of a table, under the sample policy and schemes.
-pub fn told(
-    alloc: Global,
-    sample: &Sample<'_>,
-    file: &str,
-    table: Table,
-    text: &str,
-) -> Result<String, AllocError> {
-    let lines: Vec<&str> = text.lines().collect(alloc)?;
-    let mut out = Told::new(alloc);
-    out.push("== ");
-    out.push_line(file);
-    tell_lines(alloc, sample, table, &lines, &mut out);
-    out.finish()
-}
 
 fn tell_lines(alloc: Global, sample: &Sample<'_>, table: Table, lines: &[&str], out: &mut Told) {
     match table {
@@ -106,8 +96,8 @@ fn tell_case(
     out: &mut Told,
 ) {
     match subject {
-        Subject::Policies => documents::tell_policy(alloc, case.head, out),
-        Subject::Schemes => documents::tell_schemes(alloc, sample.policy, case.head, out),
+        Subject::Policies => tell_line(alloc, sample.policy, Document::Policy, case.head, out),
+        Subject::Schemes => tell_line(alloc, sample.policy, Document::Schemes, case.head, out),
         Subject::Documents => documents::tell(alloc, sample.policy, case, out),
         Subject::Extending => extending::tell(alloc, sample, case, out),
         Subject::Limits => limits::tell(alloc, sample.policy, case.head, out),
@@ -123,4 +113,54 @@ fn tell_case(
             texts::tell_block(alloc, sample, subject, case, out);
         }
     }
+}
+
+fn tell_file(
+    alloc: Global,
+    sample: &Sample<'_>,
+    table: Table,
+    text: &str,
+    out: &mut Told,
+) -> Result<(), AllocError> {
+    let lines: Vec<&str> = text.lines().collect(alloc)?;
+    tell_lines(alloc, sample, table, &lines, out);
+    Ok(())
+}
+
+/// Tells the cases of all tables, and then those of scripts.
+fn tell_files(alloc: Global, sample: &Sample<'_>, texts: &Texts, out: &mut Told) {
+    for &(file, table) in &TABLES {
+        out.push("== ");
+        out.push_line(file);
+        let told = tell_file(alloc, sample, table, texts.named(file), out);
+        out.note(told);
+    }
+    faults::tell_files(alloc, sample, texts, out);
+}
+
+fn tell_under(alloc: Global, policy: &Policy, texts: &Texts, out: &mut Told) {
+    match SchemesFile::read(alloc, policy, texts.named("schemes.toml").as_bytes()) {
+        Ok(file) => {
+            let sample = Sample {
+                policy,
+                schemes: &file.schemes,
+            };
+            tell_files(alloc, &sample, texts, out);
+        }
+        Err(_) => out.fail(),
+    }
+}
+
+fn tell_all(alloc: Global, texts: &Texts, out: &mut Told) {
+    match Policy::read(alloc, texts.named("policy.toml").as_bytes()) {
+        Ok(policy) => tell_under(alloc, &policy, texts, out),
+        Err(_) => out.fail(),
+    }
+}
+
+/// What is told of all cases, under the sample policy and schemes.
+pub fn told(alloc: Global, texts: &Texts) -> Result<String, AllocError> {
+    let mut out = Told::new(alloc);
+    tell_all(alloc, texts, &mut out);
+    out.finish()
 }

@@ -96,7 +96,8 @@ pub fn name_of(policy: &Policy, label: LabelNo) -> &str {
     }
 }
 
-fn push_value(value: &Value, out: &mut Told) {
+/// Adds a value: digits, or a text as it is.
+pub fn push_value(value: &Value, out: &mut Told) {
     match value {
         Value::Int(number) => out.push_number(*number),
         Value::Text(text) => out.push(text.as_str()),

@@ -91,6 +91,16 @@ impl<B: Base> Faulty<B> {
         !self.of_fragments && self.fuse.is_due()
     }
 
+    /// Whether the call that begins, which belongs into a change, is to fail: where none is begun the base refuses it.
+    fn is_change_due(&mut self) -> bool
+        ensures base { self.new.base ≡ self.old.base }
+        ensures failed { self.new.fuse.failed ≡ self.old.fuse.failed }
+        ensures due { result ≡ true → self.new.fuse.failed < 1000000 }
+        ensures begun { result ≡ true → (B.seen self.old.base).state.begun ≡ true }
+    {
+        self.base.is_begun() && self.is_due()
+    }
+
     /// Fails, as a store does: the change is ended.
     fn fail(&mut self) -> BaseFault
         requires { self.old.fuse.failed < 1000000 }
@@ -133,20 +143,14 @@ impl<B: Base> Base for Faulty<B> {
     }
 
     fn commit(&mut self) -> Result<(), BaseFault> {
-        if !self.is_begun() {
-            return Err(BaseFault::NotBegun);
-        }
-        if self.is_due() {
+        if self.is_change_due() {
             return Err(self.fail());
         }
         self.base.commit()
     }
 
     fn rollback(&mut self) -> Result<(), BaseFault> {
-        if !self.is_begun() {
-            return Err(BaseFault::NotBegun);
-        }
-        if self.is_due() {
+        if self.is_change_due() {
             return Err(self.fail());
         }
         self.base.rollback()
@@ -185,10 +189,7 @@ impl<B: Base> Base for Faulty<B> {
     }
 
     fn add(&mut self, relation: RelNo, node: Node, cells: &[Cell]) -> Result<(), BaseFault> {
-        if !self.is_begun() {
-            return Err(BaseFault::NotBegun);
-        }
-        if self.is_due() {
+        if self.is_change_due() {
             return Err(self.fail());
         }
         self.base.add(relation, node, cells)
@@ -201,40 +202,28 @@ impl<B: Base> Base for Faulty<B> {
         attr: usize,
         value: Option<Value>,
     ) -> Result<(), BaseFault> {
-        if !self.is_begun() {
-            return Err(BaseFault::NotBegun);
-        }
-        if self.is_due() {
+        if self.is_change_due() {
             return Err(self.fail());
         }
         self.base.set(relation, place, attr, value)
     }
 
     fn drop_at(&mut self, relation: RelNo, place: &Place) -> Result<(), BaseFault> {
-        if !self.is_begun() {
-            return Err(BaseFault::NotBegun);
-        }
-        if self.is_due() {
+        if self.is_change_due() {
             return Err(self.fail());
         }
         self.base.drop_at(relation, place)
     }
 
     fn audit_add(&mut self, bytes: &[u8]) -> Result<(), BaseFault> {
-        if !self.is_begun() {
-            return Err(BaseFault::NotBegun);
-        }
-        if self.is_due() {
+        if self.is_change_due() {
             return Err(self.fail());
         }
         self.base.audit_add(bytes)
     }
 
     fn audit_clear(&mut self) -> Result<(), BaseFault> {
-        if !self.is_begun() {
-            return Err(BaseFault::NotBegun);
-        }
-        if self.is_due() {
+        if self.is_change_due() {
             return Err(self.fail());
         }
         self.base.audit_clear()

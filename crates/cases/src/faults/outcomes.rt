@@ -7,7 +7,7 @@ use super::steps::push_steps;
 use crate::sample::Sample;
 use case_tables::Told;
 use mls_script::script;
-use std::alloc::{AllocError, Global};
+use std::alloc::Global;
 
 /// How the events of a script are answered.
 #[derive(Clone, Copy)]
@@ -28,31 +28,13 @@ pub enum Trials {
 }
 
 /// How single calls, and writes, fail.
-const CALLS: [(Way, What); 5] = [
+static CALLS: [(Way, What); 5] = [
     (Way::Run, What::Store),
     (Way::Run, What::Memory),
     (Way::Run, What::Write),
     (Way::Steps, What::Store),
     (Way::Steps, What::Memory),
 ];
-
-/// Adds an outcome, and answers whether all was well.
-fn push_one(
-    alloc: Global,
-    sample: &Sample<'_>,
-    scripts: Scripts<'_>,
-    way: Way,
-    failure: Failure,
-    out: &mut Told,
-) -> bool
-    requires events { AllByRecursion (EventFits sample.now.policy.now sample.now.schemes.now) scripts.events.now }
-    requires questions { AllByRecursion (EventFits sample.now.policy.now sample.now.schemes.now) scripts.questions.now }
-{
-    match way {
-        Way::Run => push_outcome(alloc, sample, scripts, failure, out),
-        Way::Steps => push_steps(alloc, sample, scripts, failure, out),
-    }
-}
 
 /// Adds an outcome where it differs from the last one.
 fn push_new(last: &Told, next: &Told, out: &mut Told) {
@@ -84,21 +66,15 @@ fn tell_outcomes(
     for after in 0..MOST {
         let mut next = Told::new(alloc);
         let failure = Failure { what, after };
-        let is_well = push_one(alloc, sample, scripts, way, failure, &mut next);
+        let is_well = match way {
+            Way::Run => push_outcome(alloc, sample, scripts, failure, &mut next),
+            Way::Steps => push_steps(alloc, sample, scripts, failure, &mut next),
+        };
         push_new(&last, &next, out);
         if is_well {
             return;
         }
         last = next;
-    }
-}
-
-fn tell_calls(alloc: Global, sample: &Sample<'_>, scripts: Scripts<'_>, out: &mut Told)
-    requires events { AllByRecursion (EventFits sample.now.policy.now sample.now.schemes.now) scripts.events.now }
-    requires questions { AllByRecursion (EventFits sample.now.policy.now sample.now.schemes.now) scripts.questions.now }
-{
-    for (way, what) in CALLS {
-        tell_outcomes(alloc, sample, scripts, way, what, out);
     }
 }
 
@@ -113,14 +89,19 @@ fn tell_trials(
     requires questions { AllByRecursion (EventFits sample.now.policy.now sample.now.schemes.now) scripts.questions.now }
 {
     match trials {
-        Trials::Calls => tell_calls(alloc, sample, scripts, out),
+        Trials::Calls => {
+            for &(way, what) in &CALLS {
+                tell_outcomes(alloc, sample, scripts, way, what, out);
+            }
+        }
         Trials::Each(what) => {
             tell_outcomes(alloc, sample, scripts, Way::Run, what, out);
         }
     }
 }
 
-fn tell_script(
+/// Tells the script of a file: the events are its own.
+pub fn tell_script(
     alloc: Global,
     sample: &Sample<'_>,
     trials: Trials,
@@ -140,22 +121,4 @@ fn tell_script(
         }
         Err(_) => out.push("no script\n"),
     }
-}
-
-/// What is told of the script of a file: the events are its own.
-pub fn told(
-    alloc: Global,
-    sample: &Sample<'_>,
-    file: (&str, Trials),
-    text: &str,
-    scripts: Scripts<'_>,
-) -> Result<String, AllocError>
-    requires questions { AllByRecursion (EventFits sample.now.policy.now sample.now.schemes.now) scripts.questions.now }
-{
-    let (name, trials) = file;
-    let mut out = Told::new(alloc);
-    out.push("== ");
-    out.push_line(name);
-    tell_script(alloc, sample, trials, text, scripts, &mut out);
-    out.finish()
 }

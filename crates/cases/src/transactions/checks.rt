@@ -1,8 +1,9 @@
 //! Certificates that are checked for transactions.
 use crate::certificates::certificate_of;
 use crate::sample::Sample;
+use crate::show::push_word;
 use case_tables::{Told, case_at, inner};
-use mls_certcheck::{Certificate, check};
+use mls_certcheck::check;
 use mls_lattice::Policy;
 use mls_parser::parse;
 use mls_translang::Tx;
@@ -37,23 +38,17 @@ fn named<'a>(txs: &'a [Tx], name: &str) -> Option<&'a Tx> {
     None
 }
 
-/// Adds `yes`, or the number of a statement and the rule that is broken there.
-fn push_answer(policy: &Policy, tx: &Tx, certificate: &Certificate, out: &mut Told) {
-    match check(policy, tx, certificate) {
+/// Adds the answer to a certificate for a transaction: `yes`, or the number of a statement and the rule that is broken there.
+fn push_answer(alloc: Global, policy: &Policy, tx: &Tx, text: &str, out: &mut Told) {
+    let Some(certificate) = certificate_of(alloc, text) else {
+        return out.push("no certificate");
+    };
+    match check(policy, tx, &certificate) {
         Ok(()) => out.push("yes"),
         Err(refusal) => {
             out.push_count(refusal.stmt);
-            out.push(" ");
-            out.push(refusal.rule.text());
+            push_word(refusal.rule.text(), out);
         }
-    }
-}
-
-/// Adds the answer to a certificate for a transaction.
-fn push_checked(alloc: Global, policy: &Policy, tx: &Tx, text: &str, out: &mut Told) {
-    match certificate_of(alloc, text) {
-        Some(certificate) => push_answer(policy, tx, &certificate, out),
-        None => out.push("no certificate"),
     }
 }
 
@@ -61,7 +56,7 @@ fn push_checked(alloc: Global, policy: &Policy, tx: &Tx, text: &str, out: &mut T
 fn tell_check(alloc: Global, policy: &Policy, txs: &[Tx], question: &str, out: &mut Told) {
     let (name, text) = question.split_once(' ').unwrap_or((question, ""));
     match named(txs, name) {
-        Some(tx) => push_checked(alloc, policy, tx, text, out),
+        Some(tx) => push_answer(alloc, policy, tx, text, out),
         None => out.push("no transaction"),
     }
     out.push(": ");

@@ -8,6 +8,7 @@ ghost use Rattle.mls_certcheck.specs.MeaningLaws.{IsItem};
 
 use crate::certificates::certificate_of;
 use crate::sample::Sample;
+use crate::tuples::push_value;
 use case_tables::{Case, Told, case_at, joined};
 use mls_certcheck::Certified;
 use mls_filterview::{Base, BaseFault};
@@ -15,7 +16,7 @@ use mls_lattice::{LabelNo, Policy};
 use mls_parser::parse;
 use mls_scheme::Value;
 use mls_translang::Tx;
-use mls_trusted::{Run, evaluate};
+use mls_trusted::evaluate;
 use mls_updates::ListBase;
 use std::alloc::Global;
 
@@ -29,22 +30,21 @@ fn transaction_of(alloc: Global, sample: &Sample<'_>, text: &str) -> Option<Tx>
     }
 }
 
+/// The last transaction of the lines of a case.
+fn transaction_in(alloc: Global, sample: &Sample<'_>, body: &[&str]) -> Option<Tx>
+    ensures { IfSome result (IsReadUnder sample.now.policy.now sample.now.schemes.now) }
+{
+    let text = joined(alloc, body).ok()?;
+    transaction_of(alloc, sample, &text)
+}
+
 /// The transaction of a case with the certificate that its head is, where that holds.
 fn certified_in(alloc: Global, sample: &Sample<'_>, case: &Case<'_>) -> Option<Certified>
     ensures { IfSome result (λ k. IsReadUnder sample.now.policy.now sample.now.schemes.now k.tx) }
 {
     let certificate = certificate_of(alloc, case.head)?;
-    let text = joined(alloc, case.body).ok()?;
-    let tx = transaction_of(alloc, sample, &text)?;
+    let tx = transaction_in(alloc, sample, case.body)?;
     Certified::new(sample.policy, tx, certificate).ok()
-}
-
-fn push_value(value: &Option<Value>, out: &mut Told) {
-    match value {
-        None => out.push("null"),
-        Some(Value::Int(number)) => out.push_number(*number),
-        Some(Value::Text(text)) => out.push(text.as_str()),
-    }
 }
 
 /// Adds items, each with its label.
@@ -55,17 +55,12 @@ fn push_items(policy: &Policy, word: &str, items: &[(LabelNo, Option<Value>)], o
         out.push(word);
         out.push(policy.name(item.0));
         out.push(" ");
-        push_value(&item.1, out);
+        match &item.1 {
+            Some(value) => push_value(value, out),
+            None => out.push("null"),
+        }
         out.push("\n");
     }
-}
-
-fn push_run(policy: &Policy, run: &Run, out: &mut Told)
-    requires emitted { AllByRecursion (IsItem policy.now) run.now.emitted }
-    requires released { AllByRecursion (IsItem policy.now) run.now.released }
-{
-    push_items(policy, "  emit ", &run.emitted, out);
-    push_items(policy, "  release ", &run.released, out);
 }
 
 /// Tells what a transaction without parameters emits and releases over a base.
@@ -89,7 +84,8 @@ fn tell_certified<B: Base>(
         return Ok(());
     }
     let run = evaluate(alloc, base, sample.policy, sample.schemes, certified, &[])?;
-    push_run(sample.policy, &run, out);
+    push_items(sample.policy, "  emit ", &run.emitted, out);
+    push_items(sample.policy, "  release ", &run.released, out);
     Ok(())
 }
 

@@ -1,58 +1,52 @@
 //! The least certificates of transactions.
-use crate::certificates::print2;
+use crate::certificates::print;
 use case_tables::Told;
-use mls_certcheck::Rule;
+use mls_certcheck::Certificate;
 use mls_labeller::{LabelFault, label_tx, label_tx2};
 use mls_lattice::Policy;
 use mls_translang::Tx;
-use std::alloc::{AllocError, Global};
+use std::alloc::Global;
 
-fn push_printed(printed: Result<String, AllocError>, out: &mut Told) {
-    match printed {
+/// Adds the number of a statement and the rule that no labels keep there.
+fn push_fault(fault: LabelFault, out: &mut Told) {
+    match fault {
+        LabelFault::NoLabels { stmt, rule } => {
+            out.push("no labels: ");
+            out.push_count(stmt);
+            out.push(" ");
+            out.push_line(rule.text());
+        }
+        LabelFault::Memory => out.fail(),
+    }
+}
+
+/// The least certificate of a transaction.
+fn least(
+    alloc: Global,
+    policy: &Policy,
+    tx: &Tx,
+    is_second: bool,
+) -> Result<Certificate, LabelFault> {
+    if is_second {
+        Ok(Certificate::Two(label_tx2(alloc, policy, tx)?))
+    } else {
+        Ok(Certificate::One(label_tx(alloc, policy, tx)?))
+    }
+}
+
+fn push_certificate(alloc: Global, certificate: &Certificate, out: &mut Told) {
+    match print(alloc, certificate) {
         Ok(text) => out.push(&text),
         Err(_) => out.fail(),
     }
 }
 
-/// Adds the number of a statement and the rule that no labels keep there.
-fn push_rule(stmt: usize, rule: Rule, out: &mut Told) {
-    out.push("no labels: ");
-    out.push_count(stmt);
-    out.push(" ");
-    out.push_line(rule.text());
-}
-
-fn push_fault(fault: LabelFault, out: &mut Told) {
-    match fault {
-        LabelFault::NoLabels { stmt, rule } => push_rule(stmt, rule, out),
-        LabelFault::Memory => out.fail(),
-    }
-}
-
-fn push_label(alloc: Global, policy: &Policy, tx: &Tx, out: &mut Told) {
-    match label_tx(alloc, policy, tx) {
-        Ok(cert) => push_printed(cert.print(alloc), out),
-        Err(fault) => push_fault(fault, out),
-    }
-}
-
-/// Adds the least certificates of transactions.
-pub fn push_labels(alloc: Global, policy: &Policy, txs: &[Tx], out: &mut Told) {
+/// Adds the least certificates of transactions, of version 1 or 2.
+pub fn push_labels(alloc: Global, policy: &Policy, txs: &[Tx], is_second: bool, out: &mut Told) {
     for tx in txs {
-        push_label(alloc, policy, tx, out);
-    }
-}
-
-fn push_label2(alloc: Global, policy: &Policy, tx: &Tx, out: &mut Told) {
-    match label_tx2(alloc, policy, tx) {
-        Ok(cert) => push_printed(print2(alloc, &cert), out),
-        Err(fault) => push_fault(fault, out),
-    }
-}
-
-/// Adds the least certificates of transactions, of version 2.
-pub fn push_labels2(alloc: Global, policy: &Policy, txs: &[Tx], out: &mut Told) {
-    for tx in txs {
-        push_label2(alloc, policy, tx, out);
+        match least(alloc, policy, tx, is_second) {
+            Ok(certificate) => push_certificate(alloc, &certificate, out),
+            Err(fault) => push_fault(fault, out),
+        }
     }
 }

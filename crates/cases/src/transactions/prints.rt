@@ -7,21 +7,15 @@ use case_tables::{Told, text_of};
 use mls_translang::{Tx, print};
 use std::alloc::Global;
 
-fn push_print(alloc: Global, sample: &Sample<'_>, tx: &Tx, out: &mut Told)
-    requires { IsReadUnder sample.now.policy.now sample.now.schemes.now tx.now }
-{
-    match print(alloc, sample.policy, sample.schemes, tx) {
-        Ok(text) => out.push(text_of(&text)),
-        Err(_) => out.fail(),
-    }
-}
-
 /// Adds what transactions are printed as.
 pub fn push_prints(alloc: Global, sample: &Sample<'_>, txs: &[Tx], out: &mut Told)
     requires { AllByRecursion (IsReadUnder sample.now.policy.now sample.now.schemes.now) txs.now }
 {
     for tx in txs {
-        push_print(alloc, sample, tx, out);
+        match print(alloc, sample.policy, sample.schemes, tx) {
+            Ok(text) => out.push(text_of(&text)),
+            Err(_) => out.fail(),
+        }
     }
 }
 

@@ -1,19 +1,13 @@
 //! What is told of the releases of transactions.
 use case_tables::Told;
-use mls_labeller::{Told as Release, ranges_of, whole, words};
+use mls_labeller::{Releases, Told as Release, ranges_of, whole, words};
 use mls_lattice::Policy;
 use mls_scheme::Kind;
 use mls_translang::Tx;
-use std::alloc::{AllocError, Global};
+use std::alloc::Global;
 
 /// Adds the line of a release: its label, whether it stands in a loop, and its values.
-fn push_release(
-    alloc: Global,
-    policy: &Policy,
-    tx: &Tx,
-    release: &Release,
-    out: &mut Told,
-) -> Result<(), AllocError> {
+fn push_release(alloc: Global, policy: &Policy, tx: &Tx, release: &Release, out: &mut Told) {
     let vars = tx.vars();
     let place = usize::from(release.into);
     let kind = if place < vars.len() {
@@ -28,26 +22,32 @@ fn push_release(
         out.push(" in a loop");
     }
     out.push(": ");
-    out.push_line(&words(alloc, release, kind)?);
-    Ok(())
+    match words(alloc, release, kind) {
+        Ok(text) => out.push_line(&text),
+        Err(_) => out.fail(),
+    }
 }
 
-fn push_tx(alloc: Global, policy: &Policy, tx: &Tx, out: &mut Told) -> Result<(), AllocError> {
-    let releases = ranges_of(alloc, tx)?;
+fn push_releases(alloc: Global, policy: &Policy, tx: &Tx, releases: &Releases, out: &mut Told) {
     for release in releases.told.as_slice() {
-        push_release(alloc, policy, tx, release, out)?;
+        push_release(alloc, policy, tx, release, out);
     }
-    if let Some(text) = whole(alloc, &releases)? {
-        out.push("in all: ");
-        out.push_line(&text);
+    match whole(alloc, releases) {
+        Ok(Some(text)) => {
+            out.push("in all: ");
+            out.push_line(&text);
+        }
+        Ok(None) => {}
+        Err(_) => out.fail(),
     }
-    Ok(())
 }
 
 /// Adds what is told of the releases of transactions.
 pub fn push_ranges(alloc: Global, policy: &Policy, txs: &[Tx], out: &mut Told) {
     for tx in txs {
-        let pushed = push_tx(alloc, policy, tx, out);
-        out.note(pushed);
+        match ranges_of(alloc, tx) {
+            Ok(releases) => push_releases(alloc, policy, tx, &releases, out),
+            Err(_) => out.fail(),
+        }
     }
 }

@@ -2,7 +2,7 @@
 ghost use Rattle.std.specs.List.{AllByRecursion};
 ghost use Rattle.mls_translang.specs.Fits.{IsReadUnder};
 
-use super::labels::{push_labels, push_labels2};
+use super::labels::push_labels;
 use super::prints::{push_prints, push_size};
 use super::ranges::push_ranges;
 use crate::sample::Sample;
@@ -28,8 +28,8 @@ fn push_txs(alloc: Global, sample: &Sample<'_>, subject: Subject, txs: &[Tx], ou
 {
     match subject {
         Subject::Prints => push_prints(alloc, sample, txs, out),
-        Subject::Labels => push_labels(alloc, sample.policy, txs, out),
-        Subject::Labels2 => push_labels2(alloc, sample.policy, txs, out),
+        Subject::Labels => push_labels(alloc, sample.policy, txs, false, out),
+        Subject::Labels2 => push_labels(alloc, sample.policy, txs, true, out),
         Subject::Ranges => push_ranges(alloc, sample.policy, txs, out),
         Subject::TextLimits => push_size(alloc, sample, txs, out),
         _ => out.push("read"),

@@ -78,3 +78,87 @@ TOLD = """
   return told;
 })()
 """
+
+# Texts that stand on each other.
+OVERLAP = """
+(() => {
+  const boxes = [], walk = document.createTreeWalker(document.querySelector('main'), NodeFilter.SHOW_TEXT);
+  while (walk.nextNode()) {
+    const one = walk.currentNode.parentElement;
+    if (!walk.currentNode.data.trim() || !one.checkVisibility() || one.closest('.heads, title, style, script')) continue;
+    const range = document.createRange();
+    range.selectNodeContents(walk.currentNode);
+    for (const box of range.getClientRects())
+      if (box.width > 1) boxes.push({ box, one, words: walk.currentNode.data.slice(0, 20) });
+  }
+  boxes.sort((a, b) => a.box.top - b.box.top);
+  const found = [];
+  for (let i = 0; i < boxes.length; i++) {
+    for (let j = i + 1; j < boxes.length && boxes[j].box.top < boxes[i].box.bottom; j++) {
+      const [a, b] = [boxes[i].box, boxes[j].box];
+      const wide = Math.min(a.right, b.right) - Math.max(a.left, b.left), high = Math.min(a.bottom, b.bottom) - b.top;
+      if (wide > 2 && high > 5 && boxes[i].one !== boxes[j].one) found.push(boxes[i].words + ' on ' + boxes[j].words);
+    }
+  }
+  return found.slice(0, 5);
+})()
+"""
+
+# What is cut off: rows behind a bar, a value that is broken within a short word, letters that are too small.
+CUT = """
+(() => {
+  const found = [];
+  for (const one of document.querySelectorAll('.scroll'))
+    if (one.checkVisibility() && one.scrollWidth > one.clientWidth + 3 && !one.matches('.drawing'))
+      found.push(one.textContent.slice(0, 20) + ' is behind a bar');
+  for (const one of document.querySelectorAll('.rows td:not(.long) bdi')) {
+    if (!one.checkVisibility()) continue;
+    const lines = new Set([...one.getClientRects()].map(box => box.top)).size;
+    if (lines > one.textContent.split(' ').length) found.push(one.textContent.slice(0, 20) + ' is broken');
+  }
+  for (const one of document.querySelectorAll('svg text'))
+    if (one.checkVisibility() && one.getBoundingClientRect().height < 10)
+      found.push(one.textContent + ' is ' + one.getBoundingClientRect().height.toFixed(1) + ' high');
+  for (const one of document.querySelectorAll('th'))
+    if (one.checkVisibility() && one.getClientRects().length && !one.textContent.includes(' ')) {
+      const range = document.createRange();
+      range.selectNodeContents(one);
+      if (range.getClientRects().length > 1) found.push('the head ' + one.textContent + ' is broken');
+    }
+  return found.slice(0, 5);
+})()
+"""
+
+# The lines of a drawing of labels that pass another label than their ends.
+PASSED = """
+(() => {
+  const found = [];
+  for (const svg of document.querySelectorAll('svg')) {
+    const rects = [...svg.querySelectorAll('g > rect')].map(one => one.getBBox());
+    for (const line of svg.querySelectorAll('polyline, line')) {
+      const length = line.getTotalLength(), end = line.getPointAtLength(length), start = line.getPointAtLength(0);
+      for (let at = 0; at <= length; at += 2) {
+        const point = line.getPointAtLength(at);
+        for (const box of rects) {
+          const has = ({ x, y }, by) => x > box.x - by && x < box.x + box.width + by && y > box.y - by && y < box.y + box.height + by;
+          if (has(point, 0) && !has(start, 1) && !has(end, 1)) found.push(at);
+        }
+      }
+    }
+  }
+  return found.length;
+})()
+"""
+
+# The cells that do not stand on the colour of their class: that of the head, or of the name, of the label.
+COLOURS = """
+(() => {
+  const colour = one => getComputedStyle(one).backgroundColor, of = new Map(), found = [];
+  for (const one of document.querySelectorAll('.all .label')) of.set(one.textContent, colour(one));
+  for (const cell of document.querySelectorAll('.rows td')) {
+    const label = cell.querySelector('small') ? cell.querySelector('small').textContent : cell.textContent;
+    if (colour(cell) !== of.get(label)) found.push(cell.textContent);
+  }
+  return new Set(of.values()).size < of.size && of.size < 9 ? ['two labels have one colour'] : found.slice(0, 5);
+})()
+"""

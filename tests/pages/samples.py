@@ -26,6 +26,8 @@ class Page(NamedTuple):
     folder: str
     words: tuple[str, ...]
     shown: tuple[tuple[str, str], ...] = ()
+    # Whether a value is too long for the narrow page.
+    is_long: bool = False
 
 
 def text_of(selector: str) -> str:
@@ -109,10 +111,13 @@ def awkward(work: Path) -> list[Page]:
         f'U t call Known ()\nS b view SOD at H\nU a view SOD at U # {SCRIPT}\n', encoding="utf-8",
     )
     (folder / "audit.txt").write_text(
-        "U entry U denied tom t 38\nS entry S denied bob b 37 2026-11-28T10:00:00Z\nU entry U called tom t Known 2026-11-30T10:00:00Z\n" f'U entry U released tom t "{SCRIPT}{SIGNS}" 2026-11-30T10:00:00Z\nU U/a audit\n',
+        "U entry U denied tom t 38\nU entry U denied tom t 38\nS entry S denied bob b 37 2026-11-28T10:00:00Z\nU entry U called tom t Known 2026-11-30T10:00:00Z\n" f'U entry U released tom t "{SCRIPT}{SIGNS}" 2026-11-30T10:00:00Z\nU U/a audit\n',
         encoding="utf-8",
     )
-    return [play_page(folder), report_page(folder), audit_page(folder)]
+    text = (before / "transactions.txt").read_text(encoding="utf-8")
+    (before / "transactions.txt").write_text(text.replace("r.Destination = null", "r.Objective = null", 1), encoding="utf-8")
+    (folder / "untimed.txt").write_text("U entry U denied tom t 38\n", encoding="utf-8")
+    return [play_page(folder), report_page(folder), first_report(folder), audit_page(folder), untimed_page(folder)]
 
 
 KEY, TEXT = f'"{SCRIPT}"', f'"{SIGNS}"'
@@ -154,7 +159,7 @@ PLAY_SHOWN = (
 def play_page(folder: Path) -> Page:
     """The awkward play."""
     words = (*DOCUMENTS, "awkward.script", *OPTIONS)
-    return Page("awkward.play.html", "mlplay", str(folder), words, PLAY_SHOWN)
+    return Page("awkward.play.html", "mlplay", str(folder), words, PLAY_SHOWN, True)
 
 
 def report_page(folder: Path) -> Page:
@@ -186,9 +191,40 @@ def report_page(folder: Path) -> Page:
                 row.format(["tom", "has execute on Blank", "can call Blank", "has execute on Nothing"]),
             ),
             ("whom a release concerns is told", row.format(["whoever sees U", "can learn by Blank"])),
-            ("the lattice has a line to each covered label", "document.querySelectorAll('svg line').length === 4"),
+            ("what it is taken from is told", row.format(["tom", "SOD at S", "Known"])),
+            (
+                "a changed line of a transaction is told",
+                row.format(["the text of Known", "if not (r.Objective = null) {", "if not (r.Destination = null) {"]),
+            ),
+            ("it can be signed on paper", f"{text_of('.sign')} === 'Read and signed:'"),
+            ("the lattice has a line to each covered label", "document.querySelectorAll('svg polyline').length === 4"),
         ),
     )
+
+
+def first_report(folder: Path) -> Page:
+    """A report over a folder in which there were no transactions yet, of a transaction that lets any integer down."""
+    before, sample = folder / "earlier", ROOT / "samples/hospital"
+    before.mkdir()
+    for name in DOCUMENTS:
+        (before / name).write_bytes((sample / name).read_bytes())
+    row = "[...document.querySelectorAll('main tr')].some(one => {}.every(part => one.textContent.includes(part)))"
+    return Page(
+        "first.report.html",
+        "mlreport",
+        str(sample),
+        (*DOCUMENTS, *STORED, "--before", str(before)),
+        (
+            ("the bits of any integer are told", row.format(["Study", "any integer or null (65 bits a call at most)", "dora"])),
+            ("that a transaction came is told", row.format(["whoever sees Study", "can learn by Count", "called by dora"])),
+        ),
+    )
+
+
+def untimed_page(folder: Path) -> Page:
+    """An audit list without times."""
+    said = "[...document.querySelectorAll('main p')].some(one => one.textContent === 'The entries have no times.')"
+    return Page("untimed.audit.html", "mlaudit", str(folder), ("untimed.txt",), (("that there are no times is said", said),))
 
 
 def audit_page(folder: Path) -> Page:
@@ -201,7 +237,7 @@ def audit_page(folder: Path) -> Page:
         (
             (
                 "the numbers of a user",
-                "[...[...document.querySelectorAll('tr')].find(one => one.textContent.startsWith('tom')).cells].slice(2).map(one => one.textContent).join() === '1,1,1'",
+                "[...[...document.querySelectorAll('tr')].find(one => one.textContent.startsWith('tom')).cells].slice(2).map(one => one.textContent).join() === '1,1,2'",
             ),
             (
                 "a number leads to its lines",
@@ -221,8 +257,15 @@ def audit_page(folder: Path) -> Page:
                 "[...document.querySelectorAll('td a')].every(one => document.querySelectorAll(`[id=\"${one.hash.slice(1)}\"] pre`).length === Number(one.textContent))",
             ),
             (
+                "the first and the last day are at the edges",
+                "[...document.querySelectorAll('figcaption span')].map(one => one.textContent).join() === '2026-11-28,2026-11-30' && "
+                "(bars => bars[0].getAttribute('x') === '0.00' && Number(bars[2].getAttribute('x')) + Number(bars[2].getAttribute('width')) === 900)"
+                "([...document.querySelectorAll('svg.days rect')])",
+            ),
+            ("one call is no calls", "document.querySelector('main p').textContent.startsWith('1 call, 1 release, 3 denials')"),
+            (
                 "every entry is counted",
-                "['user', 'label', 'day'].every(one => [...document.getElementById(one).nextElementSibling.querySelectorAll('td a')].reduce((sum, a) => sum + Number(a.textContent), 0) === 4)",
+                "['user', 'label', 'day'].every(one => [...document.getElementById(one).nextElementSibling.querySelectorAll('td a')].reduce((sum, a) => sum + Number(a.textContent), 0) === 5)",
             ),
         ),
     )
@@ -260,6 +303,6 @@ def big(work: Path) -> list[Page]:
             "mlreport",
             str(folder),
             DOCUMENTS,
-            (("192 lines go to covered labels", "document.querySelectorAll('svg line').length === 192"),),
+            (("192 lines go to covered labels", "document.querySelectorAll('svg polyline').length === 192"),),
         ),
     ]

@@ -16,8 +16,9 @@ ENTRY = re.compile(
 )
 KINDS = ("called", "released", "denied")
 NOUNS = {"called": "calls", "released": "releases", "denied": "denials"}
+ONE = {"called": "call", "released": "release", "denied": "denial"}
 # The plot over the days; of more days it shows those that have entries.
-WIDTH, HEIGHT, MOST_DAYS = 900, 160, 3660
+WIDTH, HEIGHT, MOST_DAYS = 900, 140, 3660
 STYLE = """
 main { max-width: 60rem; --called: hsl(212 45% 42%); --released: var(--mark); --denied: hsl(40 8% 55%); }
 @media (prefers-color-scheme: dark) { main { --called: hsl(212 55% 68%); } }
@@ -32,9 +33,16 @@ main { max-width: 60rem; --called: hsl(212 45% 42%); --released: var(--mark); --
   .key span:first-child { margin-left: 0; }
 .lines { display: none; } .lines:target { display: block; } .lines pre { padding-left: 4.5em; text-indent: -4.5em; }
 .lines b { display: inline-block; min-width: 4.5em; text-indent: 0; font-weight: 400; color: var(--soft); }
-figure { margin: 1.5rem 0 0; } .days text { font: 11px system-ui, sans-serif; fill: var(--soft); }
-@media (max-width: 40rem) { .counts td.bar, .counts th.bar { display: none; }
-  .counts td:not(:first-child), .counts th:not(:first-child) { width: auto; padding-right: .4rem; } }
+figure { margin: 1.5rem 0 0; font-size: .8125rem; color: var(--soft); font-variant-numeric: tabular-nums; }
+.days { width: 100%; height: 140px; border-bottom: 1px solid var(--line); }
+figcaption { display: flex; justify-content: space-between; } figcaption.one { justify-content: center; }
+@media (max-width: 40rem) { .counts, .counts tbody { display: block; } .counts thead { display: none; }
+  .counts tr { display: grid; grid-template-columns: repeat(3, 1fr); padding: .3rem 0;
+  border-bottom: 1px solid var(--line); }
+  .counts td { border: 0; padding: .1rem 0; } .counts td:first-child, .counts td.bar { grid-column: 1 / -1; }
+  .counts td:not(:first-child) { width: auto; text-align: left; }
+  .counts td[data-head]::before { content: attr(data-head) " "; color: var(--soft); font-style: italic;
+  font-size: .875rem; } }
 @media print { .lines { display: block; } }
 """
 
@@ -72,6 +80,11 @@ def days_between(days: list[str]) -> list[str]:
         return days
     span = (last - first).days
     return [str(first + timedelta(number)) for number in range(span + 1)] if span < MOST_DAYS else days
+
+
+def counted(number: int, kind: str) -> str:
+    """So many of a kind, in words."""
+    return f"{number} {NOUNS[kind] if number != 1 else ONE[kind]}"
 
 
 class AuditPage:
@@ -123,7 +136,7 @@ class AuditPage:
                     "tr",
                     tag("td", key or "no time"),
                     tag("td", bar, class_="bar"),
-                    *(tag("td", self.count(facet, key, kind, split[kind])) for kind in KINDS),
+                    *(tag("td", self.count(facet, key, kind, split[kind]), data_head=NOUNS[kind]) for kind in KINDS),
                 )
             )
         return joined(
@@ -143,10 +156,13 @@ class AuditPage:
         timed = sorted({one.day for one in self.entries if one.day})
         if not timed:
             return joined([tag("h2", "By day", id="day"), tag("p", "The entries have no times.")])
-        return joined([self.part("day", "By day"), tag("figure", self.plot(days_between(timed)))])
+        days = days_between(timed)
+        ends = [tag("span", day) for day in dict.fromkeys((days[0], days[-1]))]
+        below = tag("figcaption", *ends, class_="one" if len(ends) == 1 else None)
+        return joined([self.part("day", "By day"), tag("figure", *self.plot(days), below)])
 
-    def plot(self, days: list[str]) -> Html:
-        """A column for each day."""
+    def plot(self, days: list[str]) -> tuple[Html, Html]:
+        """A column for each day, from edge to edge, below how high the highest one is."""
         counts = Counter((one.day, one.kind) for one in self.entries)
         most = max(sum(counts[day, kind] for kind in KINDS) for day in days)
         step = WIDTH / len(days)
@@ -154,19 +170,20 @@ class AuditPage:
         for place, day in enumerate(days):
             top = float(HEIGHT)
             for kind in KINDS:
-                tall = (HEIGHT - 20) * counts[day, kind] / most
+                tall = HEIGHT * counts[day, kind] / most
                 top -= tall
-                where = {"x": f"{place * step:.2f}", "y": f"{top:.2f}", "height": f"{tall:.2f}", "class_": kind}
-                wide = f"{min(max(step * 0.8, 0.5), 24):.2f}"
-                bars += [tag("rect", tag("title", f"{day} {NOUNS[kind]}"), width=wide, **where)] if tall else []
-        words = [tag("text", days[0], x=0, y=HEIGHT + 16), tag("text", str(most), x=0, y=12)]
-        words += [tag("text", days[-1], x=WIDTH, y=HEIGHT + 16, text_anchor="end")] if len(days) > 1 else []
-        size = {"viewBox": f"0 0 {WIDTH} {HEIGHT + 22}", "width": WIDTH, "height": HEIGHT + 22}
-        return tag("svg", *bars, *words, **size, role="img", aria_label="entries by day", class_="days")
+                where = {"y": f"{top:.2f}", "height": f"{tall:.2f}", "class_": kind}
+                wide = min(max(step * 0.8, 0.5), 72)
+                # The first and the last day stand above their names, at the edges.
+                left = (WIDTH - wide) * (place / (len(days) - 1) if len(days) > 1 else 0.5)
+                told = tag("title", f"{day}: {counted(counts[day, kind], kind)}")
+                bars += [tag("rect", told, x=f"{left:.2f}", width=f"{wide:.2f}", **where)] if tall else []
+        size = {"viewBox": f"0 0 {WIDTH} {HEIGHT}", "preserveAspectRatio": "none", "role": "img"}
+        return tag("div", f"{most} a day at most"), tag("svg", *bars, **size, aria_label="entries by day", class_="days")
 
     def page(self) -> str:
         """The whole page."""
-        totals = ", ".join(f"{sum(one.kind == kind for one in self.entries)} {NOUNS[kind]}" for kind in KINDS)
+        totals = ", ".join(counted(sum(one.kind == kind for one in self.entries), kind) for kind in KINDS)
         others = f" Lines that are no entries: {self.others}." if self.others else ""
         key = tag("p", *(part for kind in KINDS for part in (tag("span", class_=kind), NOUNS[kind])), class_="key soft")
         parts = [self.part("user", "By user"), self.part("label", "By label"), self.days()]

@@ -39,14 +39,18 @@ table { border-collapse: collapse; }
 th { text-align: left; font-weight: 400; font-style: italic; color: var(--soft); font-size: .875rem; }
 table.plain { width: 100%; }
 table.plain th, table.plain td { padding: .3rem .75rem .3rem 0; border-bottom: 1px solid var(--line);
-  vertical-align: top; overflow-wrap: anywhere; }
+  vertical-align: top; }
+table.plain td { overflow-wrap: anywhere; }
 footer { margin-top: 3rem; padding-top: .6rem; border-top: 1px solid var(--line); color: var(--soft);
   font-size: .875rem; }
 svg { max-width: 100%; height: auto; display: block; }
+.scroll { overflow-x: auto; }
+.drawing { font: 600 13px ui-monospace, "SF Mono", Menlo, Consolas, "DejaVu Sans Mono", monospace; }
+@media screen { .drawing svg { min-width: var(--least); } }
 @media print { :root { --paper: #fff; --ink: #000; --soft: #444; --line: #bbb; --raised: #fff; --mark: #7a1f08;
   --tint: 60% 91%; --dot: 45% 36%; }
   body { font-size: 10.5pt; } main { padding: 0; max-width: none; } h2, h3 { break-after: avoid; } tr, .event, svg {
-  break-inside: avoid; } * { print-color-adjust: exact; } }
+  break-inside: avoid; } .scroll { overflow: visible; } * { print-color-adjust: exact; } }
 """
 
 

@@ -10,22 +10,26 @@ from .play import Event, Sight, Story, changed
 MOST_COLUMNS = 8
 # A first comment that is longer is no title.
 MOST_TITLE = 100
+# A value with a longer word is broken anywhere, another one between words alone.
+MOST_WORD = 18
+# A drawing of the labels that is higher stands at the end.
+MOST_HEIGHT = 300
 
 STYLE = """
-.event { padding: .9rem 0 1rem; border-top: 1px solid var(--line); }
+.event { padding: .9rem 0 1rem; border-top: 1px solid var(--line); scroll-margin-top: 3rem; }
 .said { font-style: italic; margin: 0 0 .35rem; }
 .what { display: flex; gap: .25rem .7rem; align-items: baseline; flex-wrap: wrap; }
 .no { font-variant-numeric: tabular-nums; color: var(--soft); min-width: 1.6em; text-decoration: none;
   font-size: .875rem; }
 .what code { flex: 1 1 16rem; }
-.columns { display: grid; grid-template-columns: repeat(var(--n), minmax(0, 1fr)); gap: 0 .75rem; margin-top: .55rem; }
+.columns { display: grid; grid-template-columns: repeat(var(--n), minmax(0, 1fr)); gap: 0 .6rem; margin-top: .55rem; }
 .columns > .cell { min-width: 0; }
 .columns > .cell > .label { display: none; }
 .heads { position: sticky; top: 0; background: var(--paper); margin: 0; padding: .5rem 0; z-index: 1; }
 .heads .label { display: block; border-bottom: 2px solid hsl(var(--edge) var(--dot)); border-radius: .2em .2em 0 0; }
 .columns pre { font-size: .75rem; }
 .columns > .silent::after { content: "\\2013"; color: var(--soft); }
-.down { display: grid; grid-template-columns: repeat(var(--n), minmax(0, 1fr)); gap: 0 .75rem; margin-top: .6rem;
+.down { display: grid; grid-template-columns: repeat(var(--n), minmax(0, 1fr)); gap: 0 .6rem; margin-top: .6rem;
   color: var(--mark); }
 .arrow { position: relative; text-align: center; border-bottom: 2px solid; padding: 0 1rem .1rem; font-size: .875rem;
   min-width: 0; overflow-wrap: anywhere; }
@@ -34,18 +38,17 @@ STYLE = """
 .arrow .mono { font-weight: 600; }
 .sight { margin-top: .9rem; }
 .all .first { display: none; }
-.scroll { overflow-x: auto; }
 .rows { border-collapse: separate; border-spacing: 2px; margin: 0 -2px; }
 .rows caption { text-align: left; font-size: .875rem; padding: 0 2px; }
-.rows th { font-size: .75rem; padding: 0 .25rem; }
-.rows td { font-size: .6875rem; line-height: 1.35; padding: .1rem .25rem; border-radius: .15em;
-  overflow-wrap: anywhere; vertical-align: top; min-width: 2.5em; }
+.rows th { font-size: .75rem; padding: 0 .2rem; }
+.rows td { font-size: .6875rem; line-height: 1.35; padding: .1rem .2rem; border-radius: .15em; vertical-align: top; }
+.rows td.long { overflow-wrap: anywhere; min-width: 12em; }
 .rows td small { display: block; font-size: .625rem; }
 .rows tr.cover td bdi { text-decoration: line-through; text-decoration-thickness: 1.5px; }
-.rows td.class { font-weight: 600; overflow-wrap: normal; }
+.rows td.class { font-weight: 600; font-size: .625rem; line-height: 1.5; }
 .none { font-size: .8125rem; color: var(--soft); margin: 0; }
-.stage { margin-top: 1.5rem; padding: 1rem 1.25rem 1.4rem; background: var(--raised); border: 1px solid var(--line);
-  border-radius: .4rem; min-height: 22rem; }
+.stage { margin-top: 1.5rem; padding: 1rem 1rem 1.4rem; background: var(--raised); border: 1px solid var(--line);
+  border-radius: .4rem; min-height: 22rem; clear: both; }
 .controls { display: flex; gap: .75rem; align-items: center; margin-bottom: .9rem; }
 .controls input { flex: 1; min-width: 0; accent-color: var(--ink); }
 .controls button { font: inherit; color: inherit; background: var(--paper); border: 1px solid var(--line);
@@ -59,18 +62,20 @@ STYLE = """
 .lattice { float: right; margin: 0 0 1rem 1.5rem; }
 .lattice svg { max-height: 11rem; width: auto; }
 [hidden] { display: none; }
-@media print { .stage, .heads { display: none; } .playing .all .sight:not(.first) { display: grid; }
+@media print { .stage, .heads { display: none; } .rows td { overflow-wrap: anywhere; } .playing .all .sight:not(.first) { display: grid; }
   .playing .all .event.current { box-shadow: none; }
   .columns > .cell > .label { display: inline-block; margin-bottom: .2rem; } }
 """
 # Where there is no room for the labels side by side.
-STACK = """.columns, .down { display: block; } .columns > .cell { margin-bottom: .5rem; } .columns > .silent, .heads {
-  display: none; }
-  .columns > .cell { display: grid; grid-template-columns: var(--wide) minmax(0, 1fr); gap: .5rem; align-items: start; }
+STACK = """.columns, .down { display: block; } .heads { display: none; }
+  .columns > .cell { display: grid; grid-template-columns: var(--wide) minmax(0, 1fr); gap: .5rem; align-items: start;
+  margin-bottom: .5rem; } .columns > .silent { display: none; }
   .columns > .cell > .label { display: block; text-align: center; } .arrow { text-align: left; margin-top: .4rem; }"""
 NARROW = """
-@media (max-width: %drem) { %s .lattice { float: none; margin: 1rem 0; } .stage { padding: .75rem; }
-  .controls output { min-width: 0; } }
+@media (max-width: %drem) { %s .intro { display: flex; flex-direction: column; } .stage { padding: .75rem; }
+  .lattice { float: none; margin: 1rem 0; order: 1; } .controls output { min-width: 0; } }
+@media (max-width: 40rem) { .sight > .cell { grid-template-columns: minmax(0, 1fr); gap: .2rem; }
+  .sight > .cell > .label { justify-self: start; } }
 @media print and (max-width: %drem) { .playing .all .sight:not(.first) { display: block; } }
 """
 PAPER = "\n@media print { .playing .all .sight:not(.first) { display: block; } }\n"
@@ -111,6 +116,8 @@ SCRIPT = """
   const asked = () => Number((location.hash.match(/^#e(\\d+)$/) || [])[1]);
   const jump = () => { if (asked()) { go(asked()); scrollTo(0, stage.offsetTop - 8); } };
   addEventListener('hashchange', jump);
+  // The browser goes to the event below first.
+  if (asked()) addEventListener('load', () => setTimeout(jump));
   stage.hidden = false;
   document.body.classList.add('playing');
   go(1);
@@ -130,6 +137,7 @@ class PlayPage:
         self.file = PurePath(story.title).name
         self.title = first if 0 < len(first) <= MOST_TITLE else self.file
         self.is_stacked = len(self.labels) > MOST_COLUMNS
+        self.is_high = lattice.Drawing(story.found).height > MOST_HEIGHT
 
     def columns(self, cells: list[Html], class_: str = "", relation: str | None = None) -> Html:
         """Cells of all labels, side by side."""
@@ -175,7 +183,8 @@ class PlayPage:
         told = []
         for row, is_cover in zip(sight.rows, sight.covers):
             cells = [
-                tag("td", value(what), tag("small", label), class_=self.hues.get(label)) for what, label in row.cells
+                tag("td", value(what), tag("small", label), class_=f"{self.hues.get(label, '')}{broken(what)}".strip())
+                for what, label in row.cells
             ]
             cells.append(tag("td", row.label, class_=f"class {self.hues.get(row.label, '')}"))
             told.append(
@@ -240,9 +249,10 @@ class PlayPage:
 
     def intro(self) -> Html:
         """What the page shows, and whose it is."""
-        return joined(
-            [
-                tag("div", lattice.drawn(self.story.found, self.hues), class_="lattice"),
+        return tag(
+            "header",
+            *(
+                "" if self.is_high else tag("div", lattice.drawn(self.story.found, self.hues), class_="lattice"),
                 tag("h1", self.title),
                 tag(
                     "p",
@@ -256,7 +266,8 @@ class PlayPage:
                     class_="soft",
                 ),
                 self.unseen(),
-            ]
+            ),
+            class_="intro",
         )
 
     def page(self) -> str:
@@ -268,6 +279,9 @@ class PlayPage:
                 self.stage(),
                 tag("h2", "All events", style="clear: both"),
                 tag("div", self.heads(), *events, class_="all"),
+                joined(
+                    [tag("h2", "Labels"), lattice.drawn(self.story.found, self.hues)]
+                ) if self.is_high else "",
                 tag("footer", f"{self.story.version}. Each column is the output of run --at LABEL, line for line."),
             ]
         )
@@ -278,3 +292,8 @@ class PlayPage:
         wide = min(max(map(len, self.labels)), 14) * 0.5 + 1
         style = f"main {{ --n: {count}; --wide: {wide}rem; }}\n{STYLE}{hue_style(count)}{edges}{narrow}"
         return page(self.title, body, style, SCRIPT)
+
+
+def broken(what: str) -> str:
+    """The class of a value that may be broken within a word."""
+    return " long" if max(map(len, what.split(" "))) > MOST_WORD else ""

@@ -1,5 +1,6 @@
 """Who can learn what, and by whose hand, as the program answers it."""
 
+import difflib
 import re
 from dataclasses import dataclass, field
 from pathlib import Path
@@ -11,6 +12,10 @@ from .replies import line_of
 ROLES = ("policy", "schemes", "transactions", "certificates")
 HEAD = re.compile(r" +transaction (\w+) levels (\w+) to (\w+) \((.*)\) \{")
 RELEASE = re.compile(r" *(\d+)  releases to (\w+): (.*)")
+READ = re.compile(r" *\d+ +for \w+ in (\w+) at (\w+) \{")
+# The program names no bits of a range that is too large to be counted: here are those of all values that there are.
+ANY = re.compile(r"any (integer|text)( or null)?")
+BITS = {"integer": 64, "integer or null": 65, "text": 8_193, "text or null": 8_193}
 DENIED = {
     "35": "no certificate of it holds",
     "36": "no right to execute it",
@@ -36,6 +41,11 @@ class Transaction:
     refusal: list[str] = field(default_factory=list)
     verdict: str = "no certificates were given"
     calls: dict[str, str] = field(default_factory=dict)
+
+    def reads(self) -> list[tuple[str, str]]:
+        """The relations that it goes over, and the label whose rows it sees of each."""
+        found = (READ.match(line) for line in self.text)
+        return list(dict.fromkeys((one[1], one[2]) for one in found if one))
 
     def callers(self) -> list[str]:
         """Whose call is not denied."""
@@ -82,6 +92,15 @@ class Report:
         return told
 
 
+def with_bits(what: str) -> str:
+    """What a release can tell, with its bits."""
+    found = ANY.match(what)
+    if not found:
+        return what
+    how, rest = what[: found.end()], what[found.end() :]
+    return f"{how} ({BITS[how.removeprefix('any ')]:,} bits{' at most' if rest else ' a call at most'}){rest}"
+
+
 def why_nobody(one: Transaction) -> str:
     """Why no user can call a transaction."""
     if one.verdict != "yes":
@@ -101,7 +120,7 @@ def transactions_of(lines: list[str]) -> list[Transaction]:
         if line.startswith("labels, version") or line.startswith(f"{told[-1].name} is refused:"):
             part = "labels" if line.startswith("labels") else "refusal"
         if release:
-            told[-1].releases.append((release[1], release[2], release[3]))
+            told[-1].releases.append((release[1], release[2], with_bits(release[3])))
         elif "all releases: " in line:
             told[-1].total = line.strip()
         elif part == "text":
@@ -151,10 +170,12 @@ def report(program: Program, files: dict[str, str]) -> Report:
 
 
 def report_before(program: Program, files: dict[str, str], folder: str) -> Report:
-    """The same of the files of these names in a folder."""
+    """The same of the files of these names in a folder. Transactions and certificates may have come since."""
     older = {}
     for role, path in files.items():
         other = Path(folder) / Path(path).name
+        if not other.is_file() and role in ROLES[2:]:
+            break
         if not other.is_file():
             raise Refused(
                 f"--before {folder}: there is no {other.name}: "
@@ -213,6 +234,19 @@ def holds(one: Transaction) -> str:
     return "there is none" if one.verdict == "no certificate" else one.verdict
 
 
+def text_changes(told: Report) -> list[tuple[str, list[str], list[str]]]:
+    """The lines that went from a transaction's text, and those that came, without their numbers."""
+    listed = []
+    then = {one.name: one for one in told.before.transactions} if told.before else {}
+    for one in told.transactions:
+        if one.name in then:
+            old, new = ([line.lstrip(" 0123456789") for line in each.text] for each in (then[one.name], one))
+            lines = list(difflib.ndiff(old, new))
+            gone, came = ([line[2:] for line in lines if line.startswith(sign)] for sign in ("- ", "+ "))
+            listed += [(f"the text of {one.name}", gone, came)] if gone or came else []
+    return listed
+
+
 def changes(told: Report) -> list[tuple[str, list[str], list[str]]]:
     """For whom what is no longer so, and what is so now."""
     now, then = facts(told), facts(told.before) if told.before else {}
@@ -222,4 +256,4 @@ def changes(told: Report) -> list[tuple[str, list[str], list[str]]]:
         new = [fact for fact in now.get(whom, []) if fact not in then.get(whom, [])]
         if gone or new:
             listed.append((whom, gone, new))
-    return listed
+    return listed + text_changes(told)

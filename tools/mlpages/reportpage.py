@@ -17,6 +17,8 @@ STYLE = """
 ul.plain { list-style: none; padding: 0; margin: .4rem 0; } ul.plain li { padding: .3rem 0;
   border-bottom: 1px solid var(--line); overflow-wrap: anywhere; }
 .sum { font-size: .75rem; }
+.sign { display: none; }
+@media print { .sign { display: block; margin-top: 3rem; padding-bottom: 3rem; border-bottom: 1px solid; } }
 @media (max-width: 40rem) { .transaction dl { display: block; } .transaction dd { margin-bottom: .4rem; }
   table.plain, table.plain tbody, table.plain tr, table.plain td { display: block; } table.plain thead {
   display: none; }
@@ -62,13 +64,19 @@ class ReportPage:
                     [
                         joined([chip(low, self.hues), f" {learners}"]),
                         what,
+                        self.sources(one),
                         self.names(one.callers()),
                         tag("a", one.name, href=f"#t-{one.name}"),
                     ]
                 )
         if not rows:
             return tag("p", "Nothing: no user can call a transaction that releases something.")
-        return self.table(["Who learns", "What", "By whose hand", "Through"], rows)
+        return self.table(["Who learns", "What", "Out of", "By whose hand", "Through"], rows)
+
+    def sources(self, one: Transaction) -> Html:
+        """What a transaction reads."""
+        told = [joined([f"{name} at ", chip(label, self.hues), Html("<br>")]) for name, label in one.reads()]
+        return joined(told or ["no relation"])
 
     def labels_part(self) -> Html:
         """The labels, drawn, and who may work at each."""
@@ -162,6 +170,7 @@ class ReportPage:
                 "Releases",
                 joined(told) if told else "nothing" if not one.refusal else "not known: no labels are safe for it",
             ),
+            ("Reads", self.sources(one)),
             ("Certificate", verdict if verdict == "holds" else tag("span", verdict, class_="no")),
             ("Who can call it", self.names(one.callers())),
             *([("Denied", joined([*(joined([line, Html("<br>")]) for line in denied)]))] if denied else []),
@@ -204,7 +213,7 @@ class ReportPage:
     def inputs_part(self) -> Html:
         """The inputs with their sums."""
         reports = [("", self.told), *([("before: ", self.told.before)] if self.told.before else [])]
-        rows = [[f"{when}{role}", PurePath(path).name, tag("span", one.sums[path], class_="mono sum")]
+        rows = [[f"{when}{role}", tag("bdi", PurePath(path).name), tag("span", one.sums[path], class_="mono sum")]
                 for when, one in reports for role, path in one.files.items()]
         return joined([tag("h2", "Inputs"), self.table(["Role", "File", "SHA-256"], rows)])
 
@@ -224,6 +233,11 @@ class ReportPage:
                 tag("p", numbers, class_="soft"),
                 self.changes_part(),
                 tag("h2", "What can come down"),
+                tag(
+                    "p",
+                    "A value comes down by a release alone, in a call of a transaction whose certificate holds. Each call "
+                    "and each value is in the audit list.",
+                ),
                 self.shorts(),
                 self.warnings_part(),
                 self.labels_part(),
@@ -236,6 +250,7 @@ class ReportPage:
                     f"{self.told.version}. Who may do what is how the program answered each user over an empty "
                     "database; ranges and certificates are what mldb explain and mldb check print.",
                 ),
+                tag("p", "Read and signed:", class_="sign"),
             ]
         )
         style = f"main {{ max-width: 60rem; }}\n{STYLE}{hue_style(count)}"

@@ -35,7 +35,8 @@ def kit_crates(kit: Path, named: list[str]) -> dict[str, str]:
         folder = kit / "rlibs" / f"{name}.rlib"
         if name not in seen and (folder / "format").is_file():
             linked = folder / "toolchain/checked.a"
-            seen[name] = hashlib.sha256((linked if linked.is_file() else folder / "format").read_bytes()).hexdigest()
+            with (linked if linked.is_file() else folder / "format").open("rb") as file:
+                seen[name] = hashlib.file_digest(file, "sha256").hexdigest()
             lines = (folder / "format").read_text(encoding="utf-8", errors="replace").split("\n")
             left += [line.removeprefix("dep ") for line in lines if line.startswith("dep ")]
     return dict(sorted(seen.items()))

@@ -114,7 +114,7 @@ CUT = """
   for (const one of document.querySelectorAll('.rows td:not(.long) bdi')) {
     if (!one.checkVisibility()) continue;
     const lines = new Set([...one.getClientRects()].map(box => box.top)).size;
-    if (lines > one.textContent.split(' ').length) found.push(one.textContent.slice(0, 20) + ' is broken');
+    if (lines > one.textContent.split(/[^\\p{L}\\p{N}]+/u).length) found.push(one.textContent.slice(0, 20) + ' is broken');
   }
   for (const one of document.querySelectorAll('svg text'))
     if (one.checkVisibility() && one.getBoundingClientRect().height < 10)

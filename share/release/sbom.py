@@ -35,11 +35,21 @@ def kit_crates(kit: Path, named: list[str]) -> dict[str, str]:
         folder = kit / "rlibs" / f"{name}.rlib"
         if name not in seen and (folder / "format").is_file():
             linked = folder / "toolchain/checked.a"
-            with (linked if linked.is_file() else folder / "format").open("rb") as file:
-                seen[name] = hashlib.file_digest(file, "sha256").hexdigest()
+            seen[name] = sum_of(linked if linked.is_file() else folder / "format")
             lines = (folder / "format").read_text(encoding="utf-8", errors="replace").split("\n")
             left += [line.removeprefix("dep ") for line in lines if line.startswith("dep ")]
     return dict(sorted(seen.items()))
+
+
+def kit_c(kit: Path) -> dict[str, str]:
+    """What the kit has in C and puts into each program."""
+    return {path.name: sum_of(path) for path in sorted((kit / "c").glob("lib*.a"))}
+
+
+def sum_of(path: Path) -> str:
+    """The sum of a file, which may be large."""
+    with path.open("rb") as file:
+        return hashlib.file_digest(file, "sha256").hexdigest()
 
 
 def part(name: str, version: str, sum_: str = "", licence: str = "NOASSERTION") -> dict:
@@ -59,7 +69,8 @@ def sbom(root: Path, release) -> dict:
     """The document."""
     program = part("mldb", release.version, hashlib.sha256(release.program).hexdigest())
     crates, newest = kit_crates(release.place, crates_of(root)[1]), newest_glibc(release.program)
-    parts = [part(f"kit-{name}", release.kit, sum_) for name, sum_ in crates.items()]
+    own = {**crates, **kit_c(release.place)}
+    parts = [part(f"kit-{name}", release.kit, sum_) for name, sum_ in own.items()]
     parts += [part(name, f"at least GLIBC {newest}") for name in sorted(libraries(release.program))]
     made = time.strftime("%Y-%m-%dT%H:%M:%SZ", time.gmtime(release.time))
     document = {"SPDXID": "SPDXRef-DOCUMENT", "spdxVersion": "SPDX-2.3", "dataLicense": "CC0-1.0"}

@@ -163,7 +163,7 @@ def see_gateway(trial, root: Root) -> None:
     waits = re.findall(r"AssertPathExists=(\S+)", unit)
     trial.expect("the unit names its two files", len(waits) == 2 and all(root.text(path) for path in waits), waits)
     line = re.search(r"ExecStart=(.*)", unit)[1]
-    root.run("root", "install -d -o mldb -g mldb /run/mldb && touch /var/lib/mldb/users && chown mldb /var/lib/mldb/users")
+    root.run("root", "install -d -o mldb -g mldb /run/mldb")
     words = ["chroot", root.place, "runuser", "-u", "mldb", "--", "bash", "-c", f"cd /var/lib/mldb && exec {line}"]
     child = subprocess.Popen([str(word) for word in words], stdout=subprocess.DEVNULL, stderr=subprocess.PIPE, text=True)
     until = time.monotonic() + 60

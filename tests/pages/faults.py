@@ -1,4 +1,5 @@
-"""Faults that are planted in copies of the tools: the file, what stands there once, and what stands there then."""
+"""Faults that are planted in copies of the tools: the file, what stands there once, what stands there then, and the page
+that shows it where the awkward ones do not."""
 
 FAULTS = (
     ("mlpages/page.py", "else Html(html.escape(text, quote=True))", "else Html(text)"),
@@ -54,7 +55,7 @@ FAULTS = (
     ("mlpages/audit.py", ".lines:target { display: block; }", ""),
     ("mlpages/audit.py", "(?: ({TIME}))?", ""),
     ("mlpages/audit.py", "(place / (len(days) - 1) if len(days) > 1 else 0.5)", "place / len(days)"),
-    ("mlpages/playpage.py", "min-height: 22rem; clear: both; }", "min-height: 22rem; }"),
+    ("mlpages/playpage.py", "min-height: 22rem; clear: both; }", "min-height: 22rem; }", "ministry.play.html"),
     ("mlpages/playpage.py", "margin-bottom: .5rem; } .columns > .silent { display: none; }", "margin-bottom: .5rem; }"),
     ("mlpages/playpage.py", "addEventListener('load', () => setTimeout(jump))", "{}"),
     ("mlpages/playpage.py", "return \" long\" if max(", "return \" long\" if len(what) + max("),
@@ -62,13 +63,15 @@ FAULTS = (
         "mlpages/lattice.py",
         "points += [(x, y + half)] if step < len(path) - 1 else []",
         "points += [] if step else [(x, y + half)]",
+        "big.report.html",
     ),
     (
         "mlpages/page.py",
         "table.plain td { overflow-wrap: anywhere; }",
         "table.plain th, table.plain td { overflow-wrap: anywhere; }",
+        "ministry.report.html",
     ),
-    ("mlpages/page.py", ".drawing svg { min-width: var(--least); }", ".drawing svg { min-width: 0; }"),
+    ("mlpages/page.py", ".drawing svg { min-width: var(--least); }", ".drawing svg { min-width: 0; }", "big.report.html"),
     ("mlpages/report.py", "if not other.is_file() and role in ROLES[2:]:", "if False:"),
     ("mlpages/report.py", "return listed + text_changes(told)", "return listed"),
     ("mlpages/report.py", "return what\n    how, rest", "return what\n    return what\n    how, rest"),

@@ -127,7 +127,7 @@ def interrupted_at(moment):
         sys.settrace(before)
         return seen >= moment, not played.lines
     except KeyboardInterrupt:
-        return True, False
+        return seen >= moment, False
     finally:
         sys.settrace(before)
         signal.signal(signal.SIGINT, handler)

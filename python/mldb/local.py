@@ -113,7 +113,7 @@ class Local:
         judge = self._judge = _Judge(self.tables)
         try:
             steps = self._db.execute(told if first == "EXPLAIN" else f"EXPLAIN {told}", parameters)
-            # Whom USING and NATURAL alone read, SQLite opens, and does not tell of.
+            # A table that is read by USING or NATURAL alone SQLite opens, and does not tell of.
             judge.reads |= {self._pages.get(step[3]) for step in steps if step[1] == "OpenRead"}
         except (sqlite3.Error, sqlite3.Warning) as fault:
             raise judge.refusal or self._fault(fault) from fault

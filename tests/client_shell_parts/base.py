@@ -44,19 +44,21 @@ def holds(what, is_so, told=""):
 
 
 def processor(process):
-    """The seconds that a process has had of processors."""
+    """The seconds that a process has had of processors; whether it is still there."""
     with open(f"/proc/{process}/stat", encoding="utf-8") as file:
         words = file.read().rpartition(")")[2].split()
-    return (int(words[11]) + int(words[12])) / os.sysconf("SC_CLK_TCK")
+    return (int(words[11]) + int(words[12])) / os.sysconf("SC_CLK_TCK"), words[0] not in "ZX"
 
 
 def works(process):
     """Waits until a process has been at work for a while since this was called; whether it was."""
-    begun, end = processor(process), time.monotonic() + SECONDS
-    while processor(process) < begun + WORK_SECONDS:
-        if time.monotonic() > end:
+    begun, end = processor(process)[0], time.monotonic() + SECONDS
+    seconds, is_there = begun, True
+    while seconds < begun + WORK_SECONDS:
+        if not is_there or time.monotonic() > end:
             return False
         time.sleep(0.02)
+        seconds, is_there = processor(process)
     return True
 
 

@@ -4,7 +4,6 @@ machine. Each person sends inserts, and waits for each answer. Usage: python3 be
 The store, the journal and the stream are in the folder of temporary files (TMPDIR): on a disk each write waits for it."""
 
 import os
-import runpy
 import socket
 import sys
 import tempfile
@@ -13,6 +12,7 @@ import time
 ROOT = os.path.dirname(os.path.dirname(os.path.abspath(__file__)))
 sys.path.insert(0, f"{ROOT}/tests/running")
 from machine import PEOPLE, Checks, open_gate  # noqa: E402  (its folder is no package)
+from three import Cluster  # noqa: E402
 
 MLDB = os.path.abspath(sys.argv[1] if len(sys.argv) > 1 else f"{ROOT}/crates/mldb/out/mldb")
 LINES = int(sys.argv[2]) if len(sys.argv) > 2 else 200
@@ -68,10 +68,8 @@ def one_machine(filter_words):
 
 
 def three_machines():
-    sys.argv[1:] = [MLDB]
-    cluster_of = runpy.run_path(f"{ROOT}/tests/running/cluster", run_name="cluster")["Cluster"]
     with tempfile.TemporaryDirectory() as folder:
-        cluster = cluster_of(Checks(), folder, f"{ROOT}/samples/running/cluster/mlstream")
+        cluster = Cluster(Checks(), folder, f"{ROOT}/samples/running/cluster/mlstream", MLDB)
         try:
             for place in range(3):
                 cluster.start_server(place)

@@ -1,5 +1,6 @@
-"""A root of Debian alone, into which apt installs the package, and in which the installed README and docs/running.md are
-followed as they read there: by people with accounts of that root, with its own `sudo`. Lines with `ssh` are left out."""
+"""A root of Debian alone, into which apt installs the package, and in which the installed README and docs/running.md
+are followed as they read there: by people with accounts of that root, with its own `sudo`. Lines with `ssh` are left
+out."""
 
 import re
 import shutil
@@ -165,7 +166,9 @@ def see_gateway(trial, root: Root) -> None:
     line = re.search(r"ExecStart=(.*)", unit)[1]
     root.run("root", "install -d -o mldb -g mldb /run/mldb")
     words = ["chroot", root.place, "runuser", "-u", "mldb", "--", "bash", "-c", f"cd /var/lib/mldb && exec {line}"]
-    child = subprocess.Popen([str(word) for word in words], stdout=subprocess.DEVNULL, stderr=subprocess.PIPE, text=True)
+    child = subprocess.Popen(
+        [str(word) for word in words], stdout=subprocess.DEVNULL, stderr=subprocess.PIPE, text=True
+    )
     until = time.monotonic() + 60
     while not (root.place / "run/mldb/sock").exists() and child.poll() is None and time.monotonic() < until:
         time.sleep(0.1)

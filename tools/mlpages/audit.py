@@ -179,7 +179,8 @@ class AuditPage:
                 told = tag("title", f"{day}: {counted(counts[day, kind], kind)}")
                 bars += [tag("rect", told, x=f"{left:.2f}", width=f"{wide:.2f}", **where)] if tall else []
         size = {"viewBox": f"0 0 {WIDTH} {HEIGHT}", "preserveAspectRatio": "none", "role": "img"}
-        return tag("div", f"{most} a day at most"), tag("svg", *bars, **size, aria_label="entries by day", class_="days")
+        drawn = tag("svg", *bars, **size, aria_label="entries by day", class_="days")
+        return tag("div", f"{most} a day at most"), drawn
 
     def page(self) -> str:
         """The whole page."""

@@ -62,7 +62,8 @@ STYLE = """
 .lattice { float: right; margin: 0 0 1rem 1.5rem; }
 .lattice svg { max-height: 11rem; width: auto; }
 [hidden] { display: none; }
-@media print { .stage, .heads { display: none; } .rows td { overflow-wrap: anywhere; } .playing .all .sight:not(.first) { display: grid; }
+@media print { .stage, .heads { display: none; } .rows td { overflow-wrap: anywhere; }
+  .playing .all .sight:not(.first) { display: grid; }
   .playing .all .event.current { box-shadow: none; }
   .columns > .cell > .label { display: inline-block; margin-bottom: .2rem; } }
 """

@@ -235,8 +235,8 @@ class ReportPage:
                 tag("h2", "What can come down"),
                 tag(
                     "p",
-                    "A value comes down by a release alone, in a call of a transaction whose certificate holds. Each call "
-                    "and each value is in the audit list.",
+                    "A value comes down by a release alone, in a call of a transaction whose certificate holds. Each "
+                    "call and each value is in the audit list.",
                 ),
                 self.shorts(),
                 self.warnings_part(),

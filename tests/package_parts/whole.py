@@ -58,6 +58,8 @@ def see_whole(trial, folder: Path, kept: Path | None) -> None:
         return
     # sudo looks for the name of the machine.
     (root.place / "etc/hosts").write_text(f"127.0.0.1 localhost {socket.gethostname()}\n", encoding="utf-8")
+    # As a machine that is started has it.
+    (root.place / "dev/shm").chmod(0o1777)
     subprocess.run(["mount", "-t", "proc", "proc", root.place / "proc"], check=True)
     try:
         see_installed(trial, root, next(folder.glob("*.deb")))

@@ -85,7 +85,8 @@ OVERLAP = """
   const boxes = [], walk = document.createTreeWalker(document.querySelector('main'), NodeFilter.SHOW_TEXT);
   while (walk.nextNode()) {
     const one = walk.currentNode.parentElement;
-    if (!walk.currentNode.data.trim() || !one.checkVisibility() || one.closest('.heads, title, style, script')) continue;
+    if (!walk.currentNode.data.trim() || !one.checkVisibility()) continue;
+    if (one.closest('.heads, title, style, script')) continue;
     const range = document.createRange();
     range.selectNodeContents(walk.currentNode);
     for (const box of range.getClientRects())
@@ -140,7 +141,8 @@ PASSED = """
       for (let at = 0; at <= length; at += 2) {
         const point = line.getPointAtLength(at);
         for (const box of rects) {
-          const has = ({ x, y }, by) => x > box.x - by && x < box.x + box.width + by && y > box.y - by && y < box.y + box.height + by;
+          const within = (at, low, size, by) => at > low - by && at < low + size + by;
+          const has = ({ x, y }, by) => within(x, box.x, box.width, by) && within(y, box.y, box.height, by);
           if (has(point, 0) && !has(start, 1) && !has(end, 1)) found.push(at);
         }
       }

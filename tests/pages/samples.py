@@ -111,11 +111,14 @@ def awkward(work: Path) -> list[Page]:
         f'U t call Known ()\nS b view SOD at H\nU a view SOD at U # {SCRIPT}\n', encoding="utf-8",
     )
     (folder / "audit.txt").write_text(
-        "U entry U denied tom t 38\nU entry U denied tom t 38\nS entry S denied bob b 37 2026-11-28T10:00:00Z\nU entry U called tom t Known 2026-11-30T10:00:00Z\n" f'U entry U released tom t "{SCRIPT}{SIGNS}" 2026-11-30T10:00:00Z\nU U/a audit\n',
+        "U entry U denied tom t 38\nU entry U denied tom t 38\nS entry S denied bob b 37 2026-11-28T10:00:00Z\n"
+        "U entry U called tom t Known 2026-11-30T10:00:00Z\n"
+        f'U entry U released tom t "{SCRIPT}{SIGNS}" 2026-11-30T10:00:00Z\nU U/a audit\n',
         encoding="utf-8",
     )
     text = (before / "transactions.txt").read_text(encoding="utf-8")
-    (before / "transactions.txt").write_text(text.replace("r.Destination = null", "r.Objective = null", 1), encoding="utf-8")
+    text = text.replace("r.Destination = null", "r.Objective = null", 1)
+    (before / "transactions.txt").write_text(text, encoding="utf-8")
     (folder / "untimed.txt").write_text("U entry U denied tom t 38\n", encoding="utf-8")
     return [play_page(folder), report_page(folder), first_report(folder), audit_page(folder), untimed_page(folder)]
 
@@ -215,8 +218,14 @@ def first_report(folder: Path) -> Page:
         str(sample),
         (*DOCUMENTS, *STORED, "--before", str(before)),
         (
-            ("the bits of any integer are told", row.format(["Study", "any integer or null (65 bits a call at most)", "dora"])),
-            ("that a transaction came is told", row.format(["whoever sees Study", "can learn by Count", "called by dora"])),
+            (
+                "the bits of any integer are told",
+                row.format(["Study", "any integer or null (65 bits a call at most)", "dora"]),
+            ),
+            (
+                "that a transaction came is told",
+                row.format(["whoever sees Study", "can learn by Count", "called by dora"]),
+            ),
         ),
     )
 
@@ -224,7 +233,8 @@ def first_report(folder: Path) -> Page:
 def untimed_page(folder: Path) -> Page:
     """An audit list without times."""
     said = "[...document.querySelectorAll('main p')].some(one => one.textContent === 'The entries have no times.')"
-    return Page("untimed.audit.html", "mlaudit", str(folder), ("untimed.txt",), (("that there are no times is said", said),))
+    shown = (("that there are no times is said", said),)
+    return Page("untimed.audit.html", "mlaudit", str(folder), ("untimed.txt",), shown)
 
 
 def audit_page(folder: Path) -> Page:
@@ -262,7 +272,10 @@ def audit_page(folder: Path) -> Page:
                 "(bars => bars[0].getAttribute('x') === '0.00' && Number(bars[2].getAttribute('x')) + Number(bars[2].getAttribute('width')) === 900)"
                 "([...document.querySelectorAll('svg.days rect')])",
             ),
-            ("one call is no calls", "document.querySelector('main p').textContent.startsWith('1 call, 1 release, 3 denials')"),
+            (
+                "one call is no calls",
+                "document.querySelector('main p').textContent.startsWith('1 call, 1 release, 3 denials')",
+            ),
             (
                 "every entry is counted",
                 "['user', 'label', 'day'].every(one => [...document.getElementById(one).nextElementSibling.querySelectorAll('td a')].reduce((sum, a) => sum + Number(a.textContent), 0) === 5)",

@@ -1,6 +1,6 @@
 #!/usr/bin/env python3
 """python3 bench/plot.py [MEASURED] >docs/performance.svg: what bench.py printed, on standard input or in a file, as a
-picture.
+picture. That of docs/performance.md is drawn of bench/measured.txt.
 
 Each piece of work has a plot of the seconds of processor over n, both logarithmic: the program beside C SQLite. All
 plots have one scale. The status is 2 where there is no row of the table; then nothing is printed."""
@@ -20,7 +20,7 @@ from mlpages.program import Refused, read_text, run_tool
 
 ROW = re.compile(r"\| (.+) \| ([0-9,]+) \| [0-9.]+ s \| ([0-9.]+) s \| \S* *\| [0-9.]+ s \| ([0-9.]+) s \|.*")
 WIDE, HIGH, LEFT, TOP, ACROSS = 232, 150, 44, 34, 3
-# What takes less was not measured: Python's clock of a child counts hundredths.
+# What takes less was not measured, and is not drawn: Python's clock of a child counts hundredths.
 LEAST = 0.005
 STYLE = """
 text { font: 11px system-ui, "Segoe UI", Roboto, sans-serif; fill: #5d5a54; } .title { fill: #1d1c1a;
@@ -48,7 +48,7 @@ def measured(text: str) -> dict[str, list[Point]]:
     for line in text.split("\n"):
         found = ROW.fullmatch(line)
         if found:
-            point = Point(int(found[2].replace(",", "")), max(float(found[3]), LEAST), max(float(found[4]), LEAST))
+            point = Point(int(found[2].replace(",", "")), float(found[3]), float(found[4]))
             work.setdefault(found[1], []).append(point)
     if not work:
         raise Refused("there is no row of the table that bench.py prints: give its output")
@@ -61,7 +61,7 @@ class Plot:
     def __init__(self, work: dict[str, list[Point]]) -> None:
         self.work = work
         points = [point for each in work.values() for point in each]
-        times = [value for point in points for value in (point.ours, point.theirs)]
+        times = [value for point in points for value in (point.ours, point.theirs) if value >= LEAST] or [LEAST]
         self.x = self.decades(min(point.size for point in points), max(point.size for point in points))
         self.y = self.decades(min(times), max(times))
 
@@ -96,8 +96,10 @@ class Plot:
 
     def one(self, title: str, points: list[Point], place: int) -> Html:
         """The plot of a piece of work."""
-        theirs = self.curve([self.at(point.size, point.theirs) for point in points], "plain")
-        ours = self.curve([self.at(point.size, point.ours) for point in points], "mldb")
+        theirs = self.curve([self.at(point.size, point.theirs) for point in points if point.theirs >= LEAST], "plain")
+        ours = self.curve([self.at(point.size, point.ours) for point in points if point.ours >= LEAST], "mldb")
+        if len(theirs) == 1:
+            theirs = [tag("text", "C SQLite: under 0.005 s", x=LEFT + 8, y=TOP + HIGH - 8)]
         shift = f"translate({place % ACROSS * (LEFT + WIDE + 24)} {32 + place // ACROSS * (TOP + HIGH + 30)})"
         return tag(
             "g", tag("text", title, x=LEFT, y=TOP - 10, class_="title"), *self.rules(), *theirs, *ours, transform=shift

@@ -178,6 +178,8 @@ def try_protocol(path):
     answer = client.query("select Starship, Objective, length(Starship) n, 1.5 f from SOD order by 1")
     expect("protocol: types", answer[0], [("Starship", 25), ("Objective", 25), ("n", 20), ("f", 701)])
     expect("protocol: rows", answer[1:3], ([["a", "é", "1", "1.5"], ["b", None, "1", "1.5"]], ["SELECT 2"]))
+    expect("protocol: a null is of any type", client.query("select 1 a, null b, 'x' c, 1.5 d union all "
+        "select null, 2, null, null")[0], [("a", 20), ("b", 20), ("c", 25), ("d", 701)])
     expect("protocol: nothing", [kind for kind, _ in (client.send(b"Q", b" ; -- x\0"), client.until(b"Z"))[1]],
         [b"I", b"Z"])
     expect("protocol: several",

@@ -200,7 +200,7 @@ def gateway_policy(folder):
 def start_gate(door, folder):
     """A gateway over an empty store."""
     line = [f"{SAMPLES}/running/mlgate", door, MLDB, "serve", gateway_policy(folder), SCHEMES]
-    gate = subprocess.Popen(line, stderr=subprocess.DEVNULL)
+    gate = subprocess.Popen(line, cwd=folder, stderr=subprocess.DEVNULL)
     holds("gateway: listens", wait_for(door))
     return gate
 

@@ -20,6 +20,10 @@ class Unknown(Exception):
     """Nobody said whether the line is taken."""
 
 
+class Elsewhere(Exception):
+    """Another server's copy is read than was wanted."""
+
+
 class Gone(Exception):
     """The stream is not there, or another one is."""
 
@@ -34,7 +38,7 @@ class Server:
         words = {"verbose": False, "pedantic": False, "headers": True, "no_responders": True, "protocol": 1}
         if "MLDB_STREAM_TOKEN" in os.environ:
             words["auth_token"] = os.environ["MLDB_STREAM_TOKEN"]
-        self.line()
+        self.name = json.loads(self.line().partition(b" ")[2])["server_name"]
         self.socket.sendall(b"CONNECT " + json.dumps(words).encode() + b"\r\nPING\r\n")
         while self.line() != b"PONG":
             pass
@@ -94,8 +98,8 @@ class Server:
         return found
 
     def follow(self, first):
-        """The lines from a number on, each with its number; None where there is none for a second. It ends where a server has gone. Where another
-        server goes on with it, some lines may come again."""
+        """The lines from a number on, each with its number; None where there is none for a second. It ends where a server has gone. Which server's
+        copy is read is the server's choice: its name comes first, with no number."""
         box = self.subscribe()
         config = {
             "deliver_subject": box, "deliver_policy": "by_start_sequence", "opt_start_seq": first, "ack_policy": "none", "replay_policy": "instant",
@@ -115,6 +119,8 @@ class Server:
                     first += 1
             elif status.startswith(b"NATS/1.0 503") or not status and b'"error"' in data[:200]:
                 raise ConnectionError("the stream is not there")
+            elif not status:
+                yield None, json.loads(data).get("cluster", {}).get("leader", "").encode()
             else:
                 yield None, b""
 

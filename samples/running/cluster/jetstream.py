@@ -1,6 +1,7 @@
 """What mlstream says to its own nats-server: some words of the protocol, with the standard library. A stream of JetStream is a log that several
 servers keep; a line of it has a number, and is acknowledged when most of them have it. It is read from whichever server's copy JetStream takes."""
 
+import collections
 import json
 import os
 import socket
@@ -107,22 +108,26 @@ class Server:
         }
         data = json.dumps({"stream_name": STREAM, "config": config}).encode()
         self.publish(f"$JS.API.CONSUMER.CREATE.{STREAM}", data, box)
+        held, is_named = collections.deque(), False
         while True:
             reply, status, data = self.next()
             if reply.startswith("$JS.ACK."):
                 words = reply.split(".")
-                number = int(words[5 if len(words) == 9 else 7])
+                held.append((int(words[5 if len(words) == 9 else 7]), data))
+            elif status.startswith(b"NATS/1.0 503") or not status and b'"error"' in data[:200]:
+                raise ConnectionError("the stream is not there")
+            elif status:
+                yield None, b""
+            else:
+                is_named = True
+                yield None, json.loads(data).get("cluster", {}).get("leader", "").encode()
+            while is_named and held:
+                number, data = held.popleft()
                 if number > first:
                     raise ConnectionError(f"line {number} came for line {first}")
                 if number == first:
                     yield number, data
                     first += 1
-            elif status.startswith(b"NATS/1.0 503") or not status and b'"error"' in data[:200]:
-                raise ConnectionError("the stream is not there")
-            elif not status:
-                yield None, json.loads(data).get("cluster", {}).get("leader", "").encode()
-            else:
-                yield None, b""
 
 
 class Log:

@@ -1,6 +1,7 @@
 """Three machines with one log, on the loopback: each a gateway, mlstream and `mldb serve` beside a nats-server, as the samples of configurations
 have them. What stands between two servers may be stopped, so that neither hears of the other."""
 
+import contextlib
 import hashlib
 import importlib.machinery
 import importlib.util
@@ -175,7 +176,8 @@ class Cluster:
         gate = self.gates[place]
         family = family_of(gate.pid) if gate.poll() is None else []
         for pid in family + ([self.servers[place].pid] if with_server else []):
-            os.kill(pid, signal.SIGKILL)
+            with contextlib.suppress(ProcessLookupError):
+                os.kill(pid, signal.SIGKILL)
         gate.wait()
         if with_server:
             self.servers[place].wait()

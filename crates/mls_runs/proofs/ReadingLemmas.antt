@@ -1,5 +1,5 @@
 -- What becomes of a line of a desk, and that it tells one event at most.
-use Rattle.std.proofs.Common.{◌≡◌, ◌≢◌, ℕ, suc, ◌+◌, ◌≤◌, ◌==◌, Bool, true, false, true≢false, List, [], ◌∷◌, ◌++◌, length, Option, Some, None, Result, Ok, Err, cond, nat_eq, eqb-true, ◌⊎◌, refl, sym, ap, ◌∙◌, subst, inl, inr, arith, flat_map, filter_map}
+use Rattle.std.proofs.Common.{◌≡◌, ◌≢◌, ℕ, suc, ◌+◌, ◌<◌, ◌≤◌, ◌==◌, Bool, true, false, true≢false, List, [], ◌∷◌, ◌++◌, length, Option, Some, None, Result, Ok, Err, cond, nat_eq, eqb-true, ◌⊎◌, refl, sym, ap, ◌∙◌, subst, inl, inr, arith, flat_map, filter_map}
 use Rattle.std.specs.List.{list_any, cons_option}
 use Rattle.std.specs.Io.KnownBytes.{Appends, IsAtEnd}
 use Rattle.mls_lattice.specs.Policy.{Policy}
@@ -55,7 +55,7 @@ module _ (policy : Policy) (schemes : Schemes) (line : List ℕ) where
   was_read fate (other events c r n f) h = let bad : fates.Refused (other_name line) ≡ fates.Unreadable = sym f ∙ h in absurd cc
   was_read fate (refused fault c r f) h = let bad : fates.Refused fault ≡ fates.Unreadable = sym f ∙ h in absurd cc
 
-  pub read_whole : (echo : List ℕ → List ℕ) (before after was is : Option (List ℕ)) (Broken : Type 0) → IsNext before after line → length line ≤ 1048576 → Appends was is (echo line) → (fate : Fate)
+  pub read_whole : (echo : List ℕ → List ℕ) (before after was is : Option (List ℕ)) (Broken : Type 0) (n : IsNext before after line) → length n.text < 1048576 → Appends was is (echo line) → (fate : Fate)
       → Becomes (fate_of policy schemes line) fate → IsLineRead echo (IsDeskFate policy schemes) before after was is Broken fate
   read_whole echo before after was is Broken n short w fate (inl e) =
       let found = subst (IsDeskFate policy schemes line) (sym e) fate_is in

@@ -1,5 +1,5 @@
 -- What becomes of a typed line.
-use Rattle.std.proofs.Common.{◌≡◌, ◌≢◌, ℕ, ◌≤◌, Bool, true, false, true≢false, List, [], ◌∷◌, ◌++◌, length, Option, Result, Ok, Err, cond, nat_eq, eqb-true, codes, ◌⊎◌, refl, sym, ap, ◌∙◌, subst, inl, inr, append-nil, arith, bytes_eq}
+use Rattle.std.proofs.Common.{◌≡◌, ◌≢◌, ℕ, ◌<◌, Bool, true, false, true≢false, List, [], ◌∷◌, ◌++◌, length, Option, Result, Ok, Err, cond, nat_eq, eqb-true, codes, ◌⊎◌, refl, sym, ap, ◌∙◌, subst, inl, inr, append-nil, arith, bytes_eq}
 use Rattle.std.specs.List.{list_all}
 use Rattle.std.proofs.lemmas.Slice.Eq.{bytes_eq-Decides}
 use Rattle.std.specs.Io.KnownBytes.{Appends, IsAtEnd}
@@ -56,7 +56,7 @@ module _ (echo : List ℕ → List ℕ) (IsFateOf : List ℕ → Fate → Type 0
       ends (inr h) = h.1
 
   -- it is understood
-  pub read_line : (line : List ℕ) → IsNext before after line → length line ≤ 1048576 → Appends was is (echo line) → (fate : Fate) → IsFateOf line fate → (fate ≡ fates.Over → line ≡ []) → (fate ≡ fates.Unreadable → ⊥)
+  pub read_line : (line : List ℕ) (n : IsNext before after line) → length n.text < 1048576 → Appends was is (echo line) → (fate : Fate) → IsFateOf line fate → (fate ≡ fates.Over → line ≡ []) → (fate ≡ fates.Unreadable → ⊥)
       → IsLineRead echo IsFateOf before after was is Broken fate
   read_line line n short w fate is none read = record {
     turn = record { line = line; shown = echo line; fate = fate };
@@ -163,7 +163,7 @@ module _ (policy : Policy) (schemes : Schemes) (session : ShellSession) where
   heard_all line fate (refused fault c r n f) = ap (λ x. heard_of x line) f
 
   module _ (echo : List ℕ → List ℕ) (before after was is_now : Option (List ℕ)) (Broken : Type 0) where
-    pub read_whole : IsPolicy policy → AreSchemes schemes → (line : List ℕ) → IsNext before after line → length line ≤ 1048576 → Appends was is_now (echo line) → (fate : Fate) → Becomes (fate_of policy schemes session line) fate
+    pub read_whole : IsPolicy policy → AreSchemes schemes → (line : List ℕ) (n : IsNext before after line) → length n.text < 1048576 → Appends was is_now (echo line) → (fate : Fate) → Becomes (fate_of policy schemes session line) fate
         → IsLineRead echo (IsShellFate policy schemes session) before after was is_now Broken fate
     read_whole is_policy are_schemes line n short w fate (inl e) =
         let is = subst (IsShellFate policy schemes session line) (sym e) (fate_is is_policy are_schemes line) in
@@ -171,7 +171,7 @@ module _ (policy : Policy) (schemes : Schemes) (session : ShellSession) where
     read_whole is_policy are_schemes line n short w fate (inr e) = read_in_vain echo (IsShellFate policy schemes session) before after was is_now Broken line n w fate e
 
     -- all its bytes are known, where there was memory to understand it
-    pub known_whole : (is_policy : IsPolicy policy) (are_schemes : AreSchemes schemes) (line : List ℕ) (n : IsNext before after line) (short : length line ≤ 1048576) (w : Appends was is_now (echo line)) (fate : Fate)
+    pub known_whole : (is_policy : IsPolicy policy) (are_schemes : AreSchemes schemes) (line : List ℕ) (n : IsNext before after line) (short : length n.text < 1048576) (w : Appends was is_now (echo line)) (fate : Fate)
         (b : Becomes (fate_of policy schemes session line) fate) → is_lost fate ≡ false → line ≡ heard_of fate (read_whole is_policy are_schemes line n short w fate b).turn.line
     unfolding read_whole read_line
     known_whole is_policy are_schemes line n short w fate (inl e) found = sym (heard_all line fate (subst (IsShellFate policy schemes session line) (sym e) (fate_is is_policy are_schemes line)))

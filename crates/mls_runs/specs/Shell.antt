@@ -205,7 +205,7 @@ pub record Turn : Type 0 where
 -- a line comes next, and this becomes of it; or it is too long; or it is not read or understood whole
 pub data IsShellTurn (echo : List ℕ → List ℕ) (IsFateOf : List ℕ → Fate → Type 0) (before after : Option (List ℕ))
     (t : Turn) : Type 0 where
-  whole : IsNext before after t.line → length t.line ≤ 1048576 → t.shown ≡ echo t.line
+  whole : (next : IsNext before after t.line) → length next.text < 1048576 → t.shown ≡ echo t.line
       → IsFateOf t.line t.fate → IsShellTurn echo IsFateOf before after t
   long : IsLong before after t.line → t.shown ≡ [] → t.fate ≡ TooLong
       → IsShellTurn echo IsFateOf before after t

@@ -1,5 +1,5 @@
 -- Lines that are typed.
-use Rattle.std.specs.Prelude.{◌≡◌, ◌≢◌, ℕ, ◌≤◌, Bool, true, false, if◌then◌else◌, ◌⊎◌, ⊤, List, [], ◌∷◌, ◌++◌, length}
+use Rattle.std.specs.Prelude.{◌≡◌, ◌≢◌, ℕ, ◌<◌, ◌≤◌, Bool, true, false, if◌then◌else◌, ◌⊎◌, ⊤, List, [], ◌∷◌, ◌++◌, length}
 use Rattle.std.specs.Prelude.{Option, Some, None}
 use Rattle.std.specs.List.{AllByRecursion}
 use Rattle.std.specs.Io.KnownBytes.{Appends, Consumes, IsAtEnd}
@@ -23,10 +23,10 @@ module _ (before after : Option (List ℕ)) where
     pub read : Consumes before after line
     pub whole : (line ≡ text ++ 10 ∷ []) ⊎ ((line ≡ text) × IsAtEnd after)
 
-  -- and it has so many bytes
+  -- and it has so many bytes before its LF
   pub record IsLong (line : List ℕ) : Type 0 where
-    pub long : 1048576 ≤ length line
     pub next : IsNext line
+    pub long : 1048576 ≤ length next.text
 
   -- some bytes are taken
   abbrev pub IsTaken : Type 0
@@ -40,9 +40,9 @@ module _ (before after : Option (List ℕ)) where
   abbrev pub IsPart : Part → Type 0
   IsPart (Line line) =
       (text : List ℕ) × HasNoFeed text × (line.items ≡ text ++ 10 ∷ []) × Consumes before after line.items
-      × (length line.items ≤ 1048576)
+      × (length text < 1048576)
   IsPart (Last line) =
-      HasNoFeed line.items × Consumes before after line.items × IsAtEnd after × (length line.items ≤ 1048576)
+      HasNoFeed line.items × Consumes before after line.items × IsAtEnd after × (length line.items < 1048576)
   IsPart Full = (text : List ℕ) × HasNoFeed text × (1048576 ≤ length text) × Consumes before after text
 
   -- the rest of a line is taken, up to the end, or up to its LF
@@ -62,10 +62,10 @@ left_of over left = if over then Some [] else left
 
 -- `echo`: what a host shows of a line, among what is written, when it is read
 module _ (echo : List ℕ → List ℕ) (before after was is : Option (List ℕ)) where
-  -- a line of so many bytes at the most comes, and is shown; of one that is too long nothing is shown
+  -- a line of fewer bytes before its LF comes, and is shown; of one that is too long nothing is shown
   abbrev pub IsTyped : Typed → Type 0
   IsTyped (typed.Line line) =
-      IsNext before after line.items × Appends was is (echo line.items) × (length line.items ≤ 1048576)
+      (next : IsNext before after line.items) × Appends was is (echo line.items) × (length next.text < 1048576)
   IsTyped typed.TooLong = (line : List ℕ) × IsLong before after line × Appends was is []
 
   -- some bytes are taken, and a first part of some line is shown

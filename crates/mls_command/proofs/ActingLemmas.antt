@@ -52,7 +52,7 @@ module _ (explaining : Explaining) (h : Hosted) (job : Job) (inputs : Inputs) wh
 
     run_ended : (e : Stop) → IsRunEnd (Err e) → told [] → IsRunDeed explaining h job inputs (tasks.Run at is_table) (record { wrote = wrote; told = told; end = Err e })
     run_ended (Before reason) k quiet = (k.0, (k.1.0, (k.1.1, quiet)))
-    run_ended (Run fault) k quiet = (k.0, (quiet, k.1))
+    run_ended (Run fault is_closed) k quiet = (k.0, (quiet, k.1))
     run_ended NotClosed k quiet = (k.0, (Well, (refl, quiet, k.1.1)))
     run_ended _ k quiet = absurd k.1
 
@@ -69,7 +69,7 @@ module _ (explaining : Explaining) (h : Hosted) (job : Job) (inputs : Inputs) wh
       → IsRunDeed explaining h job inputs (tasks.Shell label user) (record { wrote = wrote; told = told; end = r })
   shell_ended label user wrote told (Ok end) caused k = (caused, k)
   shell_ended label user wrote told (Err (Before reason)) caused k = (caused, (k.0, (k.1, k.2)))
-  shell_ended label user wrote told (Err (Run fault)) caused k = (caused, k)
+  shell_ended label user wrote told (Err (Run fault is_closed)) caused k = (caused, k)
   shell_ended label user wrote told (Err NotClosed) caused k = (caused, k)
   shell_ended label user wrote told _ caused k = absurd k
 
@@ -79,7 +79,7 @@ module _ (explaining : Explaining) (h : Hosted) (job : Job) (inputs : Inputs) wh
       → IsRunDeed explaining h job inputs tasks.Serve (record { wrote = wrote; told = told; end = r })
   desk_ended wrote told (Ok end) caused k quiet = (caused, (quiet, k))
   desk_ended wrote told (Err (Before reason)) caused k quiet = (caused, (k.0, (k.1, quiet)))
-  desk_ended wrote told (Err (Run fault)) caused k quiet = (caused, (quiet, k))
+  desk_ended wrote told (Err (Run fault is_closed)) caused k quiet = (caused, (quiet, k))
   desk_ended wrote told (Err NotClosed) caused k quiet = (caused, (k.0, (quiet, k.1)))
   desk_ended wrote told _ caused k quiet = absurd k
 
@@ -94,7 +94,7 @@ module _ (explaining : Explaining) (h : Hosted) (job : Job) (wrote told more : L
         → IsRunDeed explaining h job inputs (tasks.Shell label user) (record { wrote = wrote; told = more; end = end })
     shell_end_told label user (Ok end) k = (k.0, shell_told label.now user.now (Ok end) k.1)
     shell_end_told label user (Err (Before reason)) k = (k.0, (k.1.0, (k.1.1.0, f [] k.1.1.1)))
-    shell_end_told label user (Err (Run fault)) k = (k.0, shell_told label.now user.now (Err fault) k.1)
+    shell_end_told label user (Err (Run fault is_closed)) k = (k.0, shell_told label.now user.now (Err fault) k.1)
     shell_end_told label user (Err NotClosed) k = (k.0, (k.1.0, shell_told label.now user.now (Ok k.1.0) k.1.1))
     shell_end_told label user _ k = k
 
@@ -102,7 +102,7 @@ module _ (explaining : Explaining) (h : Hosted) (job : Job) (wrote told more : L
         → IsRunDeed explaining h job inputs tasks.Serve (record { wrote = wrote; told = more; end = end })
     desk_end_told (Ok end) k = (k.0, (f [] k.1.0, k.1.1))
     desk_end_told (Err (Before reason)) k = (k.0, (k.1.0, (k.1.1.0, f [] k.1.1.1)))
-    desk_end_told (Err (Run fault)) k = (k.0, (f [] k.1.0, k.1.1))
+    desk_end_told (Err (Run fault is_closed)) k = (k.0, (f [] k.1.0, k.1.1))
     desk_end_told (Err NotClosed) k = (k.0, (k.1.0, (f [] k.1.1.0, k.1.1.1)))
     desk_end_told _ k = k
 
@@ -110,7 +110,7 @@ module _ (explaining : Explaining) (h : Hosted) (job : Job) (wrote told more : L
         → IsRunDeed explaining h job inputs (tasks.Run at is_table) (record { wrote = wrote; told = more; end = end })
     run_end_told at is_table (Ok end) k = (k.0, (k.1.0, f [] k.1.1, k.1.2))
     run_end_told at is_table (Err (Before reason)) k = (k.0, (k.1.0, (k.1.1.0, f [] k.1.1.1)))
-    run_end_told at is_table (Err (Run fault)) k = (k.0, (f [] k.1.0, k.1.1))
+    run_end_told at is_table (Err (Run fault is_closed)) k = (k.0, (f [] k.1.0, k.1.1))
     run_end_told at is_table (Err NotClosed) k = (k.0, (k.1.0, (k.1.1.0, f [] k.1.1.1, k.1.1.2)))
     run_end_told at is_table _ k = k
 

@@ -1,5 +1,5 @@
 -- What goes with the end of a run or a shell, and that a host which is not touched keeps its stores.
-use Rattle.std.proofs.Common.{◌≡◌, ◌<◌, ℕ, List, Option, Some, None, Result, Ok, Err, IfErr, IsErr, refl, sym, subst, arith, Bor, IsErrAnd}
+use Rattle.std.proofs.Common.{◌≡◌, ◌<◌, ℕ, true, false, true≢false, List, Option, Some, None, Result, Ok, Err, IfErr, IsErr, refl, sym, subst, arith, Bor, IsErrAnd}
 use Rattle.mls_script.specs.declared.run_fault.RunCause.TheVariants.{Store}
 use Rattle.mls_script.specs.declared.run_fault.RunFault.{RunFault}
 use Rattle.mls_host.specs.declared.host.CloseFault.{CloseFault}
@@ -18,21 +18,23 @@ untouched h path c = (λ k. k, λ k. k)
 -- a run without a store, which is closed
 pub ended_in_memory : {A : Type 0} (outcome : Result A RunFault) → IfErr outcome (λ f. f.cause ≡ Store → 0 < 0) → IsCausedInMemory (ended outcome (Ok tt))
 ended_in_memory (Ok end) k = tt
-ended_in_memory (Err fault) k = λ is. let none = k is in absurd (omega (arith, none))
+ended_in_memory (Err fault) k = ((λ is. let none = k is in absurd (omega (arith, none))), refl)
 
 module _ {A : Type 0} (h : Hosted) where
   caused_without : KeepsStores h → (r : Result A Stop) → IsCausedInMemory r → IsCaused h None r
-  caused_without kept (Ok end) k = kept
+  caused_without kept (Ok end) k = (kept, λ none. none)
   caused_without kept (Err (Before reason)) k = kept
-  caused_without kept (Err (Run fault)) k = (kept, k)
+  caused_without kept (Err (Run fault true)) k = (kept, k.0, λ none. none)
+  caused_without kept (Err (Run fault false)) k = absurd (true≢false (sym k.1))
   caused_without kept _ k = absurd k
 
   -- over a store, of which a call failed where more have failed than before
-  pub caused_in_store : (path : List ℕ) (outcome : Result A RunFault) (closed : Result (Unit {0}) CloseFault) (before after : ℕ) → (IsErr closed → h.after.is_unclosed) → (0 < after → h.after.has_failed)
+  pub caused_in_store : (path : List ℕ) (outcome : Result A RunFault) (closed : Result (Unit {0}) CloseFault) (before after : ℕ) → (IsErr closed → h.after.is_unclosed) → (h.after.is_unclosed → IsErr closed) → (0 < after → h.after.has_failed)
       → (h.after.is_honest → IfErr outcome (λ f. f.cause ≡ Store → before < after)) → IsCaused h (Some path) (ended outcome closed)
-  caused_in_store path (Err fault) closed before after unclosed failed k = (tt, λ honest is. let more = k honest is in failed (omega (arith, more)))
-  caused_in_store path (Ok end) (Err e) before after unclosed failed k = unclosed refl
-  caused_in_store path (Ok end) (Ok v) before after unclosed failed k = tt
+  caused_in_store path (Err fault) (Err e) before after unclosed none failed k = (tt, (λ honest is. let more = k honest is in failed (omega (arith, more))), unclosed refl)
+  caused_in_store path (Err fault) (Ok v) before after unclosed none failed k = (tt, (λ honest is. let more = k honest is in failed (omega (arith, more))), λ is. absurd (true≢false (sym (none is))))
+  caused_in_store path (Ok end) (Err e) before after unclosed none failed k = unclosed refl
+  caused_in_store path (Ok end) (Ok v) before after unclosed none failed k = (tt, λ is. absurd (true≢false (sym (none is))))
 
   -- where a store is named, or none
   pub caused_at : (store at : Option (Bor (List ℕ))) → store ≡ at → (r : Result A Stop) → IsCaused h (named at) r → IsCaused h (named store) r

@@ -1,5 +1,5 @@
 -- Why a run or a shell is given up, and which stores it leaves then.
-use Rattle.std.specs.Prelude.{◌≡◌, ◌≢◌, ℕ, List, Option, Some, None, Result, Ok, Err, ⊤}
+use Rattle.std.specs.Prelude.{◌≡◌, ◌≢◌, ℕ, Bool, true, false, List, Option, Some, None, Result, Ok, Err, ⊤}
 use Rattle.mls_script.specs.declared.run_fault.RunCause.TheVariants.{Store}
 use Rattle.mls_script.specs.declared.run_fault.RunFault.{RunFault}
 use Rattle.mls_host.specs.declared.stop.Stop.{Stop}
@@ -12,6 +12,11 @@ module _ (h : Hosted) where
   IsUnclosed None = ⊥
   IsUnclosed (Some path) = h.after.is_unclosed
 
+  -- the store is closed where this says so, and else it is not
+  abbrev pub IsClosedAs : Option (List ℕ) → Bool → Type 0
+  IsClosedAs store true = ¬ IsUnclosed store
+  IsClosedAs store false = IsUnclosed store
+
   -- It stops for the store only where one is named, of which a call failed, if that is clean. Any may stop for memory,
   -- or for the writer, which tells nobody why it takes no more.
   abbrev pub IsStoppedFor : Option (List ℕ) → RunFault → Type 0
@@ -19,11 +24,12 @@ module _ (h : Hosted) where
   IsStoppedFor (Some path) fault = h.after.is_honest → fault.cause ≡ Store → h.after.has_failed
 
   -- Each store keeps what it kept where none is begun, and where none is named. What stops, or is not closed, has a
-  -- cause.
+  -- cause; and the store of what ends or stops is closed, but where the contrary is told.
   abbrev pub IsCaused : {A : Type 0} → Option (List ℕ) → Result A Stop → Type 0
-  IsCaused store (Ok end) = LeavesStores h store
+  IsCaused store (Ok end) = LeavesStores h store × IsClosedAs store true
   IsCaused store (Err (Before reason)) = KeepsStores h
-  IsCaused store (Err (Run fault)) = LeavesStores h store × IsStoppedFor store fault
+  IsCaused store (Err (Run fault is_closed)) =
+      LeavesStores h store × IsStoppedFor store fault × IsClosedAs store is_closed
   IsCaused store (Err NotClosed) = IsUnclosed store
   IsCaused store _ = ⊥
 
@@ -31,5 +37,5 @@ module _ (h : Hosted) where
 abbrev pub IsCausedInMemory : {A : Type 0} → Result A Stop → Type 0
 IsCausedInMemory (Ok end) = ⊤
 IsCausedInMemory (Err (Before reason)) = ⊤
-IsCausedInMemory (Err (Run fault)) = fault.cause ≢ Store
+IsCausedInMemory (Err (Run fault is_closed)) = (fault.cause ≢ Store) × (is_closed ≡ true)
 IsCausedInMemory _ = ⊥

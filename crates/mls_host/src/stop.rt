@@ -1,8 +1,8 @@
 //! Why a command ends without success, and how that is told.
-ghost use Rattle.std.specs.Prelude.{◌≡◌, OnOk};
+ghost use Rattle.std.specs.Prelude.{◌≡◌, ◌++◌, OnOk};
 ghost use Rattle.std.specs.Io.KnownBytes.{Appends};
 ghost use Rattle.mls_host.specs.Stop.{run_text, served_text, turned_text, stop_text, stop_status, ended, served};
-ghost use Rattle.mls_host.specs.Stop.{turned};
+ghost use Rattle.mls_host.specs.Stop.{turned, unclosed_text, closing_text};
 
 use crate::ending::Ending;
 use crate::host::CloseFault;
@@ -19,21 +19,44 @@ use std::io::Write;
 pub enum Stop {
     /// It was given up before anything was written.
     Before(Reason),
-    Run(RunFault),
+    /// It was given up at a fault, and whether its store was closed then.
+    Run { fault: RunFault, is_closed: bool },
     /// All was done, and the store was not closed. The lines are written, so it is told as the store's and not as the
     /// run's.
     NotClosed,
     /// What a command other than a run prints was not taken.
     Output,
     /// A desk was given up: which of its lines it was at would tell of all of them.
-    Served(RunCause),
+    Served { cause: RunCause, is_closed: bool },
     /// A line of a desk could not be read.
     Unread,
     /// An audit list was not turned: no entry of it is dropped.
-    Turned(RunCause),
+    Turned { cause: RunCause, is_closed: bool },
 }
 
-fn tell_run<W: Write>(err: &mut W, fault: &RunFault) -> Result<(), WriteFault<W>>
+/// Tells that a store was not closed.
+fn tell_unclosed<W: Write>(err: &mut W) -> Result<(), WriteFault<W>>
+    ensures { OnOk result (Appends (W.contents err.old) (W.contents err.new) unclosed_text) }
+{
+    tell_fault(
+        err,
+        Role::Store.word(),
+        OpenFault::Store.code(),
+        OpenFault::Store.word(),
+    )
+}
+
+/// Tells that behind a fault, if the store was not closed.
+fn tell_closing<W: Write>(err: &mut W, is_closed: bool) -> Result<(), WriteFault<W>>
+    ensures { OnOk result (Appends (W.contents err.old) (W.contents err.new) (closing_text is_closed)) }
+{
+    if is_closed {
+        return Ok(());
+    }
+    tell_unclosed(err)
+}
+
+fn tell_run_line<W: Write>(err: &mut W, fault: &RunFault) -> Result<(), WriteFault<W>>
     ensures { OnOk result (Appends (W.contents err.old) (W.contents err.new) (run_text fault.now)) }
 {
     let pieces = [
@@ -46,18 +69,42 @@ fn tell_run<W: Write>(err: &mut W, fault: &RunFault) -> Result<(), WriteFault<W>
     write_pieces(err, &pieces)
 }
 
-fn tell_served<W: Write>(err: &mut W, cause: RunCause) -> Result<(), WriteFault<W>>
+fn tell_run<W: Write>(err: &mut W, fault: &RunFault, is_closed: bool) -> Result<(), WriteFault<W>>
+    ensures { OnOk result (Appends (W.contents err.old) (W.contents err.new)
+        (run_text fault.now ++ closing_text is_closed)) }
+{
+    tell_run_line(err, fault)?;
+    tell_closing(err, is_closed)
+}
+
+fn tell_served_line<W: Write>(err: &mut W, cause: RunCause) -> Result<(), WriteFault<W>>
     ensures { OnOk result (Appends (W.contents err.old) (W.contents err.new) (served_text cause)) }
 {
     let pieces = [Text("mldb: serve: "), Text(cause.word()), Text("\n")];
     write_pieces(err, &pieces)
 }
 
-fn tell_turned<W: Write>(err: &mut W, cause: RunCause) -> Result<(), WriteFault<W>>
+fn tell_served<W: Write>(err: &mut W, cause: RunCause, is_closed: bool) -> Result<(), WriteFault<W>>
+    ensures { OnOk result (Appends (W.contents err.old) (W.contents err.new)
+        (served_text cause ++ closing_text is_closed)) }
+{
+    tell_served_line(err, cause)?;
+    tell_closing(err, is_closed)
+}
+
+fn tell_turned_line<W: Write>(err: &mut W, cause: RunCause) -> Result<(), WriteFault<W>>
     ensures { OnOk result (Appends (W.contents err.old) (W.contents err.new) (turned_text cause)) }
 {
     let pieces = [Text("mldb: turn: "), Text(cause.word()), Text("\n")];
     write_pieces(err, &pieces)
+}
+
+fn tell_turned<W: Write>(err: &mut W, cause: RunCause, is_closed: bool) -> Result<(), WriteFault<W>>
+    ensures { OnOk result (Appends (W.contents err.old) (W.contents err.new)
+        (turned_text cause ++ closing_text is_closed)) }
+{
+    tell_turned_line(err, cause)?;
+    tell_closing(err, is_closed)
 }
 
 impl Stop {
@@ -68,27 +115,23 @@ impl Stop {
         match self {
             Stop::Before(reason) => reason.status(),
             Stop::Unread => 1,
-            Stop::Run(_) | Stop::NotClosed | Stop::Output | Stop::Served(_) | Stop::Turned(_) => 3,
+            Stop::NotClosed | Stop::Output => 3,
+            Stop::Run { .. } | Stop::Served { .. } | Stop::Turned { .. } => 3,
         }
     }
 
-    /// Writes the line that tells the stop.
+    /// Writes the line that tells the stop, and behind a fault another where the store was not closed.
     pub fn tell<W: Write>(&self, err: &mut W) -> Result<(), WriteFault<W>>
         ensures { OnOk result (Appends (W.contents err.old) (W.contents err.new) (stop_text self.now)) }
     {
         match self {
             Stop::Before(reason) => reason.tell(err),
-            Stop::Run(fault) => tell_run(err, fault),
-            Stop::NotClosed => tell_fault(
-                err,
-                Role::Store.word(),
-                OpenFault::Store.code(),
-                OpenFault::Store.word(),
-            ),
+            Stop::Run { fault, is_closed } => tell_run(err, fault, *is_closed),
+            Stop::NotClosed => tell_unclosed(err),
             Stop::Output => write_bytes(err, b"mldb: output: Write\n"),
-            Stop::Served(cause) => tell_served(err, *cause),
+            Stop::Served { cause, is_closed } => tell_served(err, *cause, *is_closed),
             Stop::Unread => write_bytes(err, b"mldb: serve: Unreadable\n"),
-            Stop::Turned(cause) => tell_turned(err, *cause),
+            Stop::Turned { cause, is_closed } => tell_turned(err, *cause, *is_closed),
         }
     }
 }
@@ -101,7 +144,14 @@ pub fn ended<T: Drop>(
     ensures { result ≡ ended outcome closed }
 {
     match (outcome, closed) {
-        (Err(fault), _) => Err(Stop::Run(fault)),
+        (Err(fault), Ok(())) => Err(Stop::Run {
+            fault,
+            is_closed: true,
+        }),
+        (Err(fault), Err(_)) => Err(Stop::Run {
+            fault,
+            is_closed: false,
+        }),
         (Ok(_), Err(_)) => Err(Stop::NotClosed),
         (Ok(end), Ok(())) => Ok(end),
     }
@@ -114,7 +164,10 @@ pub fn served(outcome: Result<Ending, Stop>) -> Result<Ending, Stop>
     match outcome {
         Ok(Ending::Well) => Ok(Ending::Well),
         Ok(Ending::Refused) => Err(Stop::Unread),
-        Err(Stop::Run(fault)) => Err(Stop::Served(fault.cause)),
+        Err(Stop::Run { fault, is_closed }) => Err(Stop::Served {
+            cause: fault.cause,
+            is_closed,
+        }),
         Err(stop) => Err(stop),
     }
 }
@@ -125,7 +178,10 @@ pub fn turned(outcome: Result<(), Stop>) -> Result<Ending, Stop>
 {
     match outcome {
         Ok(()) => Ok(Ending::Well),
-        Err(Stop::Run(fault)) => Err(Stop::Turned(fault.cause)),
+        Err(Stop::Run { fault, is_closed }) => Err(Stop::Turned {
+            cause: fault.cause,
+            is_closed,
+        }),
         Err(stop) => Err(stop),
     }
 }

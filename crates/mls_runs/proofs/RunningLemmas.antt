@@ -78,7 +78,8 @@ may_serve s blocks txs stored read h = record { under = s.under; read = stored_r
 module _ {A : Type 0} (Ends : Result A RunFault → Type 0) (Nothing : Reason → Type 0) where
   -- one that ended, or stopped, over a store that was closed, or not
   pub ended_so : (outcome : Result A RunFault) (closed : Result (Unit {0}) CloseFault) → Ends outcome → IsEnd Ends Nothing (ended outcome closed)
-  ended_so (Err fault) closed h = h
+  ended_so (Err fault) (Err e) h = h
+  ended_so (Err fault) (Ok v) h = h
   ended_so (Ok end) (Err e) h = (end, h)
   ended_so (Ok end) (Ok v) h = h
 
@@ -86,7 +87,7 @@ module _ {A : Type 0} (Ends : Result A RunFault → Type 0) (Nothing : Reason �
       → (r : Result A Stop) → IsEnd Ends Nothing r → IsEnd More Less r
   end_weaker More Less f g (Ok end) h = f (Ok end) h
   end_weaker More Less f g (Err (Before reason)) h = g reason h
-  end_weaker More Less f g (Err (Run fault)) h = f (Err fault) h
+  end_weaker More Less f g (Err (Run fault is_closed)) h = f (Err fault) h
   end_weaker More Less f g (Err NotClosed) h = (h.0, f (Ok h.0) h.1)
   end_weaker More Less f g _ h = absurd h
 

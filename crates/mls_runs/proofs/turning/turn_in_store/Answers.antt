@@ -38,7 +38,7 @@ returns-clause-caused g c =
     let h = hosted g.H.Host.hosting g.H.Lines.TypedLines.echo c.args.host.now c.keep-closed.new.self in
     subst (λ (r : Result (Unit {0}) Stop). IsCaused h (Some c.args.path.now) r) (sym c.ended.ensures)
     (caused_in_store h c.args.path.now c.turn-outcome.result c.keep-closed.result (g.H.Store.Base.seen c.in-Ok.base).failures (g.H.Store.Base.seen c.turn-outcome.new.base).failures
-    c.keep-closed.ensures.closed.1 c.keep-closed.ensures.failed.1 (λ honest. c.turn-outcome.ensures.store))
+    c.keep-closed.ensures.closed.1 c.keep-closed.ensures.closed.0 c.keep-closed.ensures.failed.1 (λ honest. c.turn-outcome.ensures.store))
 
 pub returns-then-is_absent-clause-ends : goal.returns-then-is_absent-clause-ends
 returns-then-is_absent-clause-ends g c = (absent c.args.path.now refl (c.is_absent.ensures.absent c.if-is_absent.true) refl, Appends-nil _)

@@ -20,7 +20,7 @@ returns-in-Some-clause-ends g c =
 
 pub returns-in-None-clause-caused : goal.returns-in-None-clause-caused
 returns-in-None-clause-caused g c =
-    caused_at (hosted g.H.Host.hosting g.H.Lines.TypedLines.echo c.args.host.now c.args.host.now) c.args.store None c.in-None.is (Ok (tt {0})) (untouched (g.H.Host.hosting c.args.host.now))
+    caused_at (hosted g.H.Host.hosting g.H.Lines.TypedLines.echo c.args.host.now c.args.host.now) c.args.store None c.in-None.is (Ok (tt {0})) (untouched (g.H.Host.hosting c.args.host.now), λ none. none)
 
 pub returns-in-Some-clause-caused : goal.returns-in-Some-clause-caused
 returns-in-Some-clause-caused g c =

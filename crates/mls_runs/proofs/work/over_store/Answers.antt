@@ -61,4 +61,4 @@ returns-clause-caused g c =
     caused_at h c.args.store (Some path) c.in-Some.is c.ended.result
     (subst (λ (r : Result g.row.K-End.Denot Stop). IsCaused h (Some path.now) r) (sym c.ended.ensures)
     (caused_in_store h path.now c.over-outcome.result.0 c.keep-closed.result (g.H.Store.Base.seen c.in-Ok.base).failures (g.H.Store.Base.seen c.over-outcome.result.1).failures
-    c.keep-closed.ensures.closed.1 c.keep-closed.ensures.failed.1 (λ honest. c.over-outcome.ensures.leaves.store (c.keep-closed.ensures.honest.0 honest))))
+    c.keep-closed.ensures.closed.1 c.keep-closed.ensures.closed.0 c.keep-closed.ensures.failed.1 (λ honest. c.over-outcome.ensures.leaves.store (c.keep-closed.ensures.honest.0 honest))))

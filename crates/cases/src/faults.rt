@@ -2,7 +2,7 @@
 //! before or after its event; and what single steps leave where a call fails: content, audit list and sessions are those before it, and the
 //! event is answered where it is tried again. `data/` has the scripts, `stdout` what they have to leave.
 ghost use Rattle.std.specs.List.{AllByRecursion};
-ghost use Rattle.mls_script.specs.Event.{EventFits};
+ghost use Rattle.mls_translang.specs.Event.{EventFits};
 
 mod faulty;
 mod narrow;
@@ -16,7 +16,8 @@ use self::runs::{Scripts, What};
 use crate::sample::Sample;
 use crate::texts::Texts;
 use case_tables::Told;
-use mls_script::{Event, script};
+use mls_script::script;
+use mls_translang::Event;
 use std::alloc::Global;
 
 /// The scripts, in the order in which they are told.

@@ -11,7 +11,7 @@ use Rattle.mls_scheme.specs.declared.value.Value.{Value}
 use Rattle.mls_scheme.specs.declared.value.Value.TheVariants.{Int}
 use Rattle.mls_scheme.specs.declared.tuple.Tuple.{Tuple}
 use Rattle.mls_scheme.specs.Scheme.{Schemes, scheme_of}
-use Rattle.mls_filterview.specs.Rules.{no_tuple}
+use Rattle.mls_scheme.specs.Tuple.{no_tuple}
 use Rattle.mls_filterview.specs.View.{low, rows}
 use Rattle.mls_filterview.proofs.LowLemmas.{rows_under}
 use Rattle.mls_filterview.proofs.SubsumptionLemmas.{same_value-true, same_value-refl}
@@ -23,7 +23,7 @@ use Rattle.mls_translang.specs.Tree.{Expr, Stmt, Writing, Assign, Write_at, Rele
 use Rattle.mls_translang.specs.Scope.{Scope, in_loop}
 use Rattle.mls_translang.specs.Fits.{BlockFits}
 use Rattle.mls_translang.specs.Tx.{Tx}
-use Rattle.mls_certcheck.specs.Expressions.{is_true, same, value_in, holds_in}
+use Rattle.mls_translang.specs.Expressions.{is_true, same, value_in, holds_in}
 use Rattle.mls_certcheck.specs.Meaning.{Item, Variables, Progress, set_var, set_outcome, write_in, do_write, environment, perform, for_each, run_block}
 use Rattle.mls_certcheck.specs.Secure.{AreStored, seen_items, Split}
 use Rattle.mls_certcheck.proofs.KeepingLemmas.{Extends, cond_kept, for_each_kept, perform_stored, block_stored, block_extends}

@@ -17,7 +17,7 @@ use Rattle.mls_updates.proofs.LawLemmas.{keep_form}
 use Rattle.mls_translang.specs.Tree.{Expr, Stmt, Assign, Writing, Insert, Update, Delete, Write_at, Release, Emit, Block, End, Do, If, For}
 use Rattle.mls_translang.specs.Scope.{Scope, in_loop}
 use Rattle.mls_translang.specs.Fits.{IsLabel, ExprFits, WritingFits, StmtFits, BlockFits}
-use Rattle.mls_certcheck.specs.Expressions.{Environment, value_in, holds_in}
+use Rattle.mls_translang.specs.Expressions.{Environment, value_in, holds_in}
 use Rattle.mls_certcheck.specs.Meaning.{Item, Progress, environment, values_set, write_in, perform, for_each, run_block}
 use Rattle.mls_certcheck.specs.Secure.{AreStored}
 

@@ -17,11 +17,10 @@ use Rattle.mls_scheme.specs.declared.tuple.Element.{Element}
 use Rattle.mls_scheme.specs.declared.tuple.Tuple.{Tuple}
 use Rattle.mls_scheme.specs.declared.place.Place.{Place}
 use Rattle.mls_scheme.specs.Value.{is_signed, is_kind, fits_kind}
-use Rattle.mls_scheme.specs.Tuple.{at, null_element}
+use Rattle.mls_scheme.specs.Tuple.{at, null_element, no_tuple}
 use Rattle.mls_scheme.specs.Table.{Table, tuple_at}
 use Rattle.mls_scheme.specs.Scheme.{Attribute, Scheme, Schemes, scheme_of, other_of, no_attribute}
 use Rattle.mls_scheme.specs.Fits.{in_interval, Fits}
-use Rattle.mls_filterview.specs.Rules.{no_tuple}
 use Rattle.mls_filterview.specs.View.{rows}
 use Rattle.mls_filterview.specs.Stored.{IsContent, AreContent}
 use Rattle.mls_filterview.proofs.RowLemmas.{rows_are_the_view}
@@ -36,7 +35,7 @@ use Rattle.mls_translang.specs.Tree.{Expr, Known, Null, Var, Param, Field, Op, W
 use Rattle.mls_translang.specs.Scope.{Scope, in_loop, row_at, kind_of_var, kind_of_param}
 use Rattle.mls_translang.specs.Kinds.{Sort, Of, Truth, field_of, HasKind, HaveKinds, WritingKinds, Assigns, StmtKinds, BlockKinds}
 use Rattle.mls_translang.specs.Fits.{StmtFits, BlockFits}
-use Rattle.mls_certcheck.specs.Expressions.{bounded, calculate, cell_of, Environment, eval, value_in, holds_in}
+use Rattle.mls_translang.specs.Expressions.{bounded, calculate, cell_of, Environment, eval, value_in, holds_in}
 use Rattle.mls_certcheck.specs.Meaning.{Variables, Progress, set_var, set_outcome, environment, values_set, write_in, perform, for_each, run_block}
 use Rattle.mls_certcheck.specs.Kinds.{RowKinds, VarsFit, AroundFits}
 use Rattle.mls_certcheck.specs.MeaningLaws.{IsItem}

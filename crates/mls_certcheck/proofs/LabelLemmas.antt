@@ -1,5 +1,5 @@
 -- Labels, by place and by number.
-use Rattle.std.proofs.Common.{◌≡◌, ℕ, zero, suc, ◌-◌, ◌<◌, ◌≤◌, Bool, true, false, ◌&&◌, List, [], ◌∷◌, ◌++◌, length, map, take, get_or, ◌+◌, refl, sym, ap, ◌∙◌, subst, arith, ◌↔◌, IsTrue, nat_cmp, flat_map, true≢false, append-nil}
+use Rattle.std.proofs.Common.{◌≡◌, ℕ, zero, suc, ◌-◌, ◌<◌, ◌≤◌, Bool, true, false, ◌&&◌, List, [], ◌∷◌, ◌++◌, length, map, take, get_or, ◌+◌, refl, sym, ap, ◌∙◌, subst, arith, nat_cmp, flat_map, true≢false, append-nil}
 use Rattle.std.specs.FinSet as set
 use Rattle.std.specs.List.{list_all}
 use Rattle.std.specs.Cmp.{both_ways}
@@ -18,18 +18,8 @@ use Rattle.mls_certcheck.specs.declared.flow.Slot.{Slot}
 use Rattle.mls_certcheck.specs.declared.flow.Slot.TheVariants.{Variable, Statement}
 use Rattle.mls_certcheck.specs.declared.flow.Source.{Source}
 use Rattle.mls_certcheck.specs.declared.flow.Source.TheVariants.{Held}
-use Rattle.mls_lattice.specs.Lattice.{Pair, Dominates, ◌⊑◌, join, bottom, cats_of, cats_below, pair_of}
-use Rattle.mls_lattice.specs.Labels.{label_of}
-use Rattle.mls_lattice.specs.Policy.{Policy, labels_of}
+use Rattle.mls_lattice.specs.Lattice.{Pair, Dominates, ◌⊑◌, join, bottom, pair_of}
 use Rattle.mls_lattice.proofs.LatticeLemmas.{⊑-Dominates, Dominates-⊑, Dominates-trans, join-left, join-right, join-least}
-
-pub bottom_pair : pair_of (record { rank = 0; cats = 0 }) ≡ bottom
-unfolding cats_of cats_below
-bottom_pair = refl
-
--- the test is the relation
-pub test_dominates : (b : Bool) (p q : Pair) → (IsTrue b ↔ Dominates q p) → b ≡ (p ⊑ q)
-test_dominates b p q h = both_ways b (p ⊑ q) (λ e. Dominates-⊑ p q (h.0 e)) (λ e. h.1 (⊑-Dominates p q e))
 
 pub label_here : (labels : List Label) (place : ℕ) (d : Label) → place < length labels → get_or (map pair_of labels) place bottom ≡ pair_of (get_or labels place d)
 label_here labels place d lt = get_or-map pair_of labels place d bottom lt
@@ -38,9 +28,6 @@ pub label_past : (labels : List Label) (place : ℕ) → length labels ≤ place
 label_past labels place past = get_or_past (map pair_of labels) place bottom (omega (arith, length-map labels pair_of))
 
 pub ruleset label_places = (label_here, label_past)
-
-pub past_labels : (p : Policy) (label : ℕ) → length p.labels ≤ label → label_of (labels_of p) label ≡ bottom
-past_labels p label past = get_or_past (labels_of p) label bottom (omega (arith, length-map p.labels (λ l. l.value)))
 
 -- ---- rows of certificates of version 2
 

@@ -17,7 +17,7 @@ use Rattle.mls_translang.specs.Tree.{Stmt, Writing, Assign, Write_at, Release, E
 use Rattle.mls_translang.specs.Scope.{Scope, in_loop}
 use Rattle.mls_translang.specs.Fits.{BlockFits}
 use Rattle.mls_translang.specs.Tx.{Tx}
-use Rattle.mls_certcheck.specs.Expressions.{holds_in}
+use Rattle.mls_translang.specs.Expressions.{holds_in}
 use Rattle.mls_certcheck.specs.Meaning.{Item, Variables, Progress, set_var, set_outcome, do_write, environment, write_in, perform, run_block}
 use Rattle.mls_certcheck.specs.Secure.{AreStored, seen_items}
 use Rattle.mls_certcheck.proofs.KeepingLemmas.{cond_kept, for_each_kept, perform_stored, block_stored}

@@ -4,7 +4,7 @@ use Rattle.mls_scheme.specs.declared.value.Value.TheVariants.{Int}
 use Rattle.mls_scheme.specs.Value.{is_signed}
 use Rattle.mls_translang.specs.declared.operator.Operator.TheVariants as operators
 use Rattle.mls_translang.specs.Tree.{Expr, Known, Null, No, Op}
-use Rattle.mls_certcheck.specs.Expressions.{Plain, Truth, Environment, eval}
+use Rattle.mls_translang.specs.Expressions.{Plain, Truth, Environment, eval}
 
 abbrev one : Expr
 one = Known (Int (pos 1))

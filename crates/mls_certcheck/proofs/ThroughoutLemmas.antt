@@ -11,7 +11,7 @@ use Rattle.mls_translang.specs.Tree.{Block, End, Do, If, For}
 use Rattle.mls_translang.specs.Tx.{Tx, scope_of}
 use Rattle.mls_translang.specs.Scope.{Scope, in_loop}
 use Rattle.mls_translang.specs.Fits.{BlockFits, IsReadUnder}
-use Rattle.mls_certcheck.specs.Expressions.{holds_in}
+use Rattle.mls_translang.specs.Expressions.{holds_in}
 use Rattle.mls_certcheck.specs.Meaning.{Progress, start, environment, perform, run_block}
 use Rattle.mls_certcheck.specs.Secure.{AreStored}
 use Rattle.mls_certcheck.specs.Throughout.{EachTurn, ThroughoutBlock, Throughout}

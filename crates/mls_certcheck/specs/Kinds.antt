@@ -5,10 +5,10 @@ use Rattle.mls_scheme.specs.declared.value.Value.{Value}
 use Rattle.mls_scheme.specs.declared.tuple.Tuple.{Tuple}
 use Rattle.mls_scheme.specs.Value.{fits_kind}
 use Rattle.mls_scheme.specs.Scheme.{Scheme, Schemes, scheme_of}
-use Rattle.mls_filterview.specs.Rules.{no_tuple}
+use Rattle.mls_scheme.specs.Tuple.{no_tuple}
 use Rattle.mls_translang.specs.Scope.{Scope, row_at, kind_of_var, kind_of_param}
 use Rattle.mls_translang.specs.Kinds.{field_of}
-use Rattle.mls_certcheck.specs.Expressions.{cell_of}
+use Rattle.mls_translang.specs.Expressions.{cell_of}
 use Rattle.mls_certcheck.specs.Meaning.{Variables}
 
 -- each attribute of a row has its kind

@@ -12,7 +12,6 @@ pub mod Certified
 pub mod Stored
 pub mod Site
 pub mod Laws
-pub mod Expressions
 pub mod Meaning
 pub mod Throughout
 pub mod Kinds

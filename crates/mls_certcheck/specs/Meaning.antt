@@ -13,7 +13,7 @@ use Rattle.mls_updates.specs.Outcome.{code_of}
 use Rattle.mls_updates.specs.Writes.{Sets, Write, Insert, Update, Delete, write}
 use Rattle.mls_translang.specs.Tree.{Expr, Stmt, Assign, Writing, Write_at, Release, Emit, Block, End, Do, If, For}
 use Rattle.mls_translang.specs.Tx.{Tx}
-use Rattle.mls_certcheck.specs.Expressions.{Environment, value_in, holds_in}
+use Rattle.mls_translang.specs.Expressions.{Environment, value_in, holds_in}
 
 -- what is emitted or released: the label that may see it, and a value or null
 abbrev pub Item : Type 0

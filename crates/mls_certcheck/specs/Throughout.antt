@@ -9,7 +9,7 @@ use Rattle.mls_scheme.specs.Scheme.{Schemes}
 use Rattle.mls_filterview.specs.View.{rows}
 use Rattle.mls_translang.specs.Tree.{Block, End, Do, If, For}
 use Rattle.mls_translang.specs.Tx.{Tx}
-use Rattle.mls_certcheck.specs.Expressions.{holds_in}
+use Rattle.mls_translang.specs.Expressions.{holds_in}
 use Rattle.mls_certcheck.specs.Meaning.{Progress, start, environment, perform, for_each, run_block}
 
 -- of each turn of a loop over rows

@@ -1,8 +1,6 @@
 //! The labels that a claim speaks of.
 ghost use Rattle.std.specs.Prelude.{◌≡◌, map, slice_index, slice_index_or};
-ghost use Rattle.mls_lattice.specs.Lattice.{bottom, pair_of, ◌⊑◌};
-ghost use Rattle.mls_lattice.specs.Labels.{label_of};
-ghost use Rattle.mls_lattice.specs.Policy.{labels_of};
+ghost use Rattle.mls_lattice.specs.Lattice.{bottom, pair_of};
 ghost use Rattle.mls_certcheck.specs.declared.cert.Certificate.TheVariants.{Two};
 ghost use Rattle.mls_certcheck.specs.Lines.{names};
 ghost use Rattle.mls_certcheck.specs.Rules.{hi, pc, after, param_label, pc_labels, row_after};
@@ -11,7 +9,7 @@ ghost use Rattle.mls_certcheck.specs.Walk.{IsJoin, claim_of};
 
 use crate::lent::Here;
 use crate::{Cert2, Certificate};
-use mls_lattice::{Label, LabelNo, Policy};
+use mls_lattice::{Label, LabelNo, Policy, declared, lowest};
 use mls_translang::{Expr, Term, Tx};
 
 /// A transaction with its certificate, under a policy.
@@ -20,33 +18,6 @@ pub(crate) struct Checker<'a> {
     pub policy: &'a Policy,
     pub tx: &'a Tx,
     pub cert: &'a Certificate,
-}
-
-/// The bottom of the labels.
-#[tactic(auto, using(crate::proofs::LabelLemmas::bottom_pair))]
-pub fn lowest() -> Label
-    ensures { pair_of result ≡ bottom }
-{
-    Label { rank: 0, cats: 0 }
-}
-
-/// What a number stands for; one that no label has stands for the bottom.
-#[tactic(auto, using(crate::proofs::LabelLemmas::past_labels))]
-pub fn declared(policy: &Policy, label: LabelNo) -> Label
-    ensures { pair_of result ≡ label_of (labels_of policy.now) label }
-{
-    if label.index() < policy.label_count() {
-        policy.value(label)
-    } else {
-        lowest()
-    }
-}
-
-/// Whether information may flow from the one label to the other.
-pub fn flows(low: Label, high: Label) -> bool
-    ensures { result ≡ (pair_of low ⊑ pair_of high) }
-{
-    high.dominates(low)
 }
 
 /// A label of a list; behind its end, the bottom.

@@ -9,10 +9,10 @@ ghost use Rattle.mls_certcheck.specs.Checks.{First, count_verdict, counts, holds
 ghost use Rattle.mls_certcheck.specs.Walk.{claim_of, Says};
 
 use crate::Certificate;
-use crate::checker::{Checker, declared, flows};
+use crate::checker::Checker;
 use crate::refusal::{Refusal, Rule};
 use crate::walking::walk;
-use mls_lattice::{LabelNo, Policy};
+use mls_lattice::{LabelNo, Policy, declared, flows};
 use mls_translang::{Tx, statements};
 
 impl Checker<'_> {

@@ -12,12 +12,12 @@ ghost use Rattle.mls_certcheck.specs.Lent.{slots_of, names_here, more_of, source
 ghost use Rattle.mls_certcheck.specs.Walk.{claim_of, IsJoin};
 ghost use Rattle.mls_certcheck.specs.declared.flow.Slot.TheVariants.{Statement};
 
-use crate::checker::{Checker, declared, flows, lowest};
+use crate::checker::Checker;
 use crate::flow::{Slot, Source};
 use crate::lent::{Here, LentFlow, More, Targets};
 use crate::refusal::{Refusal, Rule};
 use crate::visit::Visit;
-use mls_lattice::Label;
+use mls_lattice::{Label, declared, flows, lowest};
 use mls_scheme::Write;
 use mls_translang::{Block, Expr};
 

@@ -8,7 +8,8 @@ ghost use Rattle.mls_certcheck.specs.Checks.{holds, is_target};
 ghost use Rattle.mls_certcheck.specs.Walk.{claim_of};
 ghost use Rattle.mls_certcheck.specs.declared.flow.Flow.TheVariants.{Kept};
 
-use crate::checker::{Checker, flows};
+use crate::checker::Checker;
+use mls_lattice::flows;
 use mls_translang::Block;
 
 /// The number of the last of a block's own statements, or that after which the block begins.

@@ -32,7 +32,7 @@ mod writing;
 
 pub use cert::{Cert, Cert2, Certificate, Version};
 pub use certified::Certified;
-pub use checker::{declared, flows, lowest, nth_label, parameter_no};
+pub use checker::{nth_label, parameter_no};
 pub use checking::check;
 pub use fault::{CertCause, CertFault};
 pub use flow::{Flow, Line, Slot, Source};

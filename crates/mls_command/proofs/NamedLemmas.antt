@@ -18,9 +18,9 @@ use Rattle.mls_certcheck.specs.Fault as certificate_table
 use Rattle.mls_fragments.specs.declared.open_fault.OpenFault.{OpenFault}
 use Rattle.mls_fragments.specs.declared.open_fault.OpenFault.TheVariants as store
 use Rattle.mls_fragments.specs.OpenFault as store_table
-use Rattle.mls_script.specs.declared.run_fault.RunCause.{RunCause}
-use Rattle.mls_script.specs.declared.run_fault.RunCause.TheVariants as stop
-use Rattle.mls_script.specs.RunFault as stop_table
+use Rattle.mls_translang.specs.declared.run_fault.RunCause.{RunCause}
+use Rattle.mls_translang.specs.declared.run_fault.RunCause.TheVariants as stop
+use Rattle.mls_translang.specs.RunFault as stop_table
 use Rattle.mls_machine.specs.declared.reply.Denial.{Denial}
 use Rattle.mls_machine.specs.declared.reply.Denial.TheVariants as denial
 use Rattle.mls_machine.specs.Reply as denial_table

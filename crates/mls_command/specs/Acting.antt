@@ -2,7 +2,7 @@
 use Rattle.std.specs.Prelude.{◌≡◌, ℕ, Bool, true, false, List, [], ◌++◌, Result, Ok, Err, ◌⊎◌}
 use Rattle.mls_lattice.specs.Canon as lattice
 use Rattle.mls_scheme.specs.Canon as scheme
-use Rattle.mls_script.specs.declared.run_fault.RunFault.{RunFault}
+use Rattle.mls_translang.specs.declared.run_fault.RunFault.{RunFault}
 use Rattle.mls_host.specs.declared.words.Job.{Job}
 use Rattle.mls_host.specs.declared.words.Task.{Task}
 use Rattle.mls_host.specs.declared.words.Task.TheVariants.{ShowPolicy, Picture, Run, Shell, Serve, Turn, Certify, Check}

@@ -4,8 +4,7 @@ ghost use Rattle.std.specs.Prelude.{◌≡◌, string_bytes, IfOk};
 ghost use Rattle.mls_lattice.specs.Lattice.{pair_of};
 ghost use Rattle.mls_explain.specs.Telling.{is_named, names_of, words_of};
 
-use mls_certcheck::flows;
-use mls_lattice::{Label, LabelNo, Policy};
+use mls_lattice::{Label, LabelNo, Policy, flows};
 use std::alloc::{AllocError, Global};
 
 /// Whether a label is a declared one, or, where it need not be that, dominates it.

@@ -11,9 +11,9 @@ ghost use Rattle.mls_explain.specs.Search.{longer, IsAt};
 
 use crate::step::Step;
 use crate::teller::Told;
-use mls_certcheck::{Flow, Line, Refusal, Slot, Source, declared, flows, parameter_no};
+use mls_certcheck::{Flow, Line, Refusal, Slot, Source, parameter_no};
 use mls_labeller::Labeller;
-use mls_lattice::{Items, LabelNo};
+use mls_lattice::{Items, LabelNo, declared, flows};
 use std::alloc::{AllocError, Global};
 
 /// Something of the root comes into these slots, one after another, and flows out to where this label has to dominate it.

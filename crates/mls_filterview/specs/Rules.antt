@@ -1,9 +1,9 @@
 -- What the stored form asks of the rows of a list of tuples, rule by rule.
-use Rattle.std.specs.Prelude.{◌≡◌, ℕ, ◌<◌, true, List, [], length, slice_index_or, None, ◌⊎◌, ◌↔◌}
+use Rattle.std.specs.Prelude.{◌≡◌, ℕ, ◌<◌, true, List, length, slice_index_or, None, ◌⊎◌, ◌↔◌}
 use Rattle.mls_lattice.specs.Labels.{Labels, label_of, below}
 use Rattle.mls_scheme.specs.declared.tuple.Element.{Element}
 use Rattle.mls_scheme.specs.declared.tuple.Tuple.{Tuple}
-use Rattle.mls_scheme.specs.Tuple.{at, tuple_class}
+use Rattle.mls_scheme.specs.Tuple.{at, tuple_class, no_tuple}
 use Rattle.mls_scheme.specs.Table.{Table, IsIn, place_of}
 use Rattle.mls_scheme.specs.Scheme.{Scheme}
 use Rattle.mls_scheme.specs.Fits.{Fits}
@@ -12,9 +12,6 @@ use Rattle.mls_filterview.specs.declared.rule.Rule.TheVariants.{Entity, Null, In
 use Rattle.mls_filterview.specs.View.{IsAmong}
 use Rattle.mls_filterview.specs.Stored.{Occurs, IsContent}
 use Rattle.mls_filterview.specs.Filtering.{EachOnce}
-
-abbrev pub no_tuple : Tuple
-no_tuple = record { key = []; key_class = 0; elements = [] }
 
 -- a row of the list, by its number
 abbrev pub row_at : List Tuple → ℕ → Tuple

@@ -2,7 +2,7 @@
 ghost use Rattle.std.specs.Prelude.{◌≡◌, ◌<◌, List, [], length, slice_index_or, IfOk};
 ghost use Rattle.std.specs.Option.{option_map_or};
 ghost use Rattle.mls_scheme.specs.declared.tuple.Tuple.{Tuple as SpecTuple};
-ghost use Rattle.mls_filterview.specs.Rules.{no_tuple};
+ghost use Rattle.mls_scheme.specs.Tuple.{no_tuple};
 
 use mls_lattice::Items;
 use mls_scheme::Tuple;

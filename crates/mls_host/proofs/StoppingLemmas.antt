@@ -1,7 +1,7 @@
 -- What goes with the end of a run or a shell, and that a host which is not touched keeps its stores.
 use Rattle.std.proofs.Common.{◌≡◌, ◌<◌, ℕ, true, false, true≢false, List, Option, Some, None, Result, Ok, Err, IfErr, IsErr, refl, sym, subst, arith, Bor, IsErrAnd}
-use Rattle.mls_script.specs.declared.run_fault.RunCause.TheVariants.{Store}
-use Rattle.mls_script.specs.declared.run_fault.RunFault.{RunFault}
+use Rattle.mls_translang.specs.declared.run_fault.RunCause.TheVariants.{Store}
+use Rattle.mls_translang.specs.declared.run_fault.RunFault.{RunFault}
 use Rattle.mls_host.specs.declared.host.CloseFault.{CloseFault}
 use Rattle.mls_host.specs.declared.reason.Reason.{Reason}
 use Rattle.mls_host.specs.declared.stop.Stop.{Stop}

@@ -5,7 +5,7 @@ use Rattle.mls_lattice.specs.ReadsPolicy.{ReadsPolicy}
 use Rattle.mls_scheme.specs.Scheme.{Schemes}
 use Rattle.mls_scheme.specs.declared.file.SchemesFile.{SchemesFile}
 use Rattle.mls_scheme.specs.Document.{ReadsSchemes}
-use Rattle.mls_script.specs.declared.event.Event.{Event}
+use Rattle.mls_translang.specs.declared.event.Event.{Event}
 use Rattle.mls_script.specs.Script.{ReadsScript}
 use Rattle.mls_translang.specs.Tx.{Tx}
 use Rattle.mls_translang.specs.Tells.{Tells}

@@ -2,9 +2,9 @@
 use Rattle.std.specs.Prelude.{ℕ, Bool, true, false, if◌then◌else◌, List, [], ◌++◌, codes, Result, Ok, Err, decimal}
 use Rattle.mls_fragments.specs.declared.open_fault.OpenFault.TheVariants as stores
 use Rattle.mls_fragments.specs.OpenFault as store_faults
-use Rattle.mls_script.specs.declared.run_fault.RunCause.{RunCause}
-use Rattle.mls_script.specs.declared.run_fault.RunFault.{RunFault}
-use Rattle.mls_script.specs.RunFault.{cause_word}
+use Rattle.mls_translang.specs.declared.run_fault.RunCause.{RunCause}
+use Rattle.mls_translang.specs.declared.run_fault.RunFault.{RunFault}
+use Rattle.mls_translang.specs.RunFault.{cause_word}
 use Rattle.mls_host.specs.declared.host.CloseFault.{CloseFault}
 use Rattle.mls_host.specs.declared.reason.Reason.{Reason}
 use Rattle.mls_host.specs.declared.reason.Role.TheVariants as role

@@ -1,7 +1,7 @@
 -- Why a run or a shell is given up, and which stores it leaves then.
 use Rattle.std.specs.Prelude.{◌≡◌, ◌≢◌, ℕ, Bool, true, false, List, Option, Some, None, Result, Ok, Err, ⊤}
-use Rattle.mls_script.specs.declared.run_fault.RunCause.TheVariants.{Store}
-use Rattle.mls_script.specs.declared.run_fault.RunFault.{RunFault}
+use Rattle.mls_translang.specs.declared.run_fault.RunCause.TheVariants.{Store}
+use Rattle.mls_translang.specs.declared.run_fault.RunFault.{RunFault}
 use Rattle.mls_host.specs.declared.stop.Stop.{Stop}
 use Rattle.mls_host.specs.declared.stop.Stop.TheVariants.{Before, Run, NotClosed}
 use Rattle.mls_host.specs.Hosting.{Hosted, KeepsStores, LeavesStores}

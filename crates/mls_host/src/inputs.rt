@@ -5,7 +5,7 @@ ghost use Rattle.mls_scheme.specs.Scheme.{AreUnder};
 ghost use Rattle.mls_translang.specs.Fits.{IsReadUnder};
 ghost use Rattle.mls_lattice.specs.ReadsPolicy.{ReadsPolicy};
 ghost use Rattle.mls_scheme.specs.Document.{ReadsSchemes};
-ghost use Rattle.mls_script.specs.Event.{EventFits};
+ghost use Rattle.mls_translang.specs.Event.{EventFits};
 ghost use Rattle.mls_host.specs.Causes.{IsNotGiven, IsInputRefused, RefusesPolicy, RefusesSchemes, IsPolicyRefused};
 ghost use Rattle.mls_host.specs.Causes.{AreSchemesRefused, AreTransactionsRefused, AreCertificatesRefused};
 ghost use Rattle.mls_host.specs.Causes.{IsScriptRefused, AreEventsRefused, no_reader, IsReaderUnknown};
@@ -23,8 +23,7 @@ use crate::words::{Documents, Job, Task};
 use mls_certcheck::Certificate;
 use mls_lattice::{Items, LabelNo, Policy, Str};
 use mls_scheme::{Schemes, SchemesFile};
-use mls_script::Event;
-use mls_translang::Tx;
+use mls_translang::{Event, Tx};
 use std::alloc::Global;
 
 /// What the host gives for a file, or, with no path, for the standard input.

@@ -6,8 +6,7 @@ ghost use Rattle.mls_scheme.specs.Scheme.{AreUnder};
 use mls_certcheck::Certificate;
 use mls_lattice::{Items, LabelNo, Policy, Str};
 use mls_scheme::SchemesFile;
-use mls_script::Event;
-use mls_translang::Tx;
+use mls_translang::{Event, Tx};
 
 /// The policy and the schemes that a job is done under, and the label for which alone it prints, if there is one. The schemes have
 /// labels of the policy, and so is the reader one.

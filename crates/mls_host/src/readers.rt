@@ -7,7 +7,7 @@ ghost use Rattle.mls_scheme.specs.Scheme.{AreUnder};
 ghost use Rattle.mls_translang.specs.Fits.{IsReadUnder};
 ghost use Rattle.mls_translang.specs.Tells.{Tells};
 ghost use Rattle.mls_certcheck.specs.Spelling.{IsFile, file_text};
-ghost use Rattle.mls_script.specs.Event.{EventFits};
+ghost use Rattle.mls_translang.specs.Event.{EventFits};
 ghost use Rattle.mls_script.specs.Script.{ReadsScript};
 ghost use Rattle.mls_host.specs.Causes.{RefusesPolicy, RefusesSchemes, RefusesTransactions, RefusesCertificates};
 ghost use Rattle.mls_host.specs.Causes.{RefusesScript};
@@ -17,8 +17,8 @@ use mls_certcheck::{Certificate, certs_read};
 use mls_lattice::{Items, Policy, Str};
 use mls_parser::parse;
 use mls_scheme::{Schemes, SchemesFile};
-use mls_script::{Event, script};
-use mls_translang::Tx;
+use mls_script::script;
+use mls_translang::{Event, Tx};
 use std::alloc::Global;
 
 /// A policy.

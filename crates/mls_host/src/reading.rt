@@ -13,8 +13,7 @@ use crate::reason::Reason;
 use crate::words::{Job, Task};
 use mls_certcheck::Certificate;
 use mls_lattice::{Items, Str, is_name};
-use mls_script::Event;
-use mls_translang::Tx;
+use mls_translang::{Event, Tx};
 use std::alloc::Global;
 
 /// Transactions, certificates with the names of theirs, and events.

@@ -8,9 +8,9 @@ use crate::ending::Ending;
 use crate::host::CloseFault;
 use crate::reason::{Reason, Role, tell_fault};
 use mls_fragments::OpenFault;
-use mls_script::{RunCause, RunFault};
 use mls_tokens::Piece::{Number, Text};
 use mls_tokens::{WriteFault, write_bytes, write_pieces};
+use mls_translang::{RunCause, RunFault};
 use std::alloc::AllocError;
 use std::io::Write;
 

@@ -5,7 +5,7 @@ use Rattle.mls_scheme.specs.declared.value.Value.TheVariants.{Int, Text}
 use Rattle.mls_translang.specs.declared.operator.Operator.{Operator}
 use Rattle.mls_translang.specs.declared.operator.Operator.TheVariants.{Plus}
 use Rattle.mls_translang.specs.Tree.{Expr}
-use Rattle.mls_certcheck.specs.Expressions.{Datum, value_of, calculate, apply, Environment, value_in}
+use Rattle.mls_translang.specs.Expressions.{Datum, value_of, calculate, apply, Environment, value_in}
 use Rattle.mls_certcheck.specs.Meaning.{Variables}
 use Rattle.mls_labeller.specs.declared.bounds.Bounds.{Bounds}
 use Rattle.mls_labeller.specs.declared.range.Range.{Range}

@@ -12,8 +12,8 @@ ghost use Rattle.mls_labeller.specs.Rising.{Stands, Rises};
 ghost use Rattle.mls_certcheck.specs.declared.flow.Flow.TheVariants.{Into, Kept};
 
 use crate::labels::{Labels, cell};
-use mls_certcheck::{Flow, Line, Slot, Source, Version, declared, lowest, nth_label, parameter_no};
-use mls_lattice::{Label, LabelNo, Policy};
+use mls_certcheck::{Flow, Line, Slot, Source, Version, nth_label, parameter_no};
+use mls_lattice::{Label, LabelNo, Policy, declared, lowest};
 use mls_translang::{Tx, statements};
 use std::alloc::{AllocError, Global};
 

@@ -1,7 +1,7 @@
 //! Ranges: sets of values, one of which something has.
 ghost use Rattle.std.specs.Prelude.{◌≡◌, ◌<◌, ◌≤◌, List, length, IfOk, OnOk, Option, Some, Contains};
 ghost use Rattle.mls_scheme.specs.declared.value.Value.{Value as SpecValue};
-ghost use Rattle.mls_certcheck.specs.Expressions.{Datum, value_of, apply};
+ghost use Rattle.mls_translang.specs.Expressions.{Datum, value_of, apply};
 ghost use Rattle.mls_labeller.specs.Ranges.{IsAmong, IsBetween, Admits, Includes, any_value, HasValues, uncounted};
 
 use crate::bounds::Bounds;

@@ -64,7 +64,7 @@ impl Ranges {
     }
 
     /// What values an expression can have.
-    #[tactic(auto, unfolding(mls_certcheck::specs::Expressions::eval))]
+    #[tactic(auto, unfolding(mls_translang::specs::Expressions::eval))]
     pub fn range_of(&self, alloc: Global, expr: &Expr) -> Result<Range, AllocError>
         ensures { IfOk result (HasRange self.now.vars.items expr.now) }
     {

@@ -7,6 +7,7 @@ pub mod SaysLemmas
 pub mod SaysTablesLemmas
 pub mod TablesLemmas
 pub mod LatticeLemmas
+pub mod FlowLemmas
 pub mod PolicyLemmas
 pub mod PolicyReadingLemmas
 pub mod RowSteps

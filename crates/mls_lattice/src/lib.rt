@@ -12,6 +12,7 @@ pub mod document;
 mod extending;
 mod failed;
 mod fault;
+mod flow;
 mod items;
 mod label;
 mod labels;
@@ -29,6 +30,7 @@ mod version;
 
 pub use failed::Failed;
 pub use fault::{FieldFault, PolicyFault};
+pub use flow::{declared, flows, lowest};
 pub use items::Items;
 pub use label::Label;
 pub use modes::Modes;

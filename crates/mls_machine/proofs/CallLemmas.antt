@@ -12,9 +12,9 @@ use Rattle.mls_translang.specs.Tx.{Tx}
 use Rattle.mls_certcheck.specs.Meaning.{Item, run_tx}
 use Rattle.mls_certcheck.specs.Secure.{seen_items, Split}
 use Rattle.mls_certcheck.proofs.MeaningLemmas.{keep_form}
-use Rattle.mls_script.specs.declared.event.Event.{Event}
-use Rattle.mls_script.specs.declared.event.Command.{Command}
-use Rattle.mls_script.specs.declared.event.Command.TheVariants as commands
+use Rattle.mls_translang.specs.declared.event.Event.{Event}
+use Rattle.mls_translang.specs.declared.event.Command.{Command}
+use Rattle.mls_translang.specs.declared.event.Command.TheVariants as commands
 use Rattle.mls_machine.specs.declared.reply.Denial.{Denial}
 use Rattle.mls_machine.specs.declared.reply.Denial.TheVariants.{Ds, Ss, Star, Trust, Arguments}
 use Rattle.mls_machine.specs.declared.reply.Reply.TheVariants.{Ran}

@@ -15,12 +15,12 @@ use Rattle.mls_scheme.specs.declared.value.Value.TheVariants.{Text}
 use Rattle.mls_audit.specs.declared.entry.Entry.{Entry}
 use Rattle.mls_translang.specs.Tree.{Var, Param, Release, Emit, End, Do}
 use Rattle.mls_translang.specs.Tx.{Tx}
-use Rattle.mls_certcheck.specs.Expressions.{eval}
+use Rattle.mls_translang.specs.Expressions.{eval}
 use Rattle.mls_certcheck.specs.Meaning.{Item, run_block, perform}
 use Rattle.mls_certcheck.specs.declared.certified.Certified.{Certified}
-use Rattle.mls_script.specs.declared.event.Event.{Event}
-use Rattle.mls_script.specs.declared.event.Command.{Command}
-use Rattle.mls_script.specs.declared.event.Command.TheVariants.{Open, Audit, Call}
+use Rattle.mls_translang.specs.declared.event.Event.{Event}
+use Rattle.mls_translang.specs.declared.event.Command.{Command}
+use Rattle.mls_translang.specs.declared.event.Command.TheVariants.{Open, Audit, Call}
 use Rattle.mls_certcheck.specs.declared.stored.Stored.TheVariants as stored
 use Rattle.mls_machine.specs.declared.form.Form.TheVariants.{Lines}
 use Rattle.mls_machine.specs.declared.reply.Denial.{Denial}

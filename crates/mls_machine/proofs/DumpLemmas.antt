@@ -13,8 +13,8 @@ use Rattle.mls_scheme.specs.Tuple.{HasClassesBelow}
 use Rattle.mls_filterview.specs.Filtering.{greatest_from, class_number}
 use Rattle.mls_queries.proofs.PlaceLemmas.{all_filter}
 use Rattle.mls_scheme.specs.declared.write.Write.TheVariants.{Insert, Update}
-use Rattle.mls_script.specs.declared.event.Command.TheVariants.{Write}
-use Rattle.mls_script.specs.Writing.{HasKnownNumbers, IsKnown}
+use Rattle.mls_translang.specs.declared.event.Command.TheVariants.{Write}
+use Rattle.mls_translang.specs.Writing.{HasKnownNumbers, IsKnown}
 use Rattle.mls_certcheck.specs.Site.{Site, site_labels, site_scheme}
 use Rattle.mls_machine.specs.Dumping.{own_sets, class_below, dump_command, dump_event}
 

@@ -8,10 +8,10 @@ use Rattle.mls_scheme.specs.declared.value.Value.{Value}
 use Rattle.mls_scheme.specs.declared.tuple.Tuple.{Tuple}
 use Rattle.mls_scheme.specs.Scheme.{Attribute, Scheme, no_attribute, scheme_of, other_of}
 use Rattle.mls_scheme.specs.declared.write.Write.TheVariants.{Insert, Update}
-use Rattle.mls_script.specs.declared.event.Command.TheVariants.{Write}
-use Rattle.mls_script.specs.Event.{Sets}
-use Rattle.mls_script.specs.Tokens.{relation_name}
-use Rattle.mls_script.specs.Writing.{cell_text, behind_comma, listed, list_text, set_text, keyed, command_text, line_text, is_writable}
+use Rattle.mls_translang.specs.declared.event.Command.TheVariants.{Write}
+use Rattle.mls_translang.specs.Event.{Sets}
+use Rattle.mls_translang.specs.Writing.{relation_name}
+use Rattle.mls_translang.specs.Writing.{cell_text, behind_comma, listed, list_text, set_text, keyed, command_text, line_text, is_writable}
 use Rattle.mls_filterview.specs.Filtering.{class_number}
 use Rattle.mls_certcheck.specs.Site.{Site, site_labels, site_scheme}
 use Rattle.mls_machine.specs.Dumping.{own_sets, class_below, dump_command, dump_event}

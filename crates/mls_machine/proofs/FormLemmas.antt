@@ -5,9 +5,9 @@ use Rattle.mls_lattice.specs.Labels.{Labels, below}
 use Rattle.mls_tokens.specs.Writing.{printable}
 use Rattle.mls_lattice.specs.Policy.{Name}
 use Rattle.mls_scheme.specs.declared.tuple.Tuple.{Tuple}
-use Rattle.mls_script.specs.declared.event.Event.{Event}
-use Rattle.mls_script.specs.declared.event.Command.{Command}
-use Rattle.mls_script.specs.declared.event.Command.TheVariants as commands
+use Rattle.mls_translang.specs.declared.event.Event.{Event}
+use Rattle.mls_translang.specs.declared.event.Command.{Command}
+use Rattle.mls_translang.specs.declared.event.Command.TheVariants as commands
 use Rattle.mls_machine.specs.declared.form.Form.{Form}
 use Rattle.mls_machine.specs.declared.form.Form.TheVariants.{Lines, Table}
 use Rattle.mls_machine.specs.declared.reply.Reply.{Reply}

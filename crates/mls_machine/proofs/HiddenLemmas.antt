@@ -14,9 +14,9 @@ use Rattle.mls_certcheck.proofs.MeaningLemmas.{keep_form}
 use Rattle.mls_updates.specs.Writes.{Write, write}
 use Rattle.mls_updates.proofs.LawLemmas.{high_leave_low}
 use Rattle.mls_audit.specs.Entry.{label_of, visible}
-use Rattle.mls_script.specs.declared.event.Event.{Event}
-use Rattle.mls_script.specs.declared.event.Command.{Command}
-use Rattle.mls_script.specs.declared.event.Command.TheVariants as commands
+use Rattle.mls_translang.specs.declared.event.Event.{Event}
+use Rattle.mls_translang.specs.declared.event.Command.{Command}
+use Rattle.mls_translang.specs.declared.event.Command.TheVariants as commands
 use Rattle.mls_machine.specs.declared.reply.Denial.{Denial}
 use Rattle.mls_machine.specs.declared.reply.Denial.TheVariants.{AlreadyOpen}
 use Rattle.mls_machine.specs.declared.reply.Reply.{Reply}

@@ -9,7 +9,7 @@ use Rattle.mls_lattice.specs.Policy.{Policy}
 use Rattle.mls_scheme.specs.Table.{Database}
 use Rattle.mls_scheme.specs.Scheme.{Schemes}
 use Rattle.mls_certcheck.specs.Secure as secure
-use Rattle.mls_script.specs.declared.event.Event.{Event}
+use Rattle.mls_translang.specs.declared.event.Event.{Event}
 use Rattle.mls_machine.specs.declared.form.Form.{Form}
 use Rattle.mls_certcheck.specs.Site.{Site, site_labels, AreCertified}
 use Rattle.mls_machine.specs.Machine.{World, end_of}

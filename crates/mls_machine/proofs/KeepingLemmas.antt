@@ -16,10 +16,10 @@ use Rattle.mls_translang.specs.Fits.{IsReadUnder}
 use Rattle.mls_certcheck.specs.Meaning.{run_tx}
 use Rattle.mls_certcheck.proofs.MeaningLemmas.{keep_form as call_form, keep_content as call_content}
 use Rattle.mls_certcheck.proofs.ThroughoutLemmas.{form_throughout}
-use Rattle.mls_script.specs.declared.event.Event.{Event}
-use Rattle.mls_script.specs.declared.event.Command.{Command}
-use Rattle.mls_script.specs.declared.event.Command.TheVariants as commands
-use Rattle.mls_script.specs.Event.{IsWriteOf, CommandFits, EventFits}
+use Rattle.mls_translang.specs.declared.event.Event.{Event}
+use Rattle.mls_translang.specs.declared.event.Command.{Command}
+use Rattle.mls_translang.specs.declared.event.Command.TheVariants as commands
+use Rattle.mls_translang.specs.Event.{IsWriteOf, CommandFits, EventFits}
 use Rattle.mls_machine.specs.declared.reply.Denial.{Denial}
 use Rattle.mls_certcheck.specs.declared.stored.Stored.{Stored}
 use Rattle.mls_certcheck.specs.declared.stored.Stored.TheVariants.{Certified, Plain}

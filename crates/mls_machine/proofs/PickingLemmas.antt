@@ -13,13 +13,13 @@ use Rattle.mls_lattice.specs.Canon.{label_name}
 use Rattle.mls_lattice.proofs.NamedLemmas.{label_found, label_again, label_is_name}
 use Rattle.mls_certcheck.proofs.NameLemmas.{name_bytes}
 use Rattle.mls_certcheck.specs.Meaning.{Item}
-use Rattle.mls_script.specs.declared.event.Event.{Event}
+use Rattle.mls_translang.specs.declared.event.Event.{Event}
 use Rattle.mls_machine.specs.declared.form.Form.TheVariants.{Lines}
 use Rattle.mls_machine.specs.declared.reply.Reply.{Reply}
 use Rattle.mls_machine.specs.declared.reply.Reply.TheVariants.{Ran}
 use Rattle.mls_certcheck.specs.Site.{Site, site_labels, AreRead}
 use Rattle.mls_machine.specs.Machine.{World, step}
-use Rattle.mls_script.specs.Writing.{cell_text}
+use Rattle.mls_translang.specs.Writing.{cell_text}
 use Rattle.mls_machine.specs.Output.{Line, reply_texts, front, line, item_line, item_lines, reply_lines, run_lines, EntriesAreKnown, ItemsAreKnown, ReplyIsKnown}
 use Rattle.mls_machine.specs.Observation.{AreStored, EventsFit, everyone, out}
 use Rattle.mls_machine.specs.Parting.{is_space, label_told, may_see, LinesArePicked}

@@ -17,9 +17,9 @@ use Rattle.mls_audit.specs.declared.entry.Entry.{Entry}
 use Rattle.mls_certcheck.specs.declared.run.Run.{Run}
 use Rattle.mls_certcheck.specs.Meaning.{Item}
 use Rattle.mls_translang.specs.declared.query.Query.{Query}
-use Rattle.mls_script.specs.declared.event.Event.{Event}
-use Rattle.mls_script.specs.declared.event.Command.{Command}
-use Rattle.mls_script.specs.declared.event.Command.TheVariants as commands
+use Rattle.mls_translang.specs.declared.event.Event.{Event}
+use Rattle.mls_translang.specs.declared.event.Command.{Command}
+use Rattle.mls_translang.specs.declared.event.Command.TheVariants as commands
 use Rattle.mls_machine.specs.declared.form.Form.{Form}
 use Rattle.mls_machine.specs.declared.form.Form.TheVariants.{Lines, Table}
 use Rattle.mls_machine.specs.declared.reply.Reply.{Reply}
@@ -27,7 +27,7 @@ use Rattle.mls_machine.specs.declared.reply.Reply.TheVariants.{Rows, Dumped, Ran
 use Rattle.mls_certcheck.specs.declared.stored.Stored.{Stored}
 use Rattle.mls_certcheck.specs.Site.{Site, site_scheme}
 use Rattle.mls_machine.specs.Dumping.{dump_event}
-use Rattle.mls_script.specs.Writing.{cell_text}
+use Rattle.mls_translang.specs.Writing.{cell_text}
 use Rattle.mls_machine.specs.Output.{Line, name_of, front, line, item_line, heading, count_text, row_text, entry_text, view_texts, rows_texts, dump_heading, script_text, dump_texts, call_texts, reply_texts, reply_lines, reply_lines_in, lines_with, escaped_line, table_texts, texts_in_table, printed}
 use Rattle.mls_machine.specs.Under.{site_under}
 use Rattle.mls_machine.proofs.DumpLemmas.{printable_name}

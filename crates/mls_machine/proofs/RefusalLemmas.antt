@@ -4,9 +4,9 @@ use Rattle.mls_updates.specs.Writes.{Write}
 use Rattle.mls_queries.proofs.WrittenLemmas.{table_left, same_relation}
 use Rattle.mls_scheme.specs.declared.value.Value.{Value}
 use Rattle.mls_lattice.specs.Policy.{Name}
-use Rattle.mls_script.specs.declared.event.Event.{Event}
-use Rattle.mls_script.specs.declared.event.Command.{Command}
-use Rattle.mls_script.specs.declared.event.Command.TheVariants as commands
+use Rattle.mls_translang.specs.declared.event.Event.{Event}
+use Rattle.mls_translang.specs.declared.event.Command.{Command}
+use Rattle.mls_translang.specs.declared.event.Command.TheVariants as commands
 use Rattle.mls_machine.specs.declared.reply.Denial.{Denial}
 use Rattle.mls_certcheck.specs.declared.stored.Stored.{Stored}
 use Rattle.mls_certcheck.specs.declared.stored.Stored.TheVariants.{Certified, Plain}

@@ -17,7 +17,7 @@ use Rattle.mls_translang.specs.declared.query.Query.{Query}
 use Rattle.mls_audit.specs.declared.entry.Entry.{Entry}
 use Rattle.mls_audit.specs.declared.entry.Entry.TheVariants as entries
 use Rattle.mls_machine.specs.Parting.{IsOneLine, HasPlainNames}
-use Rattle.mls_script.specs.Writing.{value_text, cell_text}
+use Rattle.mls_translang.specs.Writing.{value_text, cell_text}
 use Rattle.mls_machine.specs.Output.{name_of, cell_entry, row_text, word_if, query_words, asked, heading, count_text, table_cell, tuple_cells, name_cells, table_row, table_of, entry_front, entry_text}
 use Rattle.mls_machine.proofs.OneLineLemmas.{one_line-append, one_line-flat_map, one_line-at, one_line-printable, one_line-quoted, one_line-decimal, one_line-signed, one_line-escaped, one_line-padded, one_line-ruled}
 

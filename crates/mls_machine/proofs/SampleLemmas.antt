@@ -11,9 +11,9 @@ use Rattle.mls_lattice.specs.Policy.{Name, Policy, granted_modes}
 use Rattle.mls_scheme.specs.Scheme.{Scheme}
 use Rattle.mls_audit.specs.declared.entry.Entry.{Entry}
 use Rattle.mls_translang.specs.declared.query.Query.{Query}
-use Rattle.mls_script.specs.declared.event.Event.{Event}
-use Rattle.mls_script.specs.declared.event.Command.{Command}
-use Rattle.mls_script.specs.declared.event.Command.TheVariants.{Open, Audit, View}
+use Rattle.mls_translang.specs.declared.event.Event.{Event}
+use Rattle.mls_translang.specs.declared.event.Command.{Command}
+use Rattle.mls_translang.specs.declared.event.Command.TheVariants.{Open, Audit, View}
 use Rattle.mls_certcheck.specs.Site.{Site}
 use Rattle.mls_machine.specs.declared.form.Form.TheVariants.{Lines}
 use Rattle.mls_machine.specs.declared.reply.Denial.TheVariants.{Ds, Ss, Star}

@@ -5,7 +5,7 @@ use Rattle.mls_tokens.specs.Screen.{escaped, IsHarmless}
 use Rattle.mls_tokens.proofs.EscapingLemmas.{escaped-line}
 use Rattle.mls_tokens.proofs.HarmlessLemmas.{escaped_harmless}
 use Rattle.mls_lattice.specs.Labels.{Labels, below}
-use Rattle.mls_script.specs.declared.event.Event.{Event}
+use Rattle.mls_translang.specs.declared.event.Event.{Event}
 use Rattle.mls_machine.specs.declared.form.Form.TheVariants.{Table}
 use Rattle.mls_certcheck.specs.Site.{Site, site_labels}
 use Rattle.mls_machine.specs.Machine.{World, step}

@@ -3,7 +3,7 @@ use Rattle.std.proofs.Common.{◌≡◌, ℕ, Bool, true, false, cond, List, [],
 use Rattle.mls_lattice.specs.Labels.{Labels, below}
 use Rattle.mls_certcheck.specs.declared.run.Run.{Run}
 use Rattle.mls_certcheck.specs.Meaning.{Item}
-use Rattle.mls_script.specs.declared.event.Event.{Event}
+use Rattle.mls_translang.specs.declared.event.Event.{Event}
 use Rattle.mls_machine.specs.declared.reply.Reply.{Reply}
 use Rattle.mls_machine.specs.declared.reply.Reply.TheVariants.{Opened, Closed, Rows, Dumped, Wrote, Ran, Entries, Denied}
 use Rattle.mls_certcheck.specs.Site.{Site, site_labels}

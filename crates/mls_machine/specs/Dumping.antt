@@ -7,10 +7,10 @@ use Rattle.mls_scheme.specs.declared.tuple.Element.{Element}
 use Rattle.mls_scheme.specs.declared.tuple.Tuple.{Tuple}
 use Rattle.mls_filterview.specs.Filtering.{greatest_from, class_number}
 use Rattle.mls_scheme.specs.declared.write.Write.TheVariants.{Insert, Update}
-use Rattle.mls_script.specs.declared.event.Event.{Event}
-use Rattle.mls_script.specs.declared.event.Command.{Command}
-use Rattle.mls_script.specs.declared.event.Command.TheVariants.{Write}
-use Rattle.mls_script.specs.Event.{Sets}
+use Rattle.mls_translang.specs.declared.event.Event.{Event}
+use Rattle.mls_translang.specs.declared.event.Command.{Command}
+use Rattle.mls_translang.specs.declared.event.Command.TheVariants.{Write}
+use Rattle.mls_translang.specs.Event.{Sets}
 use Rattle.mls_certcheck.specs.Site.{Site, site_labels, site_scheme}
 
 -- the values of class m, each with the number of its attribute, counted from k; there are n attributes

@@ -5,7 +5,7 @@ use Rattle.std.specs.List.{AllByRecursion, AllZip}
 use Rattle.mls_lattice.specs.Labels.{Labels, AreDistinct}
 use Rattle.mls_scheme.specs.Scheme.{Schemes}
 use Rattle.mls_certcheck.specs.Secure.{AreStored}
-use Rattle.mls_script.specs.declared.event.Event.{Event}
+use Rattle.mls_translang.specs.declared.event.Event.{Event}
 use Rattle.mls_machine.specs.declared.form.Form.{Form}
 use Rattle.mls_machine.specs.declared.form.Audience.{Audience}
 use Rattle.mls_machine.specs.declared.reply.Reply.{Reply}

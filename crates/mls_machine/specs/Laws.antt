@@ -9,9 +9,9 @@ use Rattle.mls_filterview.specs.Integrity.{HasIntegrity}
 use Rattle.mls_updates.specs.Outcome.{is_done}
 use Rattle.mls_audit.specs.declared.entry.Entry.{Entry}
 use Rattle.mls_certcheck.specs.Throughout.{Throughout}
-use Rattle.mls_script.specs.declared.event.Event.{Event}
-use Rattle.mls_script.specs.declared.event.Command.{Command}
-use Rattle.mls_script.specs.declared.event.Command.TheVariants.{Call}
+use Rattle.mls_translang.specs.declared.event.Event.{Event}
+use Rattle.mls_translang.specs.declared.event.Command.{Command}
+use Rattle.mls_translang.specs.declared.event.Command.TheVariants.{Call}
 use Rattle.mls_machine.specs.declared.form.Form.TheVariants.{Table}
 use Rattle.mls_machine.specs.declared.reply.Reply.{Reply}
 use Rattle.mls_machine.specs.declared.reply.Reply.TheVariants.{Opened, Closed, Rows, Dumped, Wrote, Ran, Entries}

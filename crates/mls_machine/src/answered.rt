@@ -3,7 +3,7 @@ ghost use Rattle.std.specs.Prelude.{◌<◌, length};
 
 use mls_lattice::Policy;
 use mls_scheme::Schemes;
-use mls_script::Event;
+use mls_translang::Event;
 use std::alloc::Global;
 
 /// An event, and what has the names of its numbers. Each line of a reply to it begins with its session, whose level is declared.

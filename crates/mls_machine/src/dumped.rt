@@ -8,7 +8,7 @@ ghost use Rattle.mls_machine.specs.Under.{site_under};
 use mls_filterview::class_number;
 use mls_lattice::{Items, LabelNo, Policy, Str};
 use mls_scheme::{Element, RelNo, Schemes, Tuple, Value, Write};
-use mls_script::{Command, Event};
+use mls_translang::{Command, Event};
 use std::alloc::{AllocError, Global};
 
 /// The values of a key, each one there.

@@ -3,7 +3,7 @@ ghost use Rattle.std.specs.Prelude.{◌≡◌, ◌<◌, ◌++◌, length, OnOk, 
 ghost use Rattle.std.specs.List.{AllByRecursion};
 ghost use Rattle.mls_scheme.specs.Scheme.{scheme_of};
 ghost use Rattle.mls_scheme.specs.Tuple.{HasClassesBelow};
-ghost use Rattle.mls_script.specs.Writing.{IsKnown};
+ghost use Rattle.mls_translang.specs.Writing.{IsKnown};
 ghost use Rattle.mls_machine.specs.Dumping.{dump_event};
 ghost use Rattle.mls_machine.specs.Output.{on_line, dump_heading, script_text, dump_texts, CommandIsKnown};
 ghost use Rattle.mls_machine.specs.Under.{site_under};
@@ -12,8 +12,8 @@ use crate::answered::Answered;
 use crate::dumped::dump_event;
 use crate::printing::push_front;
 use mls_scheme::{RelNo, Scheme, Tuple};
-use mls_script::{Command, Event, is_writable, push_event};
 use mls_tokens::push_str;
+use mls_translang::{Command, Event, is_writable, push_event};
 use std::alloc::AllocError;
 
 fn push_heading(text: &mut Vec<u8>, scheme: &Scheme) -> Result<(), AllocError>

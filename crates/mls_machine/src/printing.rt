@@ -6,8 +6,8 @@ ghost use Rattle.mls_machine.specs.Output.{front, entry_front, entry_text};
 use crate::answered::Answered;
 use mls_audit::Entry;
 use mls_lattice::{LabelNo, Policy};
-use mls_script::push_cell;
 use mls_tokens::{push_printable, push_str};
+use mls_translang::push_cell;
 use std::alloc::{AllocError, Global};
 
 /// Appends what stands before the text of a line that a label may see.

@@ -1,7 +1,7 @@
 //! The lines of a transaction that was run.
 ghost use Rattle.std.specs.Prelude.{◌≡◌, ◌<◌, ◌++◌, length, codes, OnOk, IfOk, flat_map};
 ghost use Rattle.mls_tokens.specs.Writing.{printable};
-ghost use Rattle.mls_script.specs.Writing.{cell_text};
+ghost use Rattle.mls_translang.specs.Writing.{cell_text};
 ghost use Rattle.mls_machine.specs.Output.{front, on_line, call_texts, ItemsAreKnown};
 
 use crate::answered::Answered;
@@ -9,8 +9,8 @@ use crate::printing::push_front;
 use mls_certcheck::Run;
 use mls_lattice::LabelNo;
 use mls_scheme::Value;
-use mls_script::{Command, push_cell};
 use mls_tokens::{push_printable, push_str};
+use mls_translang::{Command, push_cell};
 use std::alloc::AllocError;
 
 /// Appends the line of an item, which its label may see.

@@ -9,8 +9,8 @@ ghost use Rattle.mls_machine.specs.Output.{cell_entry, name_of, row_text};
 use mls_filterview::is_same_label;
 use mls_lattice::{Label, LabelNo, Policy};
 use mls_scheme::{Element, Tuple, Value, tuple_class};
-use mls_script::{push_cell, push_value};
 use mls_tokens::push_str;
+use mls_translang::{push_cell, push_value};
 use std::alloc::{AllocError, Global};
 
 fn push_class(text: &mut Vec<u8>, policy: &Policy, class: LabelNo) -> Result<(), AllocError>

@@ -21,8 +21,8 @@ use mls_audit::Entry;
 use mls_lattice::{Policy, UserNo};
 use mls_queries::Selection;
 use mls_scheme::{Attributes, Schemes};
-use mls_script::{Command, Event};
 use mls_tokens::push_str;
+use mls_translang::{Command, Event};
 use mls_updates::Outcome;
 use std::alloc::{AllocError, Global};
 

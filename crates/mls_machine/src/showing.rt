@@ -16,8 +16,8 @@ use crate::{Audience, Form, Reply};
 use mls_lattice::{LabelNo, Policy};
 use mls_queries::Selection;
 use mls_scheme::Schemes;
-use mls_script::Event;
 use mls_tokens::escape;
+use mls_translang::Event;
 use std::alloc::{AllocError, Global};
 
 /// The lines of a reply whose labels the reader dominates, or all where there is no reader.

@@ -13,7 +13,7 @@ use crate::replies::reply_bytes;
 use mls_certcheck::Run;
 use mls_lattice::{LabelNo, Policy};
 use mls_scheme::{Schemes, Value};
-use mls_script::Event;
+use mls_translang::Event;
 use std::alloc::{AllocError, Global};
 
 /// Appends the line of an item, if the reader dominates its label.

@@ -16,8 +16,8 @@ use crate::printing_rows::name_of;
 use mls_lattice::{Items, LabelNo, Policy};
 use mls_queries::Selection;
 use mls_scheme::{Attributes, Element, Scheme, Tuple, Value, tuple_class};
-use mls_script::{push_cell, push_value};
 use mls_tokens::{escape, push_row, push_rule, push_str, wider};
+use mls_translang::{push_cell, push_value};
 use std::alloc::{AllocError, Global};
 
 // ---- cells

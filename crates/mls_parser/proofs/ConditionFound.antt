@@ -22,7 +22,8 @@ use Rattle.mls_translang.specs.Tree.{Expr}
 use Rattle.mls_parser.specs.declared.fault.PlacedFault.{PlacedFault}
 use Rattle.mls_parser.specs.declared.fault.TextCause.TheVariants as cause
 use Rattle.mls_parser.specs.declared.given.Given.{Given}
-use Rattle.mls_parser.specs.Condition.{is_comparison, SpellsBetween, SpellsSide, SpellsTest, SpellsTests, SpellsCondition, TellsCondition, IsCondition, IsConditionOf}
+use Rattle.mls_parser.specs.Condition.{is_comparison, SpellsBetween, SpellsSide, SpellsTest, SpellsTests, SpellsCondition, TellsCondition, IsCondition}
+use Rattle.mls_translang.specs.Fits.{IsConditionOf}
 use Rattle.mls_parser.specs.Fault.{fault}
 use Rattle.mls_parser.specs.Infer.{may_be_truth, operands_fit}
 use Rattle.mls_parser.specs.Noted.{State, Read, note, token, GivesPlaced}

@@ -12,14 +12,14 @@ use Rattle.mls_scheme.proofs.CanonLemmas.{attribute_there}
 use Rattle.mls_scheme.proofs.SchemeNameLemmas.{scheme_is}
 use Rattle.mls_translang.specs.declared.operator.Operator.{Operator}
 use Rattle.mls_translang.specs.declared.operator.Operator.TheVariants as operators
-use Rattle.mls_translang.specs.Fits.{width, ExprFits}
+use Rattle.mls_translang.specs.Fits.{width, ExprFits, IsConditionOf, row_scope}
 use Rattle.mls_translang.specs.Kinds.{Sort, Of, Truth, OperatorGives, HasSort, field_of}
 use Rattle.mls_scheme.specs.Named.{has_name}
 use Rattle.mls_translang.specs.Tree.{Expr, Known, Var, Field, No, Op}
 use Rattle.mls_translang.specs.Tx.{HasOwn}
 use Rattle.mls_translang.proofs.FieldLemmas.{as_key, as_other}
-use Rattle.mls_parser.specs.Condition.{IsConditionOf, TellsCondition}
-use Rattle.mls_parser.specs.ReadCondition.{attribute_var, row_vars, row_scope, written_scope, written_place, as_fields}
+use Rattle.mls_parser.specs.Condition.{TellsCondition}
+use Rattle.mls_parser.specs.ReadCondition.{attribute_var, row_vars, written_scope, written_place, as_fields}
 use Rattle.mls_parser.proofs.FoundLemmas.{HasNames, named_any, new_behind, distinct_front}
 
 -- ---- variables

@@ -18,7 +18,7 @@ use Rattle.mls_translang.specs.Tokens.{Context, operator_token, expr_tokens}
 use Rattle.mls_translang.specs.Tree.{Expr, Op}
 use Rattle.mls_translang.specs.Tx.{nesting, HasOwn}
 use Rattle.mls_parser.specs.Noted.{State}
-use Rattle.mls_parser.specs.ReadCondition.{comparison_of, joiner_of, row_scope, written_scope, written_place, as_fields}
+use Rattle.mls_parser.specs.ReadCondition.{comparison_of, joiner_of, written_scope, written_place, as_fields}
 use Rattle.mls_parser.specs.ReadCondition.{condition_at}
 
 -- ---- what spells a condition
@@ -62,12 +62,6 @@ module _ (p : Context) where
 
   abbrev pub SpellsCondition : Expr → List Token → Type 0
   SpellsCondition e ts = SpellsTests And 16 e ts ⊎ SpellsTests Or 16 e ts
-
--- a truth value of one row of a relation, which names nothing else
-pub record IsConditionOf (schemes : Schemes) (relation : ℕ) (e : Expr) : Type 0 where
-  pub own : HasOwn (row_scope schemes relation) e
-  pub fits : ExprFits schemes (row_scope schemes relation) e
-  pub truth : HasSort schemes (row_scope schemes relation) Truth e
 
 module _ (policy : Policy) (schemes : Schemes) (relation : ℕ) where
   -- a condition on rows of a relation: an attribute stands there by its name alone, or behind the name of the relation

@@ -16,10 +16,10 @@ use Rattle.mls_tokens.specs.Passing.{left}
 use Rattle.mls_translang.specs.declared.operator.Operator.{Operator}
 use Rattle.mls_translang.specs.declared.operator.Operator.TheVariants.{Equal, Unequal, Less, AtMost, Greater, AtLeast}
 use Rattle.mls_translang.specs.declared.operator.Operator.TheVariants.{And, Or}
-use Rattle.mls_translang.specs.declared.row.LoopRow.{LoopRow}
 use Rattle.mls_translang.specs.Scope.{Scope}
 use Rattle.mls_translang.specs.Tokens.{Context}
 use Rattle.mls_translang.specs.Tree.{Expr, Known, Null, Var, Param, Field, No, Op}
+use Rattle.mls_translang.specs.Fits.{row_of}
 use Rattle.mls_parser.specs.declared.fault.PlacedFault.{PlacedFault}
 use Rattle.mls_parser.specs.declared.fault.TextCause.TheVariants.{Expected, Kind as Wrong_kind, Depth}
 use Rattle.mls_parser.specs.declared.given.Given.{Given}
@@ -134,13 +134,6 @@ attribute_var a = (a.0, a.1.kind)
 -- they count as variables, those of the key first
 abbrev pub row_vars : Scheme → List (Name × Kind)
 row_vars scheme = map attribute_var (scheme.keys ++ scheme.others)
-
-abbrev pub row_of : Schemes → ℕ → LoopRow
-row_of schemes relation = record { name = (scheme_of schemes relation).name; relation = relation }
-
--- one row, by the name of its relation
-abbrev pub row_scope : Schemes → ℕ → Scope
-row_scope schemes relation = record { params = []; vars = []; rows = row_of schemes relation ∷ [] }
 
 abbrev pub written_scope : Schemes → ℕ → Scope
 written_scope schemes relation = record { params = []; vars = row_vars (scheme_of schemes relation); rows = row_of schemes relation ∷ [] }

@@ -3,9 +3,8 @@ use Rattle.std.proofs.Common.{◌≡◌, ℕ, ◌-◌, ◌<◌, true, false, con
 use Rattle.std.proofs.lemmas.List.{get_or_past}
 use Rattle.mls_scheme.specs.declared.value.Value.{Value}
 use Rattle.mls_scheme.specs.declared.tuple.Tuple.{Tuple}
-use Rattle.mls_scheme.specs.Tuple.{at, null_element}
-use Rattle.mls_filterview.specs.Rules.{no_tuple}
-use Rattle.mls_certcheck.specs.Expressions.{cell_of}
+use Rattle.mls_scheme.specs.Tuple.{at, null_element, no_tuple}
+use Rattle.mls_translang.specs.Expressions.{cell_of}
 
 no_cell : (i : ℕ) → cell_of no_tuple i ≡ None
 no_cell i = elim (nat_lt i 0) as (λ b. cond b (slice_index_or (map Some []) i None) (at [] (i - 0)).value ≡ None) [

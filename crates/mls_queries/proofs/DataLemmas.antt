@@ -4,7 +4,7 @@ use Rattle.mls_scheme.specs.declared.value.Value.{Value}
 use Rattle.mls_scheme.specs.declared.value.Value.TheVariants.{Int}
 use Rattle.mls_scheme.specs.Value.{is_signed}
 use Rattle.mls_scheme.proofs.KindLemmas.{signed-from, signed-true}
-use Rattle.mls_certcheck.specs.Expressions.{Plain, bounded, calculate}
+use Rattle.mls_translang.specs.Expressions.{Plain, bounded, calculate}
 use Rattle.mls_queries.specs.Data.{of_number, number_of}
 
 not_signed : (n : ℤ) → (FitsSigned w64 n → ⊥) → is_signed n ≡ false

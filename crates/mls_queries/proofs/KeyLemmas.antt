@@ -12,7 +12,7 @@ use Rattle.mls_scheme.proofs.OrderLemmas.{value_eq-true}
 use Rattle.mls_filterview.specs.View.{rows}
 use Rattle.mls_translang.specs.declared.operator.Operator.TheVariants as operators
 use Rattle.mls_translang.specs.Tree.{Expr, Known, Field, Op}
-use Rattle.mls_certcheck.specs.Expressions.{eval, same, cell_of, value_in}
+use Rattle.mls_translang.specs.Expressions.{eval, same, cell_of, value_in}
 use Rattle.mls_queries.specs.Query.{passes, is_key, reading}
 use Rattle.mls_filterview.proofs.MendLemmas.{rows_of_those}
 use Rattle.mls_queries.specs.Demanded.{either, is_field, value_known, equated, demanded, put_first, demanded_from, of_key}

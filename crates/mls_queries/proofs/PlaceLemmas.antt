@@ -6,7 +6,7 @@ use Rattle.std.proofs.lemmas.List.{map-append, take-map, take_more}
 use Rattle.mls_lattice.specs.Labels.{Labels}
 use Rattle.mls_lattice.proofs.EachLemmas.{all_append, all_take}
 use Rattle.mls_scheme.specs.declared.tuple.Tuple.{Tuple}
-use Rattle.mls_filterview.specs.Rules.{no_tuple}
+use Rattle.mls_scheme.specs.Tuple.{no_tuple}
 use Rattle.mls_filterview.proofs.FilteredLemmas.{map_filter}
 use Rattle.mls_translang.specs.declared.query.Query.{Query}
 use Rattle.mls_queries.specs.Query.{first_of, is_wanted, has_class, meets, highest_of, found}

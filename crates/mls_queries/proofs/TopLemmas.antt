@@ -16,10 +16,9 @@ use Rattle.mls_scheme.specs.declared.value.Value.{Value}
 use Rattle.mls_scheme.specs.declared.tuple.Tuple.{Tuple}
 use Rattle.mls_scheme.specs.declared.place.Place.{Place}
 use Rattle.mls_scheme.specs.Value.{value_cmp}
-use Rattle.mls_scheme.specs.Tuple.{tuple_class}
+use Rattle.mls_scheme.specs.Tuple.{tuple_class, no_tuple}
 use Rattle.mls_scheme.specs.Table.{place_cmp, Table, tuple_at}
 use Rattle.mls_scheme.proofs.OrderLemmas.{value_total, value_exact, is_eq-true}
-use Rattle.mls_filterview.specs.Rules.{no_tuple}
 use Rattle.mls_filterview.specs.Subsumption.{is_max_among}
 use Rattle.mls_filterview.specs.View.{low, rows, IsAmong}
 use Rattle.mls_filterview.proofs.AmongLemmas.{all_at, any_left, any_right}

@@ -4,7 +4,7 @@ use Rattle.std.specs.declared.cmp.Ordering.{Ordering}
 use Rattle.mls_scheme.specs.declared.value.Value.{Value}
 use Rattle.mls_scheme.specs.declared.value.Value.TheVariants.{Int}
 use Rattle.mls_scheme.specs.Value.{value_cmp}
-use Rattle.mls_certcheck.specs.Expressions.{Datum, Plain, Truth}
+use Rattle.mls_translang.specs.Expressions.{Datum, Plain, Truth}
 use Rattle.mls_queries.specs.declared.datum.Datum as of_datum
 use Rattle.mls_queries.specs.declared.datum.Datum.TheVariants as given
 

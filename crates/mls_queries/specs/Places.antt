@@ -7,7 +7,7 @@ use Rattle.std.specs.declared.cmp.Ordering.TheVariants.{Greater}
 use Rattle.mls_lattice.specs.Labels.{Labels}
 use Rattle.mls_scheme.specs.declared.tuple.Tuple.{Tuple}
 use Rattle.mls_scheme.specs.Value.{value_cmp}
-use Rattle.mls_filterview.specs.Rules.{no_tuple}
+use Rattle.mls_scheme.specs.Tuple.{no_tuple}
 use Rattle.mls_translang.specs.declared.query.Query.{Query}
 use Rattle.mls_queries.specs.Query.{is_above}
 

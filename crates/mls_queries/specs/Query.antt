@@ -10,7 +10,7 @@ use Rattle.mls_scheme.specs.declared.tuple.Tuple.{Tuple}
 use Rattle.mls_scheme.specs.Value.{value_cmp}
 use Rattle.mls_scheme.specs.Tuple.{tuple_class}
 use Rattle.mls_translang.specs.Tree.{Expr}
-use Rattle.mls_certcheck.specs.Expressions.{Environment, holds_in}
+use Rattle.mls_translang.specs.Expressions.{Environment, holds_in}
 use Rattle.mls_translang.specs.declared.query.Comparison.{Comparison}
 use Rattle.mls_translang.specs.declared.query.Comparison.TheVariants as compared
 use Rattle.mls_translang.specs.declared.query.ClassTest.{ClassTest}

@@ -5,8 +5,7 @@ ghost use Rattle.mls_lattice.specs.Policy.{labels_of};
 ghost use Rattle.mls_scheme.specs.Tuple.{tuple_class};
 ghost use Rattle.mls_queries.specs.Query.{is_strictly_below, stands, has_class};
 
-use mls_certcheck::{declared, flows};
-use mls_lattice::{Label, Policy};
+use mls_lattice::{Label, Policy, declared, flows};
 use mls_scheme::Tuple;
 use mls_translang::{ClassTest, Comparison};
 

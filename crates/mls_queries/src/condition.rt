@@ -1,7 +1,7 @@
 //! Conditions on one row.
 ghost use Rattle.std.specs.Prelude.{◌≡◌, [], ◌∷◌, slice_index_or};
-ghost use Rattle.mls_filterview.specs.Rules.{no_tuple};
-ghost use Rattle.mls_certcheck.specs.Expressions.{Plain, cell_of, eval};
+ghost use Rattle.mls_scheme.specs.Tuple.{no_tuple};
+ghost use Rattle.mls_translang.specs.Expressions.{Plain, cell_of, eval};
 ghost use Rattle.mls_queries.specs.Data.{datum_of};
 ghost use Rattle.mls_queries.specs.Query.{reading, passes};
 
@@ -37,7 +37,7 @@ fn field(row: &Tuple, depth: u8, attribute: u8) -> Datum<'_>
 }
 
 /// What an expression gives that reads nothing but the attributes of a row.
-#[tactic(auto, using(crate::proofs::ConditionLemmas::no_param), unfolding(mls_certcheck::specs::Expressions::eval))]
+#[tactic(auto, using(crate::proofs::ConditionLemmas::no_param), unfolding(mls_translang::specs::Expressions::eval))]
 fn eval<'a>(expr: &'a Expr, row: &'a Tuple) -> Datum<'a>
     ensures { datum_of result ≡ eval (reading row.now) expr.now }
 {

@@ -1,7 +1,7 @@
 //! What expressions give.
 ghost use Rattle.std.specs.Prelude.{◌≡◌, IfOk};
 ghost use Rattle.mls_scheme.specs.Value.{fits_kind};
-ghost use Rattle.mls_certcheck.specs.Expressions.{Plain, value_of, is_true};
+ghost use Rattle.mls_translang.specs.Expressions.{Plain, value_of, is_true};
 ghost use Rattle.mls_queries.specs.Data.{datum_of, number_of, is_null, of_number};
 
 use mls_scheme::{Kind, Value};

@@ -1,6 +1,6 @@
 //! What operators give.
 ghost use Rattle.std.specs.Prelude.{◌≡◌, ◌+ℤ◌, ◌-ℤ◌, ◌*ℤ◌};
-ghost use Rattle.mls_certcheck.specs.Expressions.{Plain, value_of, calculate, same, less, at_most, apply};
+ghost use Rattle.mls_translang.specs.Expressions.{Plain, value_of, calculate, same, less, at_most, apply};
 ghost use Rattle.mls_queries.specs.Data.{datum_of, order_of};
 
 use crate::datum::Datum;

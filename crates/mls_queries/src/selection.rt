@@ -1,6 +1,6 @@
 //! Rows of a view, which is shared and not copied.
 ghost use Rattle.std.specs.Prelude.{◌≡◌, ◌<◌, length, slice_index_or};
-ghost use Rattle.mls_filterview.specs.Rules.{no_tuple};
+ghost use Rattle.mls_scheme.specs.Tuple.{no_tuple};
 ghost use Rattle.mls_queries.specs.Places.{rows_at, AreWithin};
 
 use mls_filterview::SharedView;

@@ -1,7 +1,7 @@
 //! The rows that a query asks for, by what each is itself.
 ghost use Rattle.std.specs.Prelude.{◌≡◌, ◌&&◌, slice_index_or, IfOk, filter};
 ghost use Rattle.mls_lattice.specs.Policy.{labels_of};
-ghost use Rattle.mls_filterview.specs.Rules.{no_tuple};
+ghost use Rattle.mls_scheme.specs.Tuple.{no_tuple};
 ghost use Rattle.mls_queries.specs.Query.{has_class, meets, is_wanted};
 ghost use Rattle.mls_queries.specs.Places.{AreWithin};
 

@@ -6,9 +6,9 @@ use Rattle.mls_scheme.specs.Table.{Database}
 use Rattle.mls_filterview.specs.Content.{with_table}
 use Rattle.mls_updates.specs.Writes.{Write}
 use Rattle.mls_queries.proofs.WrittenLemmas.{same_relation}
-use Rattle.mls_script.specs.declared.event.Event.{Event}
-use Rattle.mls_script.specs.declared.event.Command.{Command}
-use Rattle.mls_script.specs.declared.event.Command.TheVariants as commands
+use Rattle.mls_translang.specs.declared.event.Event.{Event}
+use Rattle.mls_translang.specs.declared.event.Command.{Command}
+use Rattle.mls_translang.specs.declared.event.Command.TheVariants as commands
 use Rattle.mls_certcheck.specs.Site.{Site, site_labels, site_scheme}
 use Rattle.mls_machine.specs.declared.reply.Denial.{Denial}
 use Rattle.mls_machine.specs.Denying.{first_denial, write_denials}

@@ -1,7 +1,7 @@
 -- What replicas show: a level sees of two logs with one feed the same.
 use Rattle.std.proofs.Common.{◌≡◌, Bool, map, ap}
 use Rattle.mls_lattice.specs.Labels.{below}
-use Rattle.mls_script.specs.declared.event.Event.{Event}
+use Rattle.mls_translang.specs.declared.event.Event.{Event}
 use Rattle.mls_certcheck.specs.Site.{site_labels}
 use Rattle.mls_machine.specs.Observation.{glimpse, seen}
 use Rattle.mls_machine.proofs.AlikeLemmas.{filter_within}

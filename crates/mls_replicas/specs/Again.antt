@@ -4,9 +4,9 @@ use Rattle.mls_lattice.specs.Labels.{Labels}
 use Rattle.mls_scheme.specs.Scheme.{Scheme}
 use Rattle.mls_scheme.specs.Table.{Table}
 use Rattle.mls_updates.specs.Writes.{Write, write}
-use Rattle.mls_script.specs.declared.event.Event.{Event}
-use Rattle.mls_script.specs.declared.event.Command.{Command}
-use Rattle.mls_script.specs.declared.event.Command.TheVariants as commands
+use Rattle.mls_translang.specs.declared.event.Event.{Event}
+use Rattle.mls_translang.specs.declared.event.Command.{Command}
+use Rattle.mls_translang.specs.declared.event.Command.TheVariants as commands
 use Rattle.mls_certcheck.specs.Site.{Site}
 use Rattle.mls_machine.specs.Machine.{World, step}
 

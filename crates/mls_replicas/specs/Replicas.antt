@@ -1,7 +1,7 @@
 -- Replicas: stores that do the events of one log, each between events of its own.
 use Rattle.std.specs.Prelude.{◌≡◌, ℕ, List, ◌⊎◌, filter}
 use Rattle.mls_lattice.specs.Labels.{AreDistinct, below}
-use Rattle.mls_script.specs.declared.event.Event.{Event}
+use Rattle.mls_translang.specs.declared.event.Event.{Event}
 use Rattle.mls_certcheck.specs.Site.{Site, site_labels, AreRead, AreCertified}
 use Rattle.mls_machine.specs.Machine.{World}
 use Rattle.mls_machine.specs.Observation.{AreStored, EventsFit, AgreeAt, EndAlike, released_to, AreBelowCeiling}

@@ -12,7 +12,7 @@ use Rattle.mls_machine.proofs.KeepingLemmas.{keep_integrity}
 use Rattle.mls_machine.proofs.RunLemmas.{first_accepted_alike}
 use Rattle.mls_machine.proofs.ServingLemmas.{served_alike}
 use Rattle.mls_sessions.specs.World.{world_at}
-use Rattle.mls_script.specs.declared.run_fault.RunFault.{RunFault}
+use Rattle.mls_translang.specs.declared.run_fault.RunFault.{RunFault}
 use Rattle.mls_host.specs.declared.ending.Ending.{Ending}
 use Rattle.mls_host.specs.declared.reason.Reason.{Reason}
 use Rattle.mls_host.specs.declared.reason.Reason.TheVariants.{Memory}

@@ -20,7 +20,7 @@ use Rattle.mls_fragments.specs.Holdings.{holdings_of}
 use Rattle.mls_fragments.proofs.AgainLemmas.{kept_is_taken}
 use Rattle.mls_fragments.proofs.HoldingsLemmas.{sound_is_taken}
 use Rattle.mls_certcheck.specs.Secure.{AreStored}
-use Rattle.mls_script.specs.declared.event.Event.{Event}
+use Rattle.mls_translang.specs.declared.event.Event.{Event}
 use Rattle.mls_machine.specs.declared.form.Audience.{Audience}
 use Rattle.mls_certcheck.specs.declared.stored.Stored.{Stored}
 use Rattle.mls_certcheck.specs.Site.{Site, AreCertified, site_of}
@@ -29,7 +29,7 @@ use Rattle.mls_machine.specs.Output.{run_lines, printed}
 use Rattle.mls_machine.specs.Observation.{EventsFit, heard}
 use Rattle.mls_machine.specs.History.{RunAt, settled, run_at, run_start, run_end, turning_lines, history_end, history_lines, history_bytes, HistoryFits, IsHistoryUnder, IsSiteUnder, ShowsOnlyReleasesInHistory}
 use Rattle.mls_machine.proofs.HistoryLemmas.{histories_keep, accepted_histories, histories_show}
-use Rattle.mls_script.specs.declared.run_fault.RunFault.{RunFault}
+use Rattle.mls_translang.specs.declared.run_fault.RunFault.{RunFault}
 use Rattle.mls_runs.specs.Running.{IsRun}
 use Rattle.mls_runs.specs.declared.history.Run.{Run}
 use Rattle.mls_runs.specs.declared.history.HistoryCause.{HistoryCause}

@@ -1,7 +1,7 @@
 -- A shell answers what a desk of its one session does.
 use Rattle.std.proofs.Common.{◌≡◌, Bool, true, false, true≢false, ◌&&◌, nat_eq, eqb-true, List, [], ◌∷◌, ◌++◌, refl, sym, ap, ◌∙◌, append-nil, bytes_eq}
 use Rattle.std.specs.List.{list_all}
-use Rattle.mls_script.specs.declared.event.Event.{Event}
+use Rattle.mls_translang.specs.declared.event.Event.{Event}
 use Rattle.mls_machine.specs.declared.form.Form.TheVariants.{Lines}
 use Rattle.mls_certcheck.specs.Site.{Site}
 use Rattle.mls_machine.specs.Machine.{World, step, end_of}

@@ -4,7 +4,7 @@ use Rattle.std.specs.List.{list_any, cons_option}
 use Rattle.std.specs.Io.KnownBytes.{Appends, IsAtEnd}
 use Rattle.mls_lattice.specs.Policy.{Policy}
 use Rattle.mls_scheme.specs.Scheme.{Schemes}
-use Rattle.mls_script.specs.declared.event.Event.{Event}
+use Rattle.mls_translang.specs.declared.event.Event.{Event}
 use Rattle.mls_script.specs.declared.fault.ScriptFault.{ScriptFault}
 use Rattle.mls_script.specs.Reading.{script_at}
 use Rattle.mls_script.specs.Script.{Line, ReadsScript}

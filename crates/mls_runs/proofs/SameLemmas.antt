@@ -5,7 +5,7 @@ use Rattle.mls_lattice.specs.Labels.{below}
 use Rattle.mls_lattice.proofs.LatticeLemmas.{below-refl}
 use Rattle.mls_filterview.specs.Content.{Content}
 use Rattle.mls_updates.specs.declared.outcome.Outcome.{Outcome}
-use Rattle.mls_script.specs.declared.event.Event.{Event}
+use Rattle.mls_translang.specs.declared.event.Event.{Event}
 use Rattle.mls_script.specs.declared.fault.ScriptFault.{ScriptFault}
 use Rattle.mls_certcheck.specs.Site.{Site, site_labels, site_of}
 use Rattle.mls_machine.specs.declared.reply.Reply.{Reply}
@@ -13,7 +13,7 @@ use Rattle.mls_machine.specs.declared.reply.Reply.TheVariants as replies
 use Rattle.mls_machine.specs.Machine.{World, step, end_of}
 use Rattle.mls_machine.specs.Observation.{glimpse, seen, reply_shown, replies_shown, run_shows, reader_of, EndAlike, PassesOnlyReleasesDown, ShowsOnlyReleases, IsBelowCeiling}
 use Rattle.mls_machine.specs.Serving.{answer_to, answers_to, served_to, ServesOnlyReleases}
-use Rattle.mls_script.specs.declared.run_fault.RunFault.{RunFault}
+use Rattle.mls_translang.specs.declared.run_fault.RunFault.{RunFault}
 use Rattle.mls_sessions.specs.declared.notice.Notice.{Notice}
 use Rattle.mls_sessions.specs.Run.{is_done, are_done, notice_of, last_of, notice_in}
 use Rattle.mls_host.specs.declared.ending.Ending.{Ending}

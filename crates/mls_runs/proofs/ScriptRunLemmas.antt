@@ -1,8 +1,8 @@
 -- Runs of scripts.
 use Rattle.std.proofs.Common.{refl, ◌≡◌, ℕ, Bool, List, [], Option, Result, Ok, Err, sym, subst, IsErrAnd}
 use Rattle.mls_certcheck.specs.declared.stored.Stored.{Stored}
-use Rattle.mls_script.specs.declared.event.Event.{Event}
-use Rattle.mls_script.specs.declared.run_fault.RunFault.{RunFault}
+use Rattle.mls_translang.specs.declared.event.Event.{Event}
+use Rattle.mls_translang.specs.declared.run_fault.RunFault.{RunFault}
 use Rattle.mls_machine.specs.declared.form.Form.{Form}
 use Rattle.mls_host.specs.declared.reason.Reason.{Reason}
 use Rattle.mls_host.specs.declared.stop.Stop.{Stop}

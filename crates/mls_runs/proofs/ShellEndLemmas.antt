@@ -5,7 +5,7 @@ use Rattle.std.specs.Io.KnownBytes.{Appends}
 use Rattle.mls_filterview.specs.Content.{Content}
 use Rattle.mls_lattice.specs.Name.{is_name}
 use Rattle.mls_lattice.specs.Labels.{AreDistinct}
-use Rattle.mls_script.specs.declared.event.Event.{Event}
+use Rattle.mls_translang.specs.declared.event.Event.{Event}
 use Rattle.mls_audit.specs.Sound.{IsSoundContent}
 use Rattle.mls_certcheck.specs.declared.stored.Stored.{Stored}
 use Rattle.mls_certcheck.specs.Site.{Site, site_labels, AreRead, AreCertified, site_of}
@@ -14,7 +14,7 @@ use Rattle.mls_machine.specs.Observation.{AreStored, EventsFit}
 use Rattle.mls_machine.proofs.KeepingLemmas.{keep_integrity}
 use Rattle.mls_machine.proofs.RunLemmas.{first_accepted_alike}
 use Rattle.mls_sessions.specs.World.{world_at}
-use Rattle.mls_script.specs.declared.run_fault.RunFault.{RunFault}
+use Rattle.mls_translang.specs.declared.run_fault.RunFault.{RunFault}
 use Rattle.mls_host.specs.declared.ending.Ending.{Ending}
 use Rattle.mls_runs.specs.declared.shell_session.ShellSession.{ShellSession}
 use Rattle.mls_host.specs.declared.reason.Reason.{Reason}

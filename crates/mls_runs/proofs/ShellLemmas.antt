@@ -7,7 +7,7 @@ use Rattle.std.proofs.lemmas.Grind.{flat_map-append}
 use Rattle.std.proofs.lemmas.List.Elements.{filter-append}
 use Rattle.std.proofs.lemmas.List.Folds.{list_any-append}
 use Rattle.std.proofs.Math.Seq.{take-append-add, take-append_seam}
-use Rattle.mls_script.specs.declared.event.Event.{Event}
+use Rattle.mls_translang.specs.declared.event.Event.{Event}
 use Rattle.mls_machine.specs.declared.form.Form.{Form}
 use Rattle.mls_machine.specs.declared.form.Audience.{Audience}
 use Rattle.mls_certcheck.specs.Site.{Site, site_labels}
@@ -15,7 +15,7 @@ use Rattle.mls_machine.specs.Machine.{World, step, end_of}
 use Rattle.mls_machine.specs.Output.{reply_lines_in, run_lines, printed}
 use Rattle.mls_machine.specs.Observation.{heard, run_shows}
 use Rattle.mls_machine.proofs.LineLemmas.{printed-append, nothing_heard}
-use Rattle.mls_script.specs.declared.run_fault.RunFault.{RunFault}
+use Rattle.mls_translang.specs.declared.run_fault.RunFault.{RunFault}
 use Rattle.mls_sessions.specs.Run.{are_done, IsWhole, IsStopped, IsFaultOf, printed_to, world_after}
 use Rattle.mls_host.specs.declared.errors.Errors.{Errors}
 use Rattle.mls_host.specs.declared.telling.Tally.{Tally}

@@ -13,8 +13,8 @@ use Rattle.mls_filterview.proofs.WidenLemmas.{view_of_widened_table}
 use Rattle.mls_audit.specs.Entry.{visible}
 use Rattle.mls_sessions.specs.World.{entries_in}
 use Rattle.mls_fragments.proofs.HoldingsLemmas.{sound_is_taken}
-use Rattle.mls_script.specs.declared.event.Event.{Event}
-use Rattle.mls_script.specs.declared.run_fault.RunFault.{RunFault}
+use Rattle.mls_translang.specs.declared.event.Event.{Event}
+use Rattle.mls_translang.specs.declared.run_fault.RunFault.{RunFault}
 use Rattle.mls_certcheck.specs.Site.{Site, site_labels, site_of}
 use Rattle.mls_machine.specs.declared.form.Audience.{Audience}
 use Rattle.mls_machine.specs.Machine.{World, end_of}

@@ -5,7 +5,7 @@ use Rattle.std.specs.Io.KnownBytes.{Appends, IsAtEnd}
 use Rattle.std.proofs.KnownBytes.{Appends-trans}
 use Rattle.mls_lattice.proofs.EachLemmas.{all_append}
 use Rattle.mls_filterview.specs.Content.{Seen}
-use Rattle.mls_script.specs.declared.event.Event.{Event}
+use Rattle.mls_translang.specs.declared.event.Event.{Event}
 use Rattle.mls_machine.specs.declared.form.Audience.{Audience}
 use Rattle.mls_certcheck.specs.declared.stored.Stored.{Stored}
 use Rattle.mls_certcheck.specs.Site.{Site, site_of}
@@ -14,8 +14,8 @@ use Rattle.mls_machine.specs.Observation.{EventsFit}
 use Rattle.mls_lattice.specs.Policy.{Policy}
 use Rattle.mls_scheme.specs.Scheme.{Schemes}
 use Rattle.mls_sessions.specs.Sessions.{site_of_run}
-use Rattle.mls_script.specs.declared.run_fault.RunFault.{RunFault}
-use Rattle.mls_script.specs.declared.run_fault.RunCause.{RunCause}
+use Rattle.mls_translang.specs.declared.run_fault.RunFault.{RunFault}
+use Rattle.mls_translang.specs.declared.run_fault.RunCause.{RunCause}
 use Rattle.mls_sessions.specs.declared.engine.Engine.{Engine}
 use Rattle.mls_sessions.specs.Engine.{site, world_of, IsKept}
 use Rattle.mls_sessions.specs.declared.notice.Notice.{Notice}

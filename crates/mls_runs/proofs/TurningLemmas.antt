@@ -4,7 +4,7 @@ use Rattle.mls_lattice.specs.Policy.{labels_of}
 use Rattle.mls_filterview.specs.Content.{Content, no_content}
 use Rattle.mls_audit.specs.Sound.{IsSoundContent}
 use Rattle.mls_audit.proofs.SoundLemmas.{nothing_sound}
-use Rattle.mls_script.specs.declared.run_fault.RunFault.{RunFault}
+use Rattle.mls_translang.specs.declared.run_fault.RunFault.{RunFault}
 use Rattle.mls_sessions.specs.Turning.{IsTurned, list_text}
 use Rattle.mls_host.specs.declared.job.Setting.{Setting}
 use Rattle.mls_host.specs.declared.reason.Reason.{Reason}

@@ -3,7 +3,7 @@ use Rattle.std.specs.Prelude.{◌≡◌, ◌⊎◌, ℕ, Bool, true, false, List
 use Rattle.std.specs.List.{list_all}
 use Rattle.mls_lattice.specs.Labels.{below}
 use Rattle.mls_filterview.specs.Content.{Content}
-use Rattle.mls_script.specs.declared.event.Event.{Event}
+use Rattle.mls_translang.specs.declared.event.Event.{Event}
 use Rattle.mls_certcheck.specs.Site.{Site, site_labels}
 use Rattle.mls_machine.specs.Observation.{AreStored, EventsFit, AgreeAt, seen, released_to, AreBelowCeiling}
 use Rattle.mls_host.specs.Hosting.{Hosted, IsClean}

@@ -1,7 +1,7 @@
 -- What is told beside all else where somebody reads standard error at a terminal.
 use Rattle.std.specs.Prelude.{◌≡◌, ℕ, Bool, false, List, [], Option, Result, Ok, Err, ⊤, ◌⊎◌}
 use Rattle.mls_certcheck.specs.Site.{Site}
-use Rattle.mls_script.specs.declared.event.Event.{Event}
+use Rattle.mls_translang.specs.declared.event.Event.{Event}
 use Rattle.mls_sessions.specs.declared.notice.Notice.{Notice}
 use Rattle.mls_runs.specs.declared.shell_session.ShellSession.{ShellSession}
 use Rattle.mls_runs.specs.declared.shell_session.Fate.{Fate}

@@ -22,7 +22,7 @@ use Rattle.mls_machine.specs.History.{RunAt, run_at, history_bytes, history_end,
 use Rattle.mls_machine.specs.History.{PassesOnlyReleasesDownInHistory, ShowsOnlyReleasesInHistory}
 use Rattle.mls_lattice.specs.Labels.{Labels}
 use Rattle.mls_sessions.specs.World.{entries_in}
-use Rattle.mls_script.specs.declared.run_fault.RunFault.{RunFault}
+use Rattle.mls_translang.specs.declared.run_fault.RunFault.{RunFault}
 use Rattle.mls_runs.specs.declared.history.Run.{Run}
 use Rattle.mls_runs.specs.declared.history.HistoryCause.{HistoryCause}
 use Rattle.mls_runs.specs.declared.history.HistoryCause.TheVariants.{Unopened, Stopped, NotClosed}

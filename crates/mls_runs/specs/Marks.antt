@@ -3,12 +3,11 @@ use Rattle.std.specs.Prelude.{◌≡◌, ◌≢◌, ℕ, List, [], ◌++◌, cod
 use Rattle.std.specs.Io.KnownBytes.{Appends}
 use Rattle.mls_script.specs.declared.fault.ScriptFault.{ScriptFault}
 use Rattle.mls_script.specs.Fault.{code_of, word_of}
-use Rattle.mls_script.specs.declared.run_fault.RunCause.{RunCause}
-use Rattle.mls_script.specs.declared.run_fault.RunCause.TheVariants.{Store, Write}
+use Rattle.mls_translang.specs.declared.run_fault.RunCause.{RunCause}
+use Rattle.mls_translang.specs.declared.run_fault.RunCause.TheVariants.{Store, Write}
 use Rattle.mls_sessions.specs.Run.{IsPart}
 use Rattle.mls_runs.specs.declared.shell_session.Fate.{Fate}
-use Rattle.mls_runs.specs.declared.shell_session.Fate.TheVariants.{Over, Refused, TooLong}
-use Rattle.mls_runs.specs.declared.shell_session.Fate.TheVariants.{Unreadable, Lost}
+use Rattle.mls_runs.specs.declared.shell_session.Fate.TheVariants.{Over, Refused, TooLong, Unreadable, Lost}
 
 -- the code and the name of the fault, and its column
 abbrev pub refused_mark : ScriptFault → List ℕ

@@ -2,7 +2,7 @@
 use Rattle.std.specs.Prelude.{◌≡◌, ◌≢◌, ℕ, ◌-◌, if◌then◌else◌, Bool, List, [], ◌++◌, take, IfSome, Result, Ok, Err}
 use Rattle.mls_filterview.specs.Content.{Content}
 use Rattle.mls_audit.specs.Sound.{IsSoundContent}
-use Rattle.mls_script.specs.declared.event.Event.{Event}
+use Rattle.mls_translang.specs.declared.event.Event.{Event}
 use Rattle.mls_machine.specs.declared.form.Form.{Form}
 use Rattle.mls_machine.specs.declared.form.Form.TheVariants.{Lines, Table}
 use Rattle.mls_machine.specs.declared.form.Audience.{Audience}
@@ -10,8 +10,8 @@ use Rattle.mls_certcheck.specs.Site.{Site}
 use Rattle.mls_machine.specs.Machine.{World, Sessions, no_sessions, end_of}
 use Rattle.mls_machine.specs.Observation.{run_shows, PassesOnlyReleasesDown, ShowsOnlyReleases}
 use Rattle.mls_machine.specs.Laws.{KeepsIntegrity}
-use Rattle.mls_script.specs.declared.run_fault.RunCause.TheVariants.{Write}
-use Rattle.mls_script.specs.declared.run_fault.RunFault.{RunFault}
+use Rattle.mls_translang.specs.declared.run_fault.RunCause.TheVariants.{Write}
+use Rattle.mls_translang.specs.declared.run_fault.RunFault.{RunFault}
 use Rattle.mls_sessions.specs.Run.{IsFaultOf}
 use Rattle.mls_sessions.specs.World.{world_at}
 

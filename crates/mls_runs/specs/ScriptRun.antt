@@ -1,11 +1,11 @@
 -- A script that is run, over a store or over nothing.
 use Rattle.std.specs.Prelude.{◌<◌, ℕ, Bool, List, length, Option, IfSome, Result}
-use Rattle.mls_script.specs.declared.event.Event.{Event}
+use Rattle.mls_translang.specs.declared.event.Event.{Event}
 use Rattle.mls_certcheck.specs.declared.stored.Stored.{Stored}
 use Rattle.mls_machine.specs.declared.form.Audience.{Audience}
 use Rattle.mls_certcheck.specs.Site.{Site, site_of}
 use Rattle.mls_machine.specs.Observation.{EventsFit}
-use Rattle.mls_script.specs.declared.run_fault.RunFault.{RunFault}
+use Rattle.mls_translang.specs.declared.run_fault.RunFault.{RunFault}
 use Rattle.mls_sessions.specs.Engine.{MayServe}
 use Rattle.mls_host.specs.Hosting.{Hosted}
 use Rattle.mls_host.specs.declared.job.Setting.{Setting}

@@ -8,19 +8,19 @@ use Rattle.mls_lattice.specs.Name.{is_name}
 use Rattle.mls_lattice.specs.Policy.{Policy}
 use Rattle.mls_scheme.specs.Scheme.{Schemes}
 use Rattle.mls_filterview.specs.Content.{Content}
-use Rattle.mls_script.specs.declared.event.Event.{Event}
-use Rattle.mls_script.specs.declared.event.Command.TheVariants.{Open}
+use Rattle.mls_translang.specs.declared.event.Event.{Event}
+use Rattle.mls_translang.specs.declared.event.Command.TheVariants.{Open}
 use Rattle.mls_script.specs.declared.fault.ScriptFault.{ScriptFault}
 use Rattle.mls_script.specs.declared.fault.ScriptCause.TheVariants.{Expected}
-use Rattle.mls_script.specs.Event.{EventFits}
+use Rattle.mls_translang.specs.Event.{EventFits}
 use Rattle.mls_script.specs.Reading.{script_at}
 use Rattle.mls_script.specs.Script.{ReadsScript}
 use Rattle.mls_machine.specs.declared.form.Audience.{Audience}
 use Rattle.mls_certcheck.specs.Site.{Site}
 use Rattle.mls_machine.specs.Machine.{World, end_of}
 use Rattle.mls_machine.specs.Observation.{EventsFit, run_shows, reader_of}
-use Rattle.mls_script.specs.declared.run_fault.RunCause.TheVariants.{Store}
-use Rattle.mls_script.specs.declared.run_fault.RunFault.{RunFault}
+use Rattle.mls_translang.specs.declared.run_fault.RunCause.TheVariants.{Store}
+use Rattle.mls_translang.specs.declared.run_fault.RunFault.{RunFault}
 use Rattle.mls_sessions.specs.Engine.{MayServe}
 use Rattle.mls_sessions.specs.declared.notice.Notice.{Notice}
 use Rattle.mls_sessions.specs.Run.{are_done, notice_in, IsWhole, IsStopped, IsFaultOf}

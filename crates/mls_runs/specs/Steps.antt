@@ -13,7 +13,7 @@ use Rattle.mls_certcheck.specs.Site.{Site, site_of}
 use Rattle.mls_machine.specs.History.{RunAt, run_at, run_start, run_end, IsSiteUnder}
 use Rattle.mls_machine.specs.Laws.{KeepsIntegrity}
 use Rattle.mls_machine.specs.Observation.{AgreeAt, PassesOnlyReleasesDown}
-use Rattle.mls_script.specs.declared.run_fault.RunFault.{RunFault}
+use Rattle.mls_translang.specs.declared.run_fault.RunFault.{RunFault}
 use Rattle.mls_sessions.specs.Engine.{MayServe}
 use Rattle.mls_host.specs.declared.ending.Ending.{Ending}
 use Rattle.mls_host.specs.declared.job.Inputs.{Inputs}

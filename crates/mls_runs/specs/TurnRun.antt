@@ -6,7 +6,7 @@ use Rattle.mls_audit.specs.Sound.{IsSoundContent}
 use Rattle.mls_machine.specs.Machine.{World}
 use Rattle.mls_machine.specs.Observation.{AgreeAt, out}
 use Rattle.mls_machine.specs.Turning.{turn_lines, turned}
-use Rattle.mls_script.specs.declared.run_fault.RunFault.{RunFault}
+use Rattle.mls_translang.specs.declared.run_fault.RunFault.{RunFault}
 use Rattle.mls_sessions.specs.Turning.{IsTurned}
 use Rattle.mls_host.specs.declared.job.Setting.{Setting}
 use Rattle.mls_fragments.specs.declared.open_fault.OpenFault.TheVariants as stores

@@ -4,7 +4,7 @@ use crate::words::{clearance, first_beyond, label_name, relation_name, trusted};
 use mls_lattice::LabelNo;
 use mls_machine::Denial;
 use mls_scheme::Write;
-use mls_script::Command;
+use mls_translang::Command;
 use std::alloc::AllocError;
 
 const NO_SESSION: &str = "  The session is not open.\n";

@@ -19,9 +19,9 @@ use mls_host::{Ending, ending_if};
 use mls_lattice::{Items, Policy};
 use mls_machine::{Audience, Form};
 use mls_scheme::Schemes;
-use mls_script::Event;
 use mls_sessions::{Engine, RunCause, RunFault, Stored, run_to};
 use mls_tokens::TypedLines;
+use mls_translang::Event;
 use std::alloc::Global;
 use std::io::Write;
 

@@ -12,8 +12,9 @@ use crate::typed::text_of;
 use mls_advice::{Names, Slip, command_advice, form_at, typed_excerpt};
 use mls_lattice::Policy;
 use mls_scheme::Schemes;
-use mls_script::{Event, ScriptCause, ScriptFault};
+use mls_script::{ScriptCause, ScriptFault};
 use mls_sessions::{Notice, Stored};
+use mls_translang::Event;
 use std::alloc::{AllocError, Global};
 
 const TOO_LONG: &str =

@@ -3,7 +3,7 @@
 //! first. The column is that of the fourth token, which a line that tells an opening has.
 ghost use Rattle.std.specs.Prelude.{◌≡◌, IfOk};
 ghost use Rattle.std.specs.List.{AllByRecursion, list_any};
-ghost use Rattle.mls_script.specs.Event.{EventFits};
+ghost use Rattle.mls_translang.specs.Event.{EventFits};
 ghost use Rattle.mls_runs.specs.Typed.{Becomes};
 ghost use Rattle.mls_runs.specs.Shell.{FateFits, IsLineRead};
 ghost use Rattle.mls_runs.specs.Desk.{opens_other, name_column, IsDeskFate};
@@ -12,9 +12,10 @@ ghost use Rattle.mls_runs.specs.Reading.{fate_of_events, fate_of};
 use crate::shell_session::Fate;
 use mls_lattice::{Items, Policy};
 use mls_scheme::Schemes;
-use mls_script::{Command, Event, ScriptCause, ScriptFault, script};
+use mls_script::{ScriptCause, ScriptFault, script};
 use mls_sessions::RunCause;
 use mls_tokens::{TokenFault, Tokens, Typed, TypedLines, TypingFault};
+use mls_translang::{Command, Event};
 use std::alloc::Global;
 use std::io::Write;
 

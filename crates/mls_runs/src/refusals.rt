@@ -5,7 +5,7 @@ use crate::words::{
 };
 use mls_lattice::LabelNo;
 use mls_scheme::{Attributes, RelNo, Value, Write};
-use mls_script::Command;
+use mls_translang::Command;
 use mls_updates::Outcome;
 use std::alloc::AllocError;
 

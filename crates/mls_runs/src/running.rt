@@ -18,8 +18,8 @@ use mls_host::{Host, Inputs, Stop, stored_of};
 use mls_lattice::{Items, Policy};
 use mls_machine::Audience;
 use mls_scheme::Schemes;
-use mls_script::Event;
 use mls_sessions::{Engine, RunFault, Stored, run_to};
+use mls_translang::Event;
 use std::alloc::Global;
 use std::io::Write;
 

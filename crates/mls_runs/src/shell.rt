@@ -20,9 +20,9 @@ use mls_host::{Ending, Errors, Tally, ending_if};
 use mls_lattice::{Items, Policy};
 use mls_machine::Audience;
 use mls_scheme::Schemes;
-use mls_script::Event;
 use mls_sessions::{Engine, Notice, RunCause, RunFault, Stored, run_to};
 use mls_tokens::TypedLines;
+use mls_translang::Event;
 use std::alloc::Global;
 use std::io::Write;
 

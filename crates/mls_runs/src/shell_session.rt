@@ -1,7 +1,8 @@
 //! Who sits at a shell, and what becomes of a line.
 use mls_lattice::{Items, LabelNo, Str};
-use mls_script::{Event, ScriptFault};
+use mls_script::ScriptFault;
 use mls_sessions::RunCause;
+use mls_translang::Event;
 
 /// Who sits at a shell: a user, at a level. The session has the name of the user.
 #[derive(Drop)]

@@ -1,7 +1,7 @@
 //! What a typed line tells.
 ghost use Rattle.std.specs.Prelude.{◌≡◌, ◌∷◌, ◌++◌, ◌||◌, [], codes, IfOk, bytes_eq};
 ghost use Rattle.std.specs.List.{AllByRecursion, list_all};
-ghost use Rattle.mls_script.specs.Event.{EventFits};
+ghost use Rattle.mls_translang.specs.Event.{EventFits};
 ghost use Rattle.mls_script.specs.Reading.{GivesScript, script_at};
 ghost use Rattle.mls_runs.specs.Shell.{prefix_of, opening, is_own, fate_of_events, is_asked, meant};
 ghost use Rattle.mls_runs.specs.Shell.{FateFits, IsShellLineRead};
@@ -10,9 +10,10 @@ ghost use Rattle.mls_runs.specs.Typed.{fate_of_fault, fate_of, Becomes};
 use crate::shell_session::{Fate, ShellSession};
 use mls_lattice::{Items, Policy, Str};
 use mls_scheme::Schemes;
-use mls_script::{Command, Event, ScriptCause, ScriptFault, script};
+use mls_script::{ScriptCause, ScriptFault, script};
 use mls_sessions::RunCause;
 use mls_tokens::{Typed, TypedLines, TypingFault};
+use mls_translang::{Command, Event};
 use std::alloc::{AllocError, Global};
 use std::io::Write;
 

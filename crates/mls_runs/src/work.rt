@@ -8,7 +8,7 @@ ghost use Rattle.mls_host.specs.Stop.{IsEnd};
 ghost use Rattle.mls_host.specs.Stopping.{IsCaused, IsCausedInMemory};
 ghost use Rattle.mls_host.specs.Words.{named};
 ghost use Rattle.mls_runs.specs.Work.{IsOverStore};
-ghost use Rattle.mls_script.specs.declared.run_fault.RunFault.{RunFault as SpecRunFault};
+ghost use Rattle.mls_translang.specs.declared.run_fault.RunFault.{RunFault as SpecRunFault};
 ghost use Rattle.mls_sessions.specs.Engine.{IsAtRest, Leaves};
 
 use mls_filterview::Base;

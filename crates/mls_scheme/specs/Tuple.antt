@@ -29,3 +29,6 @@ join_of ls p (e ∷ es) = join_of ls (join p (label_of ls e.class)) es
 -- the join of all classes of a tuple
 abbrev pub tuple_class : Labels → Tuple → Pair
 tuple_class ls t = join_of ls (label_of ls t.key_class) t.elements
+
+abbrev pub no_tuple : Tuple
+no_tuple = record { key = []; key_class = 0; elements = [] }

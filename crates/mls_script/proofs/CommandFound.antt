@@ -21,12 +21,12 @@ use Rattle.mls_parser.specs.ReadCondition.{written_place}
 use Rattle.mls_parser.specs.Words.{pass_known}
 use Rattle.mls_parser.proofs.FoundSteps.{Found, found_none, found_next, found_made, word_read, name_read, known_read}
 use Rattle.mls_parser.proofs.StmtFound.{IsLabelled as IsBehindWord, label_read as behind_word, relation_read}
-use Rattle.mls_script.specs.declared.event.Event.{Event}
-use Rattle.mls_script.specs.declared.event.Command.{Command}
-use Rattle.mls_script.specs.declared.event.Command.TheVariants as commands
+use Rattle.mls_translang.specs.declared.event.Event.{Event}
+use Rattle.mls_translang.specs.declared.event.Command.{Command}
+use Rattle.mls_translang.specs.declared.event.Command.TheVariants as commands
 use Rattle.mls_script.specs.declared.grammar.Verb.{Verb}
 use Rattle.mls_script.specs.declared.grammar.Verb.TheVariants as verb
-use Rattle.mls_script.specs.Event.{Sets, CommandFits, EventFits}
+use Rattle.mls_translang.specs.Event.{Sets, CommandFits, EventFits}
 use Rattle.mls_script.specs.Grammar.{verbs, verb_word, verb_among, verb_of}
 use Rattle.mls_script.specs.QueryTokens.{TellsTail}
 use Rattle.mls_script.specs.ReadList.{list_at, sets_at}

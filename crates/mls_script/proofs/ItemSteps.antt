@@ -9,7 +9,7 @@ use Rattle.mls_tokens.proofs.PassedLemmas.{passed_shorter}
 use Rattle.mls_parser.specs.Noted.{State, takes_sign}
 use Rattle.mls_parser.proofs.ItemSteps.{slot, no_slot, items_none, items_err, items_end, items_more, item_of_less, set_of_less}
 use Rattle.mls_parser.proofs.PassedLemmas.{any_found}
-use Rattle.mls_script.specs.Event.{Sets}
+use Rattle.mls_translang.specs.Event.{Sets}
 use Rattle.mls_script.specs.ReadList.{value_of_token, PlacedValue, value_at, fits_attribute, attribute_at, item_at, set_at}
 
 -- ---- one item

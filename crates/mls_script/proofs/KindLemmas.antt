@@ -7,7 +7,7 @@ use Rattle.mls_scheme.specs.Value.{is_text}
 use Rattle.mls_scheme.proofs.KindLemmas.{signed-from, text-from}
 use Rattle.mls_tokens.specs.Text.{IsText}
 use Rattle.mls_parser.proofs.PassedLemmas.{IsSpelled}
-use Rattle.mls_script.specs.Event.{HasSomeKind}
+use Rattle.mls_translang.specs.Event.{HasSomeKind}
 use Rattle.mls_script.specs.Tokens.{value_token}
 
 text_kind : (s : List ℕ) → IsText s → is_text s ≡ true

@@ -20,11 +20,11 @@ use Rattle.mls_parser.specs.Noted.{State}
 use Rattle.mls_parser.specs.Parsing.{answer}
 use Rattle.mls_parser.proofs.LeastLemmas.{answered_right, answered_least}
 use Rattle.mls_parser.proofs.PassedLemmas.{token_ok, all_spelled}
-use Rattle.mls_script.specs.declared.event.Event.{Event}
+use Rattle.mls_translang.specs.declared.event.Event.{Event}
 use Rattle.mls_script.specs.declared.fault.ScriptCause.TheVariants.{Unterminated}
 use Rattle.mls_script.specs.declared.fault.LineFault.{LineFault}
 use Rattle.mls_script.specs.declared.fault.ScriptFault.{ScriptFault}
-use Rattle.mls_script.specs.Event.{EventFits}
+use Rattle.mls_translang.specs.Event.{EventFits}
 use Rattle.mls_script.specs.Reading.{end_at, event_at, told_at, placed_on, line_at, in_script, lines_at, split_lines, script_at, IsJudged, LinesAreJudged, GivesScript}
 use Rattle.mls_script.specs.Script.{Line, Tells, IsLineOf, ReadsScript}
 use Rattle.mls_script.proofs.CommandFound.{event_read}

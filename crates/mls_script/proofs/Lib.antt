@@ -8,5 +8,4 @@ pub mod LawLemmas
 pub mod ListAgain
 pub mod QueryAgain
 pub mod TellingLemmas
-pub mod WritingSteps
 pub mod WritingLemmas

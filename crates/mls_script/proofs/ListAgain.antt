@@ -23,7 +23,7 @@ use Rattle.mls_parser.proofs.NextLemmas.{Gets, Same, Is, gets_more, word_gets, a
 use Rattle.mls_parser.proofs.OrderLemmas.{AllFit, behind}
 use Rattle.mls_parser.proofs.OrderLemmas as order
 use Rattle.mls_parser.proofs.ValueLemmas as values
-use Rattle.mls_script.specs.Event.{Sets, SetsFit}
+use Rattle.mls_translang.specs.Event.{Sets, SetsFit}
 use Rattle.mls_script.specs.ReadList.{value_of_token, value_at, fits_attribute, attribute_at, are_as_many, item_at, list_at, set_at, sets_at}
 use Rattle.mls_script.specs.Tokens.{value_token, list_tokens, set_tokens}
 use Rattle.mls_script.proofs.ListFound.{value_tokens, AreFor}

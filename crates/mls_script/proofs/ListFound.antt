@@ -26,7 +26,7 @@ use Rattle.mls_parser.proofs.ListFound.{same_number}
 use Rattle.mls_parser.proofs.ValueLemmas.{AreAssigned}
 use Rattle.mls_parser.proofs.ValueLemmas as values
 use Rattle.mls_parser.proofs.PassedLemmas.{IsSpelled}
-use Rattle.mls_script.specs.Event.{Sets, SetsFit, HasSomeKind}
+use Rattle.mls_translang.specs.Event.{Sets, SetsFit, HasSomeKind}
 use Rattle.mls_script.specs.ReadList.{value_of_token, PlacedValue, value_at, fits_attribute, attribute_at, are_as_many, item_at, list_at, set_at, sets_at}
 use Rattle.mls_script.specs.Tokens.{value_token, list_tokens, set_tokens}
 use Rattle.mls_script.proofs.KindLemmas.{value_kind}

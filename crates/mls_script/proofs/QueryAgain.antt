@@ -22,7 +22,7 @@ use Rattle.mls_parser.specs.Noted.{State, Read, note, takes_word, known, label_a
 use Rattle.mls_parser.proofs.ConditionAgain.{conditions_are_read}
 use Rattle.mls_parser.proofs.FoundLemmas.{label_again}
 use Rattle.mls_parser.proofs.NextLemmas.{Gets, Same, gets_then, placed_then, gets_done, gets_noted, gets_is, name_gets, known_gets, took_word, after_took, no_word, none_known}
-use Rattle.mls_script.specs.Event.{QueryFits}
+use Rattle.mls_translang.specs.Event.{QueryFits}
 use Rattle.mls_script.specs.QueryTokens.{comparison_sign, highest_tokens, class_tokens, first_tokens, TellsTest, TellsQuery}
 use Rattle.mls_script.specs.ReadQuery.{highest_behind, highest_at, comparison_of, class_behind, class_at, number_of, is_count, count_of, first_behind, first_at, where_behind, where_at, query_at}
 

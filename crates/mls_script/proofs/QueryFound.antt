@@ -15,7 +15,7 @@ use Rattle.mls_translang.specs.declared.query.ClassTest.{ClassTest}
 use Rattle.mls_translang.specs.declared.query.Query.{Query}
 use Rattle.mls_parser.specs.declared.fault.TextCause.TheVariants as cause
 use Rattle.mls_parser.specs.declared.fault.PlacedFault.{PlacedFault}
-use Rattle.mls_parser.specs.Condition.{IsConditionOf}
+use Rattle.mls_translang.specs.Fits.{IsConditionOf}
 use Rattle.mls_parser.specs.Fault.{unless}
 use Rattle.mls_parser.specs.Names.{label_named, numbered}
 use Rattle.mls_parser.specs.Noted.{State, Read, token, takes_word, name_at, known, label_at}
@@ -28,7 +28,7 @@ use Rattle.mls_parser.proofs.FoundSteps.{Found, found_none, found_next, found_no
 use Rattle.mls_parser.proofs.NumberLemmas.{label_spelled}
 use Rattle.mls_parser.proofs.PassedLemmas.{Quiet, word_taken}
 use Rattle.mls_parser.proofs.StmtFound.{label_known}
-use Rattle.mls_script.specs.Event.{QueryFits}
+use Rattle.mls_translang.specs.Event.{QueryFits}
 use Rattle.mls_script.specs.QueryTokens.{comparison_sign, highest_tokens, class_tokens, first_tokens, TellsTest, TellsQuery}
 use Rattle.mls_script.specs.ReadQuery.{highest_behind, highest_at, comparison_of, class_behind, class_at, number_of, is_count, count_of, first_behind, first_at, where_behind, where_at, query_at}
 use Rattle.mls_script.specs.Tokens.{label_token}

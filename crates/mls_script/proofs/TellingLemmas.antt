@@ -30,15 +30,15 @@ use Rattle.mls_parser.proofs.ConditionLemmas.{written_names}
 use Rattle.mls_parser.proofs.FoundLemmas.{HasNames}
 use Rattle.mls_parser.proofs.NextLemmas.{Gets, Same, gets_more, gets_then, placed_then, gets_done, word_gets, name_gets, known_gets}
 use Rattle.mls_parser.proofs.StmtAgain.{label_gets as behind_gets, relation_gets}
-use Rattle.mls_script.specs.declared.event.Event.{Event}
-use Rattle.mls_script.specs.declared.event.Command.{Command}
-use Rattle.mls_script.specs.declared.event.Command.TheVariants as commands
+use Rattle.mls_translang.specs.declared.event.Event.{Event}
+use Rattle.mls_translang.specs.declared.event.Command.{Command}
+use Rattle.mls_translang.specs.declared.event.Command.TheVariants as commands
 use Rattle.mls_script.specs.declared.fault.ScriptCause.TheVariants.{Memory}
 use Rattle.mls_script.specs.declared.fault.LineFault.{LineFault}
 use Rattle.mls_script.specs.declared.fault.ScriptFault.{ScriptFault}
 use Rattle.mls_script.specs.declared.grammar.Verb.{Verb}
 use Rattle.mls_script.specs.declared.grammar.Verb.TheVariants as verb
-use Rattle.mls_script.specs.Event.{Sets, CommandFits, EventFits}
+use Rattle.mls_translang.specs.Event.{Sets, CommandFits, EventFits}
 use Rattle.mls_script.specs.Grammar.{verbs, verb_word, verb_of}
 use Rattle.mls_script.specs.QueryTokens.{TellsTail, TellsQuery}
 use Rattle.mls_script.specs.ReadList.{list_at, sets_at}

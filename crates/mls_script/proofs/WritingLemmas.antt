@@ -27,14 +27,15 @@ use Rattle.mls_tokens.specs.Text.{IsText, Spells, goes_on, IsGap, AreTokens, com
 use Rattle.mls_translang.specs.ReadsBack.{IsSpelled}
 use Rattle.mls_translang.proofs.NumberLemmas.{int_spelled}
 use Rattle.mls_translang.proofs.SpelledLemmas.{named, word_spelled}
-use Rattle.mls_script.specs.declared.event.Event.{Event}
-use Rattle.mls_script.specs.declared.event.Command.{Command}
-use Rattle.mls_script.specs.declared.event.Command.TheVariants.{View, Write}
-use Rattle.mls_script.specs.Event.{Sets, SetsFit, HasSomeKind, CommandFits, EventFits}
-use Rattle.mls_script.specs.Tokens.{relation_name, value_token, list_tokens, set_tokens, event_tokens}
+use Rattle.mls_translang.specs.declared.event.Event.{Event}
+use Rattle.mls_translang.specs.declared.event.Command.{Command}
+use Rattle.mls_translang.specs.declared.event.Command.TheVariants.{View, Write}
+use Rattle.mls_translang.specs.Event.{Sets, SetsFit, HasSomeKind, CommandFits, EventFits}
+use Rattle.mls_script.specs.Tokens.{value_token, list_tokens, set_tokens, event_tokens}
+use Rattle.mls_translang.specs.Writing.{relation_name}
 use Rattle.mls_script.specs.QueryTokens.{TellsTail}
 use Rattle.mls_script.specs.Script.{Line, IsLineOf, ReadsScript}
-use Rattle.mls_script.specs.Writing.{cell_text, behind_comma, listed, list_text, set_text, keyed, command_text, line_text, lines_text, is_writable_value, are_writable, is_writable_command, is_writable}
+use Rattle.mls_translang.specs.Writing.{cell_text, behind_comma, listed, list_text, set_text, keyed, command_text, line_text, lines_text, is_writable_value, are_writable, is_writable_command, is_writable}
 
 -- ---- texts in one line
 

@@ -1,8 +1,8 @@
 -- The verbs of commands, by their words.
 use Rattle.std.specs.Prelude.{ℕ, if◌then◌else◌, List, [], ◌∷◌, codes, Option, Some, None, bytes_eq}
 use Rattle.mls_scheme.specs.declared.write.Write.TheVariants as writes
-use Rattle.mls_script.specs.declared.event.Command.{Command}
-use Rattle.mls_script.specs.declared.event.Command.TheVariants as commands
+use Rattle.mls_translang.specs.declared.event.Command.{Command}
+use Rattle.mls_translang.specs.declared.event.Command.TheVariants as commands
 use Rattle.mls_script.specs.declared.grammar.Verb.{Verb}
 use Rattle.mls_script.specs.declared.grammar.Verb.TheVariants.{Open, Close, Audit, View, Count, Dump, Insert, Update}
 use Rattle.mls_script.specs.declared.grammar.Verb.TheVariants.{Delete, Call}

@@ -1,8 +1,6 @@
 -- The definitions of scripts: `Event` has what a line tells, `Grammar` its form, and `Script` says which
 -- events a text tells.
-pub mod Event
 pub mod Fault
-pub mod RunFault
 pub mod Grammar
 pub mod Tokens
 pub mod QueryTokens

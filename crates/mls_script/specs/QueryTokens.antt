@@ -13,8 +13,8 @@ use Rattle.mls_translang.specs.declared.query.Comparison.{Comparison}
 use Rattle.mls_translang.specs.declared.query.Comparison.TheVariants as compared
 use Rattle.mls_translang.specs.declared.query.ClassTest.{ClassTest}
 use Rattle.mls_translang.specs.declared.query.Query.{Query}
-use Rattle.mls_script.specs.declared.event.Command.{Command}
-use Rattle.mls_script.specs.declared.event.Command.TheVariants as commands
+use Rattle.mls_translang.specs.declared.event.Command.{Command}
+use Rattle.mls_translang.specs.declared.event.Command.TheVariants as commands
 
 abbrev pub comparison_sign : Comparison → Sign
 comparison_sign compared.Equal = signs.Equals

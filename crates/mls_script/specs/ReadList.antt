@@ -11,7 +11,7 @@ use Rattle.mls_tokens.specs.declared.token.Token.TheVariants.{Word, Int, Text, S
 use Rattle.mls_parser.specs.Noted.{State, Read, token, word_at}
 use Rattle.mls_parser.specs.ReadList.{items_at, list_of, item_of, set_of}
 use Rattle.mls_parser.specs.Words.{pass_any}
-use Rattle.mls_script.specs.Event.{Sets}
+use Rattle.mls_translang.specs.Event.{Sets}
 
 -- ---- values
 

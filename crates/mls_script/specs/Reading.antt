@@ -15,9 +15,9 @@ use Rattle.mls_parser.specs.Fault.{least, IsLeast}
 use Rattle.mls_parser.specs.Noted.{State, Read, token, word_at, name_at, label_at, label_behind, relation_at}
 use Rattle.mls_parser.specs.Parsing.{answer}
 use Rattle.mls_parser.specs.Words.{pass_known}
-use Rattle.mls_script.specs.declared.event.Event.{Event}
-use Rattle.mls_script.specs.declared.event.Command.{Command}
-use Rattle.mls_script.specs.declared.event.Command.TheVariants as commands
+use Rattle.mls_translang.specs.declared.event.Event.{Event}
+use Rattle.mls_translang.specs.declared.event.Command.{Command}
+use Rattle.mls_translang.specs.declared.event.Command.TheVariants as commands
 use Rattle.mls_script.specs.declared.fault.ScriptCause.TheVariants.{Memory, Unterminated}
 use Rattle.mls_script.specs.declared.fault.LineFault.{LineFault}
 use Rattle.mls_script.specs.declared.fault.ScriptFault.{ScriptFault}

@@ -5,8 +5,8 @@ use Rattle.mls_lattice.specs.Policy.{Policy, IsPolicy}
 use Rattle.mls_scheme.specs.Scheme.{Schemes, AreSchemes}
 use Rattle.mls_tokens.specs.declared.token.Token.{Token}
 use Rattle.mls_tokens.specs.Text.{AreTokens}
-use Rattle.mls_script.specs.declared.event.Event.{Event}
-use Rattle.mls_script.specs.Event.{EventFits}
+use Rattle.mls_translang.specs.declared.event.Event.{Event}
+use Rattle.mls_translang.specs.Event.{EventFits}
 use Rattle.mls_script.specs.Tokens.{event_tokens}
 use Rattle.mls_script.specs.QueryTokens.{TellsTail}
 

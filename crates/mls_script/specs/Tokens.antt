@@ -1,7 +1,7 @@
 -- The tokens that tell an event.
 use Rattle.std.specs.Prelude.{ℕ, List, [], ◌∷◌, ◌++◌, Option, Some, None, codes}
 use Rattle.mls_lattice.specs.Canon.{label_name}
-use Rattle.mls_lattice.specs.Policy.{Name, Policy}
+use Rattle.mls_lattice.specs.Policy.{Policy}
 use Rattle.mls_scheme.specs.declared.value.Value.{Value}
 use Rattle.mls_scheme.specs.declared.value.Value.TheVariants as values
 use Rattle.mls_scheme.specs.Scheme.{Scheme, Schemes, scheme_of, other_of}
@@ -10,15 +10,11 @@ use Rattle.mls_tokens.specs.declared.token.Token.{Token}
 use Rattle.mls_tokens.specs.declared.token.Token.TheVariants.{Word, Int, Text, Sign}
 use Rattle.mls_tokens.specs.Text.{separated}
 use Rattle.mls_tokens.specs.declared.sign.Sign.TheVariants.{LeftParen, RightParen, Equals}
-use Rattle.mls_script.specs.declared.event.Event.{Event}
-use Rattle.mls_script.specs.declared.event.Command.{Command}
-use Rattle.mls_script.specs.declared.event.Command.TheVariants as commands
+use Rattle.mls_translang.specs.declared.event.Event.{Event}
+use Rattle.mls_translang.specs.declared.event.Command.{Command}
+use Rattle.mls_translang.specs.declared.event.Command.TheVariants as commands
+use Rattle.mls_translang.specs.Writing.{relation_name}
 use Rattle.mls_script.specs.Grammar.{verb_word, verb_of}
-
--- ---- names by number
-
-abbrev pub relation_name : Schemes → ℕ → Name
-relation_name schemes relation = (scheme_of schemes relation).name
 
 -- ---- values, and new values
 

@@ -5,7 +5,6 @@ ghost use Rattle.mls_parser.specs.Words.{pass_known};
 ghost use Rattle.mls_script.specs.Reading.{verb_of_token, view_at, keyed_at, insert_at, update_at, delete_at, call_at};
 ghost use Rattle.mls_script.specs.Reading.{command_at, event_at, told_at};
 
-use crate::event::{Command, Event};
 use crate::grammar::{VERBS, Verb, verb_among};
 use crate::lists::{list, sets};
 use crate::query::query;
@@ -13,6 +12,7 @@ use mls_lattice::{Items, Policy};
 use mls_parser::{PlacedFault, Reader, TextCause, ill_formed};
 use mls_scheme::{RelNo, Schemes, Value};
 use mls_tokens::Token;
+use mls_translang::{Command, Event};
 use std::alloc::Global;
 
 fn verb_of_token(token: &Token) -> Option<Verb>

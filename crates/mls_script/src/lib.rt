@@ -6,20 +6,14 @@ ghost use Rattle.mls_script.specs.Script.{ScriptsAreOnce};
 ghost use Rattle.mls_script.specs.Writing.{LinesAreRead};
 
 mod command;
-mod event;
 mod fault;
 mod grammar;
 mod lists;
 mod query;
 mod reading;
-mod run_fault;
-mod writing;
 
-pub use event::{Command, Event};
 pub use fault::{ScriptCause, ScriptFault};
 pub use reading::script;
-pub use run_fault::{RunCause, RunFault};
-pub use writing::{is_writable, push_cell, push_event, push_value};
 
 /// Of all faults of names and kinds of a line whose form is right, the least is answered.
 pub fn lines_are_judged()

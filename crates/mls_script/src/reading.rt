@@ -1,21 +1,21 @@
 //! Scripts, line by line.
 ghost use Rattle.std.specs.Prelude.{List, ◌≡◌, ◌≢◌, [], IfOk, ◌++◌, ◌∷◌, OnOk, IfErr, IsTrue, IsFalse, option_to_list};
 ghost use Rattle.std.specs.List.{AllByRecursion};
-ghost use Rattle.mls_script.specs.declared.event.Event.{Event as TheEvent};
+ghost use Rattle.mls_translang.specs.declared.event.Event.{Event as TheEvent};
 ghost use Rattle.mls_script.specs.declared.fault.ScriptCause.TheVariants.{Memory};
-ghost use Rattle.mls_script.specs.Event.{EventFits};
+ghost use Rattle.mls_translang.specs.Event.{EventFits};
 ghost use Rattle.mls_script.specs.Script.{ReadsScript};
 ghost use Rattle.mls_tokens.specs.Scanning.{tokens_at};
 ghost use Rattle.mls_parser.specs.Noted.{GivesPlaced};
 ghost use Rattle.mls_script.specs.Reading.{GivesLine, GivesScript, told_at, line_at, script_at};
 
 use crate::command::told;
-use crate::event::Event;
 use crate::fault::{LineFault, ScriptCause, ScriptFault};
 use mls_lattice::Policy;
 use mls_parser::{PlacedFault, Reader};
 use mls_scheme::Schemes;
 use mls_tokens::Tokens;
+use mls_translang::Event;
 use std::alloc::Global;
 
 /// A line, whether it has its LF, and what follows it.

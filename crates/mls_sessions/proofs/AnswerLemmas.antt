@@ -7,8 +7,8 @@ use Rattle.mls_filterview.specs.declared.base.BaseFault.{BaseFault}
 use Rattle.mls_filterview.specs.declared.base.BaseFault.TheVariants as faults
 use Rattle.mls_filterview.specs.Calls.{IsServed}
 use Rattle.mls_filterview.specs.Content.{Seen}
-use Rattle.mls_script.specs.declared.event.Event.{Event}
-use Rattle.mls_script.specs.Event.{EventFits}
+use Rattle.mls_translang.specs.declared.event.Event.{Event}
+use Rattle.mls_translang.specs.Event.{EventFits}
 use Rattle.mls_machine.specs.declared.form.Audience.{Audience}
 use Rattle.mls_updates.specs.declared.outcome.Outcome.{Outcome}
 use Rattle.mls_updates.specs.Outcome.{is_done as is_write_done}
@@ -20,9 +20,9 @@ use Rattle.mls_machine.specs.Output.{run_lines, ReplyIsKnown}
 use Rattle.mls_machine.specs.Observation.{AreStored, reply_shows}
 use Rattle.mls_machine.proofs.LineLemmas.{nothing_heard, end_more, printed_more}
 use Rattle.mls_machine.proofs.ReplyLemmas.{step_known}
-use Rattle.mls_script.specs.declared.run_fault.RunCause.{RunCause}
-use Rattle.mls_script.specs.declared.run_fault.RunFault.{RunFault}
-use Rattle.mls_script.specs.declared.run_fault.RunCause.TheVariants.{Store, Memory}
+use Rattle.mls_translang.specs.declared.run_fault.RunCause.{RunCause}
+use Rattle.mls_translang.specs.declared.run_fault.RunFault.{RunFault}
+use Rattle.mls_translang.specs.declared.run_fault.RunCause.TheVariants.{Store, Memory}
 use Rattle.mls_sessions.specs.declared.engine.Engine.{Engine}
 use Rattle.mls_sessions.specs.declared.notice.Notice.{Notice}
 use Rattle.mls_sessions.specs.declared.notice.Notice.TheVariants as notices

@@ -9,10 +9,10 @@ use Rattle.mls_lattice.specs.Policy.{Name, Policy}
 use Rattle.mls_scheme.specs.declared.value.Value.{Value}
 use Rattle.mls_audit.specs.Sound.{IsSoundContent}
 use Rattle.mls_translang.specs.declared.query.Query.{Query}
-use Rattle.mls_script.specs.declared.event.Event.{Event}
-use Rattle.mls_script.specs.declared.event.Command.{Command}
-use Rattle.mls_script.specs.declared.event.Command.TheVariants as commands
-use Rattle.mls_script.specs.Event.{EventFits}
+use Rattle.mls_translang.specs.declared.event.Event.{Event}
+use Rattle.mls_translang.specs.declared.event.Command.{Command}
+use Rattle.mls_translang.specs.declared.event.Command.TheVariants as commands
+use Rattle.mls_translang.specs.Event.{EventFits}
 use Rattle.mls_machine.specs.declared.reply.Denial.{Denial}
 use Rattle.mls_machine.specs.declared.reply.Denial.TheVariants.{AlreadyOpen, UnknownTransaction, NotCertified}
 use Rattle.mls_certcheck.specs.declared.stored.Stored.{Stored}

@@ -2,8 +2,8 @@
 use Rattle.std.proofs.Common.{◌≡◌, ℕ, ◌<◌, ◌≤◌, Result, Ok, Err, IfErr, refl, sym, ap, ◌∙◌, subst, arith, IsErrAnd}
 use Rattle.mls_filterview.specs.Content.{Seen}
 use Rattle.mls_certcheck.specs.Site.{Site}
-use Rattle.mls_script.specs.declared.run_fault.RunCause.TheVariants.{Store, Memory}
-use Rattle.mls_script.specs.declared.run_fault.RunFault.{RunFault}
+use Rattle.mls_translang.specs.declared.run_fault.RunCause.TheVariants.{Store, Memory}
+use Rattle.mls_translang.specs.declared.run_fault.RunFault.{RunFault}
 use Rattle.mls_sessions.specs.declared.engine.Engine.{Engine}
 use Rattle.mls_sessions.specs.Engine.{site, world_of, IsAtRest, IsEngineReady, IsKept, Continues, Leaves}
 use Rattle.mls_sessions.specs.Sessions.{site_of_run, sessions_of}

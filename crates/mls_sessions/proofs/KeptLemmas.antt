@@ -10,8 +10,8 @@ use Rattle.mls_updates.specs.Writes.{Write, Insert, Update, Delete}
 use Rattle.mls_updates.specs.Calls.{CanWrite}
 use Rattle.mls_queries.specs.Views.{Kept, AreViews}
 use Rattle.mls_queries.proofs.WrittenLemmas.{kept_same}
-use Rattle.mls_script.specs.declared.event.Event.{Event}
-use Rattle.mls_script.specs.Event.{IsWriteOf}
+use Rattle.mls_translang.specs.declared.event.Event.{Event}
+use Rattle.mls_translang.specs.Event.{IsWriteOf}
 use Rattle.mls_machine.specs.declared.reply.Denial.{Denial}
 use Rattle.mls_machine.specs.declared.reply.Reply.{Reply}
 use Rattle.mls_certcheck.specs.Site.{Site}

@@ -12,7 +12,7 @@ use Rattle.mls_audit.specs.Entry.{label_of, visible}
 use Rattle.mls_audit.specs.Spelling.{IsEntryOf, HasSpelling, entry_spelling}
 use Rattle.mls_audit.specs.Reading.{entry_at}
 use Rattle.mls_audit.proofs.EntryLemmas.{entry_again}
-use Rattle.mls_script.specs.declared.event.Event.{Event}
+use Rattle.mls_translang.specs.declared.event.Event.{Event}
 use Rattle.mls_machine.specs.declared.reply.Denial.{Denial}
 use Rattle.mls_machine.specs.declared.reply.Reply.TheVariants.{Denied}
 use Rattle.mls_certcheck.specs.Site.{Site}

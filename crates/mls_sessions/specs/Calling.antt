@@ -13,7 +13,7 @@ use Rattle.mls_translang.specs.Tx.{Tx}
 use Rattle.mls_translang.specs.Fits.{IsReadUnder}
 use Rattle.mls_certcheck.specs.declared.run.Run.{Run}
 use Rattle.mls_certcheck.specs.Meaning.{Progress, run_tx}
-use Rattle.mls_script.specs.declared.event.Event.{Event}
+use Rattle.mls_translang.specs.declared.event.Event.{Event}
 use Rattle.mls_machine.specs.Denying.{fitted}
 use Rattle.mls_trusted.specs.Runs.{with_database, IsEvaluated, HasItems}
 

@@ -1,7 +1,7 @@
 -- Why commands are denied in open sessions.
 use Rattle.std.specs.Prelude.{ℕ, Option, Some, None}
-use Rattle.mls_script.specs.declared.event.Command.{Command}
-use Rattle.mls_script.specs.declared.event.Command.TheVariants as commands
+use Rattle.mls_translang.specs.declared.event.Command.{Command}
+use Rattle.mls_translang.specs.declared.event.Command.TheVariants as commands
 use Rattle.mls_machine.specs.declared.reply.Denial.{Denial}
 use Rattle.mls_machine.specs.declared.reply.Denial.TheVariants.{AlreadyOpen}
 use Rattle.mls_certcheck.specs.Site.{Site}

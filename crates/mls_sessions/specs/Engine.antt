@@ -8,9 +8,9 @@ use Rattle.mls_audit.specs.Sound.{IsSoundContent}
 use Rattle.mls_machine.specs.declared.reply.Reply.{Reply}
 use Rattle.mls_certcheck.specs.Site.{Site, AreRead, AreCertified}
 use Rattle.mls_machine.specs.Machine.{World, Step, step}
-use Rattle.mls_script.specs.declared.event.Event.{Event}
-use Rattle.mls_script.specs.declared.run_fault.RunCause.TheVariants.{Store}
-use Rattle.mls_script.specs.declared.run_fault.RunFault.{RunFault}
+use Rattle.mls_translang.specs.declared.event.Event.{Event}
+use Rattle.mls_translang.specs.declared.run_fault.RunCause.TheVariants.{Store}
+use Rattle.mls_translang.specs.declared.run_fault.RunFault.{RunFault}
 use Rattle.mls_sessions.specs.declared.engine.Engine.{Engine}
 use Rattle.mls_sessions.specs.Sessions.{site_of_run, sessions_of, AreForUsers}
 use Rattle.mls_sessions.specs.World.{world_at}

@@ -8,9 +8,9 @@ use Rattle.mls_audit.specs.declared.entry.Entry.{Entry}
 use Rattle.mls_machine.specs.Output.{printed}
 use Rattle.mls_machine.specs.Observation.{heard}
 use Rattle.mls_machine.specs.Turning.{turn_lines}
-use Rattle.mls_script.specs.declared.run_fault.RunCause.{RunCause}
-use Rattle.mls_script.specs.declared.run_fault.RunCause.TheVariants.{Store, Write}
-use Rattle.mls_script.specs.declared.run_fault.RunFault.{RunFault}
+use Rattle.mls_translang.specs.declared.run_fault.RunCause.{RunCause}
+use Rattle.mls_translang.specs.declared.run_fault.RunCause.TheVariants.{Store, Write}
+use Rattle.mls_translang.specs.declared.run_fault.RunFault.{RunFault}
 use Rattle.mls_sessions.specs.Turns.{IsTurn}
 use Rattle.mls_sessions.specs.World.{entries_in}
 

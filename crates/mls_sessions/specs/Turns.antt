@@ -6,10 +6,10 @@ use Rattle.mls_filterview.specs.declared.base.BaseFault.TheVariants as faults
 use Rattle.mls_filterview.specs.Calls.{IsCall, IsServed}
 use Rattle.mls_filterview.specs.Content.{Seen, Content}
 use Rattle.mls_queries.specs.Views.{Kept, AreViews}
-use Rattle.mls_script.specs.declared.event.Event.{Event}
-use Rattle.mls_script.specs.declared.event.Command.{Command}
-use Rattle.mls_script.specs.declared.event.Command.TheVariants as commands
-use Rattle.mls_script.specs.Event.{EventFits}
+use Rattle.mls_translang.specs.declared.event.Event.{Event}
+use Rattle.mls_translang.specs.declared.event.Command.{Command}
+use Rattle.mls_translang.specs.declared.event.Command.TheVariants as commands
+use Rattle.mls_translang.specs.Event.{EventFits}
 use Rattle.mls_machine.specs.declared.reply.Reply.{Reply}
 use Rattle.mls_certcheck.specs.Site.{Site, AreRead}
 use Rattle.mls_machine.specs.Machine.{Sessions, World, Step, denied, step_inside}

@@ -23,7 +23,7 @@ use mls_lattice::{LabelNo, Str, UserNo};
 use mls_machine::Reply;
 use mls_queries::Views;
 use mls_scheme::Value;
-use mls_script::{Command, Event};
+use mls_translang::{Command, Event};
 use mls_trusted::evaluate_in;
 use mls_updates::copy_value;
 use std::alloc::AllocError;

@@ -4,7 +4,7 @@ ghost use Rattle.mls_filterview.specs.Calls.{IsServed};
 ghost use Rattle.mls_sessions.specs.Cause.{cause_of};
 
 use mls_filterview::BaseFault;
-use mls_script::{RunCause, RunFault};
+use mls_translang::{RunCause, RunFault};
 
 /// The fault of an event.
 pub(crate) fn fault_at(event: usize, cause: RunCause, done: bool) -> RunFault

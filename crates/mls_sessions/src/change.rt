@@ -1,7 +1,7 @@
 //! Events that change the base: denials, which are entered, writes and calls. Each is one change.
 ghost use Rattle.std.specs.Prelude.{◌≡◌, ◌<◌, true, false, length, IfOk, OnOk};
 ghost use Rattle.mls_audit.specs.Spelling.{HasSpelling, entry_spelling};
-ghost use Rattle.mls_script.specs.Event.{EventFits};
+ghost use Rattle.mls_translang.specs.Event.{EventFits};
 ghost use Rattle.mls_machine.specs.Machine.{denial_entry};
 ghost use Rattle.mls_sessions.specs.Sessions.{site_of_run};
 ghost use Rattle.mls_sessions.specs.Turns.{MayDo, Steps, EndsChange, IsOpen, HasDone};
@@ -14,7 +14,7 @@ use mls_filterview::{Base, BaseFault, settle};
 use mls_lattice::{Str, UserNo};
 use mls_machine::{Denial, Reply};
 use mls_queries::Views;
-use mls_script::{Command, Event};
+use mls_translang::{Command, Event};
 use std::alloc::AllocError;
 
 /// What an event of an open session changes.

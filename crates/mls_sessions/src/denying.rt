@@ -2,7 +2,7 @@
 ghost use Rattle.std.specs.Prelude.{◌≡◌, ◌==◌, ◌<◌, bit_and, length, map};
 ghost use Rattle.std.specs.List.{AllByRecursion, list_any};
 ghost use Rattle.mls_scheme.specs.Scheme.{scheme_of};
-ghost use Rattle.mls_script.specs.Event.{IsWriteOf, CommandFits};
+ghost use Rattle.mls_translang.specs.Event.{IsWriteOf, CommandFits};
 ghost use Rattle.mls_certcheck.specs.Site.{AreRead};
 ghost use Rattle.mls_machine.specs.Denying.{first_denial, clearance_of, exceed, lacks_rights_on, lacks, access_denials};
 ghost use Rattle.mls_machine.specs.Denying.{write_denials};
@@ -15,7 +15,7 @@ use bitflags::Flags;
 use mls_lattice::{LabelNo, Modes, Policy, UserNo};
 use mls_machine::Denial;
 use mls_scheme::{RelNo, Value, Write};
-use mls_script::Command;
+use mls_translang::Command;
 
 fn has_any(granted: Modes, modes: &[Modes]) -> bool
     ensures { result ≡ list_any (λ mode. bit_and granted.0 mode == mode) (map (λ m. m.0) modes.now) }

@@ -1,6 +1,6 @@
 //! The machine of sessions over a base.
 ghost use Rattle.std.specs.Prelude.{◌≡◌, Some, None, is_some, IfOk};
-ghost use Rattle.mls_script.specs.Event.{EventFits};
+ghost use Rattle.mls_translang.specs.Event.{EventFits};
 ghost use Rattle.mls_machine.specs.Machine.{no_sessions};
 ghost use Rattle.mls_certcheck.specs.Site.{site_of};
 ghost use Rattle.mls_sessions.specs.Sessions.{sessions_of};
@@ -20,7 +20,7 @@ use mls_lattice::{Items, LabelNo, Policy, UserNo};
 use mls_machine::Reply;
 use mls_queries::Views;
 use mls_scheme::Schemes;
-use mls_script::{Command, Event};
+use mls_translang::{Command, Event};
 use std::alloc::Global;
 
 /// Sessions over a base, under a policy and its schemes. It keeps the views that were asked for last.

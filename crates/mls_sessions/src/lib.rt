@@ -20,7 +20,7 @@ mod writing;
 pub use engine::Engine;
 pub use mls_certcheck::{Run, Stored};
 pub use mls_machine::{Denial, Reply};
-pub use mls_script::{Command, Event, RunCause, RunFault, ScriptCause, ScriptFault};
+pub use mls_translang::{Command, Event, RunCause, RunFault};
 pub use notice::Notice;
 pub use running::{run, run_to};
 pub use turning::turn;

@@ -1,7 +1,7 @@
 //! Runs: events answered in order, and their replies written, whole or what one reader may see of them.
 ghost use Rattle.std.specs.Prelude.{◌≡◌, ◌≢◌, ℕ, ◌<◌, true, length, take, IfOk, IfErr, OnOk};
 ghost use Rattle.std.specs.Prelude.{IfSome};
-ghost use Rattle.mls_script.specs.Event.{EventFits};
+ghost use Rattle.mls_translang.specs.Event.{EventFits};
 ghost use Rattle.mls_machine.specs.Machine.{step};
 ghost use Rattle.mls_machine.specs.Output.{ReplyIsKnown};
 ghost use Rattle.mls_machine.specs.Observation.{EventsFit, PassesOnlyReleasesDown, reply_shows, everyone};
@@ -18,7 +18,7 @@ use crate::site::Site;
 use crate::writing::write_whole;
 use mls_filterview::Base;
 use mls_machine::{Audience, Form, Reply, is_known, shown_to};
-use mls_script::{Event, RunCause, RunFault};
+use mls_translang::{Event, RunCause, RunFault};
 use std::io::Write;
 
 /// The lines of the reply to an event that the audience is shown. `Store` is the cause where a class is not declared, as

@@ -10,7 +10,7 @@ use crate::site::Site;
 use mls_filterview::BaseFault;
 use mls_lattice::{LabelNo, Policy, Str, UserNo};
 use mls_machine::{Denial, Reply};
-use mls_script::{Command, Event};
+use mls_translang::{Command, Event};
 
 /// An open session: its level and its name, and the user that it is open for.
 #[derive(Drop)]

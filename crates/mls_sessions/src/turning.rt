@@ -10,7 +10,7 @@ use crate::writing::write_whole;
 use mls_filterview::{Base, BaseFault, abandon, settle};
 use mls_lattice::{Items, LabelNo, Policy};
 use mls_machine::turn_bytes;
-use mls_script::{RunCause, RunFault};
+use mls_translang::{RunCause, RunFault};
 use std::alloc::{AllocError, Global};
 use std::io::Write;
 

@@ -7,3 +7,4 @@ pub mod NumberLemmas
 pub mod SpelledLemmas
 pub mod PrintedLemmas
 pub mod TellsLemmas
+pub mod WritingSteps

@@ -1,5 +1,5 @@
 -- A transaction was read under a policy and schemes: declared names, and numbers of operands.
-use Rattle.std.specs.Prelude.{◌≡◌, ℕ, ◌+◌, ◌<◌, ◌≤◌, true, false, nat_eq, List, map, length, bytes_eq}
+use Rattle.std.specs.Prelude.{◌≡◌, ℕ, ◌+◌, ◌<◌, ◌≤◌, true, false, nat_eq, List, [], ◌∷◌, map, length, bytes_eq}
 use Rattle.std.specs.List.{AllByRecursion, IsDistinct, list_any}
 use Rattle.mls_lattice.specs.Labels.{below}
 use Rattle.mls_lattice.specs.Policy.{Policy, labels_of}
@@ -7,8 +7,9 @@ use Rattle.mls_scheme.specs.Scheme.{Attribute, Scheme, Schemes, scheme_of}
 use Rattle.mls_translang.specs.Tree.{Expr, Field, No, Op, Writing, Insert, Update, Delete, Stmt, Assign, Write_at}
 use Rattle.mls_translang.specs.Tree.{Release, Emit, Block, End, Do, If, For}
 use Rattle.mls_translang.specs.Scope.{Scope, in_loop, row_at}
-use Rattle.mls_translang.specs.Tx.{Tx, scope_of}
-use Rattle.mls_translang.specs.Kinds.{BlockKinds}
+use Rattle.mls_translang.specs.declared.row.LoopRow.{LoopRow}
+use Rattle.mls_translang.specs.Tx.{Tx, scope_of, HasOwn}
+use Rattle.mls_translang.specs.Kinds.{BlockKinds, Truth, HasSort}
 
 -- a number of a declared label
 abbrev pub IsLabel : Policy → ℕ → Type 0
@@ -39,6 +40,21 @@ module _ (schemes : Schemes) where
     pub some : 0 < length sets
     pub each : AllByRecursion (λ x. (x.0 < length scheme.others) × ExprFits s x.1) sets
     pub apart : IsDistinct nat_eq (map (λ x. x.0) sets)
+
+-- ---- conditions
+
+abbrev pub row_of : Schemes → ℕ → LoopRow
+row_of schemes relation = record { name = (scheme_of schemes relation).name; relation = relation }
+
+-- one row, by the name of its relation
+abbrev pub row_scope : Schemes → ℕ → Scope
+row_scope schemes relation = record { params = []; vars = []; rows = row_of schemes relation ∷ [] }
+
+-- a truth value of one row of a relation, which names nothing else
+pub record IsConditionOf (schemes : Schemes) (relation : ℕ) (e : Expr) : Type 0 where
+  pub own : HasOwn (row_scope schemes relation) e
+  pub fits : ExprFits schemes (row_scope schemes relation) e
+  pub truth : HasSort schemes (row_scope schemes relation) Truth e
 
 -- ---- statements, under a ceiling
 

@@ -3,6 +3,7 @@
 pub mod Tree
 pub mod ExprCode
 pub mod Exprs
+pub mod Expressions
 pub mod ExprFalls
 pub mod BlockCode
 pub mod Blocks
@@ -15,3 +16,6 @@ pub mod Layout
 pub mod Tokens
 pub mod ReadsBack
 pub mod Tells
+pub mod Event
+pub mod RunFault
+pub mod Writing

@@ -10,7 +10,7 @@ use Rattle.mls_scheme.specs.Value.{fits_kind}
 use Rattle.mls_translang.specs.Tree.{Expr, Assign, Release, Emit, Block, Do, End}
 use Rattle.mls_translang.specs.Kinds.{HasKind, Assigns}
 use Rattle.mls_translang.specs.Tx.{scope_of}
-use Rattle.mls_certcheck.specs.Expressions.{value_in}
+use Rattle.mls_translang.specs.Expressions.{value_in}
 use Rattle.mls_certcheck.specs.Kinds.{VarsFit}
 use Rattle.mls_certcheck.specs.MeaningLaws.{IsItem}
 use Rattle.mls_certcheck.specs.Meaning.{set_var, perform, run_block}

@@ -20,7 +20,7 @@ use Rattle.mls_translang.specs.Blocks.{block_of}
 use Rattle.mls_translang.specs.Scope.{Scope}
 use Rattle.mls_translang.specs.Kinds.{BlockKinds}
 use Rattle.mls_translang.proofs.BlockLemmas.{own_more, fits_more}
-use Rattle.mls_certcheck.specs.Expressions.{holds_in}
+use Rattle.mls_translang.specs.Expressions.{holds_in}
 use Rattle.mls_certcheck.specs.Kinds.{RowKinds}
 use Rattle.mls_certcheck.specs.Meaning.{Progress, for_each, run_block}
 use Rattle.mls_queries.specs.Views.{Kept, AreViews}

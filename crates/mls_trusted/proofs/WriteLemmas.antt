@@ -12,7 +12,7 @@ use Rattle.mls_updates.specs.Calls.{HasWritten, CanWrite}
 use Rattle.mls_updates.proofs.StateLemmas.{table_of}
 use Rattle.mls_translang.specs.Tree.{Block, Writing, Do, Write_at, End}
 use Rattle.mls_translang.specs.Tx.{scope_of}
-use Rattle.mls_certcheck.specs.Expressions.{Environment}
+use Rattle.mls_translang.specs.Expressions.{Environment}
 use Rattle.mls_certcheck.specs.Meaning.{set_outcome, write_in, perform, run_block}
 use Rattle.mls_certcheck.proofs.KeepingLemmas.{table_holds, write_fits}
 use Rattle.mls_certcheck.proofs.KindLemmas.{values_kinds, write_kinds, outcome_kind}

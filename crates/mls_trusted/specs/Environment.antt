@@ -1,6 +1,6 @@
 -- What an evaluation reads.
 use Rattle.std.specs.Prelude.{None, reverse, slice_index_or}
-use Rattle.mls_certcheck.specs.Expressions.{Environment}
+use Rattle.mls_translang.specs.Expressions.{Environment}
 use Rattle.mls_trusted.specs.declared.environment.Environment as of_environment
 
 -- the rows of loops stand the outermost first

@@ -16,7 +16,7 @@ use Rattle.mls_translang.specs.Scope.{Scope}
 use Rattle.mls_translang.specs.Tx.{scope_of, BlockIsOwn}
 use Rattle.mls_translang.specs.Kinds.{BlockKinds}
 use Rattle.mls_translang.specs.Fits.{IsLabel, BlockFits}
-use Rattle.mls_certcheck.specs.Expressions.{Environment}
+use Rattle.mls_translang.specs.Expressions.{Environment}
 use Rattle.mls_certcheck.specs.Meaning.{Variables, Progress, for_each, run_block}
 use Rattle.mls_certcheck.specs.Kinds.{RowKinds, VarsFit, AroundFits}
 use Rattle.mls_certcheck.specs.MeaningLaws.{IsItem}

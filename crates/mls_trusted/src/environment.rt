@@ -1,7 +1,7 @@
 //! What the expressions of a transaction read, and what they give.
 ghost use Rattle.std.specs.Prelude.{◌≡◌, None, reverse, slice_index_or};
-ghost use Rattle.mls_filterview.specs.Rules.{no_tuple};
-ghost use Rattle.mls_certcheck.specs.Expressions.{Plain, cell_of, eval};
+ghost use Rattle.mls_scheme.specs.Tuple.{no_tuple};
+ghost use Rattle.mls_translang.specs.Expressions.{Plain, cell_of, eval};
 ghost use Rattle.mls_queries.specs.Data.{datum_of};
 ghost use Rattle.mls_trusted.specs.Environment.{env_of};
 
@@ -45,7 +45,7 @@ fn field(rows: &[SharedTuple], depth: u8, attribute: u8) -> Datum<'_>
 
 impl<'a> Environment<'a> {
     /// What an expression gives.
-    #[tactic(auto, unfolding(mls_certcheck::specs::Expressions::eval))]
+    #[tactic(auto, unfolding(mls_translang::specs::Expressions::eval))]
     pub fn eval(&self, expr: &'a Expr) -> Datum<'a>
         ensures { datum_of result ≡ eval (env_of self.now) expr.now }
     {

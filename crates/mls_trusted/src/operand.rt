@@ -1,6 +1,6 @@
 //! Values of expressions, copied.
 ghost use Rattle.std.specs.Prelude.{◌≡◌, map, IfOk};
-ghost use Rattle.mls_certcheck.specs.Expressions.{value_in};
+ghost use Rattle.mls_translang.specs.Expressions.{value_in};
 ghost use Rattle.mls_certcheck.specs.Meaning.{values_set, write_in};
 ghost use Rattle.mls_trusted.specs.Environment.{env_of};
 

@@ -1,6 +1,6 @@
 //! The outcomes of a script, where one call after another fails.
 ghost use Rattle.std.specs.List.{AllByRecursion};
-ghost use Rattle.mls_script.specs.Event.{EventFits};
+ghost use Rattle.mls_translang.specs.Event.{EventFits};
 
 use super::runs::{Failure, Scripts, What, push_outcome};
 use super::steps::push_steps;

@@ -1,7 +1,7 @@
 //! What a run leaves where a call of the base, or a write, fails.
 ghost use Rattle.std.specs.Prelude.{◌≡◌, false, []};
 ghost use Rattle.std.specs.List.{AllByRecursion};
-ghost use Rattle.mls_script.specs.Event.{EventFits};
+ghost use Rattle.mls_translang.specs.Event.{EventFits};
 ghost use Rattle.mls_filterview.specs.Content.{no_content};
 ghost use Rattle.mls_audit.specs.Sound.{IsSoundContent};
 ghost use Rattle.mls_certcheck.specs.Site.{site_of};
@@ -14,8 +14,8 @@ use crate::sample::Sample;
 use case_tables::{Told, text_of};
 use mls_filterview::Base;
 use mls_lattice::Items;
-use mls_script::Event;
 use mls_sessions::{Engine, RunFault, Stored, run};
+use mls_translang::Event;
 use mls_updates::ListBase;
 use std::alloc::Global;
 

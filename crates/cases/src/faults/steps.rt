@@ -1,7 +1,7 @@
 //! What a step leaves where a call of the base fails.
 ghost use Rattle.std.specs.Prelude.{◌<◌, ◌≤◌, length, IfSome};
 ghost use Rattle.std.specs.List.{AllByRecursion};
-ghost use Rattle.mls_script.specs.Event.{EventFits};
+ghost use Rattle.mls_translang.specs.Event.{EventFits};
 ghost use Rattle.mls_machine.specs.Observation.{EventsFit};
 ghost use Rattle.mls_certcheck.specs.Site.{site_of};
 ghost use Rattle.mls_sessions.specs.Engine.{site, MayServe, IsAtRest, IsEngineReady, IsKept};
@@ -13,8 +13,8 @@ use crate::sample::Sample;
 use case_tables::{Told, text_of};
 use mls_filterview::{Base, BaseFault};
 use mls_lattice::Items;
-use mls_script::Event;
 use mls_sessions::{Engine, Stored, run};
+use mls_translang::Event;
 use std::alloc::Global;
 
 /// Answers events in order, up to the first that fails: its number, from 1, and why.

@@ -1,4 +1,4 @@
-use Rattle.mls_script.specs.Writing.{lines_text}
+use Rattle.mls_translang.specs.Writing.{lines_text}
 use Rattle.mls_script.proofs.TellingLemmas.{script_again}
 use Rattle.mls_script.proofs.WritingLemmas.{lines_read}
 use Rattle.mls_script.proofs.lines_are_read.Goals as goal

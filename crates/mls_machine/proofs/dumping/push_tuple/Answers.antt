@@ -1,5 +1,5 @@
 use Rattle.std.proofs.Common.{sym, subst}
-use Rattle.mls_script.specs.Writing.{IsKnown}
+use Rattle.mls_translang.specs.Writing.{IsKnown}
 use Rattle.mls_machine.specs.Under.{site_under}
 use Rattle.mls_machine.proofs.DumpLemmas.{made_known}
 use Rattle.mls_machine.proofs.dumping.push_tuple.Goals as goal

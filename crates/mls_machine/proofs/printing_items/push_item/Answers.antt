@@ -1,5 +1,5 @@
 use Rattle.std.proofs.Common.{◌++◌, ℕ, List, ap, ◌∙◌, codes}
-use Rattle.mls_script.specs.Writing.{cell_text}
+use Rattle.mls_translang.specs.Writing.{cell_text}
 use Rattle.mls_machine.specs.Output.{front}
 use Rattle.mls_machine.proofs.PrintingSteps.{item_parts}
 use Rattle.mls_machine.proofs.printing_items.push_item.Goals as goal

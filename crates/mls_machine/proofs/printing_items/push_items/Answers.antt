@@ -1,5 +1,5 @@
 use Rattle.std.proofs.Common.{◌++◌, codes}
-use Rattle.mls_script.specs.Writing.{cell_text}
+use Rattle.mls_translang.specs.Writing.{cell_text}
 use Rattle.mls_machine.specs.Output.{front}
 use Rattle.mls_machine.proofs.PrintingSteps.{one_more}
 use Rattle.mls_machine.proofs.printing_items.push_items.Goals as goal

@@ -1,5 +1,5 @@
 use Rattle.std.proofs.Common.{◌≡◌, ◌++◌, take, codes, flat_map}
-use Rattle.mls_script.specs.Writing.{cell_text}
+use Rattle.mls_translang.specs.Writing.{cell_text}
 use Rattle.mls_machine.specs.Output.{front}
 use Rattle.mls_machine.proofs.printing_items.push_items.Given as goal
 

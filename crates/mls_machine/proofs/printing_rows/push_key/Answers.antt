@@ -1,6 +1,6 @@
 use Rattle.std.proofs.Common.{◌++◌, ℕ, List, ◌∙◌, ap, codes, Some}
 use Rattle.mls_lattice.specs.Canon.{label_name}
-use Rattle.mls_script.specs.Writing.{cell_text}
+use Rattle.mls_translang.specs.Writing.{cell_text}
 use Rattle.mls_machine.specs.Output.{cell_entry}
 use Rattle.mls_machine.proofs.PrintingSteps.{cell_parts, one_more}
 use Rattle.mls_machine.proofs.printing_rows.push_key.Goals as goal

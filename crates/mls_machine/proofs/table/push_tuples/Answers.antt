@@ -1,5 +1,5 @@
 use Rattle.std.proofs.Common.{◌++◌, ℕ, ◌<◌, List, ◌∙◌, ap, subst, codes}
-use Rattle.mls_filterview.specs.Rules.{no_tuple}
+use Rattle.mls_scheme.specs.Tuple.{no_tuple}
 use Rattle.mls_machine.specs.Output.{front, table_row}
 use Rattle.mls_machine.proofs.PrintingSteps.{line_parts, one_more}
 use Rattle.mls_machine.proofs.table.push_tuples.Goals as goal

@@ -1,5 +1,5 @@
 use Rattle.std.proofs.Common.{◌≡◌, ◌*ℤ◌, ◌∙◌, subst, arith, w64, to_z, of_z, to_z-of_z, FitsSigned, SomeIff}
-use Rattle.mls_certcheck.specs.Expressions.{value_of}
+use Rattle.mls_translang.specs.Expressions.{value_of}
 use Rattle.mls_queries.specs.Data.{datum_of}
 use Rattle.mls_queries.proofs.DataLemmas.{of_numbers}
 use Rattle.mls_queries.proofs.operator.times.Goals as goal

@@ -1,6 +1,6 @@
 use Rattle.std.proofs.Common.{◌≡◌, take, slice_index_or, filter}
 use Rattle.mls_lattice.specs.Policy.{labels_of}
-use Rattle.mls_filterview.specs.Rules.{no_tuple}
+use Rattle.mls_scheme.specs.Tuple.{no_tuple}
 use Rattle.mls_queries.specs.Query.{is_wanted}
 use Rattle.mls_queries.proofs.wanted.wanted.Given as goal
 

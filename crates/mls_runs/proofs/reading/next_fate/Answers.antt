@@ -1,5 +1,5 @@
 use Rattle.std.proofs.Common.{subst}
-use Rattle.mls_script.specs.declared.run_fault.RunCause.TheVariants.{Memory, Write}
+use Rattle.mls_translang.specs.declared.run_fault.RunCause.TheVariants.{Memory, Write}
 use Rattle.mls_runs.specs.declared.shell_session.Fate.TheVariants.{Unreadable, Lost}
 use Rattle.mls_runs.specs.Typed.{Becomes}
 use Rattle.mls_runs.proofs.TypedLemmas.{read_long, read_lost, lost_read}

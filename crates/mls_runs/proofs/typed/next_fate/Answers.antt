@@ -1,5 +1,5 @@
 use Rattle.std.proofs.Common.{subst, true≢false}
-use Rattle.mls_script.specs.declared.run_fault.RunCause.TheVariants.{Memory, Write}
+use Rattle.mls_translang.specs.declared.run_fault.RunCause.TheVariants.{Memory, Write}
 use Rattle.mls_runs.specs.declared.shell_session.Fate.TheVariants.{Unreadable, Lost}
 use Rattle.mls_runs.specs.Typed.{fate_of, Becomes}
 use Rattle.mls_runs.specs.Shell.{IsShellFate}

@@ -1,7 +1,7 @@
 use Rattle.std.proofs.Common.{◌≡◌, Result, Ok, refl, sym, subst, ap}
 use Rattle.mls_filterview.specs.Content.{State, Content, no_content}
 use Rattle.mls_fragments.specs.Based.{state_of}
-use Rattle.mls_script.specs.declared.run_fault.RunFault.{RunFault}
+use Rattle.mls_translang.specs.declared.run_fault.RunFault.{RunFault}
 use Rattle.mls_fragments.specs.declared.open_fault.OpenFault.TheVariants as stores
 use Rattle.mls_host.specs.declared.reason.Reason.{Reason}
 use Rattle.mls_host.specs.declared.reason.Reason.TheVariants.{Store}

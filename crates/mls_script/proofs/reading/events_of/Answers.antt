@@ -1,5 +1,5 @@
 use Rattle.std.proofs.Common.{rules, ◌≡◌, ◌+◌, ◌++◌, ◌<◌, List, length, subst, sym, option_to_list}
-use Rattle.mls_script.specs.declared.event.Event.{Event}
+use Rattle.mls_translang.specs.declared.event.Event.{Event}
 use Rattle.mls_script.proofs.ScriptSteps.{ReadSoFar, read_more}
 use Rattle.mls_script.proofs.reading.events_of.Goals as goal
 

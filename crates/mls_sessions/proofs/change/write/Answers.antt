@@ -1,7 +1,7 @@
 use Rattle.std.proofs.Common.{length, subst}
 use Rattle.mls_scheme.specs.Scheme.{scheme_of}
 use Rattle.mls_queries.proofs.WrittenLemmas.{kept_written}
-use Rattle.mls_script.specs.Event.{CommandFits}
+use Rattle.mls_translang.specs.Event.{CommandFits}
 use Rattle.mls_sessions.proofs.KeptLemmas.{key_class_within, can_write}
 use Rattle.mls_sessions.proofs.change.write.Goals as goal
 

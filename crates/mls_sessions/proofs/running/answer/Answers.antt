@@ -1,5 +1,5 @@
 use Rattle.std.proofs.Common.{sym, ap, ◌∙◌, subst}
-use Rattle.mls_script.specs.declared.run_fault.RunFault.{RunFault}
+use Rattle.mls_translang.specs.declared.run_fault.RunFault.{RunFault}
 use Rattle.mls_sessions.specs.Engine.{site, world_of}
 use Rattle.mls_sessions.specs.Run.{notice_of, last_of, IsHalted}
 use Rattle.mls_sessions.proofs.AnswerLemmas.{halted_before, halted_unprinted, reply_known, not_store, only_store, noted}

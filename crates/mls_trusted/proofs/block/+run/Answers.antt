@@ -2,14 +2,14 @@ use mathlib.Core.List.{reverse}
 use Rattle.std.proofs.Common.{◌≡◌, ◌+◌, ◌<◌, length, OnOk, IfOk, List, ◌∷◌, [], ◌++◌, take, get_or, sym, ap, ◌∙◌, subst, arith}
 use Rattle.std.proofs.lemmas.List.{take_more}
 use Rattle.mls_scheme.specs.declared.tuple.Tuple.{Tuple}
-use Rattle.mls_filterview.specs.Rules.{no_tuple}
+use Rattle.mls_scheme.specs.Tuple.{no_tuple}
 use Rattle.mls_lattice.specs.Policy.{labels_of}
 use Rattle.mls_translang.specs.declared.block.Stmt.{Stmt}
 use Rattle.mls_translang.specs.Tree.{Do, If, For, Assign, Release, Emit, End}
 use Rattle.mls_translang.specs.Blocks.{block_of}
 use Rattle.mls_translang.proofs.BlockLemmas.{size_step}
 use Rattle.mls_lattice.proofs.EachLemmas.{all_at}
-use Rattle.mls_certcheck.specs.Expressions.{is_true, eval}
+use Rattle.mls_translang.specs.Expressions.{is_true, eval}
 use Rattle.mls_trusted.specs.Frames.{around_of, progress_of, MayRunBlock, run_of, rows_of, loop_of, IsCallReady, IsFrameRun}
 use Rattle.mls_trusted.proofs.RunLemmas.{run_none, run_start, run_stmts, may_here, branch_one, branch_other, loop_same, run_rows_more, ok_same, ok_step, ready_read, may_each, entered, entered_around}
 use Rattle.mls_trusted.proofs.block.+run.Goals as goal

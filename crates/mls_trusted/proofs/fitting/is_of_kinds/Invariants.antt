@@ -1,7 +1,7 @@
 use Rattle.std.proofs.Common.{◌≡◌, ℕ, ◌<◌, true}
 use Rattle.mls_scheme.specs.Value.{fits_kind}
 use Rattle.mls_translang.specs.Kinds.{field_of}
-use Rattle.mls_certcheck.specs.Expressions.{cell_of}
+use Rattle.mls_translang.specs.Expressions.{cell_of}
 use Rattle.mls_trusted.proofs.fitting.is_of_kinds.Given as goal
 
 abbrev pub invariant-loop-attribute : goal.invariant-loop-attribute

@@ -1,5 +1,5 @@
 use Rattle.std.proofs.Common.{◌≡◌, map, take}
-use Rattle.mls_certcheck.specs.Expressions.{value_in}
+use Rattle.mls_translang.specs.Expressions.{value_in}
 use Rattle.mls_trusted.specs.Environment.{env_of}
 use Rattle.mls_trusted.proofs.operand.values_of.Given as goal
 

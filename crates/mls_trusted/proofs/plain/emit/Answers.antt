@@ -1,5 +1,5 @@
 use Rattle.std.proofs.Common.{◌∙◌, ap}
-use Rattle.mls_certcheck.specs.Expressions.{value_in}
+use Rattle.mls_translang.specs.Expressions.{value_in}
 use Rattle.mls_trusted.proofs.PlainLemmas.{emit_step}
 use Rattle.mls_trusted.proofs.plain.emit.Goals as goal
 

@@ -5,7 +5,7 @@ use Rattle.mls_scheme.specs.declared.value.Value.TheVariants.{Int, Text}
 use Rattle.mls_scheme.specs.Value.{is_signed}
 use Rattle.mls_scheme.proofs.KindLemmas.{signed-from}
 use Rattle.mls_translang.specs.declared.operator.Operator.{Operator}
-use Rattle.mls_certcheck.specs.Expressions.{Datum, value_of, calculate, apply}
+use Rattle.mls_translang.specs.Expressions.{Datum, value_of, calculate, apply}
 use Rattle.mls_labeller.specs.declared.bounds.Bounds.{Bounds}
 use Rattle.mls_labeller.specs.declared.range.Range.{Range}
 use Rattle.mls_labeller.specs.Ranges.{Within, IsBetween, Admits, arithmetic, IsArithmetic}

@@ -7,11 +7,11 @@ use Rattle.mls_scheme.specs.declared.tuple.Tuple.{Tuple}
 use Rattle.mls_scheme.specs.Scheme.{Schemes}
 use Rattle.mls_updates.specs.declared.outcome.Outcome.{Outcome}
 use Rattle.mls_filterview.specs.View.{rows}
-use Rattle.mls_filterview.specs.Rules.{no_tuple}
+use Rattle.mls_scheme.specs.Tuple.{no_tuple}
 use Rattle.mls_translang.specs.Tree.{Expr, Stmt as Simple, Writing, Write_at, Release, Block, End, Do, If, For}
 use Rattle.mls_translang.specs.Blocks.{block_of}
 use Rattle.mls_translang.specs.declared.block.Stmt.{Stmt}
-use Rattle.mls_certcheck.specs.Expressions.{value_in, holds_in}
+use Rattle.mls_translang.specs.Expressions.{value_in, holds_in}
 use Rattle.mls_certcheck.specs.Meaning.{Item, Variables, Progress, set_var, set_outcome, environment, perform, for_each, run_block}
 use Rattle.mls_labeller.specs.declared.told.Told.{Told}
 use Rattle.mls_labeller.specs.declared.range.Range.{Range}

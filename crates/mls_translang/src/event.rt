@@ -1,11 +1,11 @@
 //! What sessions do.
 ghost use Rattle.std.specs.Prelude.{◌≡◌};
-ghost use Rattle.mls_script.specs.declared.event.Command.TheVariants as commands;
+ghost use Rattle.mls_translang.specs.declared.event.Command.TheVariants as commands;
 ghost use Rattle.mls_scheme.specs.declared.write.Write.TheVariants as writes;
 
+use crate::query::Query;
 use mls_lattice::{Items, LabelNo, Str};
 use mls_scheme::{RelNo, Value, Write};
-use mls_translang::Query;
 
 /// A command of a session, which is named by its level and its name.
 #[derive(Drop)]
@@ -55,7 +55,7 @@ type Sets = Items<(usize, Option<Value>)>;
 
 impl Command {
     /// Writes a new tuple.
-    pub(crate) fn insert(
+    pub fn insert(
         relation: RelNo,
         key: Items<Option<Value>>,
         values: Items<Option<Value>>,
@@ -67,7 +67,7 @@ impl Command {
     }
 
     /// Gives a tuple new values.
-    pub(crate) fn update(
+    pub fn update(
         relation: RelNo,
         key: Items<Option<Value>>,
         key_class: LabelNo,
@@ -86,7 +86,7 @@ impl Command {
     }
 
     /// Removes a tuple.
-    pub(crate) fn delete(relation: RelNo, key: Items<Option<Value>>, key_class: LabelNo) -> Command
+    pub fn delete(relation: RelNo, key: Items<Option<Value>>, key_class: LabelNo) -> Command
         ensures { result ≡ commands.Write relation (writes.Delete key key_class) }
     {
         let write = Write::Delete { key, key_class };

@@ -1,6 +1,6 @@
 //! Why and where runs of scripts stop.
 ghost use Rattle.std.specs.Prelude.{◌≡◌};
-ghost use Rattle.mls_script.specs.RunFault.{cause_word};
+ghost use Rattle.mls_translang.specs.RunFault.{cause_word};
 
 use mls_lattice::words;
 

@@ -1,6 +1,6 @@
-use Rattle.mls_script.specs.Writing.{set_text}
-use Rattle.mls_script.proofs.WritingSteps.{one_more}
-use Rattle.mls_script.proofs.writing.push_more_sets.Goals as goal
+use Rattle.mls_translang.specs.Writing.{set_text}
+use Rattle.mls_translang.proofs.WritingSteps.{one_more}
+use Rattle.mls_translang.proofs.writing.push_more_sets.Goals as goal
 
 pub loop-set-preserved : goal.loop-set-preserved
 loop-set-preserved c =

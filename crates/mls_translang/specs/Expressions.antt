@@ -7,8 +7,7 @@ use Rattle.mls_scheme.specs.declared.value.Value.{Value}
 use Rattle.mls_scheme.specs.declared.value.Value.TheVariants.{Int}
 use Rattle.mls_scheme.specs.Value.{is_signed, value_cmp, value_eq}
 use Rattle.mls_scheme.specs.declared.tuple.Tuple.{Tuple}
-use Rattle.mls_scheme.specs.Tuple.{at}
-use Rattle.mls_filterview.specs.Rules.{no_tuple}
+use Rattle.mls_scheme.specs.Tuple.{at, no_tuple}
 use Rattle.mls_translang.specs.declared.operator.Operator.{Operator}
 use Rattle.mls_translang.specs.declared.operator.Operator.TheVariants as operators
 use Rattle.mls_translang.specs.Tree.{Expr, Known, Null, Var, Param, Field, No, Op}

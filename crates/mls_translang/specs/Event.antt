@@ -10,11 +10,11 @@ use Rattle.mls_scheme.specs.declared.write.Write.{Write as WriteOf}
 use Rattle.mls_scheme.specs.declared.write.Write.TheVariants.{Insert, Update, Delete}
 use Rattle.mls_scheme.specs.Scheme.{Scheme, Schemes, scheme_of, other_of}
 use Rattle.mls_scheme.specs.Fits.{HaveKinds}
-use Rattle.mls_parser.specs.Condition.{IsConditionOf}
+use Rattle.mls_translang.specs.Fits.{IsConditionOf}
 use Rattle.mls_translang.specs.declared.query.Query.{Query}
-use Rattle.mls_script.specs.declared.event.Event.{Event}
-use Rattle.mls_script.specs.declared.event.Command.{Command}
-use Rattle.mls_script.specs.declared.event.Command.TheVariants.{Open, Close, Audit, View, Dump, Write, Call}
+use Rattle.mls_translang.specs.declared.event.Event.{Event}
+use Rattle.mls_translang.specs.declared.event.Command.{Command}
+use Rattle.mls_translang.specs.declared.event.Command.TheVariants.{Open, Close, Audit, View, Dump, Write, Call}
 
 -- new values of attributes outside the key, by their numbers
 abbrev pub Sets : Type 0

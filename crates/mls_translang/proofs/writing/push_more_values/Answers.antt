@@ -1,6 +1,6 @@
-use Rattle.mls_script.specs.Writing.{cell_text}
-use Rattle.mls_script.proofs.WritingSteps.{one_more}
-use Rattle.mls_script.proofs.writing.push_more_values.Goals as goal
+use Rattle.mls_translang.specs.Writing.{cell_text}
+use Rattle.mls_translang.proofs.WritingSteps.{one_more}
+use Rattle.mls_translang.proofs.writing.push_more_values.Goals as goal
 
 pub loop-value-preserved : goal.loop-value-preserved
 loop-value-preserved c =

@@ -1,8 +1,8 @@
 -- The names of the causes for which runs stop.
 use Rattle.std.specs.Prelude.{ℕ, List, [], get_or, map}
-use Rattle.mls_script.specs.declared.run_fault.RunCause.{RunCause}
-use Rattle.mls_script.specs.declared.run_fault.RunCause.TheVariants.{Store, Memory, Write}
-use Rattle.mls_script.specs.declared.run_fault.TheConstants.{WORDS}
+use Rattle.mls_translang.specs.declared.run_fault.RunCause.{RunCause}
+use Rattle.mls_translang.specs.declared.run_fault.RunCause.TheVariants.{Store, Memory, Write}
+use Rattle.mls_translang.specs.declared.run_fault.TheConstants.{WORDS}
 
 abbrev number_of : RunCause → ℕ
 number_of Store = 0

@@ -2,7 +2,7 @@ use Rattle.std.proofs.Common.{◌≡◌, List, option_map, arith, sym, ap, ◌�
 use Rattle.std.proofs.lemmas.Grind.{common_steps}
 use Rattle.std.proofs.lemmas.Option.{same_Some, slice_get-get_or}
 use Rattle.mls_scheme.specs.Scheme.{Attribute, other_of, no_attribute}
-use Rattle.mls_script.proofs.writing.push_set.Goals as goal
+use Rattle.mls_translang.proofs.writing.push_set.Goals as goal
 
 pub returns : goal.returns
 returns c =

@@ -2,9 +2,9 @@
 ghost use Rattle.std.specs.Prelude.{◌≡◌, ◌<◌, ◌++◌, length, not, OnOk, flat_map};
 ghost use Rattle.std.specs.List.{list_all, AllByRecursion};
 ghost use Rattle.mls_tokens.specs.Writing.{is_control};
-ghost use Rattle.mls_script.specs.Writing.{value_text, cell_text, behind_comma, listed, list_text, set_text, keyed};
-ghost use Rattle.mls_script.specs.Writing.{command_text, line_text, HasKnownNumbers, IsKnown, is_writable_text};
-ghost use Rattle.mls_script.specs.Writing.{is_writable_value, are_writable, is_writable};
+ghost use Rattle.mls_translang.specs.Writing.{value_text, cell_text, behind_comma, listed, list_text, set_text, keyed};
+ghost use Rattle.mls_translang.specs.Writing.{command_text, line_text, HasKnownNumbers, IsKnown, is_writable_text};
+ghost use Rattle.mls_translang.specs.Writing.{is_writable_value, are_writable, is_writable};
 
 use crate::event::{Command, Event};
 use mls_lattice::{LabelNo, Policy};

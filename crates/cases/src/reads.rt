@@ -71,12 +71,14 @@ impl Broken {
 
 impl Base for Broken {
     ghost use Rattle.std.specs.Prelude.{false};
-    ghost use Rattle.mls_filterview.specs.Content.{no_content};
+    ghost use Rattle.mls_filterview.specs.Content.{no_content, nowhere};
 
     ghost seen = { λ b. record {
       state = record { now = no_content; kept = no_content; begun = false };
       failures = b.failures;
       is_clean = ⊥;
+      asked = nowhere;
+      changed = nowhere;
     } };
 
     fn is_begun(&self) -> bool {

@@ -1,5 +1,5 @@
 -- Membership in lists.
-use Rattle.std.proofs.Common.{◌≡◌, zero, suc, Bool, true, false, cond, ◌||◌, List, [], ◌∷◌, ◌++◌, map, refl, sym, ap, subst, ◌∙◌, inl, inr, arith, ◌⊎◌, ◌↔◌, IsPermutation, Contains, filter, flat_map, true≢false}
+use Rattle.std.proofs.Common.{◌≡◌, ℕ, zero, suc, ◌<◌, length, get_or, Bool, true, false, cond, ◌||◌, List, [], ◌∷◌, ◌++◌, map, refl, sym, ap, subst, ◌∙◌, inl, inr, arith, ◌⊎◌, ◌↔◌, IsPermutation, Contains, filter, flat_map, true≢false}
 use Rattle.std.specs.List.{list_any, AllByRecursion}
 use Rattle.std.proofs.lemmas.List.Sorted.{Contains-permutation, IsPermutation-sym}
 use Rattle.std.proofs.lemmas.Bool.{or_parts, or_from}
@@ -48,6 +48,11 @@ pub all_at : {A : Type 0} (P : A → Type 0) (xs : List A) → AllByRecursion P 
 all_at P [] h x i = absurd i
 all_at P (y ∷ ys) h x (inl e) = subst P (sym e) h.0
 all_at P (y ∷ ys) h x (inr i) = all_at P ys h.1 x i
+
+pub among_here : {A : Type 0} (xs : List A) (i : ℕ) (d : A) → i < length xs → IsAmong (get_or xs i d) xs
+among_here [] i d l = absurd (omega arith)
+among_here (x ∷ xs) zero d l = inl refl
+among_here (x ∷ xs) (suc i) d l = inr (among_here xs i d (omega arith))
 
 -- ---- appending, and the membership of std
 

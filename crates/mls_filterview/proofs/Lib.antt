@@ -1,5 +1,6 @@
 pub mod LowLemmas
 pub mod CallLemmas
+pub mod AccessLemmas
 pub mod SubsumptionLemmas
 pub mod SubsumptionSteps
 pub mod ViewLemmas

@@ -1,8 +1,9 @@
 -- What every call over a base promises.
-use Rattle.std.specs.Prelude.{◌≡◌, ◌≢◌, ◌↔◌, ℕ, ◌<◌, ◌≤◌, Bool, true, false, List, length, Option, None, IfSome, IfErr}
+use Rattle.std.specs.Prelude.{◌≡◌, ◌≢◌, ◌↔◌, ℕ, ◌<◌, ◌≤◌, Bool, true, false, ⊤, List, length, Option, None, IfSome, IfErr}
 use Rattle.std.specs.Prelude.{OnOk, IsErrOf, Result, Err}
 use Rattle.std.specs.List.{AllByRecursion}
 use Rattle.std.specs.FinMap.{get}
+use Rattle.mls_lattice.specs.Labels.{Labels, below}
 use Rattle.mls_lattice.specs.Policy.{Policy, labels_of}
 use Rattle.mls_scheme.specs.declared.value.Value.{Value}
 use Rattle.mls_scheme.specs.declared.place.Place.{Place}
@@ -12,6 +13,7 @@ use Rattle.mls_filterview.specs.declared.fragment.Node.{Node}
 use Rattle.mls_filterview.specs.declared.fragment.Cell.{Cell}
 use Rattle.mls_filterview.specs.Content.{Seen, after}
 use Rattle.mls_filterview.specs.Stored.{IsStored}
+use Rattle.mls_filterview.specs.View.{IsAmong}
 use Rattle.mls_filterview.specs.Fragment.{IsMadeOf, place_of_node, HasCell, IsAlone, IsCellOf}
 use Rattle.mls_filterview.specs.declared.base.BaseFault.{BaseFault}
 use Rattle.mls_filterview.specs.declared.base.BaseFault.TheVariants.{Store, Memory, NotBegun, Begun}
@@ -71,6 +73,46 @@ module _ {Self : Type 0} (seen : Self → Seen) where
     pub no_other : IsErrOf result NotBegun → ⊥
     pub mode : OnOk result ((seen new).state.begun ≡ then)
 
+-- ---- at which labels a call reads and changes something, whatever it answers
+
+-- any label
+abbrev pub anywhere : ℕ → Type 0
+anywhere m = ⊤
+
+module _ {Self : Type 0} (seen : Self → Seen) where
+  -- no label of `unread` was read, and at none of `unchanged` was a tuple or an element added, set or dropped
+  pub record Avoids (unread unchanged : ℕ → Type 0) (old new : Self) : Type 0 where
+    pub reads : (m : ℕ) → unread m → (seen new).asked m → (seen old).asked m
+    pub changes : (m : ℕ) → unchanged m → (seen new).changed m → (seen old).changed m
+
+  abbrev pub NoAccess : Self → Self → Type 0
+  NoAccess = Avoids anywhere anywhere
+
+  -- one label is read
+  abbrev pub ReadsAt : ℕ → Self → Self → Type 0
+  ReadsAt label = Avoids (λ m. m ≢ label) anywhere
+
+  -- these labels are read
+  abbrev pub ReadsAmong : List ℕ → Self → Self → Type 0
+  ReadsAmong labels = Avoids (λ m. IsAmong m labels → ⊥) anywhere
+
+  -- something is changed at one label
+  abbrev pub ChangesAt : ℕ → Self → Self → Type 0
+  ChangesAt label = Avoids anywhere (λ m. m ≢ label)
+
+  -- something is changed at these labels
+  abbrev pub ChangesAmong : List ℕ → Self → Self → Type 0
+  ChangesAmong labels = Avoids anywhere (λ m. IsAmong m labels → ⊥)
+
+  -- the simple security property (Bell and LaPadula 1973): what is read is below c. Nothing is changed
+  abbrev pub NoReadUp : Labels → ℕ → Self → Self → Type 0
+  NoReadUp ls c = Avoids (λ m. below ls m c ≡ false) anywhere
+
+  -- and the star property: what is read is below hi, and what is changed dominates lo. For a subject at w both are w; one that is
+  -- trusted may have a higher hi (Bell and LaPadula 1976)
+  abbrev pub NoWriteDown : Labels → (hi lo : ℕ) → Self → Self → Type 0
+  NoWriteDown ls hi lo = Avoids (λ m. below ls m hi ≡ false) (λ m. below ls lo m ≡ false)
+
 -- ---- what may be asked of a base
 
 module _ {Self : Type 0} (seen : Self → Seen) (base : Self) (relation : ℕ) where
@@ -93,8 +135,7 @@ module _ {Self : Type 0} (seen : Self → Seen) (base : Self) (relation : ℕ) w
     pub value : IfSome v HasSpelling
     pub there : (seen base).is_clean → HasCell ((seen base).state.now.db relation) p i
 
-  -- a tuple is dropped whose cells no other has
+  -- a tuple is dropped, where there is one, whose cells no other has
   pub record CanDrop (p : Place) : Type 0 where
     pub key : IsSpelledKey p.key
-    pub there : (seen base).is_clean → get ((seen base).state.now.db relation) p ≢ None
     pub alone : (seen base).is_clean → IsAlone ((seen base).state.now.db relation) p

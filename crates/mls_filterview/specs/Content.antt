@@ -22,12 +22,17 @@ pub record State : Type 0 where
   pub kept : Content
   pub begun : Bool
 
--- what contracts see of a base: its state, how many calls of its store have failed, and that the store gives back what
--- was written to it
+-- what contracts see of a base: its state, how many calls of its store have failed, that the store gives back what was written
+-- to it, the labels whose fragments were read, and those at which a tuple or an element was added, set or dropped
 pub record Seen : Type 1 where
   pub state : State
   pub failures : ℕ
   pub is_clean : Type 0
+  pub asked : ℕ → Type 0
+  pub changed : ℕ → Type 0
+
+abbrev pub nowhere : ℕ → Type 0
+nowhere m = ⊥
 
 abbrev pub begun_change : State → State
 begun_change s = record { now = s.now; kept = s.now; begun = true }

@@ -4,7 +4,7 @@ ghost use Rattle.mls_lattice.specs.Policy.{labels_of};
 ghost use Rattle.mls_scheme.specs.Spelling.{IsSpelledKey};
 ghost use Rattle.mls_scheme.specs.Table.{place_of};
 ghost use Rattle.mls_filterview.specs.View.{rows};
-ghost use Rattle.mls_filterview.specs.Calls.{IsRead, CanSee};
+ghost use Rattle.mls_filterview.specs.Calls.{IsRead, CanSee, NoReadUp};
 ghost use Rattle.mls_filterview.specs.Subsumption.{entity_cmp};
 ghost use Rattle.mls_filterview.specs.Entities.{of_entity, is_before, is_behind, mended};
 
@@ -73,6 +73,7 @@ fn own_rows<B: Base>(
     requires key_class { place.old.key_class < length policy.now.labels }
     requires key { IsSpelledKey place.old.key }
     ensures read { IsRead B.seen base.old base.new result }
+    ensures access { NoReadUp B.seen (labels_of policy.now) label base.old base.new }
     ensures rows { (B.seen base.new).is_clean → IfOk result (λ v. v.items ≡ rows (labels_of policy.now) label
         (of_entity place.old ((B.seen base.old).state.now.db relation))) }
     ensures key { place.new.key ≡ place.old.key }
@@ -101,6 +102,7 @@ pub fn mend<B: Base>(
     requires key_class { place.key_class < length policy.now.labels }
     requires key { IsSpelledKey place.key }
     ensures read { IsRead B.seen base.old base.new result }
+    ensures access { NoReadUp B.seen (labels_of policy.now) label base.old base.new }
     ensures rows { (B.seen base.new).is_clean → IfOk result (λ v. v.items
         ≡ mended place (rows (labels_of policy.now) label
         (of_entity place ((B.seen base.old).state.now.db relation))) seen.items) }

@@ -3,7 +3,7 @@ ghost use Rattle.std.specs.Prelude.{◌≡◌, ◌<◌, ◌++◌, ◌&&◌, leng
 ghost use Rattle.mls_lattice.specs.Labels.{below};
 ghost use Rattle.mls_lattice.specs.Policy.{labels_of};
 ghost use Rattle.mls_scheme.specs.Spelling.{IsSpelledKey};
-ghost use Rattle.mls_filterview.specs.Calls.{IsRead, CanSee};
+ghost use Rattle.mls_filterview.specs.Calls.{IsRead, CanSee, NoReadUp};
 ghost use Rattle.mls_filterview.specs.Assembly.{AreOf};
 ghost use Rattle.mls_filterview.specs.Entities.{IsOfEntity};
 
@@ -52,6 +52,7 @@ pub fn entity_parts<B: Base>(
     requires key_class { key_class < length policy.now.labels }
     requires key { IsSpelledKey place.old.key }
     ensures read { IsRead B.seen base.old base.new result }
+    ensures access { NoReadUp B.seen (labels_of policy.now) label base.old base.new }
     ensures parts { (B.seen base.new).is_clean → IfOk result (λ f. AreOf (IsOfEntity (labels_of policy.now)
         ((B.seen base.old).state.now.db relation) label place.old.key key_class (length (labels_of policy.now)))
         f.nodes f.cells) }

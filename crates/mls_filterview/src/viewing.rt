@@ -7,7 +7,7 @@ ghost use Rattle.mls_scheme.specs.Table.{Table, IsIn};
 ghost use Rattle.mls_scheme.specs.declared.tuple.Tuple.{Tuple as SpecTuple};
 ghost use Rattle.mls_filterview.specs.View.{View, rows, IsAmong, AreInOrder};
 ghost use Rattle.mls_filterview.specs.Stored.{IsStored};
-ghost use Rattle.mls_filterview.specs.Calls.{IsRead, CanSee};
+ghost use Rattle.mls_filterview.specs.Calls.{IsRead, CanSee, NoReadUp};
 ghost use Rattle.mls_filterview.specs.Assembly.{AreLow};
 ghost use Rattle.mls_filterview.specs.Reach.{numbers, low_tuples};
 
@@ -49,6 +49,7 @@ fn low_fragment<B: Base>(
     requires { label < length policy.now.labels }
     ensures distinct { AreDistinct (labels_of policy.now) }
     ensures read { IsRead B.seen base.old base.new result }
+    ensures access { NoReadUp B.seen (labels_of policy.now) label base.old base.new }
     ensures low { (B.seen base.new).is_clean → IfOk result
         (λ f. AreLow (labels_of policy.now) ((B.seen base.old).state.now.db relation) label
         (length policy.now.labels) f.nodes f.cells) }
@@ -95,6 +96,7 @@ pub fn low_tuples<B: Base>(
 ) -> Result<Vec<Tuple>, BaseFault>
     requires { CanSee B.seen base.old relation policy.now label }
     ensures read { IsRead B.seen base.old base.new result }
+    ensures access { NoReadUp B.seen (labels_of policy.now) label base.old base.new }
     ensures tuples { (B.seen base.new).is_clean → IfOk result (λ v. v.items
         ≡ low_tuples (labels_of policy.now) label ((B.seen base.old).state.now.db relation)) }
 {
@@ -116,6 +118,7 @@ pub fn view<B: Base>(
 ) -> Result<Vec<Tuple>, BaseFault>
     requires { CanSee B.seen base.old relation policy.now label }
     ensures read { IsRead B.seen base.old base.new result }
+    ensures access { NoReadUp B.seen (labels_of policy.now) label base.old base.new }
     ensures rows { (B.seen base.new).is_clean → IfOk result (λ v. v.items
         ≡ rows (labels_of policy.now) label ((B.seen base.old).state.now.db relation)) }
     ensures seen { (B.seen base.new).is_clean → IfOk result (λ v. (t : SpecTuple)

@@ -1,5 +1,5 @@
 -- What is noted of the rows stays so where they and the note change alike.
-use Rattle.std.proofs.Common.{◌≡◌, ℕ, ◌<◌, pos, ◌+ℤ◌, ◌+◌, true, cond, List, [], ◌∷◌, map, length, Option, None, refl, sym, ap, subst, ◌∙◌, true≢false, ◌≢◌, IfSome, length-append}
+use Rattle.std.proofs.Common.{◌≡◌, ℕ, ◌<◌, pos, ◌+ℤ◌, ◌+◌, true, cond, List, [], ◌∷◌, map, length, Option, None, refl, sym, ap, subst, ◌∙◌, true≢false, IfSome, length-append}
 use Rattle.std.specs.List.{AllByRecursion}
 use Rattle.std.specs.FinMap.{get, insert}
 use Rattle.mls_lattice.specs.Version.{version_number}
@@ -88,8 +88,8 @@ module _ (t u : Tables) (here new : Noted) (was : IsNoted t here) where
   noted_value relation p attr v changes last key value there sets = noted_as u new _ changes (last ∙ was.last) (meta_stays t u (ap (λ (x : Tables). x.meta) sets.0) was.meta) (value_bytes c relation was.classes p attr v) (holds_value t u c relation p attr v was.holds key value there sets)
 
   pub noted_rest : (relation : ℕ) (p : Place) → new.content.changes ≡ Drops relation p ∷ here.content.changes → new.last ≡ here.last
-      → IsSpelledKey p.key → get (c.db relation) p ≢ None → IsAlone (c.db relation) p → DropsTuple relation p t u → IsNoted u new
-  noted_rest relation p changes last key there alone drops = noted_as u new _ changes (last ∙ was.last) (meta_stays t u (ap (λ (x : Tables). x.meta) drops) was.meta) (rest_bytes c relation was.classes p) (holds_rest t u c relation p was.holds key there alone _ refl drops)
+      → IsSpelledKey p.key → IsAlone (c.db relation) p → DropsTuple relation p t u → IsNoted u new
+  noted_rest relation p changes last key alone drops = noted_as u new _ changes (last ∙ was.last) (meta_stays t u (ap (λ (x : Tables). x.meta) drops) was.meta) (rest_bytes c relation was.classes p) (holds_rest t u c relation p was.holds key alone _ refl drops)
 
   pub noted_entry : (bytes : List ℕ) → new.content.changes ≡ Appends bytes ∷ here.content.changes → new.last ≡ here.last +ℤ pos 1
       → AddsEntry (record { number = here.last +ℤ pos 1; bytes = bytes }) t u → IsNoted u new

@@ -134,10 +134,18 @@ macro_rules! change {
 }
 
 impl<S: Alter> Base for SqlBase<S> {
+    ghost use Rattle.mls_filterview.specs.Content.{nowhere};
     ghost use Rattle.mls_tables.specs.Store.{IsClean};
     ghost use Rattle.mls_fragments.specs.Based.{state_of, settled};
 
-    ghost seen = { λ b. record { state = state_of b; failures = b.tables.failures; is_clean = IsClean b.tables } };
+    // It keeps no note of where it was read or changed.
+    ghost seen = { λ b. record {
+      state = state_of b;
+      failures = b.tables.failures;
+      is_clean = IsClean b.tables;
+      asked = nowhere;
+      changed = nowhere;
+    } };
 
     ghost settled = { λ b clean. settled b };
 

@@ -13,7 +13,7 @@ pub struct InMemory<B: Base> {
 #[tactic(auto, using(crate::proofs::MemoryLemmas::memory_calls))]
 impl<B: Base> Base for InMemory<B> {
     // No call fails but for want of memory.
-    ghost seen = { λ b. record { state = (B.seen b.base).state; failures = 0; is_clean = (B.seen b.base).is_clean } };
+    ghost seen = { λ b. record (B.seen b.base) { failures = 0 } };
 
     ghost settled = { λ b clean. B.settled b.base clean };
 

@@ -4,7 +4,7 @@ ghost use Rattle.mls_lattice.specs.Policy.{labels_of};
 ghost use Rattle.mls_scheme.specs.Scheme.{scheme_of};
 ghost use Rattle.mls_filterview.specs.View.{rows};
 ghost use Rattle.mls_filterview.specs.Stored.{IsContent};
-ghost use Rattle.mls_filterview.specs.Calls.{IsRead, CanSee};
+ghost use Rattle.mls_filterview.specs.Calls.{IsRead, CanSee, NoReadUp};
 ghost use Rattle.mls_queries.specs.Views.{AreViews};
 ghost use Rattle.mls_queries.specs.Query.{found};
 ghost use Rattle.mls_queries.specs.Demanded.{IsDemanded};
@@ -34,6 +34,7 @@ fn find_in_view<B: Base>(
     requires see { CanSee B.seen base.old relation policy.now label }
     requires views { AreViews policy.now B.seen base.old views.old }
     ensures read { IsRead B.seen base.old base.new result }
+    ensures access { NoReadUp B.seen (labels_of policy.now) label base.old base.new }
     ensures rows { (B.seen base.new).is_clean → IfOk result (λ ts. ts ≡ found (labels_of policy.now) query.now
         (rows (labels_of policy.now) label ((B.seen base.old).state.now.db relation))) }
     ensures views { OnOk result (AreViews policy.now B.seen base.new views.new) }
@@ -59,6 +60,7 @@ fn find_by_key<B: Base>(
     requires content { (B.seen base.old).is_clean → IsContent (labels_of policy.now) scheme.now
         ((B.seen base.old).state.now.db relation) }
     ensures read { IsRead B.seen base.old base.new result }
+    ensures access { NoReadUp B.seen (labels_of policy.now) label base.old base.new }
     ensures rows { (B.seen base.new).is_clean → IfOk result (λ ts. ts ≡ found (labels_of policy.now) query.now
         (rows (labels_of policy.now) label ((B.seen base.old).state.now.db relation))) }
 {
@@ -81,6 +83,7 @@ fn find_now<B: Base>(
 ) -> Result<Selection, BaseFault>
     requires { CanFind B.seen base.old policy.now scheme.now relation label views.old }
     ensures read { IsRead B.seen base.old base.new result }
+    ensures access { NoReadUp B.seen (labels_of policy.now) label base.old base.new }
     ensures rows { (B.seen base.new).is_clean → IfOk result (λ ts. ts ≡ found (labels_of policy.now) query.now
         (rows (labels_of policy.now) label ((B.seen base.old).state.now.db relation))) }
     ensures views { OnOk result (AreViews policy.now B.seen base.new views.new) }
@@ -110,6 +113,7 @@ pub fn find<B: Base>(
     requires relation { relation < length schemes.now }
     requires can { CanFind B.seen base.old policy.now (scheme_of schemes.now relation) relation label views.old }
     ensures read { IsRead B.seen base.old base.new result }
+    ensures access { NoReadUp B.seen (labels_of policy.now) label base.old base.new }
     ensures rows { (B.seen base.new).is_clean → IfOk result (λ ts. ts ≡ found (labels_of policy.now) query.now
         (rows (labels_of policy.now) label ((B.seen base.old).state.now.db relation))) }
     ensures views { AreViews policy.now B.seen base.new views.new }

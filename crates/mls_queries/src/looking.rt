@@ -6,7 +6,7 @@ ghost use Rattle.mls_scheme.specs.Spelling.{IsSpelledKey};
 ghost use Rattle.mls_scheme.specs.Table.{Table, place_cmp, tuple_at};
 ghost use Rattle.mls_filterview.specs.View.{rows};
 ghost use Rattle.mls_filterview.specs.Stored.{IsStored};
-ghost use Rattle.mls_filterview.specs.Calls.{IsRead, CanSee};
+ghost use Rattle.mls_filterview.specs.Calls.{IsRead, CanSee, NoReadUp};
 ghost use Rattle.mls_filterview.specs.Assembly.{AreLow};
 ghost use Rattle.mls_queries.specs.Demanded.{of_key};
 ghost use Rattle.mls_filterview.specs.Checking.{are_declared};
@@ -84,6 +84,7 @@ pub(crate) fn look_up<B: Base>(
     requires see { CanSee B.seen base.old relation policy.now label }
     requires key { IsSpelledKey key }
     ensures read { IsRead B.seen base.old base.new result }
+    ensures access { NoReadUp B.seen (labels_of policy.now) label base.old base.new }
     ensures rows { (B.seen base.new).is_clean → IfOk result (λ v. v.items ≡ rows (labels_of policy.now) label
         (of_key key ((B.seen base.old).state.now.db relation))) }
 {

@@ -2,7 +2,7 @@
 ghost use Rattle.std.specs.Prelude.{◌<◌, length, IfOk};
 ghost use Rattle.mls_lattice.specs.Policy.{labels_of};
 ghost use Rattle.mls_scheme.specs.Spelling.{IsSpelledKey};
-ghost use Rattle.mls_filterview.specs.Calls.{IsRead, CanSee};
+ghost use Rattle.mls_filterview.specs.Calls.{IsRead, CanSee, NoReadUp};
 ghost use Rattle.mls_filterview.specs.Assembly.{AreLow};
 ghost use Rattle.mls_queries.specs.Demanded.{of_key};
 
@@ -23,6 +23,7 @@ pub(crate) fn key_parts<B: Base>(
     requires see { CanSee B.seen base.old relation policy.now label }
     requires key { IsSpelledKey key }
     ensures read { IsRead B.seen base.old base.new result }
+    ensures access { NoReadUp B.seen (labels_of policy.now) label base.old base.new }
     ensures parts { (B.seen base.new).is_clean → IfOk result (λ f. AreLow (labels_of policy.now)
         (of_key key ((B.seen base.old).state.now.db relation)) label (length (labels_of policy.now)) f.nodes f.cells) }
 {

@@ -4,7 +4,7 @@ ghost use Rattle.std.specs.List.{AllByRecursion, list_any};
 ghost use Rattle.mls_lattice.specs.Policy.{labels_of};
 ghost use Rattle.mls_filterview.specs.View.{rows};
 ghost use Rattle.mls_filterview.specs.Stored.{is_entity};
-ghost use Rattle.mls_filterview.specs.Calls.{IsRead, CanSee};
+ghost use Rattle.mls_filterview.specs.Calls.{IsRead, CanSee, NoReadUp};
 ghost use Rattle.mls_queries.specs.Views.{AgreesWith, IsNamed, fresh, noted};
 
 use mls_filterview::{Base, BaseFault, SharedView, is_entity, mend, settle, view};
@@ -95,6 +95,7 @@ fn mend_each<B: Base>(
         (rows (labels_of policy.now) label ((B.seen base.old).state.now.db relation))
         (record { tuples = tuples.items; written = written.items }) }
     ensures read { IsRead B.seen base.old base.new result }
+    ensures access { NoReadUp B.seen (labels_of policy.now) label base.old base.new }
     ensures rows { (B.seen base.new).is_clean → IfOk result (λ v. v.items ≡ rows (labels_of policy.now) label
         ((B.seen base.old).state.now.db relation)) }
 {
@@ -119,6 +120,7 @@ fn mended<B: Base>(
     requires agrees { (B.seen base.old).is_clean → AgreesWith
         (rows (labels_of policy.now) label ((B.seen base.old).state.now.db relation)) seen }
     ensures read { IsRead B.seen base.old base.new result }
+    ensures access { NoReadUp B.seen (labels_of policy.now) label base.old base.new }
     ensures rows { (B.seen base.new).is_clean → IfOk result (λ ts. ts ≡ rows (labels_of policy.now) label
         ((B.seen base.old).state.now.db relation)) }
 {
@@ -142,6 +144,7 @@ fn resolved<B: Base>(
 ) -> Result<SharedView, BaseFault>
     requires see { CanSee B.seen base.old relation policy.now label }
     ensures read { IsRead B.seen base.old base.new result }
+    ensures access { NoReadUp B.seen (labels_of policy.now) label base.old base.new }
     ensures rows { (B.seen base.new).is_clean → IfOk result (λ ts. ts ≡ rows (labels_of policy.now) label
         ((B.seen base.old).state.now.db relation)) }
 {
@@ -165,6 +168,7 @@ pub(crate) fn look<B: Base>(
     requires agrees { (B.seen base.old).is_clean → IfSome seen (AgreesWith
         (rows (labels_of policy.now) label ((B.seen base.old).state.now.db relation))) }
     ensures read { IsRead B.seen base.old base.new result }
+    ensures access { NoReadUp B.seen (labels_of policy.now) label base.old base.new }
     ensures rows { (B.seen base.new).is_clean → IfOk result (λ ts. ts ≡ rows (labels_of policy.now) label
         ((B.seen base.old).state.now.db relation)) }
 {

@@ -7,7 +7,7 @@ ghost use Rattle.std.specs.Map.{lookup, remove_entry};
 ghost use Rattle.mls_lattice.specs.Labels.{below};
 ghost use Rattle.mls_lattice.specs.Policy.{labels_of};
 ghost use Rattle.mls_filterview.specs.View.{rows};
-ghost use Rattle.mls_filterview.specs.Calls.{IsRead, CanSee};
+ghost use Rattle.mls_filterview.specs.Calls.{IsRead, CanSee, NoReadUp};
 ghost use Rattle.lru.specs.LruCache.{lru_cache, put_entries};
 ghost use Rattle.mls_queries.specs.declared.views.ViewKey.{ViewKey as SpecKey};
 ghost use Rattle.mls_updates.specs.Writes.{named};
@@ -119,6 +119,7 @@ impl Views {
         requires see { CanSee B.seen base.old relation policy.now label }
         requires views { AreViews policy.now B.seen base.old self.old }
         ensures read { IsRead B.seen base.old base.new result }
+        ensures access { NoReadUp B.seen (labels_of policy.now) label base.old base.new }
         ensures rows { (B.seen base.new).is_clean → IfOk result (λ ts. ts ≡ rows (labels_of policy.now) label
             ((B.seen base.old).state.now.db relation)) }
         ensures views { AreViews policy.now B.seen base.new self.new }
@@ -165,6 +166,7 @@ impl Views {
         requires see { CanSee B.seen base.old relation policy.now label }
         requires views { AreViews policy.now B.seen base.old self.old }
         ensures read { IsRead B.seen base.old base.new result }
+        ensures access { NoReadUp B.seen (labels_of policy.now) label base.old base.new }
         ensures rows { (B.seen base.new).is_clean → IfOk result (λ ts. ts ≡ rows (labels_of policy.now) label
             ((B.seen base.old).state.now.db relation)) }
         ensures views { AreViews policy.now B.seen base.new self.new }

@@ -1,5 +1,5 @@
 -- A tuple is dropped, and its node and the cells of its class with it.
-use Rattle.std.proofs.Common.{◌≡◌, ℕ, ◌<◌, Bool, true, false, cond, not, List, map, length, Some, None, refl, sym, ap, ◌∙◌, subst, true≢false, nat_eq, ◌≢◌, filter, flat_map}
+use Rattle.std.proofs.Common.{◌≡◌, ℕ, ◌<◌, Bool, true, false, cond, not, List, map, length, Some, None, refl, sym, ap, ◌∙◌, subst, true≢false, nat_eq, filter, flat_map}
 use Rattle.std.specs.FinMap.{get, remove, entries, entries_sorted, get-remove}
 use Rattle.std.proofs.lemmas.Bool.{and_parts, false_from_ne_true, not-true}
 use Rattle.std.proofs.lemmas.Option.{none-some}
@@ -100,10 +100,10 @@ module _ (t : Tables) (relation : ℕ) (T : Table) (p : Place) (held : HoldsTabl
   }
 
 pub holds_rest : (t u : Tables) (c : Content) (relation : ℕ) (p : Place)
-    → Holds t c → IsSpelledKey p.key → get (c.db relation) p ≢ None → IsAlone (c.db relation) p
+    → Holds t c → IsSpelledKey p.key → IsAlone (c.db relation) p
     → (s : Tables) → DropsNode (tuple_key relation p) t s → DropsCells (tuple_key relation p) s u
     → Holds u (record c { db = with_table c.db relation (remove (c.db relation) p) })
-holds_rest t u c relation p held spelled there alone s node cells =
+holds_rest t u c relation p held spelled alone s node cells =
     let is : u ≡ without relation p t = cells ∙ ap (λ (w : Tables). record w { cells = filter (λ x. not (is_gone_cell relation p x)) w.cells }) node in
     subst (λ w. Holds w (record c { db = with_table c.db relation (remove (c.db relation) p) })) (sym is)
     (holds_with t _ c relation (remove (c.db relation) p) held refl (table_left t relation (c.db relation) p (held.tables relation) spelled alone) (λ r other.

@@ -1,5 +1,6 @@
 //! Scripts that are run over a database: over an empty one in memory, or over that of a store.
 ghost use Rattle.std.specs.Prelude.{◌≡◌, [], refl};
+ghost use Rattle.mls_sessions.specs.Access.{ArePermitted};
 ghost use Rattle.mls_sessions.specs.Engine.{IsAtRest, Leaves};
 ghost use Rattle.mls_host.specs.Hosting.{hosted, IsAppended};
 ghost use Rattle.mls_host.specs.Stopping.{IsCaused};
@@ -37,6 +38,7 @@ pub fn run_over_base<B: Base, W: Write>(
     requires may { MayRun (site_of policy.now schemes.now stored) audience events.now }
     requires rest { IsAtRest B.seen policy.now schemes.now base }
     ensures leaves { Leaves B.seen base result.1 result.0 }
+    ensures access { ArePermitted B.seen (site_of policy.now schemes.now stored) events.now base result.1 }
     ensures run { (B.seen result.1).is_clean → IsRun (site_of policy.now schemes.now stored) audience events.now
         (IsAppended W.contents out.old out.new) result.0 (B.seen base).state.now (B.seen result.1).state.now }
 {

@@ -30,6 +30,8 @@ use Rattle.mls_sessions.specs.Cause.{cause_of}
 use Rattle.mls_sessions.specs.Sessions.{site_of_run}
 use Rattle.mls_sessions.specs.Engine.{site, world_of, IsEngineReady, IsEngineStep, IsKept}
 use Rattle.mls_sessions.specs.Run.{is_done, are_done, notice_of, last_of, notice_in, printed_to, world_after, IsStopped, answer_text, IsEventAnswered, IsHalted}
+use Rattle.mls_sessions.specs.Access.{IsPermitted, ArePermitted}
+use Rattle.mls_sessions.proofs.AccessLemmas.{permitted_start, permitted_more}
 use Rattle.mls_sessions.proofs.StepLemmas.{entries_known}
 
 -- ---- one event
@@ -154,6 +156,7 @@ module _ (site : Site) where
 pub record Running {B : Type 0} (seen : B → Seen) (audience : Audience) (es : List Event) (first : Engine B) (start : Option (List ℕ)) (i : ℕ) (now : Engine B) (held : Option (List ℕ)) : Type 0 where
   pub clean : (seen now.base).is_clean → (seen first.base).is_clean
   pub count : (seen first.base).failures ≤ (seen now.base).failures
+  pub access : ArePermitted seen (site first) es first.base now.base
   pub kept : IsKept seen first now
   pub bytes : (seen now.base).is_clean → Appends start held (printed_to (site first) audience (world_of seen first) es i)
   pub world : (seen now.base).is_clean → world_of seen now ≡ world_after (site first) (world_of seen first) es i
@@ -168,6 +171,7 @@ module _ {B : Type 0} (seen : B → Seen) (audience : Audience) (es : List Event
   running_start ready = record {
     clean = λ c. c;
     count = omega arith;
+    access = permitted_start seen (site first) es first.base;
     kept = record { site = refl; ready = ready_noted seen first None ready };
     noticed = λ c. refl;
     bytes = λ c. subst (Appends start start) (sym (nothing_heard (site_labels (site first)) audience.reader)) (Appends-nil start);
@@ -188,16 +192,21 @@ module _ {B : Type 0} (seen : B → Seen) (audience : Audience) (es : List Event
     same_site : site now ≡ site first
     same_site = ap site_of_run r.kept.site
 
-    pub running_more : (seen now.base).failures ≤ (seen new.base).failures → IsKept seen now new
+    -- with the accesses of one event more
+    pub access_more : IsPermitted seen (site now) e now.base new.base → ArePermitted seen (site first) es first.base new.base
+    access_more one = permitted_more seen (site first) es first.base i e within is now.base new.base (subst (λ at. IsPermitted seen at e now.base new.base) same_site one) r.access
+
+    pub running_more : (seen now.base).failures ≤ (seen new.base).failures → IsPermitted seen (site now) e now.base new.base → IsKept seen now new
         → ((seen new.base).is_clean → IsEventAnswered (site now) audience (world_of seen now) e held after (world_of seen new))
         → ((seen new.base).is_clean → new.notice ≡ last_of (notice_of (step (site now) (world_of seen now) e).reply) now.notice)
         → Running seen audience es first start (i + 1) new after
-    running_more count kept answer notice =
+    running_more count access kept answer notice =
         let h : (seen new.base).is_clean → IsEventAnswered (site first) audience (at i) e held after (world_of seen new) =
         λ c. moved (λ p v. IsEventAnswered p audience v e held after (world_of seen new)) (site now) (site first) (world_of seen now) (at i) same_site (r.world (clean c)) (answer c) in
         record {
           clean = λ c. r.clean (clean c);
           count = least r.count count;
+          access = access_more access;
           kept = record { site = kept.site ∙ r.kept.site; ready = kept.ready };
           bytes = λ c. subst (Appends start after) (sym (printed_more (site first) w es i e within is audience)) (Appends-trans start held after (to i) _ (r.bytes (clean c)) (h c).bytes);
           world = λ c. (h c).world ∙ sym (end_more (site first) w es i e within is);

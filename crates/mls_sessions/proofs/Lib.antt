@@ -11,3 +11,4 @@ pub mod FrameLemmas
 pub mod ArgumentLemmas
 pub mod SessionLemmas
 pub mod StoredLemmas
+pub mod AccessLemmas

@@ -9,3 +9,4 @@ pub mod Turning
 pub mod Denying
 pub mod Sessions
 pub mod Sites
+pub mod Access

@@ -4,6 +4,7 @@ use Rattle.std.specs.Prelude.{Option, Result, Ok, Err}
 use Rattle.mls_lattice.specs.Policy.{Policy, labels_of}
 use Rattle.mls_filterview.specs.Content.{Seen, Content, begun_change}
 use Rattle.mls_filterview.specs.declared.base.BaseFault.{BaseFault}
+use Rattle.mls_filterview.specs.Calls.{NoAccess}
 use Rattle.mls_audit.specs.declared.entry.Entry.{Entry}
 use Rattle.mls_machine.specs.Output.{printed}
 use Rattle.mls_machine.specs.Observation.{heard}
@@ -41,6 +42,7 @@ module _ {Self : Type 0} (seen : Self → Seen) where
   -- a change is begun, and nothing is changed; or it is over
   pub record BeginsList {A : Type 0} (old new : Self) (result : Result A BaseFault) : Type 0 where
     pub turn : IsTurn seen (λ b. (seen b).state.now) old new result
+    pub access : NoAccess seen old new
     pub over : OnErr result ((seen new).state.begun ≡ false)
     pub same : (seen new).is_clean → OnOk result ((seen new).state ≡ begun_change (seen old).state)
     pub mode : OnOk result ((seen new).state.begun ≡ true)
@@ -48,16 +50,18 @@ module _ {Self : Type 0} (seen : Self → Seen) where
   -- the list is empty, and the change kept; or the content is that of the last commit
   pub record IsEmptied (old new : Self) (result : Result (Unit {0}) BaseFault) : Type 0 where
     pub turn : IsTurn seen (λ b. (seen b).state.kept) old new result
+    pub access : NoAccess seen old new
     pub idle : (seen new).state.begun ≡ false
     pub done : (seen new).is_clean → OnOk result ((seen new).state.now
         ≡ record { db = (seen old).state.now.db; audit = [] })
     pub back : (seen new).is_clean → OnErr result ((seen new).state.now ≡ (seen old).state.kept)
 
-  -- what a turning does to a base; a store that is clean behind it was clean before it
+  -- what a turning does to a base: no tuple is read or changed; a store that is clean behind it was clean before it
   pub record HasTurned (policy : Policy) (reader : Option ℕ) (Wrote : List ℕ → Type 0) (old new : Self)
       (result : Result (Unit {0}) RunFault) : Type 0 where
     pub clean : (seen new).is_clean → (seen old).is_clean
     pub count : (seen old).failures ≤ (seen new).failures
+    pub access : NoAccess seen old new
     pub idle : (seen new).state.begun ≡ false
     pub store : IfErr result (λ f. f.cause ≡ Store → (seen old).failures < (seen new).failures)
     pub turned : (seen new).is_clean → IsTurned policy reader Wrote (seen old).state.now (seen new).state.now result

@@ -7,6 +7,11 @@ ghost use Rattle.mls_audit.specs.declared.entry.Entry.TheVariants.{Called};
 ghost use Rattle.mls_audit.specs.Spelling.{HasSpelling, entry_spelling};
 ghost use Rattle.mls_certcheck.specs.MeaningLaws.{IsItem};
 ghost use Rattle.mls_machine.specs.Machine.{release_entry, call_entries};
+ghost use Rattle.mls_lattice.specs.Policy.{labels_of};
+ghost use Rattle.mls_filterview.specs.Calls.{NoAccess, NoWriteDown};
+ghost use Rattle.mls_certcheck.specs.declared.cert.Certificate.{Certificate};
+ghost use Rattle.mls_certcheck.specs.Rules.{Rules, claim};
+ghost use Rattle.mls_sessions.specs.Access.{IsPermitted};
 ghost use Rattle.mls_sessions.specs.Sessions.{site_of_run};
 ghost use Rattle.mls_queries.specs.Views.{AreViews};
 ghost use Rattle.mls_sessions.specs.Calling.{MayEnter, HasEntered, MayRunCall, HasRun};
@@ -87,6 +92,7 @@ fn enter_call<B: Base>(
     requires may { MayEnter B.seen site.now.policy.now event.now user base.old }
     requires name { is_name name.now ≡ true }
     ensures step { Steps B.seen base.old base.new result }
+    ensures access { NoAccess B.seen base.old base.new }
     ensures entered { HasEntered B.seen (Called event.now.level
         (user_name site.now.policy.now.users user) event.now.session name.now ∷ []) base.old base.new result }
 {
@@ -105,6 +111,7 @@ fn enter_release<B: Base>(
     requires may { MayEnter B.seen site.now.policy.now event.now user base.old }
     requires item { IsItem site.now.policy.now item.now }
     ensures step { Steps B.seen base.old base.new result }
+    ensures access { NoAccess B.seen base.old base.new }
     ensures entered { HasEntered B.seen
         (release_entry (site_of_run site.now) event.now user item.now ∷ []) base.old base.new result }
 {
@@ -123,6 +130,7 @@ fn enter_releases<B: Base>(
     requires may { MayEnter B.seen site.now.policy.now event.now user base.old }
     requires items { AllByRecursion (IsItem site.now.policy.now) released.now }
     ensures step { Steps B.seen base.old base.new result }
+    ensures access { NoAccess B.seen base.old base.new }
     ensures entered { HasEntered B.seen
         (map (release_entry (site_of_run site.now) event.now user) released.now) base.old base.new result }
 {
@@ -145,6 +153,7 @@ fn enter_run<B: Base>(
     requires name { is_name name.now ≡ true }
     requires items { AllByRecursion (IsItem site.now.policy.now) released.now }
     ensures step { Steps B.seen base.old base.new result }
+    ensures access { NoAccess B.seen base.old base.new }
     ensures entered { HasEntered B.seen
         (call_entries (site_of_run site.now) event.now user name.now released.now) base.old base.new result }
 {
@@ -163,6 +172,8 @@ fn run_certified<B: Base>(
     requires found { IsOpen B.seen (site_of_run site.now) true base.old views.old }
     requires may { MayRunCall site.now.policy.now site.now.schemes.now certified.now.tx args.now }
     ensures step { Steps B.seen base.old base.new result }
+    ensures access { (cert : Certificate) → Rules (claim site.now.policy.now certified.now.tx cert)
+        → NoWriteDown B.seen (labels_of site.now.policy.now) certified.now.tx.hi certified.now.tx.lo base.old base.new }
     ensures run { HasRun B.seen site.now.policy.now site.now.schemes.now certified.now.tx args.now
         base.old base.new result }
     ensures views { OnOk result (AreViews site.now.policy.now B.seen base.new views.new) }
@@ -190,6 +201,7 @@ pub(crate) fn call<B: Base>(
     requires found { IsOpen B.seen (site_of_run site.now) true base.old views.old }
     requires may { MayDo (site_of_run site.now) event.now (Effect.Call user) }
     ensures step { Steps B.seen base.old base.new result }
+    ensures access { IsPermitted B.seen (site_of_run site.now) event.now base.old base.new }
     ensures done { HasDone B.seen (site_of_run site.now) event.now (Effect.Call user) base.old base.new
         result }
     ensures views { OnOk result (AreViews site.now.policy.now B.seen base.new views.new) }

@@ -3,6 +3,9 @@ ghost use Rattle.std.specs.Prelude.{◌≡◌, ◌<◌, true, false, length, IfO
 ghost use Rattle.mls_audit.specs.Spelling.{HasSpelling, entry_spelling};
 ghost use Rattle.mls_translang.specs.Event.{EventFits};
 ghost use Rattle.mls_machine.specs.Machine.{denial_entry};
+ghost use Rattle.mls_lattice.specs.Policy.{labels_of};
+ghost use Rattle.mls_filterview.specs.Calls.{NoAccess, NoWriteDown};
+ghost use Rattle.mls_sessions.specs.Access.{IsPermitted};
 ghost use Rattle.mls_sessions.specs.Sessions.{site_of_run};
 ghost use Rattle.mls_sessions.specs.Turns.{MayDo, Steps, EndsChange, IsOpen, HasDone};
 ghost use Rattle.mls_queries.specs.Views.{AreViews};
@@ -63,6 +66,7 @@ fn enter<B: Base>(
     requires begun { (B.seen base.old).state.begun ≡ true }
     requires may { MayDo (site_of_run site.now) event.now (Effect.Deny user denial) }
     ensures step { Steps B.seen base.old base.new result }
+    ensures access { NoAccess B.seen base.old base.new }
     ensures done { HasDone B.seen (site_of_run site.now) event.now (Effect.Deny user denial) base.old base.new
         result }
 {
@@ -81,6 +85,8 @@ fn write<B: Base>(
     requires found { IsOpen B.seen (site_of_run site.now) true base.old views.old }
     requires may { MayDo (site_of_run site.now) event.now Effect.Write }
     ensures step { Steps B.seen base.old base.new result }
+    ensures access { NoWriteDown B.seen (labels_of site.now.policy.now) event.now.level event.now.level base.old
+        base.new }
     ensures done { HasDone B.seen (site_of_run site.now) event.now Effect.Write base.old base.new result }
     ensures views { OnOk result (AreViews site.now.policy.now B.seen base.new views.new) }
 {
@@ -110,6 +116,7 @@ fn act<B: Base>(
     requires found { IsOpen B.seen (site_of_run site.now) true base.old views.old }
     requires may { MayDo (site_of_run site.now) event.now effect }
     ensures step { Steps B.seen base.old base.new result }
+    ensures access { IsPermitted B.seen (site_of_run site.now) event.now base.old base.new }
     ensures done { HasDone B.seen (site_of_run site.now) event.now effect base.old base.new result }
     ensures views { OnOk result (AreViews site.now.policy.now B.seen base.new views.new) }
 {
@@ -131,6 +138,7 @@ fn carry_out<B: Base>(
     requires found { IsOpen B.seen (site_of_run site.now) false base.old views.old }
     requires may { MayDo (site_of_run site.now) event.now effect }
     ensures over { EndsChange B.seen base.old base.new result }
+    ensures access { IsPermitted B.seen (site_of_run site.now) event.now base.old base.new }
     ensures done { HasDone B.seen (site_of_run site.now) event.now effect base.old base.new result }
     ensures views { OnOk result (AreViews site.now.policy.now B.seen base.new views.new) }
 {
@@ -151,6 +159,7 @@ pub(crate) fn change<B: Base>(
     requires found { IsOpen B.seen (site_of_run site.now) false base.old views.old }
     requires may { MayDo (site_of_run site.now) event.now effect }
     ensures over { EndsChange B.seen base.old base.new result }
+    ensures access { IsPermitted B.seen (site_of_run site.now) event.now base.old base.new }
     ensures done { HasDone B.seen (site_of_run site.now) event.now effect base.old base.new result }
     ensures views { AreViews site.now.policy.now B.seen base.new views.new }
 {

@@ -5,6 +5,7 @@ ghost use Rattle.mls_machine.specs.Machine.{no_sessions};
 ghost use Rattle.mls_certcheck.specs.Site.{site_of};
 ghost use Rattle.mls_sessions.specs.Sessions.{sessions_of};
 ghost use Rattle.mls_sessions.specs.World.{world_at};
+ghost use Rattle.mls_sessions.specs.Access.{IsPermitted};
 ghost use Rattle.mls_sessions.specs.Engine.{site, world_of, MayServe, IsAtRest, IsEngineReady, Answers};
 ghost use Rattle.mls_machine.specs.Known.{HasKnownNumbers};
 
@@ -108,6 +109,7 @@ impl<'a, B: Base> Engine<'a, B> {
         requires fits { EventFits (site self.old).policy (site self.old).schemes event.now }
         requires closed { sessions_of self.old.sessions.items event.now.level event.now.session ≡ None }
         ensures answers { Answers B.seen self.old event.now self.new result }
+        ensures access { IsPermitted B.seen (site self.old) event.now self.old.base self.new.base }
         ensures known { IfOk result (HasKnownNumbers (site self.old).policy) }
     {
         open(&self.site, &mut self.sessions, event)
@@ -119,6 +121,7 @@ impl<'a, B: Base> Engine<'a, B> {
         requires fits { EventFits (site self.old).policy (site self.old).schemes event.now }
         requires held { sessions_of self.old.sessions.items event.now.level event.now.session ≡ Some user }
         ensures answers { Answers B.seen self.old event.now self.new result }
+        ensures access { IsPermitted B.seen (site self.old) event.now self.old.base self.new.base }
         ensures known { IfOk result (HasKnownNumbers (site self.old).policy) }
     {
         if let Some(denial) = denial_of(&self.site, event.level, user, &event.command) {
@@ -165,6 +168,7 @@ impl<'a, B: Base> Engine<'a, B> {
         requires ready { IsEngineReady B.seen self.old }
         requires fits { EventFits (site self.old).policy (site self.old).schemes event.now }
         ensures answers { Answers B.seen self.old event.now self.new result }
+        ensures access { IsPermitted B.seen (site self.old) event.now self.old.base self.new.base }
         ensures known { IfOk result (HasKnownNumbers (site self.old).policy) }
     {
         match user_of(&self.sessions, event.level, &event.session) {

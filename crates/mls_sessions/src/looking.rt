@@ -1,6 +1,7 @@
 //! Events that look at the base: views, dumps and audits. They change no content.
 ghost use Rattle.std.specs.Prelude.{◌≡◌, ◌<◌, false, length, IfOk};
 ghost use Rattle.mls_lattice.specs.Policy.{labels_of};
+ghost use Rattle.mls_filterview.specs.Calls.{NoAccess, NoReadUp};
 ghost use Rattle.mls_audit.specs.Entry.{visible};
 ghost use Rattle.mls_audit.specs.Reading.{entry_at};
 ghost use Rattle.mls_audit.specs.Sound.{IsSoundContent};
@@ -35,6 +36,7 @@ pub(crate) fn look<B: Base>(
     requires label { label < length site.now.policy.now.labels }
     ensures looked { HasLooked B.seen (site_of_run site.now)
         (λ w. viewed (site_of_run site.now) w relation label query.now) base.old base.new result }
+    ensures access { NoReadUp B.seen (labels_of site.now.policy.now) label base.old base.new }
     ensures views { AreViews site.now.policy.now B.seen base.new views.new }
 {
     let found = find(
@@ -61,8 +63,9 @@ pub(crate) fn dump<B: Base>(
     requires level { level < length site.now.policy.now.labels }
     requires sound { (B.seen base.old).is_clean → IsSoundContent site.now.policy.now site.now.schemes.now
         (B.seen base.old).state.now }
-    ensures { HasLooked B.seen (site_of_run site.now)
+    ensures looked { HasLooked B.seen (site_of_run site.now)
         (λ w. dumped (site_of_run site.now) w relation level) base.old base.new result }
+    ensures access { NoReadUp B.seen (labels_of site.now.policy.now) level base.old base.new }
 {
     let tuples = low_tuples(site.alloc, base, site.policy, relation, level)?;
     Ok(Reply::Dumped(Items::from(tuples)))
@@ -125,8 +128,9 @@ pub(crate) fn seen_of(
 pub(crate) fn audit<B: Base>(site: &Site, base: &mut B, level: LabelNo) -> Result<Reply, BaseFault>
     requires idle { (B.seen base.old).state.begun ≡ false }
     requires level { level < length site.now.policy.now.labels }
-    ensures { HasLooked B.seen (site_of_run site.now)
+    ensures looked { HasLooked B.seen (site_of_run site.now)
         (λ w. listed (site_of_run site.now) w level) base.old base.new result }
+    ensures access { NoAccess B.seen base.old base.new }
 {
     let strings = base.audit_all()?;
     let entries = settle(base, seen_of(site.alloc, site.policy, &strings, level))?;

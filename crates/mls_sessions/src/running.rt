@@ -8,6 +8,7 @@ ghost use Rattle.mls_machine.specs.Observation.{EventsFit, PassesOnlyReleasesDow
 ghost use Rattle.mls_machine.specs.Laws.{KeepsIntegrity};
 ghost use Rattle.mls_sessions.specs.Sessions.{site_of_run};
 ghost use Rattle.mls_machine.specs.Known.{HasKnownNumbers};
+ghost use Rattle.mls_sessions.specs.Access.{IsPermitted, ArePermitted};
 ghost use Rattle.mls_sessions.specs.Engine.{site, world_of, IsEngineReady, Continues};
 ghost use Rattle.mls_sessions.specs.Run.{notice_of, last_of, notice_in, IsWhole, IsStopped, IsFaultOf, IsEventAnswered, IsHalted};
 
@@ -65,6 +66,7 @@ fn answer<B: Base, W: Write>(
     requires fits { EventFits (site engine.old).policy (site engine.old).schemes event.now }
     requires reader { IfSome audience.now.reader (λ c. c < length (site engine.old).policy.labels) }
     ensures continues { Continues B.seen engine.old engine.new result }
+    ensures access { IsPermitted B.seen (site engine.old) event.now engine.old.base engine.new.base }
     ensures done { (B.seen engine.new.base).is_clean → OnOk result (IsEventAnswered (site engine.old) audience.now
         (world_of B.seen engine.old) event.now
         (W.contents out.old) (W.contents out.new) (world_of B.seen engine.new)) }
@@ -110,6 +112,8 @@ pub fn run_to<B: Base, W: Write>(
     requires fits { EventsFit (site engine.old) events.now }
     requires reader { IfSome audience.reader (λ c. c < length (site engine.old).policy.labels) }
     ensures continues { Continues B.seen engine.old engine.new result }
+    // No event reads up, and none writes down.
+    ensures access { ArePermitted B.seen (site engine.old) events.now engine.old.base engine.new.base }
     ensures ok { (B.seen engine.new.base).is_clean → OnOk result (IsWhole (site engine.old) audience
         (world_of B.seen engine.old) events.now
         (W.contents out.old) (W.contents out.new) (world_of B.seen engine.new)) }
@@ -144,6 +148,7 @@ pub fn run<B: Base, W: Write>(
     requires ready { IsEngineReady B.seen engine.old }
     requires fits { EventsFit (site engine.old) events.now }
     ensures continues { Continues B.seen engine.old engine.new result }
+    ensures access { ArePermitted B.seen (site engine.old) events.now engine.old.base engine.new.base }
     ensures ok { (B.seen engine.new.base).is_clean → OnOk result (IsWhole (site engine.old) everyone
         (world_of B.seen engine.old) events.now
         (W.contents out.old) (W.contents out.new) (world_of B.seen engine.new)) }

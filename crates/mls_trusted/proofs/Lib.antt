@@ -3,3 +3,4 @@ pub mod FrameLemmas
 pub mod PlainLemmas
 pub mod RunLemmas
 pub mod WriteLemmas
+pub mod EndLemmas

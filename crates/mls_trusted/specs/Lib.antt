@@ -2,3 +2,4 @@
 pub mod Environment
 pub mod Frames
 pub mod Runs
+pub mod Ends

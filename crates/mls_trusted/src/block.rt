@@ -1,9 +1,12 @@
 //! Statements, run over a base.
-ghost use Rattle.std.specs.Prelude.{IfErr, OnOk, [], ◌∷◌};
+ghost use Rattle.std.specs.Prelude.{◌≡◌, true, IfErr, OnOk, [], ◌∷◌};
 ghost use Rattle.std.specs.List.{AllByRecursion};
+ghost use Rattle.mls_lattice.specs.Labels.{below};
+ghost use Rattle.mls_lattice.specs.Policy.{labels_of};
 ghost use Rattle.mls_filterview.specs.Calls.{IsCall, IsServed};
 ghost use Rattle.mls_translang.specs.Tree.{If, End};
 ghost use Rattle.mls_translang.specs.Blocks.{block_of};
+ghost use Rattle.mls_trusted.specs.Ends.{Accesses};
 ghost use Rattle.mls_trusted.specs.Frames.{around_of, MayRunBlock, MayLoop, run_of, rows_of, loop_of, IsCallReady, IsFrameRun};
 
 use crate::call::Call;
@@ -28,6 +31,7 @@ pub(crate) fn run_block<B: Base>(
     requires may { MayRunBlock call.now (around_of frame.old) block.now }
     ensures call { IsCall B.seen base.old base.new result }
     ensures served { IfErr result IsServed }
+    ensures access { Accesses call.now B.seen block.now base.old base.new }
     ensures ran { OnOk result (IsFrameRun call.now B.seen
         (run_of call.now block.now (around_of frame.old)) base.old base.new frame.old frame.new) }
 {
@@ -51,6 +55,7 @@ fn run_branch<B: Base>(
     requires may { MayRunBlock call.now (around_of frame.old) (If guard.now one.now other.now End) }
     ensures call { IsCall B.seen base.old base.new result }
     ensures served { IfErr result IsServed }
+    ensures access { Accesses call.now B.seen (If guard.now one.now other.now End) base.old base.new }
     ensures ran { OnOk result (IsFrameRun call.now B.seen
         (run_of call.now (If guard.now one.now other.now End) (around_of frame.old)) base.old base.new frame.old
         frame.new) }
@@ -75,6 +80,7 @@ fn run_row<B: Base>(
     requires may { MayRunBlock call.now (row ∷ around_of frame.old) body.now }
     ensures call { IsCall B.seen base.old base.new result }
     ensures served { IfErr result IsServed }
+    ensures access { Accesses call.now B.seen body.now base.old base.new }
     ensures ran { OnOk result (IsFrameRun call.now B.seen
         (run_of call.now body.now (row ∷ around_of frame.old)) base.old base.new frame.old frame.new) }
 {
@@ -97,6 +103,7 @@ fn run_rows<B: Base>(
     requires may { AllByRecursion (λ row. MayRunBlock call.now (row ∷ around_of frame.old) body.now) rows.now }
     ensures call { IsCall B.seen base.old base.new result }
     ensures served { IfErr result IsServed }
+    ensures access { Accesses call.now B.seen body.now base.old base.new }
     ensures ran { OnOk result (IsFrameRun call.now B.seen
         (rows_of call.now body.now (around_of frame.old) rows.now) base.old base.new frame.old frame.new) }
 {
@@ -121,6 +128,8 @@ fn run_loop<B: Base>(
     requires may { MayLoop call.now relation label (around_of frame.old) body.now }
     ensures call { IsCall B.seen base.old base.new result }
     ensures served { IfErr result IsServed }
+    ensures access { below (labels_of call.now.policy.now) label call.now.tx.now.hi ≡ true
+        → Accesses call.now B.seen body.now base.old base.new }
     ensures ran { OnOk result (IsFrameRun call.now B.seen
         (loop_of call.now relation label body.now (around_of frame.old)) base.old base.new frame.old frame.new) }
 {
@@ -140,6 +149,7 @@ fn run_stmt<B: Base>(
     requires may { MayRunBlock call.now (around_of frame.old) (block_of (stmt.now ∷ [])) }
     ensures call { IsCall B.seen base.old base.new result }
     ensures served { IfErr result IsServed }
+    ensures access { Accesses call.now B.seen (block_of (stmt.now ∷ [])) base.old base.new }
     ensures ran { OnOk result (IsFrameRun call.now B.seen
         (run_of call.now (block_of (stmt.now ∷ [])) (around_of frame.old)) base.old base.new frame.old frame.new) }
 {

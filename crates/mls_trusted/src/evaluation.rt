@@ -1,7 +1,10 @@
 //! Calls of certified transactions.
 ghost use Rattle.std.specs.Prelude.{false};
-ghost use Rattle.mls_filterview.specs.Calls.{IsStep, IsOutside};
+ghost use Rattle.mls_lattice.specs.Policy.{labels_of};
+ghost use Rattle.mls_filterview.specs.Calls.{IsStep, IsOutside, NoWriteDown};
 ghost use Rattle.mls_filterview.specs.Content.{committed};
+ghost use Rattle.mls_certcheck.specs.declared.cert.Certificate.{Certificate};
+ghost use Rattle.mls_certcheck.specs.Rules.{Rules, claim};
 ghost use Rattle.mls_queries.specs.Views.{AreViews};
 ghost use Rattle.mls_trusted.specs.Runs.{MayCall, MayCallInside, IsCalled};
 
@@ -17,6 +20,7 @@ use std::alloc::Global;
 
 /// Runs a transaction inside a change, with an argument for each parameter.
 ///
+/// Under a certificate that holds it reads below the upper end of the transaction, and changes at labels that dominate its lower end.
 /// A write that is refused changes nothing, and the run goes on. A view that is kept is not resolved again. After `Store` or
 /// `Memory` the change has ended, and no view is kept.
 pub fn evaluate_in<B: Base>(
@@ -30,6 +34,8 @@ pub fn evaluate_in<B: Base>(
 ) -> Result<Run, BaseFault>
     requires { MayCallInside B.seen policy.now schemes.now certified.now.tx args.now views.old base.old }
     ensures step { IsStep B.seen base.old base.new result }
+    ensures access { (cert : Certificate) → Rules (claim policy.now certified.now.tx cert)
+        → NoWriteDown B.seen (labels_of policy.now) certified.now.tx.hi certified.now.tx.lo base.old base.new }
     ensures called { IsCalled B.seen policy.now schemes.now certified.now.tx args.now (λ s. s) base.old
         base.new result }
     ensures views { AreViews policy.now B.seen base.new views.new }
@@ -61,6 +67,8 @@ pub fn evaluate<B: Base>(
 ) -> Result<Run, BaseFault>
     requires { MayCall B.seen policy.now schemes.now certified.now.tx args.now base.old }
     ensures outside { IsOutside B.seen false base.old base.new result }
+    ensures access { (cert : Certificate) → Rules (claim policy.now certified.now.tx cert)
+        → NoWriteDown B.seen (labels_of policy.now) certified.now.tx.hi certified.now.tx.lo base.old base.new }
     ensures called { IsCalled B.seen policy.now schemes.now certified.now.tx args.now committed base.old
         base.new result }
 {

@@ -3,7 +3,7 @@ ghost use Rattle.std.specs.Prelude.{◌≡◌, ◌↔◌, ◌+◌, length, IsTru
 ghost use Rattle.std.specs.List.{AllByRecursion};
 ghost use Rattle.mls_lattice.specs.Policy.{labels_of};
 ghost use Rattle.mls_scheme.specs.Scheme.{scheme_of};
-ghost use Rattle.mls_filterview.specs.Calls.{IsRead};
+ghost use Rattle.mls_filterview.specs.Calls.{IsRead, NoReadUp};
 ghost use Rattle.mls_filterview.specs.View.{rows};
 ghost use Rattle.mls_translang.specs.Kinds.{field_of};
 ghost use Rattle.mls_certcheck.specs.Kinds.{RowKinds};
@@ -75,6 +75,7 @@ pub(crate) fn rows_at<B: Base>(
 ) -> Result<SharedView, BaseFault>
     requires { MayLook call.now B.seen relation label views.old base.old }
     ensures read { IsRead B.seen base.old base.new result }
+    ensures access { NoReadUp B.seen (labels_of call.now.policy.now) label base.old base.new }
     ensures kinds { IfOk result (λ v. AllByRecursion (RowKinds (scheme_of call.now.schemes.now relation)) v) }
     ensures rows { (B.seen base.new).is_clean → IfOk result (λ v. v ≡ rows (labels_of call.now.policy.now) label
         ((B.seen base.old).state.now.db relation)) }

@@ -3,6 +3,7 @@ ghost use Rattle.std.specs.Prelude.{◌≡◌, IfOk, IfErr, OnOk};
 ghost use Rattle.mls_filterview.specs.Calls.{IsCall, IsServed};
 ghost use Rattle.mls_translang.specs.Tree.{Do, Write_at, End};
 ghost use Rattle.mls_certcheck.specs.Meaning.{write_in};
+ghost use Rattle.mls_trusted.specs.Ends.{Accesses};
 ghost use Rattle.mls_trusted.specs.Frames.{around_of, env_in, MayRunBlock, run_of, IsCallReady, IsFrameRun};
 
 use crate::call::Call;
@@ -39,6 +40,7 @@ pub(crate) fn write_at<B: Base>(
     requires may { MayRunBlock call.now (around_of frame.old) (Do (Write_at relation at write.now outcome) End) }
     ensures call { IsCall B.seen base.old base.new result }
     ensures served { IfErr result IsServed }
+    ensures access { Accesses call.now B.seen (Do (Write_at relation at write.now outcome) End) base.old base.new }
     ensures ran { OnOk result (IsFrameRun call.now B.seen
         (run_of call.now (Do (Write_at relation at write.now outcome) End) (around_of frame.old))
         base.old base.new frame.old frame.new) }

@@ -12,7 +12,7 @@ use Rattle.mls_scheme.specs.Scheme.{Scheme, Schemes, scheme_of, IsUnder, AreUnde
 use Rattle.mls_scheme.specs.Writes.{key_of}
 use Rattle.mls_filterview.specs.declared.base.BaseFault.{BaseFault}
 use Rattle.mls_filterview.specs.declared.base.BaseFault.TheVariants.{NotBegun, Begun}
-use Rattle.mls_filterview.specs.Calls.{begun_after, IsCall, IsChange, IsFault, IsServed, IsStep}
+use Rattle.mls_filterview.specs.Calls.{begun_after, IsCall, IsChange, IsFault, IsServed, IsStep, NoWriteDown}
 use Rattle.mls_filterview.specs.Content.{Seen, State, after}
 use Rattle.mls_filterview.specs.Stored.{IsContent}
 use Rattle.mls_filterview.specs.declared.fragment.Node.{Node}
@@ -108,17 +108,19 @@ module _ {B : Type 0} (seen : B → Seen) (policy : Policy) (schemes : Schemes) 
   pub null_written : has_null (key_of wr) ≡ true → HasWritten seen policy schemes relation w wr a a (Ok KeyNull)
   null_written h = record {
     change = step_change seen a a (Ok KeyNull) begun (record { call = record { clean = λ k. k; count = omega arith; fault = tt }; served = tt; mode = begun });
+    access = record { reads = λ m u h. h; changes = λ m u h. h };
     done = λ k. write_null ls scheme relation w (seen a).state wr h;
     kept = stored;
   }
 
   -- by a step over a base that was lent before
-  pub step_written : AreDistinct ls → WriteFits ls (length scheme.others) w wr → WriteKinds scheme wr → (b c : B) (r : Result Outcome BaseFault) → b ≡ a → IsStep seen b c r
+  pub step_written : AreDistinct ls → WriteFits ls (length scheme.others) w wr → WriteKinds scheme wr → (b c : B) (r : Result Outcome BaseFault) → b ≡ a → IsStep seen b c r → NoWriteDown seen ls w w b c
       → ((seen c).is_clean → IfOk r (IsWritten ls scheme relation w wr (seen a).state (seen c).state)) → HasWritten seen policy schemes relation w wr a c r
-  step_written distinct fits kinds b c r same step done =
+  step_written distinct fits kinds b c r same step access done =
       let over = subst (λ x. IsStep seen x c r) same step in
       record {
         change = step_change seen a c r begun over;
+        access = subst (λ x. NoWriteDown seen ls w w x c) same access;
         done = done;
         kept = λ k. IfOk-weaker r (IsWritten ls scheme relation w wr (seen a).state (seen c).state) _
             (λ o. written_content ls distinct scheme relation w wr (seen a).state (seen c).state o fits kinds (stored (over.call.clean k))) (done k);

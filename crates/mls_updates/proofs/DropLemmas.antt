@@ -34,13 +34,6 @@ left_cases T p q es h =
     let ne : q ≡ p → ⊥ = λ e. none-some es (sym (get_removed T p q e) ∙ h) in
     (ne, sym (get_left T p q ne) ∙ h)
 
--- a tuple that is not there may be removed
-pub remove_none : (T : Table) (p : Place) → get T p ≡ None → remove T p ≡ T
-remove_none T p h = same_table _ _ (λ q. elim (cases_Bool (is_place q p)) [
-  | inl b ↦ (let e = is_place-true q p b in get_removed T p q e ∙ sym (ap (get T) e ∙ h))
-  | inr b ↦ get_left T p q (λ e. true≢false (sym (is_place-same q p e) ∙ b))
-])
-
 -- a place of the entity of p is known by its class
 pub of_entity : (p q : Place) → is_entity p q ≡ true → q ≡ with_class p q.class
 of_entity p q h = let d = (entity_decides p q).0 h in λ i. record { key = sym d.0 i; key_class = sym d.1 i; class = q.class }

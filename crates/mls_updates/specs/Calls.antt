@@ -11,7 +11,7 @@ use Rattle.mls_scheme.specs.Scheme.{Scheme, Schemes, scheme_of, AreUnder}
 use Rattle.mls_scheme.specs.Fits.{HaveKinds}
 use Rattle.mls_scheme.specs.Table.{change}
 use Rattle.mls_filterview.specs.declared.base.BaseFault.{BaseFault}
-use Rattle.mls_filterview.specs.Calls.{IsChange}
+use Rattle.mls_filterview.specs.Calls.{IsChange, NoWriteDown}
 use Rattle.mls_filterview.specs.Content.{Seen, State, with_relation}
 use Rattle.mls_updates.specs.declared.outcome.Outcome.{Outcome}
 use Rattle.mls_filterview.specs.Stored.{with_class, IsContent}
@@ -96,9 +96,11 @@ module _ {Self : Type 0} (seen : Self → Seen) (base : Self) (policy : Policy) 
 
 module _ {Self : Type 0} (seen : Self → Seen)
     (policy : Policy) (schemes : Schemes) (relation w : ℕ) (wr : Write) where
-  -- outcome and table are those of its definition, and the content is of the stored form
+  -- outcome and table are those of its definition, the content is of the stored form, and whatever is answered nothing was read
+  -- but what w dominates, and nothing changed but at labels that dominate w
   pub record HasWritten (old new : Self) (result : Result Outcome BaseFault) : Type 0 where
     pub change : IsChange seen true old new result
+    pub access : NoWriteDown seen (labels_of policy) w w old new
     pub done : (seen new).is_clean
         → IfOk result (IsWritten (labels_of policy) (scheme_of schemes relation) relation w wr (seen old).state
         (seen new).state)

@@ -2,7 +2,7 @@
 ghost use Rattle.std.specs.Prelude.{◌≡◌, List, IfOk, OnOk};
 ghost use Rattle.std.specs.FinMap.{insert};
 ghost use Rattle.mls_scheme.specs.declared.tuple.Element.{Element as SpecElement};
-ghost use Rattle.mls_filterview.specs.Calls.{IsStep};
+ghost use Rattle.mls_filterview.specs.Calls.{IsStep, ChangesAt};
 ghost use Rattle.mls_filterview.specs.Content.{with_relation};
 ghost use Rattle.mls_filterview.specs.Fragment.{IsMadeOf, node_of, cells_of};
 ghost use Rattle.mls_updates.specs.NewTuples.{entry_of};
@@ -38,6 +38,7 @@ pub(crate) fn add_tuple<B: Base>(
 ) -> Result<(), BaseFault>
     requires { CanAddTuple B.seen base.old tuple.now }
     ensures step { IsStep B.seen base.old base.new result }
+    ensures access { ChangesAt B.seen tuple.now.place.class base.old base.new }
     ensures done { (B.seen base.new).is_clean → (es : List SpecElement)
         → IsMadeOf ((B.seen base.old).state.now.db tuple.now.relation) (node_of (entry_of tuple.now))
         (cells_of (entry_of tuple.now)) es

@@ -6,7 +6,7 @@ ghost use Rattle.mls_lattice.specs.Policy.{labels_of};
 ghost use Rattle.mls_scheme.specs.Scheme.{Scheme};
 ghost use Rattle.mls_scheme.specs.Spelling.{HasSpelling};
 ghost use Rattle.mls_scheme.specs.declared.tuple.Element.{Element as SpecElement};
-ghost use Rattle.mls_filterview.specs.Calls.{IsStep};
+ghost use Rattle.mls_filterview.specs.Calls.{IsStep, NoWriteDown};
 ghost use Rattle.mls_updates.specs.Steps.{IsBegunAt};
 ghost use Rattle.mls_updates.specs.Calls.{IsChanged};
 
@@ -31,6 +31,7 @@ pub(crate) fn update_own<B: Base>(
         → get ((B.seen base.old).state.now.db relation) place.now ≡ Some es
         → AllByRecursion (λ s. s.0 < length es) sets.now }
     ensures step { IsStep B.seen base.old base.new result }
+    ensures access { NoWriteDown B.seen (labels_of policy.now) place.now.class place.now.class base.old base.new }
     ensures done { (B.seen base.new).is_clean → IfOk result (λ o. (scheme : Scheme)
         → IsChanged (labels_of policy.now) scheme relation place.now sets.now (B.seen base.old).state
         (B.seen base.new).state o) }

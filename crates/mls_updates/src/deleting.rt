@@ -3,7 +3,7 @@ ghost use Rattle.std.specs.Prelude.{◌≡◌, ℕ, not, length, IfOk, OnOk};
 ghost use Rattle.std.specs.FinMap.{retain_keys};
 ghost use Rattle.mls_lattice.specs.Policy.{labels_of};
 ghost use Rattle.mls_scheme.specs.Scheme.{Scheme as SpecScheme};
-ghost use Rattle.mls_filterview.specs.Calls.{IsStep};
+ghost use Rattle.mls_filterview.specs.Calls.{IsStep, NoWriteDown};
 ghost use Rattle.mls_filterview.specs.Content.{with_relation};
 ghost use Rattle.mls_filterview.specs.Stored.{IsStored};
 ghost use Rattle.mls_updates.specs.Writes.{Delete, is_above};
@@ -33,6 +33,7 @@ fn drop_above<B: Base>(
     requires stored { (B.seen base.old).is_clean → (n : ℕ)
         × IsStored (labels_of policy.now) n ((B.seen base.old).state.now.db relation) }
     ensures step { IsStep B.seen base.old base.new result }
+    ensures access { NoWriteDown B.seen (labels_of policy.now) place.class place.class base.old base.new }
     ensures done { (B.seen base.new).is_clean → OnOk result ((B.seen base.new).state
         ≡ with_relation (B.seen base.old).state relation
         (retain_keys ((B.seen base.old).state.now.db relation) (λ q. not (is_above (labels_of policy.now) place q)))) }
@@ -53,6 +54,7 @@ fn delete_at<B: Base>(
     requires stored { (B.seen base.old).is_clean → (n : ℕ)
         × IsStored (labels_of policy.now) n ((B.seen base.old).state.now.db relation) }
     ensures step { IsStep B.seen base.old base.new result }
+    ensures access { NoWriteDown B.seen (labels_of policy.now) place.class place.class base.old base.new }
     ensures done { (B.seen base.new).is_clean → IfOk result (λ o. (scheme : SpecScheme)
         → IsDeleted (labels_of policy.now) scheme relation place (B.seen base.old).state (B.seen base.new).state o) }
 {

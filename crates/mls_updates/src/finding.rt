@@ -3,7 +3,7 @@
 ghost use Rattle.std.specs.Prelude.{◌≡◌, is_some, IfOk};
 ghost use Rattle.std.specs.FinMap.{get};
 ghost use Rattle.mls_scheme.specs.Spelling.{IsSpelledKey};
-ghost use Rattle.mls_filterview.specs.Calls.{IsRead};
+ghost use Rattle.mls_filterview.specs.Calls.{IsRead, ReadsAt};
 
 use mls_filterview::{Base, BaseFault};
 use mls_scheme::{Place, RelNo};
@@ -17,6 +17,7 @@ pub(crate) fn has_tuple<B: Base>(
 ) -> Result<bool, BaseFault>
     requires key { IsSpelledKey place.now.key }
     ensures read { IsRead B.seen base.old base.new result }
+    ensures access { ReadsAt B.seen place.now.class base.old base.new }
     ensures found { (B.seen base.new).is_clean → IfOk result (λ has. has
         ≡ is_some (get ((B.seen base.old).state.now.db relation) place.now)) }
 {

@@ -4,7 +4,7 @@ ghost use Rattle.std.specs.List.{AllByRecursion};
 ghost use Rattle.mls_lattice.specs.Policy.{labels_of};
 ghost use Rattle.mls_scheme.specs.Scheme.{IsUnder};
 ghost use Rattle.mls_scheme.specs.Spelling.{HasSpelling};
-ghost use Rattle.mls_filterview.specs.Calls.{IsStep};
+ghost use Rattle.mls_filterview.specs.Calls.{IsStep, NoWriteDown};
 ghost use Rattle.mls_updates.specs.Writes.{Insert};
 ghost use Rattle.mls_updates.specs.Steps.{IsBegunAt};
 ghost use Rattle.mls_updates.specs.Calls.{CanInsert, IsInserted, HasWritten};
@@ -33,6 +33,7 @@ fn insert_at<B: Base>(
     requires under { IsUnder (length policy.now.labels) scheme.now }
     requires values { AllByRecursion (λ v. IfSome v HasSpelling) values.now }
     ensures step { IsStep B.seen base.old base.new result }
+    ensures access { NoWriteDown B.seen (labels_of policy.now) place.class place.class base.old base.new }
     ensures done { (B.seen base.new).is_clean → IfOk result
         (IsInserted (labels_of policy.now) scheme.now relation place values.now (B.seen base.old).state
         (B.seen base.new).state) }

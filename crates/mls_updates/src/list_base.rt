@@ -1,6 +1,6 @@
 //! A base in memory.
 ghost use Rattle.std.specs.Prelude.{◌≡◌, false, is_some, None};
-ghost use Rattle.mls_filterview.specs.Content.{no_content, failed};
+ghost use Rattle.mls_filterview.specs.Content.{no_content, nowhere, failed};
 ghost use Rattle.mls_updates.specs.States.{state_of, state-settled};
 
 use crate::held::{Held, copy_entries};
@@ -47,7 +47,14 @@ impl ListBase {
 }
 
 impl Base for ListBase {
-    ghost seen = { λ b. record { state = state_of b.held b.saved; failures = 0; is_clean = Unit {0} } };
+    // It keeps no note of where it was read or changed.
+    ghost seen = { λ b. record {
+      state = state_of b.held b.saved;
+      failures = 0;
+      is_clean = Unit {0};
+      asked = nowhere;
+      changed = nowhere;
+    } };
 
     ghost settled = { λ b clean. state-settled b.held b.saved };
 

@@ -5,7 +5,7 @@ ghost use Rattle.std.specs.Prelude.{◌≡◌, List, IfOk, OnOk, None};
 ghost use Rattle.std.specs.FinMap.{insert};
 ghost use Rattle.mls_scheme.specs.declared.tuple.Element.{Element as SpecElement};
 ghost use Rattle.mls_filterview.specs.Content.{with_relation};
-ghost use Rattle.mls_filterview.specs.Calls.{IsStep};
+ghost use Rattle.mls_filterview.specs.Calls.{IsStep, ChangesAt};
 ghost use Rattle.mls_filterview.specs.Fragment.{IsMadeOf, node_of, cells_of};
 ghost use Rattle.mls_updates.specs.Steps.{outline, CanAddTuple};
 ghost use Rattle.mls_updates.specs.Writes.{set_element};
@@ -83,6 +83,7 @@ pub(crate) fn add_outline<B: Base>(
 ) -> Result<(), BaseFault>
     requires { CanAddTuple B.seen base.old (record { relation = relation; place = place; elements = outline place.class sets.now 0 pattern.now }) }
     ensures step { IsStep B.seen base.old base.new result }
+    ensures access { ChangesAt B.seen place.class base.old base.new }
     ensures done { (B.seen base.new).is_clean → (es : List SpecElement)
         → IsMadeOf ((B.seen base.old).state.now.db relation) (node_of
         (place, outline place.class sets.now 0 pattern.now))

@@ -1,7 +1,7 @@
 //! A tuple of an entity made from a lower one.
 ghost use Rattle.std.specs.Prelude.{◌≡◌, ◌<◌, length, IfOk};
 ghost use Rattle.mls_lattice.specs.Policy.{labels_of};
-ghost use Rattle.mls_filterview.specs.Calls.{IsRead, IsStep};
+ghost use Rattle.mls_filterview.specs.Calls.{IsRead, IsStep, NoReadUp, NoWriteDown};
 ghost use Rattle.mls_filterview.specs.Stored.{with_class};
 ghost use Rattle.mls_updates.specs.Steps.{IsBegunAt, CanDerive};
 ghost use Rattle.mls_updates.specs.Calls.{IsDerived, classes_below};
@@ -27,6 +27,7 @@ fn pattern_below<B: Base>(
     requires label { w < length policy.now.labels }
     requires at { IsBegunAt B.seen base.old (length policy.now.labels) place.now }
     ensures read { IsRead B.seen base.old base.new result }
+    ensures access { NoReadUp B.seen (labels_of policy.now) w base.old base.new }
     ensures found { (B.seen base.new).is_clean → IfOk result (λ pattern. pattern
         ≡ classes_below (labels_of policy.now) relation (with_class place.now w) place.now.class
         (B.seen base.old).state) }
@@ -56,6 +57,7 @@ fn derive<B: Base>(
     requires found { (B.seen base.old).is_clean → pattern
         ≡ classes_below (labels_of policy.now) relation place from (B.seen base.old).state }
     ensures step { IsStep B.seen base.old base.new result }
+    ensures access { NoWriteDown B.seen (labels_of policy.now) place.class place.class base.old base.new }
     ensures done { (B.seen base.new).is_clean → IfOk result
         (IsDerived (labels_of policy.now) scheme.now relation place from sets.now (B.seen base.old).state
         (B.seen base.new).state) }
@@ -93,6 +95,7 @@ pub(crate) fn update_below<B: Base>(
 ) -> Result<Outcome, BaseFault>
     requires { CanDerive B.seen base.old relation (with_class place w) policy.now scheme.now place.class sets.now }
     ensures step { IsStep B.seen base.old base.new result }
+    ensures access { NoWriteDown B.seen (labels_of policy.now) w w base.old base.new }
     ensures done { (B.seen base.new).is_clean → IfOk result
         (IsDerived (labels_of policy.now) scheme.now relation (with_class place w) place.class sets.now
         (B.seen base.old).state

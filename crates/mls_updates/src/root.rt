@@ -1,7 +1,7 @@
 //! The root of an entity: a tuple of one class.
 ghost use Rattle.std.specs.Prelude.{◌≡◌, IfOk, OnOk};
 ghost use Rattle.std.specs.FinMap.{insert};
-ghost use Rattle.mls_filterview.specs.Calls.{IsStep};
+ghost use Rattle.mls_filterview.specs.Calls.{IsStep, ChangesAt};
 ghost use Rattle.mls_filterview.specs.Content.{with_relation};
 ghost use Rattle.mls_updates.specs.Writes.{root};
 ghost use Rattle.mls_updates.specs.Steps.{CanAddTuple};
@@ -59,6 +59,7 @@ pub(crate) fn add_root<B: Base>(
 ) -> Result<(), BaseFault>
     requires { CanAddTuple B.seen base.old (record { relation = relation; place = place; elements = root place.class values.now }) }
     ensures step { IsStep B.seen base.old base.new result }
+    ensures access { ChangesAt B.seen place.class base.old base.new }
     ensures done { (B.seen base.new).is_clean → OnOk result ((B.seen base.new).state
         ≡ with_relation (B.seen base.old).state relation
         (insert ((B.seen base.old).state.now.db relation) place (root place.class values.now))) }

@@ -2,7 +2,7 @@
 ghost use Rattle.std.specs.Prelude.{◌≡◌, true, OnOk};
 ghost use Rattle.mls_scheme.specs.Table.{change};
 ghost use Rattle.mls_filterview.specs.Content.{with_relation};
-ghost use Rattle.mls_filterview.specs.Calls.{IsStep, CanSet};
+ghost use Rattle.mls_filterview.specs.Calls.{IsStep, CanSet, ChangesAt};
 ghost use Rattle.mls_filterview.specs.Fragment.{set_in};
 ghost use Rattle.mls_updates.specs.Steps.{set_each, CanSetEach};
 
@@ -21,6 +21,7 @@ fn set_one<B: Base>(
     requires begun { (B.seen base.old).state.begun ≡ true }
     requires can { CanSet B.seen base.old relation place.now attr value.now }
     ensures step { IsStep B.seen base.old base.new result }
+    ensures access { ChangesAt B.seen place.now.class base.old base.new }
     ensures done { (B.seen base.new).is_clean → OnOk result ((B.seen base.new).state
         ≡ with_relation (B.seen base.old).state relation
         (change (set_in place.now attr value.now) ((B.seen base.old).state.now.db relation))) }
@@ -38,6 +39,7 @@ pub(crate) fn set_each<B: Base>(
 ) -> Result<(), BaseFault>
     requires { CanSetEach B.seen base.old relation place.now sets.now }
     ensures step { IsStep B.seen base.old base.new result }
+    ensures access { ChangesAt B.seen place.now.class base.old base.new }
     ensures done { (B.seen base.new).is_clean → OnOk result ((B.seen base.new).state
         ≡ with_relation (B.seen base.old).state relation (set_each place.now sets.now
         ((B.seen base.old).state.now.db relation))) }

@@ -1,6 +1,6 @@
 //! A base, some of whose calls fail.
 ghost use Rattle.std.specs.Prelude.{◌≡◌, ◌<◌, ◌≤◌, ◌+◌, true};
-ghost use Rattle.mls_filterview.specs.Calls.{IsFault, IsServed};
+ghost use Rattle.mls_filterview.specs.Calls.{IsFault, IsServed, NoAccess};
 
 use mls_filterview::{Base, BaseFault, Cell, Fragment, Node, abandon};
 use mls_lattice::{Items, LabelNo};
@@ -108,6 +108,7 @@ impl<B: Base> Faulty<B> {
         ensures count { (⟦<Faulty<B> as Base>⟧.seen self.old).failures ≤ (⟦<Faulty<B> as Base>⟧.seen self.new).failures }
         ensures fault { IsFault ⟦<Faulty<B> as Base>⟧.seen result self.old self.new }
         ensures served { IsServed result }
+        ensures access { NoAccess ⟦<Faulty<B> as Base>⟧.seen self.old self.new }
     {
         self.fuse.failed += 1;
         abandon(&mut self.base);
@@ -124,6 +125,8 @@ impl<B: Base> Base for Faulty<B> {
       state = (B.seen b.base).state;
       failures = (B.seen b.base).failures + b.fuse.failed;
       is_clean = (B.seen b.base).is_clean;
+      asked = (B.seen b.base).asked;
+      changed = (B.seen b.base).changed;
     } };
 
     ghost settled = { λ b clean. B.settled b.base clean };

@@ -8,6 +8,7 @@ use Rattle.mls_filterview.specs.Content.{State}
 use Rattle.mls_filterview.specs.Fragment.{IsEntityPart}
 use Rattle.mls_filterview.specs.Assembly.{AreOf}
 use Rattle.mls_filterview.proofs.CallLemmas.{fault_read}
+use Rattle.mls_filterview.proofs.AccessLemmas.{avoids_then, avoids_some, at_reads_low}
 use Rattle.mls_filterview.specs.Entities.{IsOfEntity}
 use Rattle.mls_filterview.proofs.PartLemmas.{entity_same, entity_more}
 use Rattle.mls_filterview.proofs.parts.entity_parts.Goals as goal
@@ -19,6 +20,7 @@ loop-number-preserved-then-not-is_between g c =
     let label = c.args.label in
     record {
       clean = inv.clean;
+      access = inv.access;
       count = inv.count;
       mode = inv.mode;
       same = inv.same;
@@ -41,6 +43,9 @@ loop-number-preserved g c =
     let label = c.args.label in
     record {
       clean = λ clean. inv.clean (f.ensures.read.call.clean (c.in_ok-settle.ensures.call.clean clean));
+      access = avoids_then (avoids_then inv.access
+          (at_reads_low ls label c.new-class.result (and_parts (below ls c.args.key_class c.new-class.result) (below ls c.new-class.result label) (sym c.if-not-is_between.ensures)).1 f.ensures.access))
+          (avoids_some c.in_ok-settle.ensures.access);
       count = (let x = inv.count in let y = f.ensures.read.call.count in let z = c.in_ok-settle.ensures.call.count in omega (arith, x, y, z));
       mode = ap (λ s. s.begun) here ∙ f.ensures.read.mode ∙ inv.mode;
       same = λ clean. (let before = c.in_ok-settle.ensures.call.clean clean in here ∙ f.ensures.read.same before ∙ inv.same (f.ensures.read.call.clean before));
@@ -79,3 +84,18 @@ returns-in_err-settle-clause-read g c =
     let first = inv.count in let second = f.call.count in
     fault_read B.seen c.args.base.now c.entity.new.self c.settle.new.base c.in_err-settle.field-0.0 c.from_residual-in_err-settle.result
     (λ h. inv.clean (f.call.clean h)) (omega (arith, first, second)) (f.mode ∙ inv.mode) (λ h. f.same h ∙ inv.same (f.call.clean h)) c.in_err-settle.ensures.call c.in_err-settle.ensures.served (search rules)
+
+pub returns-in_err-part-clause-access : goal.returns-in_err-part-clause-access
+returns-in_err-part-clause-access g c =
+    let ls = labels_of c.args.policy.now in
+    let label = c.args.label in
+    avoids_then c.loop-number.invariant.access
+    (at_reads_low ls label c.new-class.result (and_parts (below ls c.args.key_class c.new-class.result) (below ls c.new-class.result label) (sym c.if-not-is_between.ensures)).1 c.in_err-part.ensures.access)
+
+pub returns-in_err-settle-clause-access : goal.returns-in_err-settle-clause-access
+returns-in_err-settle-clause-access g c =
+    let ls = labels_of c.args.policy.now in
+    let label = c.args.label in
+    avoids_then (avoids_then c.loop-number.invariant.access
+    (at_reads_low ls label c.new-class.result (and_parts (below ls c.args.key_class c.new-class.result) (below ls c.new-class.result label) (sym c.if-not-is_between.ensures)).1 c.in_ok-part.ensures.access))
+    (avoids_some c.in_err-settle.ensures.access)

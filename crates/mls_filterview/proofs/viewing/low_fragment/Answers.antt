@@ -2,9 +2,11 @@ use Rattle.std.proofs.Common.{◌≡◌, List, ℕ, length, IfOk, subst, ap, ◌
 use Rattle.std.proofs.lemmas.Result.{IfOk-weaker}
 use Rattle.mls_lattice.specs.Labels.{below}
 use Rattle.mls_lattice.specs.Policy.{labels_of}
+use Rattle.mls_filterview.specs.Calls.{ReadsAmong}
 use Rattle.mls_filterview.specs.Content.{State}
 use Rattle.mls_filterview.specs.Fragment.{AreFragments}
 use Rattle.mls_filterview.specs.Reach.{numbers}
+use Rattle.mls_filterview.proofs.AccessLemmas.{avoids_then, avoids_some, among_reads_low}
 use Rattle.mls_filterview.proofs.FragmentLemmas.{low_fragments}
 use Rattle.mls_filterview.proofs.viewing.low_fragment.Goals as goal
 
@@ -22,3 +24,13 @@ returns-clause-low g c = λ clean.
     (λ f found. low_fragments ls T c.args.label n f
     (subst (λ ms. AreFragments T ms f) labels (subst (λ (s : State). AreFragments (s.now.db c.args.relation) c.deref.result.now f) here found)))
     (c.fragments.ensures.found clean)
+
+pub returns-clause-access : goal.returns-clause-access
+returns-clause-access g c =
+    let ls = labels_of c.args.policy.now in
+    let all = numbers (length c.args.policy.now.labels) in
+    let low : List ℕ = filter (λ m. below ls m c.args.label) all in
+    let labels : c.deref.result.now ≡ low =
+    c.deref.ensures.value ∙ subst (λ r. IfOk r (λ v. v.items ≡ low)) c.in_ok-labels.ensures.value c.low_labels.ensures.labels in
+    avoids_then (avoids_some c.in_ok-labels.ensures.access)
+    (among_reads_low ls c.args.label all (subst (λ ms. ReadsAmong g.B.Base.seen ms c.settle.new.base c.fragments.new.self) labels c.fragments.ensures.access))

@@ -5,6 +5,7 @@ use Rattle.mls_lattice.specs.Policy.{labels_of}
 use Rattle.mls_filterview.specs.Content.{State}
 use Rattle.mls_filterview.specs.Stored.{IsStored}
 use Rattle.mls_filterview.specs.Assembly.{AreOf}
+use Rattle.mls_filterview.proofs.AccessLemmas.{avoids_then, avoids_some}
 use Rattle.mls_filterview.proofs.CallLemmas.{fault_read}
 use Rattle.mls_filterview.specs.Entities.{IsOfEntity}
 use Rattle.mls_queries.proofs.PartLemmas.{IsOfKey, key_skipped, key_more, key_parts_low}
@@ -25,6 +26,7 @@ loop-number-preserved-then-not-dominates g c =
     let ls = labels_of c.args.policy.now in
     record {
       clean = inv.clean;
+      access = inv.access;
       count = inv.count;
       mode = inv.mode;
       same = inv.same;
@@ -45,6 +47,7 @@ loop-number-preserved g c =
     let ls = labels_of c.args.policy.now in
     record {
       clean = λ clean. inv.clean (f.ensures.read.call.clean (c.in_ok-settle.ensures.call.clean clean));
+      access = avoids_then (avoids_then inv.access f.ensures.access) (avoids_some c.in_ok-settle.ensures.access);
       count = (let x = inv.count in let y = f.ensures.read.call.count in let z = c.in_ok-settle.ensures.call.count in omega (arith, x, y, z));
       mode = ap (λ s. s.begun) here ∙ f.ensures.read.mode ∙ inv.mode;
       same = λ clean. (let before = c.in_ok-settle.ensures.call.clean clean in here ∙ f.ensures.read.same before ∙ inv.same (f.ensures.read.call.clean before));
@@ -87,3 +90,10 @@ returns-in_err-settle-clause-read g c =
     let first = inv.count in let second = f.call.count in
     fault_read B.seen c.args.base.now c.entity_parts.new.base c.settle.new.base c.in_err-settle.field-0.0 c.from_residual-in_err-settle.result
     (λ h. inv.clean (f.call.clean h)) (omega (arith, first, second)) (f.mode ∙ inv.mode) (λ h. f.same h ∙ inv.same (f.call.clean h)) c.in_err-settle.ensures.call c.in_err-settle.ensures.served (search rules)
+
+pub returns-in_err-parts-clause-access : goal.returns-in_err-parts-clause-access
+returns-in_err-parts-clause-access g c = avoids_then c.loop-number.invariant.access c.in_err-parts.ensures.access
+
+pub returns-in_err-settle-clause-access : goal.returns-in_err-settle-clause-access
+returns-in_err-settle-clause-access g c =
+    avoids_then (avoids_then c.loop-number.invariant.access c.in_ok-parts.ensures.access) (avoids_some c.in_err-settle.ensures.access)

@@ -5,6 +5,7 @@ use Rattle.mls_lattice.specs.Policy.{labels_of}
 use Rattle.mls_filterview.specs.Content.{State}
 use Rattle.mls_filterview.specs.Entities.{of_entity, mended}
 use Rattle.mls_filterview.specs.Stored.{IsStored}
+use Rattle.mls_filterview.proofs.AccessLemmas.{avoids_then}
 use Rattle.mls_filterview.specs.View.{rows}
 use Rattle.mls_queries.specs.Views.{AgreesWith, IsNamed}
 use Rattle.mls_queries.proofs.KeptSeenLemmas.{mended_agrees, none_written}
@@ -33,6 +34,7 @@ loop-place-preserved g c =
     let here = c.in-Some.ensures.steps.0 in
     record {
       clean = λ clean. inv.clean (m.read.call.clean clean);
+      access = avoids_then inv.access m.access;
       count = (let x = inv.count in let y = m.read.call.count in omega (arith, x, y));
       mode = m.read.mode ∙ inv.mode;
       same = λ clean. m.read.same clean ∙ inv.same (m.read.call.clean clean);
@@ -51,3 +53,6 @@ returns-clause-rows g c = λ clean.
     let none : length c.loop-place.place-iterator.rest.items ≡ 0 = search rules in
     let nil : c.loop-place.place-iterator.rest.items ≡ [] = nil_from_length c.loop-place.place-iterator.rest.items none in
     none_written now ts (subst (λ ws. AgreesWith now (record { tuples = ts; written = ws })) nil (c.loop-place.invariant.agrees clean))
+
+pub returns-in_err-tuples-clause-access : goal.returns-in_err-tuples-clause-access
+returns-in_err-tuples-clause-access g c = avoids_then c.loop-place.invariant.access c.in_err-tuples.ensures.access

@@ -7,6 +7,7 @@ use Rattle.mls_sessions.specs.Sessions.{site_of_run, sessions_of}
 use Rattle.mls_runs.specs.Running.{first_world}
 use Rattle.mls_runs.proofs.RunningLemmas.{IsEngineRun, run_at}
 use Rattle.mls_sessions.proofs.FrameLemmas.{left_behind, given_back}
+use Rattle.mls_sessions.specs.Access.{ArePermitted}
 use Rattle.mls_runs.proofs.running.run_over_base.Goals as goal
 
 pub run_to-outcome-requires-clause-fits : goal.run_to-outcome-requires-clause-fits
@@ -30,3 +31,12 @@ returns-clause-run g c = λ clean.
     (subst (λ v. IsEngineRun at c.args.audience v c.args.events.now (g.W.Write.contents c.args.out.now) (g.W.Write.contents c.run_to-outcome.new.out) (world_at (site_of_run new.site) sessions (g.B.Base.seen new.base).state.now) c.run_to-outcome.result) c.new-engine.ensures.world
     (subst (λ s. IsEngineRun s c.args.audience (world_of g.B.Base.seen c.new-engine.result) c.args.events.now (g.W.Write.contents c.args.out.now) (g.W.Write.contents c.run_to-outcome.new.out) (world_at (site_of_run new.site) sessions (g.B.Base.seen new.base).state.now) c.run_to-outcome.result) c.new-engine.ensures.site
     (record { ok = c.run_to-outcome.ensures.ok was; err = c.run_to-outcome.ensures.err was; fault = c.run_to-outcome.ensures.fault; integrity = c.run_to-outcome.ensures.integrity was; secret = c.run_to-outcome.ensures.secret was }))))
+
+pub returns-clause-access : goal.returns-clause-access
+returns-clause-access g c =
+    let at : Site = site_of c.args.policy.now c.args.schemes.now c.args.stored in
+    let seen = g.B.Base.seen in
+    let es = c.args.events.now in
+    subst (λ b. ArePermitted seen at es c.args.base b) (sym c.finish.ensures)
+    (subst (λ b. ArePermitted seen at es b c.run_to-outcome.new.engine.base) c.new-engine.ensures.base
+    (subst (λ s. ArePermitted seen s es c.new-engine.result.base c.run_to-outcome.new.engine.base) c.new-engine.ensures.site c.run_to-outcome.ensures.access))

@@ -12,6 +12,8 @@ use Rattle.mls_sessions.specs.Sessions.{site_of_run}
 use Rattle.mls_sessions.specs.Calling.{with_entries}
 use Rattle.mls_sessions.proofs.StoredLemmas.{found_read}
 use Rattle.mls_sessions.proofs.CallLemmas.{certified_found, counted, items_known, call_allowed, call_over}
+use Rattle.mls_filterview.proofs.AccessLemmas.{avoids_then, avoids_some}
+use Rattle.mls_sessions.proofs.AccessLemmas.{found_rules, call_permitted}
 use Rattle.mls_sessions.proofs.calling.call.Goals as goal
 
 pub certified_named-certified-requires : goal.certified_named-certified-requires
@@ -56,3 +58,33 @@ returns-clause-done g c = record {
     items_known c.args.site.now.policy.now c.in_ok-run.run'.released c.in_ok-run.ensures.run.items.released,
   );
 }
+
+pub returns-clause-access : goal.returns-clause-access
+returns-clause-access g c =
+    let site = site_of_run c.args.site.now in
+    let e = c.args.event.now in
+    let k = c.certified_named-certified.result.now in
+    let stored = sym (ap (λ xs. stored_named xs c.deref-2.result.now) c.deref.ensures ∙ ap (stored_named c.args.site.now.stored) c.deref-2.ensures) ∙ c.certified_named-certified.ensures in
+    let rules = found_rules site c.in-Call.tx k c.args.site.now.certified stored in
+    call_permitted g.B.Base.seen c.args.base.now c.enter_run.new.base site e c.args.user c.in-Call.tx c.in-Call.args c.in-Call.is c.requires.may.asked.2 k stored
+    (avoids_then (c.in_ok-run.ensures.access k.cert rules) (avoids_some c.in_ok-enter_run.ensures.access))
+
+pub returns-in_err-enter_run-clause-access : goal.returns-in_err-enter_run-clause-access
+returns-in_err-enter_run-clause-access g c =
+    let site = site_of_run c.args.site.now in
+    let e = c.args.event.now in
+    let k = c.certified_named-certified.result.now in
+    let stored = sym (ap (λ xs. stored_named xs c.deref-2.result.now) c.deref.ensures ∙ ap (stored_named c.args.site.now.stored) c.deref-2.ensures) ∙ c.certified_named-certified.ensures in
+    let rules = found_rules site c.in-Call.tx k c.args.site.now.certified stored in
+    call_permitted g.B.Base.seen c.args.base.now c.enter_run.new.base site e c.args.user c.in-Call.tx c.in-Call.args c.in-Call.is c.requires.may.asked.2 k stored
+    (avoids_then (c.in_ok-run.ensures.access k.cert rules) (avoids_some c.in_err-enter_run.ensures.access))
+
+pub returns-in_err-run-clause-access : goal.returns-in_err-run-clause-access
+returns-in_err-run-clause-access g c =
+    let site = site_of_run c.args.site.now in
+    let e = c.args.event.now in
+    let k = c.certified_named-certified.result.now in
+    let stored = sym (ap (λ xs. stored_named xs c.deref-2.result.now) c.deref.ensures ∙ ap (stored_named c.args.site.now.stored) c.deref-2.ensures) ∙ c.certified_named-certified.ensures in
+    let rules = found_rules site c.in-Call.tx k c.args.site.now.certified stored in
+    call_permitted g.B.Base.seen c.args.base.now c.run_certified.new.base site e c.args.user c.in-Call.tx c.in-Call.args c.in-Call.is c.requires.may.asked.2 k stored
+    (c.in_err-run.ensures.access k.cert rules)

@@ -1,5 +1,6 @@
 use Rattle.std.proofs.Common.{◌≡◌, ◌≤◌, true, take, map}
 use Rattle.std.specs.List.{AllByRecursion}
+use Rattle.mls_filterview.specs.Calls.{NoAccess}
 use Rattle.mls_audit.specs.Spelling.{HasSpelling}
 use Rattle.mls_machine.specs.Machine.{release_entry}
 use Rattle.mls_sessions.specs.Sessions.{site_of_run}
@@ -13,6 +14,7 @@ invariant-loop-item g l =
     let es = map (release_entry (site_of_run l.site) l.event l.user) (take l.item-index l.released) in
     record {
       clean : (g.B.Base.seen l.base).is_clean → (g.B.Base.seen l.fn.base).is_clean;
+      access : NoAccess g.B.Base.seen l.fn.base l.base;
       count : (g.B.Base.seen l.fn.base).failures ≤ (g.B.Base.seen l.base).failures;
       begun : t.begun ≡ true;
       way : (g.B.Base.seen l.base).is_clean → t ≡ with_entries s es;

@@ -6,6 +6,7 @@ use Rattle.mls_machine.specs.Machine.{release_entry}
 use Rattle.mls_sessions.specs.Sessions.{site_of_run}
 use Rattle.mls_sessions.specs.Calling.{with_entries}
 use Rattle.mls_sessions.proofs.EnteringLemmas.{first_entered}
+use Rattle.mls_filterview.proofs.AccessLemmas.{avoids_then}
 use Rattle.mls_sessions.proofs.calling.enter_run.Goals as goal
 
 pub returns-clause-entered : goal.returns-clause-entered
@@ -17,3 +18,6 @@ returns-clause-entered g c =
           (c.enter_releases.ensures.entered.done clean);
       spelled = on_ok_weaker c.enter_releases.result (λ h. (c.in_ok-enter_call.ensures.entered.spelled.0, h)) c.enter_releases.ensures.entered.spelled;
     }
+
+pub returns-clause-access : goal.returns-clause-access
+returns-clause-access g c = avoids_then c.in_ok-enter_call.ensures.access c.enter_releases.ensures.access

@@ -4,6 +4,7 @@ use Rattle.mls_certcheck.specs.MeaningLaws.{ArgsFit}
 use Rattle.mls_machine.specs.Denying.{fitted}
 use Rattle.mls_trusted.specs.Runs.{MayCallInside}
 use Rattle.mls_machine.proofs.ArgumentLemmas.{fitted_fit}
+use Rattle.mls_filterview.proofs.AccessLemmas.{avoids_then, avoids_some}
 use Rattle.mls_sessions.proofs.calling.run_certified.Goals as goal
 
 pub evaluate_in-requires : goal.evaluate_in-requires
@@ -22,3 +23,9 @@ evaluate_in-requires g c =
       begun = c.requires.found.mode;
       views = c.requires.found.views;
     })
+
+pub returns-clause-access : goal.returns-clause-access
+returns-clause-access g c = λ cert rules. avoids_then (avoids_some c.in_ok-args.ensures.access) (c.evaluate_in.ensures.access cert rules)
+
+pub returns-in_err-args-clause-access : goal.returns-in_err-args-clause-access
+returns-in_err-args-clause-access g c = λ cert rules. avoids_some c.in_err-args.ensures.access

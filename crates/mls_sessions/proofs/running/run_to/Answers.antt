@@ -4,7 +4,7 @@ use Rattle.mls_machine.proofs.RunLemmas.{first_accepted_alike}
 use Rattle.mls_sessions.specs.Engine.{site, world_of}
 use Rattle.mls_sessions.specs.Run.{IsStopped}
 use Rattle.mls_sessions.proofs.FrameLemmas.{carried}
-use Rattle.mls_sessions.proofs.AnswerLemmas.{running_start, running_more, running_stopped, stored_at}
+use Rattle.mls_sessions.proofs.AnswerLemmas.{access_more, running_start, running_more, running_stopped, stored_at}
 use Rattle.mls_sessions.proofs.running.run_to.Goals as goal
 
 pub loop-place-init : goal.loop-place-init
@@ -23,7 +23,7 @@ returns-in_err-answer-clause-err g c = λ h.
 pub loop-place-preserved : goal.loop-place-preserved
 loop-place-preserved g c = running_more g.B.Base.seen c.args.audience c.args.events.now c.args.engine.now (g.W.Write.contents c.args.out.now)
     c.loop-place.place c.loop-place.engine (g.W.Write.contents c.loop-place.out) c.loop-place.invariant c.index-events-place.result c.loop-place-test.true (search rules)
-    c.answer.new.engine (g.W.Write.contents c.answer.new.out) c.answer.ensures.continues.clean c.answer.ensures.continues.count c.answer.ensures.continues.kept (search rules) (search rules)
+    c.answer.new.engine (g.W.Write.contents c.answer.new.out) c.answer.ensures.continues.clean c.answer.ensures.continues.count c.answer.ensures.access c.answer.ensures.continues.kept (search rules) (search rules)
 
 pub returns-in_err-answer-clause-integrity : goal.returns-in_err-answer-clause-integrity
 returns-in_err-answer-clause-integrity g c = λ h. keep_integrity (site c.args.engine.now) c.args.engine.now.site.distinct c.requires.ready.read (world_of g.B.Base.seen c.args.engine.now) c.args.events.now
@@ -40,3 +40,8 @@ returns-clause-secret g c = λ h. first_accepted_alike (site c.args.engine.now) 
 pub returns-in_err-answer-clause-secret : goal.returns-in_err-answer-clause-secret
 returns-in_err-answer-clause-secret g c = λ h. first_accepted_alike (site c.args.engine.now) c.args.engine.now.site.distinct c.requires.ready.read c.args.engine.now.site.certified (world_of g.B.Base.seen c.args.engine.now) c.args.events.now
     (stored_at g.B.Base.seen c.args.engine.now c.requires.ready (c.loop-place.invariant.clean (c.answer.ensures.continues.clean h))) c.requires.fits
+
+pub returns-in_err-answer-clause-access : goal.returns-in_err-answer-clause-access
+returns-in_err-answer-clause-access g c = access_more g.B.Base.seen c.args.audience c.args.events.now c.args.engine.now (g.W.Write.contents c.args.out.now)
+    c.loop-place.place c.loop-place.engine (g.W.Write.contents c.loop-place.out) c.loop-place.invariant c.index-events-place.result c.loop-place-test.true (search rules)
+    c.answer.new.engine (g.W.Write.contents c.answer.new.out) c.answer.ensures.continues.clean c.answer.ensures.access

@@ -1,6 +1,7 @@
 use Rattle.std.proofs.Common.{◌+◌, ◌*◌, ◌≤◌, [], ◌∷◌, drop, take}
 use Rattle.mls_translang.specs.Tree.{statements}
 use Rattle.mls_translang.specs.Blocks.{block_of}
+use Rattle.mls_trusted.specs.Ends.{Between, Accesses}
 use Rattle.mls_trusted.specs.Frames.{around_of, MayRunBlock, run_of, rows_of, IsFrameRun}
 use Rattle.mls_trusted.proofs.block.+run.Given as goal
 
@@ -9,6 +10,8 @@ abbrev pub invariant-run_block-loop-stmt : goal.invariant-run_block-loop-stmt
 invariant-run_block-loop-stmt g l = record {
   clean : (g.B.Base.seen l.base).is_clean → (g.B.Base.seen l.fn.base).is_clean;
   count : (g.B.Base.seen l.fn.base).failures ≤ (g.B.Base.seen l.base).failures;
+  access : Accesses l.call g.B.Base.seen (block_of l.stmt-items) l.fn.base l.base;
+  between : Between l.call (block_of l.stmt-items) → Between l.call (block_of (drop l.stmt-index l.stmt-items));
   ran : IsFrameRun l.call g.B.Base.seen (run_of l.call (block_of (take l.stmt-index l.stmt-items)) (around_of l.fn.frame)) l.fn.base l.base l.fn.frame l.frame;
   may : MayRunBlock l.call (around_of l.fn.frame) (block_of (drop l.stmt-index l.stmt-items));
   size : statements (block_of (drop l.stmt-index l.stmt-items)) ≤ statements (block_of l.stmt-items);
@@ -19,6 +22,7 @@ abbrev pub invariant-run_rows-loop-place : goal.invariant-run_rows-loop-place
 invariant-run_rows-loop-place g l = record {
   clean : (g.B.Base.seen l.base).is_clean → (g.B.Base.seen l.fn.base).is_clean;
   count : (g.B.Base.seen l.fn.base).failures ≤ (g.B.Base.seen l.base).failures;
+  access : Accesses l.call g.B.Base.seen l.body l.fn.base l.base;
   ran : IsFrameRun l.call g.B.Base.seen (rows_of l.call l.body (around_of l.fn.frame) (take l.place l.rows)) l.fn.base l.base l.fn.frame l.frame;
 }
 

@@ -14,6 +14,11 @@ use Rattle.mls_trusted.specs.declared.frame.Frame.{Frame}
 use Rattle.mls_trusted.specs.Runs.{with_database, IsEvaluated}
 use Rattle.mls_trusted.specs.Frames.{around_of, progress_of, MayRunBlock, run_of, IsFrame, IsFrameRun}
 use Rattle.mls_trusted.proofs.EvaluationLemmas.{start_may, gives_items, gives_run}
+use Rattle.mls_certcheck.specs.Rules.{Rules, claim}
+use Rattle.mls_filterview.specs.Calls.{NoWriteDown}
+use Rattle.mls_filterview.proofs.AccessLemmas.{avoids_then, avoids_some}
+use Rattle.mls_trusted.specs.Ends.{BlockBetween}
+use Rattle.mls_trusted.proofs.EndLemmas.{body_between}
 use Rattle.mls_trusted.proofs.evaluation.evaluate_in.Goals as goal
 
 pub run_block-requires-clause-ready : goal.run_block-requires-clause-ready
@@ -55,3 +60,24 @@ returns-clause-called g c =
           (subst (λ b. let run = run_tx ls c.args.schemes.now c.tx.result.now c.args.args.now (seen b).state.now.db in IsEvaluated run (with_database (seen b).state run.db) (seen c.run_block.new.base).state c.into_parts-run.result.0) c.in_ok-frame.ensures.same evaluated);
       content = λ clean. c.in_ok-run_block.ensures.ran.ready.content clean;
     }
+
+pub returns-clause-access : goal.returns-clause-access
+returns-clause-access g c = λ cert rules.
+    let ls = labels_of c.args.policy.now in
+    let seen = g.B.Base.seen in
+    let here = subst (λ (x : Tx). Rules (claim c.args.policy.now x cert)) (sym c.tx.ensures) rules in
+    let tx = c.tx.result.now in
+    let between = subst (BlockBetween ls tx.lo tx.hi) (sym c.body.ensures.body) (body_between (claim c.args.policy.now tx cert) here) in
+    subst (λ (x : Tx). NoWriteDown seen ls x.hi x.lo c.args.base.now c.run_block.new.base) c.tx.ensures (avoids_then (avoids_some c.in_ok-frame.ensures.access) (c.in_ok-run_block.ensures.access between))
+
+pub returns-in_err-run_block-clause-access : goal.returns-in_err-run_block-clause-access
+returns-in_err-run_block-clause-access g c = λ cert rules.
+    let ls = labels_of c.args.policy.now in
+    let seen = g.B.Base.seen in
+    let here = subst (λ (x : Tx). Rules (claim c.args.policy.now x cert)) (sym c.tx.ensures) rules in
+    let tx = c.tx.result.now in
+    let between = subst (BlockBetween ls tx.lo tx.hi) (sym c.body.ensures.body) (body_between (claim c.args.policy.now tx cert) here) in
+    subst (λ (x : Tx). NoWriteDown seen ls x.hi x.lo c.args.base.now c.run_block.new.base) c.tx.ensures (avoids_then (avoids_some c.in_ok-frame.ensures.access) (c.in_err-run_block.ensures.access between))
+
+pub returns-in_err-frame-clause-access : goal.returns-in_err-frame-clause-access
+returns-in_err-frame-clause-access g c = λ cert rules. avoids_some c.in_err-frame.ensures.access

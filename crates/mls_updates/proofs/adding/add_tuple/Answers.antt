@@ -6,7 +6,8 @@ use Rattle.mls_filterview.specs.Fragment.{node_of, cells_of, place_of_node}
 use Rattle.mls_updates.specs.NewTuples.{entry_of}
 use Rattle.mls_updates.proofs.CallLemmas.{made_same, change_step}
 use Rattle.mls_updates.proofs.SpellingLemmas.{tuple_cells}
-use Rattle.mls_filterview.specs.Calls.{CanAdd, IsChange}
+use Rattle.mls_filterview.specs.Calls.{CanAdd, IsChange, ChangesAt}
+use Rattle.mls_filterview.proofs.AccessLemmas.{avoids_then, avoids_some}
 use Rattle.mls_updates.proofs.adding.add_tuple.Goals as goal
 
 pub returns-clause-done : goal.returns-clause-done
@@ -40,3 +41,9 @@ pub returns-clause-step : goal.returns-clause-step
 returns-clause-step g c =
     change_step g.B.Base.seen c.args.base.now c.add.new.self c.add.result c.requires.begun
     (subst (λ b. IsChange g.B.Base.seen (g.B.Base.seen b).state.begun b c.add.new.self c.add.result) c.in_ok-parts.ensures.same c.add.ensures.change)
+
+pub returns-clause-access : goal.returns-clause-access
+returns-clause-access g c =
+    let n = node_of (entry_of c.args.tuple.now) in
+    let node : c.in_ok-parts.parts.node ≡ n = subst (λ r. IfOk r (λ x. x.node ≡ n)) c.in_ok-parts.ensures.value c.parts_of.ensures.node in
+    avoids_then (avoids_some c.in_ok-parts.ensures.access) (subst (λ k. ChangesAt g.B.Base.seen k.label c.settle.new.base c.add.new.self) node c.add.ensures.access)

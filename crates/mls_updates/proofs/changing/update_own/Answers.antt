@@ -11,6 +11,8 @@ use Rattle.mls_updates.specs.Writes.{own_refusals}
 use Rattle.mls_updates.proofs.KeptLemmas.{all_passed, found_if}
 use Rattle.mls_updates.proofs.LeftLemmas.{left_same, left_done}
 use Rattle.mls_updates.proofs.SetEachLemmas.{cells_there, all_set}
+use Rattle.mls_lattice.proofs.LatticeLemmas.{below-refl}
+use Rattle.mls_filterview.proofs.AccessLemmas.{avoids_then, at_reads_low, low_reads_no_down, at_changes_high}
 use Rattle.mls_updates.proofs.changing.update_own.Goals as goal
 
 pub returns-then-not-is_done-clause-done : goal.returns-then-not-is_done-clause-done
@@ -49,3 +51,27 @@ returns-clause-done g c = λ clean scheme.
     left_done c.args.relation s (g.B.Base.seen c.set_each.new.base).state c.own_outcome-outcome.result _ _
     (c.own_outcome-outcome.ensures scheme (get (s.now.db c.args.relation) p) (c.in_ok-found.ensures.found before)) (sym c.if-not-is_done.ensures)
     (c.in_ok-set_each.ensures.done clean ∙ (λ i. with_relation (same i) c.args.relation (set_each p sets ((same i).now.db c.args.relation))) ∙ ap (with_relation s c.args.relation) (all_set p sets (s.now.db c.args.relation)))
+
+pub returns-then-not-is_done-clause-access : goal.returns-then-not-is_done-clause-access
+returns-then-not-is_done-clause-access g c =
+    let ls = labels_of c.args.policy.now in
+    let w = c.args.place.now.class in
+    low_reads_no_down ls w w (at_reads_low ls w w (below-refl ls w) c.in_ok-found.ensures.access)
+
+pub returns-clause-access : goal.returns-clause-access
+returns-clause-access g c =
+    let ls = labels_of c.args.policy.now in
+    let w = c.args.place.now.class in
+    avoids_then (low_reads_no_down ls w w (at_reads_low ls w w (below-refl ls w) c.in_ok-found.ensures.access)) (at_changes_high ls w w w (below-refl ls w) c.in_ok-set_each.ensures.access)
+
+pub returns-in_err-set_each-clause-access : goal.returns-in_err-set_each-clause-access
+returns-in_err-set_each-clause-access g c =
+    let ls = labels_of c.args.policy.now in
+    let w = c.args.place.now.class in
+    avoids_then (low_reads_no_down ls w w (at_reads_low ls w w (below-refl ls w) c.in_ok-found.ensures.access)) (at_changes_high ls w w w (below-refl ls w) c.in_err-set_each.ensures.access)
+
+pub returns-in_err-found-clause-access : goal.returns-in_err-found-clause-access
+returns-in_err-found-clause-access g c =
+    let ls = labels_of c.args.policy.now in
+    let w = c.args.place.now.class in
+    low_reads_no_down ls w w (at_reads_low ls w w (below-refl ls w) c.in_err-found.ensures.access)

@@ -9,6 +9,7 @@ use Rattle.mls_updates.proofs.CallLemmas.{null_written, step_written}
 use Rattle.mls_updates.proofs.LeftLemmas.{write_left}
 use Rattle.mls_updates.proofs.SpellingLemmas.{key_spelled}
 use Rattle.mls_updates.specs.Steps.{IsBegunAt}
+use Rattle.mls_filterview.specs.Calls.{NoWriteDown}
 use Rattle.mls_updates.proofs.deleting.delete.Goals as goal
 
 pub returns-then-has_null : goal.returns-then-has_null
@@ -34,6 +35,7 @@ returns g c =
     let same : (g.B.Base.seen c.settle.new.base).state ≡ s = ap (λ b. (g.B.Base.seen b).state) c.in_ok-place.ensures.same in
     step_written g.B.Base.seen c.args.policy.now c.args.schemes.now c.args.relation c.args.w wr c.args.base.now (sym c.if-not-is_begun.ensures) c.requires.stored
     c.use_invariant.ensures.distinct tt tt c.settle.new.base c.delete_at.new.base c.delete_at.result c.in_ok-place.ensures.same c.delete_at.ensures.step
+    (subst (λ q. NoWriteDown g.B.Base.seen ls q.class q.class c.settle.new.base c.delete_at.new.base) here c.delete_at.ensures.access)
     (λ clean. IfOk-weaker c.delete_at.result (λ o. (x : Scheme) → IsDeleted ls x c.args.relation c.in_ok-place.place (g.B.Base.seen c.settle.new.base).state u o) _
     (λ o done. write_left ls scheme c.args.relation c.args.w s wr u o (sym c.if-has_null.ensures)
     (subst (λ x. IsDeleted ls scheme c.args.relation p x u o) same

@@ -1,4 +1,5 @@
 use Rattle.std.proofs.Common.{◌≡◌, ◌≤◌, true, drop}
+use Rattle.mls_filterview.specs.Calls.{ChangesAmong}
 use Rattle.mls_filterview.specs.Content.{with_relation}
 use Rattle.mls_updates.specs.Steps.{drop_each, AreAlone}
 use Rattle.mls_updates.proofs.dropping.drop_each.Given as goal
@@ -9,6 +10,7 @@ invariant-loop-class g l =
     let t = (g.B.Base.seen l.base).state in
     record {
       clean : (g.B.Base.seen l.base).is_clean → (g.B.Base.seen l.fn.base).is_clean;
+      access : ChangesAmong g.B.Base.seen l.classes l.fn.base l.base;
       count : (g.B.Base.seen l.fn.base).failures ≤ (g.B.Base.seen l.base).failures;
       begun : t.begun ≡ true;
       key : l.place.key ≡ l.fn.place.key;

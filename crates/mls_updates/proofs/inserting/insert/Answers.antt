@@ -10,6 +10,7 @@ use Rattle.mls_updates.proofs.CallLemmas.{under_scheme, null_written, step_writt
 use Rattle.mls_updates.proofs.LeftLemmas.{write_left}
 use Rattle.mls_updates.proofs.SpellingLemmas.{values_spelled, key_spelled}
 use Rattle.mls_updates.specs.Steps.{IsBegunAt}
+use Rattle.mls_filterview.specs.Calls.{NoWriteDown}
 use Rattle.mls_updates.proofs.inserting.insert.Goals as goal
 
 pub returns-then-has_null : goal.returns-then-has_null
@@ -37,6 +38,7 @@ returns g c =
     step_written g.B.Base.seen policy c.args.schemes.now c.args.relation w wr c.args.base.now (sym c.if-not-is_begun.ensures) c.requires.stored
     c.use_invariant.ensures.distinct (declared, AllZip-long _ scheme.others values c.requires.kinds.1) c.requires.kinds c.settle.new.base c.insert_at.new.base c.insert_at.result
     c.in_ok-place.ensures.same c.insert_at.ensures.step
+    (subst (λ q. NoWriteDown g.B.Base.seen ls q.class q.class c.settle.new.base c.insert_at.new.base) here c.insert_at.ensures.access)
     (λ clean. IfOk-weaker c.insert_at.result (IsInserted ls c.scheme-scheme.result.now c.args.relation c.in_ok-place.place values (g.B.Base.seen c.settle.new.base).state u) _
     (λ o done. write_left ls scheme c.args.relation w s wr u o (sym c.if-has_null.ensures)
     (subst (λ (x : Scheme). IsInserted ls x c.args.relation p values s u o) c.scheme-scheme.ensures.row

@@ -8,6 +8,8 @@ use Rattle.mls_updates.proofs.CallLemmas.{root_made}
 use Rattle.mls_updates.proofs.SpellingLemmas.{root_spelled}
 use Rattle.mls_updates.proofs.KeptLemmas.{all_passed, none_if}
 use Rattle.mls_updates.proofs.LeftLemmas.{left_same, left_done}
+use Rattle.mls_lattice.proofs.LatticeLemmas.{below-refl}
+use Rattle.mls_filterview.proofs.AccessLemmas.{avoids_then, at_reads_low, low_reads_no_down, at_changes_high}
 use Rattle.mls_updates.proofs.inserting.insert_at.Goals as goal
 
 pub returns-then-not-is_done-clause-done : goal.returns-then-not-is_done-clause-done
@@ -40,3 +42,27 @@ returns-clause-done g c = λ clean.
     left_done c.args.relation s (g.B.Base.seen c.add_root.new.base).state c.root_outcome-outcome.result _ _
     (c.root_outcome-outcome.ensures (get (s.now.db c.args.relation) c.args.place) (sym (c.in_ok-found.ensures.found before))) (sym c.if-not-is_done.ensures)
     (c.in_ok-add_root.ensures.done clean ∙ (λ i. with_relation (same i) c.args.relation (insert ((same i).now.db c.args.relation) c.args.place (root c.args.place.class c.args.values.now))))
+
+pub returns-then-not-is_done-clause-access : goal.returns-then-not-is_done-clause-access
+returns-then-not-is_done-clause-access g c =
+    let ls = labels_of c.args.policy.now in
+    let w = c.args.place.class in
+    low_reads_no_down ls w w (at_reads_low ls w w (below-refl ls w) c.in_ok-found.ensures.access)
+
+pub returns-clause-access : goal.returns-clause-access
+returns-clause-access g c =
+    let ls = labels_of c.args.policy.now in
+    let w = c.args.place.class in
+    avoids_then (low_reads_no_down ls w w (at_reads_low ls w w (below-refl ls w) c.in_ok-found.ensures.access)) (at_changes_high ls w w w (below-refl ls w) c.in_ok-add_root.ensures.access)
+
+pub returns-in_err-add_root-clause-access : goal.returns-in_err-add_root-clause-access
+returns-in_err-add_root-clause-access g c =
+    let ls = labels_of c.args.policy.now in
+    let w = c.args.place.class in
+    avoids_then (low_reads_no_down ls w w (at_reads_low ls w w (below-refl ls w) c.in_ok-found.ensures.access)) (at_changes_high ls w w w (below-refl ls w) c.in_err-add_root.ensures.access)
+
+pub returns-in_err-found-clause-access : goal.returns-in_err-found-clause-access
+returns-in_err-found-clause-access g c =
+    let ls = labels_of c.args.policy.now in
+    let w = c.args.place.class in
+    low_reads_no_down ls w w (at_reads_low ls w w (below-refl ls w) c.in_err-found.ensures.access)

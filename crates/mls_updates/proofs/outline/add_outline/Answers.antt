@@ -6,6 +6,8 @@ use Rattle.mls_filterview.specs.Fragment.{IsMadeOf, node_of, cells_of}
 use Rattle.mls_updates.specs.declared.new_tuple.NewTuple.{NewTuple}
 use Rattle.mls_updates.specs.NewTuples.{entry_of}
 use Rattle.mls_updates.specs.Steps.{outline, CanAddTuple}
+use Rattle.mls_filterview.specs.Calls.{ChangesAt}
+use Rattle.mls_filterview.proofs.AccessLemmas.{avoids_then, avoids_some}
 use Rattle.mls_updates.proofs.outline.add_outline.Goals as goal
 
 pub returns-clause-done : goal.returns-clause-done
@@ -22,3 +24,9 @@ add_tuple-requires g c =
     let it : NewTuple = record { relation = c.args.relation; place = c.args.place; elements = outline c.args.place.class c.args.sets.now 0 c.args.pattern.now } in
     let tuple : c.in_ok-tuple.tuple ≡ it = subst (λ r. IfOk r (λ x. x ≡ it)) c.in_ok-tuple.ensures.value c.outline_tuple.ensures in
     subst (λ b. CanAddTuple g.B.Base.seen b c.in_ok-tuple.tuple) (sym c.in_ok-tuple.ensures.same) (subst (CanAddTuple g.B.Base.seen c.args.base.now) (sym tuple) c.requires)
+
+pub returns-clause-access : goal.returns-clause-access
+returns-clause-access g c =
+    let it : NewTuple = record { relation = c.args.relation; place = c.args.place; elements = outline c.args.place.class c.args.sets.now 0 c.args.pattern.now } in
+    let tuple : c.in_ok-tuple.tuple ≡ it = subst (λ r. IfOk r (λ x. x ≡ it)) c.in_ok-tuple.ensures.value c.outline_tuple.ensures in
+    avoids_then (avoids_some c.in_ok-tuple.ensures.access) (subst (λ (r : NewTuple). ChangesAt g.B.Base.seen r.place.class c.settle.new.base c.add_tuple.new.base) tuple c.add_tuple.ensures.access)

@@ -11,6 +11,8 @@ use Rattle.mls_updates.proofs.DerivedLemmas.{outline_made, made_alike}
 use Rattle.mls_updates.proofs.SpellingLemmas.{outline_spelled}
 use Rattle.mls_updates.proofs.KeptLemmas.{all_passed, none_if}
 use Rattle.mls_updates.proofs.LeftLemmas.{left_same, left_done, below_found, below_tuple}
+use Rattle.mls_lattice.proofs.LatticeLemmas.{below-refl}
+use Rattle.mls_filterview.proofs.AccessLemmas.{avoids_then, at_reads_low, low_reads_no_down, at_changes_high}
 use Rattle.mls_updates.proofs.raising.derive.Goals as goal
 
 pub returns-in_default-clause-done : goal.returns-in_default-clause-done
@@ -88,3 +90,33 @@ returns-clause-done g c = λ clean.
     left_done c.args.relation s (g.B.Base.seen c.add_outline.new.base).state c.below_outcome-outcome.result _ _ first (sym c.if-not-is_done.ensures)
     (c.in_ok-add_outline.ensures.done clean (derived p.class sets tuple.0) made
     ∙ (λ i. with_relation (same i) c.args.relation (insert ((same i).now.db c.args.relation) p (derived p.class sets (unwrap_or (sym tuple.1 i) [])))))
+
+pub returns-then-not-is_done-clause-access : goal.returns-then-not-is_done-clause-access
+returns-then-not-is_done-clause-access g c =
+    let ls = labels_of c.args.policy.now in
+    let w = c.args.place.class in
+    low_reads_no_down ls w w (at_reads_low ls w w (below-refl ls w) c.in_ok-is_there.ensures.access)
+
+pub returns-clause-access : goal.returns-clause-access
+returns-clause-access g c =
+    let ls = labels_of c.args.policy.now in
+    let w = c.args.place.class in
+    avoids_then (low_reads_no_down ls w w (at_reads_low ls w w (below-refl ls w) c.in_ok-is_there.ensures.access)) (at_changes_high ls w w w (below-refl ls w) c.in_ok-add_outline.ensures.access)
+
+pub returns-in_err-add_outline-clause-access : goal.returns-in_err-add_outline-clause-access
+returns-in_err-add_outline-clause-access g c =
+    let ls = labels_of c.args.policy.now in
+    let w = c.args.place.class in
+    avoids_then (low_reads_no_down ls w w (at_reads_low ls w w (below-refl ls w) c.in_ok-is_there.ensures.access)) (at_changes_high ls w w w (below-refl ls w) c.in_err-add_outline.ensures.access)
+
+pub returns-in_err-is_there-clause-access : goal.returns-in_err-is_there-clause-access
+returns-in_err-is_there-clause-access g c =
+    let ls = labels_of c.args.policy.now in
+    let w = c.args.place.class in
+    low_reads_no_down ls w w (at_reads_low ls w w (below-refl ls w) c.in_err-is_there.ensures.access)
+
+pub returns-in_default-clause-access : goal.returns-in_default-clause-access
+returns-in_default-clause-access g c =
+    let ls = labels_of c.args.policy.now in
+    let w = c.args.place.class in
+    low_reads_no_down ls w w (at_reads_low ls w w (below-refl ls w) c.in_ok-is_there.ensures.access)

@@ -3,6 +3,7 @@ use Rattle.mls_lattice.specs.Policy.{labels_of}
 use Rattle.mls_filterview.specs.Stored.{IsStored, with_class}
 use Rattle.mls_updates.specs.Calls.{IsDerived, classes_below}
 use Rattle.mls_updates.proofs.CallLemmas.{later_call}
+use Rattle.mls_filterview.proofs.AccessLemmas.{avoids_then, low_reads_no_down}
 use Rattle.mls_updates.proofs.raising.update_below.Goals as goal
 
 pub derive-requires-clause-found : goal.derive-requires-clause-found
@@ -37,3 +38,9 @@ returns-clause-done g c = λ clean.
     let u = (g.B.Base.seen c.derive.new.base).state in
     subst (λ x. IfOk c.derive.result (IsDerived (labels_of c.args.policy.now) c.args.scheme.now c.args.relation (with_class c.args.place c.args.w) c.args.place.class c.args.sets.now x u))
     (c.in_ok-pattern.ensures.read.same (c.derive.ensures.step.call.clean clean)) (c.derive.ensures.done clean)
+
+pub returns-clause-access : goal.returns-clause-access
+returns-clause-access g c = avoids_then (low_reads_no_down (labels_of c.args.policy.now) c.args.w c.args.w c.in_ok-pattern.ensures.access) c.derive.ensures.access
+
+pub returns-in_err-pattern-clause-access : goal.returns-in_err-pattern-clause-access
+returns-in_err-pattern-clause-access g c = low_reads_no_down (labels_of c.args.policy.now) c.args.w c.args.w c.in_err-pattern.ensures.access

@@ -8,6 +8,8 @@ use Rattle.mls_updates.specs.NewTuples.{entry_of}
 use Rattle.mls_updates.specs.Writes.{root}
 use Rattle.mls_updates.proofs.CallLemmas.{root_made}
 use Rattle.mls_updates.specs.Steps.{CanAddTuple}
+use Rattle.mls_filterview.specs.Calls.{ChangesAt}
+use Rattle.mls_filterview.proofs.AccessLemmas.{avoids_then, avoids_some}
 use Rattle.mls_updates.proofs.root.add_root.Goals as goal
 
 pub returns-clause-done : goal.returns-clause-done
@@ -25,3 +27,9 @@ add_tuple-requires g c =
     let it : NewTuple = record { relation = c.args.relation; place = c.args.place; elements = root c.args.place.class c.args.values.now } in
     let tuple : c.in_ok-tuple.tuple ≡ it = subst (λ r. IfOk r (λ x. x ≡ it)) c.in_ok-tuple.ensures.value c.root_at.ensures in
     subst (λ b. CanAddTuple g.B.Base.seen b c.in_ok-tuple.tuple) (sym c.in_ok-tuple.ensures.same) (subst (CanAddTuple g.B.Base.seen c.args.base.now) (sym tuple) c.requires)
+
+pub returns-clause-access : goal.returns-clause-access
+returns-clause-access g c =
+    let it : NewTuple = record { relation = c.args.relation; place = c.args.place; elements = root c.args.place.class c.args.values.now } in
+    let tuple : c.in_ok-tuple.tuple ≡ it = subst (λ r. IfOk r (λ x. x ≡ it)) c.in_ok-tuple.ensures.value c.root_at.ensures in
+    avoids_then (avoids_some c.in_ok-tuple.ensures.access) (subst (λ (r : NewTuple). ChangesAt g.B.Base.seen r.place.class c.settle.new.base c.add_tuple.new.base) tuple c.add_tuple.ensures.access)

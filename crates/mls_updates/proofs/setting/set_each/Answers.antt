@@ -1,4 +1,4 @@
-use Rattle.std.proofs.Common.{◌≡◌, ℕ, zero, suc, ◌<◌, ◌+◌, ◌-◌, [], ◌∷◌, length, drop, get_or, Option, sym, ap, ◌∙◌, subst, arith, IfSome}
+use Rattle.std.proofs.Common.{◌≡◌, ℕ, zero, suc, ◌<◌, ◌+◌, ◌-◌, [], ◌∷◌, length, drop, get_or, Option, refl, sym, ap, ◌∙◌, subst, arith, IfSome}
 use Rattle.std.specs.List.{AllByRecursion}
 use Rattle.mls_scheme.specs.declared.value.Value.{Value}
 use Rattle.mls_scheme.specs.Spelling.{HasSpelling}
@@ -9,6 +9,7 @@ use Rattle.mls_updates.specs.Steps.{set_each}
 use Rattle.mls_updates.specs.Writes.{Sets}
 use Rattle.mls_updates.proofs.SetEachLemmas.{cell_now, set_next}
 use Rattle.mls_updates.proofs.StateLemmas.{table_of, same_state, put_twice, drop_end}
+use Rattle.mls_filterview.proofs.AccessLemmas.{avoids_then, avoids_same}
 use Rattle.mls_updates.proofs.setting.set_each.Goals as goal
 
 holds_at : (P : ℕ × Option Value → Type 0) (sets : Sets) (i : ℕ) (d : ℕ × Option Value) → i < length sets → AllByRecursion P sets → P (get_or sets i d)
@@ -22,6 +23,7 @@ loop-left-init g c =
     let sets = c.args.sets.now in
     record {
       clean = λ clean. clean;
+      access = avoids_same refl;
       count = omega arith;
       begun = c.requires.begun;
       way = λ clean. sym (ap (λ ss. with_relation s c.args.relation (set_each c.args.place.now ss (s.now.db c.args.relation))) (drop_end sets (length sets) (omega arith)) ∙ same_state s c.args.relation);
@@ -47,6 +49,7 @@ loop-left-preserved g c =
     (λ j. change (set_in p (c.index-sets-left.is j).0 (c.index-sets-left.is j).1) (set_each p (drop (n j) sets) T)) ∙ sym (set_next p sets i x within T) in
     record {
       clean = λ clean. c.loop-left.invariant.clean (call.clean clean);
+      access = avoids_then c.loop-left.invariant.access c.in_ok-set_one.ensures.access;
       count = (let before = c.loop-left.invariant.count in let after = call.count in omega (arith, before, after));
       begun = c.in_ok-set_one.ensures.step.mode;
       way = λ clean. (let way = c.loop-left.invariant.way (call.clean clean) in
@@ -76,3 +79,6 @@ set_one-requires-clause-can g c =
           subst (λ x. HasCell (t.now.db c.args.relation) p x.0) (sym c.index-sets-left.is)
           (cell_now p sets i c.index-sets-left.result within T (t.now.db c.args.relation) now (c.requires.there (c.loop-left.invariant.clean clean)));
     }
+
+pub returns-in_err-set_one-clause-access : goal.returns-in_err-set_one-clause-access
+returns-in_err-set_one-clause-access g c = avoids_then c.loop-left.invariant.access c.in_err-set_one.ensures.access

@@ -5,6 +5,7 @@ use Rattle.mls_filterview.specs.Content.{with_relation}
 use Rattle.mls_filterview.specs.Fragment.{set_in}
 use Rattle.mls_updates.proofs.CallLemmas.{change_step}
 use Rattle.mls_filterview.specs.Calls.{CanSet, IsChange}
+use Rattle.mls_filterview.proofs.AccessLemmas.{avoids_then, avoids_some}
 use Rattle.mls_updates.proofs.setting.set_one.Goals as goal
 
 pub returns-clause-done : goal.returns-clause-done
@@ -24,3 +25,6 @@ set-requires g c =
     let value : c.in_ok-value.value ≡ c.args.value.now = subst (λ r. IfOk r (λ v. v ≡ c.args.value.now)) c.in_ok-value.ensures.value c.copy_value.ensures in
     subst (λ b. CanSet g.B.Base.seen b c.args.relation c.args.place.now c.args.attr c.in_ok-value.value) (sym c.in_ok-value.ensures.same)
     (subst (CanSet g.B.Base.seen c.args.base.now c.args.relation c.args.place.now c.args.attr) (sym value) c.requires.can)
+
+pub returns-clause-access : goal.returns-clause-access
+returns-clause-access g c = avoids_then (avoids_some c.in_ok-value.ensures.access) c.set.ensures.access

@@ -12,6 +12,7 @@ use Rattle.mls_updates.proofs.CallLemmas.{under_scheme, null_written, step_writt
 use Rattle.mls_updates.proofs.LeftLemmas.{own_left, below_left}
 use Rattle.mls_updates.proofs.SpellingLemmas.{key_spelled, sets_spelled, sets_values}
 use Rattle.mls_updates.specs.Steps.{IsBegunAt, CanDerive}
+use Rattle.mls_filterview.specs.Calls.{NoWriteDown}
 use Rattle.mls_updates.proofs.updating.update.Goals as goal
 
 pub returns-then-has_null : goal.returns-then-has_null
@@ -48,6 +49,7 @@ returns-then-eq g c =
     step_written g.B.Base.seen policy c.args.schemes.now c.args.relation c.args.w wr c.args.base.now (sym c.if-not-is_begun.ensures) c.requires.stored
     c.use_invariant.ensures.distinct (declared, c.requires.named, c.requires.fits) c.requires.kinds c.settle.new.base c.update_own.new.base c.update_own.result
     c.in_ok-place.ensures.same c.update_own.ensures.step
+    (subst (λ q. NoWriteDown g.B.Base.seen ls q.class q.class c.settle.new.base c.update_own.new.base) there c.update_own.ensures.access)
     (λ clean. IfOk-weaker c.update_own.result (λ o. (x : Scheme) → IsChanged ls x c.args.relation c.in_ok-place.place sets (g.B.Base.seen c.settle.new.base).state u o) _
     (λ o done. own_left ls scheme c.args.relation c.args.w s key kc c.args.from sets u o (sym c.if-has_null.ensures) e
     (subst (λ x. IsChanged ls scheme c.args.relation (place key kc c.args.w) sets x u o) same
@@ -72,7 +74,7 @@ returns g c =
     let declared = subst (λ n. w < n) (sym (length-map policy.labels (λ l. l.value))) c.requires.label in
     step_written g.B.Base.seen policy c.args.schemes.now c.args.relation w wr c.args.base.now (sym c.if-not-is_begun.ensures) c.requires.stored
     c.use_invariant.ensures.distinct (declared, c.requires.named, c.requires.fits) c.requires.kinds c.settle.new.base c.update_below.new.base c.update_below.result
-    c.in_ok-place.ensures.same c.update_below.ensures.step
+    c.in_ok-place.ensures.same c.update_below.ensures.step c.update_below.ensures.access
     (λ clean. IfOk-weaker c.update_below.result (IsDerived ls c.scheme-scheme.result.now c.args.relation (with_class c.in_ok-place.place w) c.in_ok-place.place.class sets (g.B.Base.seen c.settle.new.base).state u) _
     (λ o done. below_left ls scheme c.args.relation w s key kc c.args.from sets u o (sym c.if-has_null.ensures) (λ e. true≢false (sym (eq-eqb c.args.from w e) ∙ sym c.if-eq.ensures))
     (subst (λ (x : Scheme). IsDerived ls x c.args.relation (with_class q w) c.args.from sets s u o) c.scheme-scheme.ensures.row

@@ -6,6 +6,11 @@ use Rattle.mls_sessions.specs.Turns.{is_call}
 use Rattle.mls_sessions.specs.Engine.{site, world_of}
 use Rattle.mls_sessions.proofs.SessionLemmas.{user_known}
 use Rattle.mls_sessions.proofs.EngineLemmas.{none_from, denied_is, viewed_is, dumped_is, listed_is, closed_is, wrote_is, answers_over, answers_stay, answers_closed}
+use Rattle.mls_filterview.proofs.AccessLemmas.{avoids_some}
+use Rattle.mls_machine.proofs.DenyingLemmas.{view_below}
+use Rattle.mls_sessions.specs.Denying.{denial_in}
+use Rattle.mls_sessions.specs.Access.{ceiling}
+use Rattle.mls_sessions.proofs.AccessLemmas.{read_permitted, view_permitted}
 use Rattle.mls_sessions.proofs.engine.Engine.inside.Goals as goal
 
 pub denial_of-requires-clause-user : goal.denial_of-requires-clause-user
@@ -31,12 +36,12 @@ returns-in-View-clause-answers g c =
 pub returns-in-Audit-clause-answers : goal.returns-in-Audit-clause-answers
 returns-in-Audit-clause-answers g c =
     answers_stay g.B.Base.seen c.args.self.now c.requires.ready c.args.event.now c.requires.fits c.audit.new.base
-    (λ w. listed (site c.args.self.now) w c.args.event.now.level) (listed_is (site c.args.self.now) (world_of g.B.Base.seen c.args.self.now) c.args.event.now c.args.user c.requires.held c.in-Audit.is) c.args.self.now.views c.audit.result c.audit.ensures.over.turn c.audit.ensures.over.idle c.audit.ensures.done refl refl
+    (λ w. listed (site c.args.self.now) w c.args.event.now.level) (listed_is (site c.args.self.now) (world_of g.B.Base.seen c.args.self.now) c.args.event.now c.args.user c.requires.held c.in-Audit.is) c.args.self.now.views c.audit.result c.audit.ensures.looked.over.turn c.audit.ensures.looked.over.idle c.audit.ensures.looked.done refl refl
 
 pub returns-in-Dump-clause-answers : goal.returns-in-Dump-clause-answers
 returns-in-Dump-clause-answers g c =
     answers_stay g.B.Base.seen c.args.self.now c.requires.ready c.args.event.now c.requires.fits c.dump.new.base
-    (λ w. dumped (site c.args.self.now) w c.in-Dump.relation c.args.event.now.level) (dumped_is (site c.args.self.now) (world_of g.B.Base.seen c.args.self.now) c.args.event.now c.args.user c.requires.held c.in-Dump.relation c.in-Dump.is (sym c.denial_of.ensures ∙ none_from c.denial_of.result c.in_default.not-Some)) c.args.self.now.views c.dump.result c.dump.ensures.over.turn c.dump.ensures.over.idle c.dump.ensures.done refl refl
+    (λ w. dumped (site c.args.self.now) w c.in-Dump.relation c.args.event.now.level) (dumped_is (site c.args.self.now) (world_of g.B.Base.seen c.args.self.now) c.args.event.now c.args.user c.requires.held c.in-Dump.relation c.in-Dump.is (sym c.denial_of.ensures ∙ none_from c.denial_of.result c.in_default.not-Some)) c.args.self.now.views c.dump.result c.dump.ensures.looked.over.turn c.dump.ensures.looked.over.idle c.dump.ensures.looked.done refl refl
 
 pub returns-in-Write-clause-answers : goal.returns-in-Write-clause-answers
 returns-in-Write-clause-answers g c =
@@ -63,3 +68,18 @@ pub returns-in-Call-clause-answers : goal.returns-in-Call-clause-answers
 returns-in-Call-clause-answers g c =
     answers_over g.B.Base.seen c.args.self.now c.requires.ready c.args.event.now c.requires.fits c.change-in-Call.new.base
     (λ w. step_inside (site c.args.self.now) w c.args.event.now c.args.event.now.command c.args.user) (wrote_is (site c.args.self.now) (world_of g.B.Base.seen c.args.self.now) c.args.event.now c.args.user c.requires.held) c.change-in-Call.new.views c.change-in-Call.result c.change-in-Call.ensures.over.turn c.change-in-Call.ensures.over.idle c.change-in-Call.ensures.done.done c.change-in-Call.ensures.views
+
+pub returns-in-View-clause-access : goal.returns-in-View-clause-access
+returns-in-View-clause-access g c =
+    let at = site c.args.self.now in
+    let e = c.args.event.now in
+    let none = sym (ap (denial_in at e.level c.args.user) c.in-View.is) ∙ sym c.denial_of.ensures ∙ none_from c.denial_of.result c.in_default.not-Some in
+    view_permitted g.B.Base.seen c.args.self.now.base c.look.new.base at e c.in-View.label (ap (ceiling at e.level) c.in-View.is)
+    (view_below at e.level c.args.user c.in-View.relation c.in-View.label none) c.look.ensures.access
+
+pub returns-in-Dump-clause-access : goal.returns-in-Dump-clause-access
+returns-in-Dump-clause-access g c =
+    read_permitted g.B.Base.seen c.args.self.now.base c.dump.new.base (site c.args.self.now) c.args.event.now (ap (ceiling (site c.args.self.now) c.args.event.now.level) c.in-Dump.is) c.dump.ensures.access
+
+pub returns-in-Audit-clause-access : goal.returns-in-Audit-clause-access
+returns-in-Audit-clause-access g c = avoids_some c.audit.ensures.access

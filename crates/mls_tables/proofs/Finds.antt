@@ -48,7 +48,7 @@ module _ {X : Type 0} (old new : State) (show : Row → X) (shows : Row → Bool
   stays ready given h = shown_unchanged sql params old new given (subst (λ s. IsPlain (understood s sql)) (sym ready.0.is) (asks ready.0.others).1) h
 
   pub query : (r : Result (Vec X Global) Error) → (HasCleanDisk new → HasCleanDisk old) → (HasCleanDisk new → IfOk r (λ xs. ShowsSome show shows sql params old new xs.items))
-      → (HasCleanDisk new → IfErr r (FailsToShow Reads sql params old new)) → IsQuery Finds old new r
+      → (HasCleanDisk new → IfErr r (FailsToShow Reads sql params old new)) → IsQuery Finds sql params old new r
   query (Ok xs) clean shown refused = record {
     clean = clean;
     was_open = λ now. let h = shown now in shown_open old new sql params h.0 h.1;
@@ -56,6 +56,7 @@ module _ {X : Type 0} (old new : State) (show : Row → X) (shows : Row → Bool
     same = λ now ready. let h = shown now in stays ready h.0 h.1;
     cause = λ now ready. tt;
     err = λ now ready. tt;
+    stopped = λ now ready. tt;
   }
   query (Err e) clean shown refused = record {
     clean = clean;
@@ -70,6 +71,7 @@ module _ {X : Type 0} (old new : State) (show : Row → X) (shows : Row → Bool
       ]
     ];
     err = λ now ready. elim (refused now) [ inl fails ↦ fails_ended old new sql params e fails | inr h ↦ inl (stays (ready (shown_open old new sql params h.0 h.1)) h.0 h.1) ];
+    stopped = λ now ready other. elim (refused now) [ inl fails ↦ inl fails | inr h ↦ inr (λ fit. h.2 other (reads (ready (shown_open old new sql params h.0 h.1)) fit h.0 h.1)) ];
   }
 
 node_reads : (n : NodeRow) → FitsNode n → ReadsNode (node_values n)
@@ -85,7 +87,7 @@ module _ (old new : State) (sql : List ℕ) (params : Row) (terms : List Term) w
   pub finds_nodes : (q : NodeRow → Bool) → ((r : Row) → is_node_row r ≡ true → passes terms params r ≡ q (node_of r)) → ((o : Others) → Asks (schema o) sql (Select (alone (rows_by 0 terms node_shown)) node_names))
       → ((o : Others) → Takes (length params) (schema o) sql)
       → (r : Result (Vec NodeRow Global) Error) → (HasCleanDisk new → HasCleanDisk old) → (HasCleanDisk new → IfOk r (λ xs. ShowsSome shown_node shows_node sql params old new xs.items))
-      → (HasCleanDisk new → IfErr r (FailsToShow ReadsNode sql params old new)) → IsQuery (IsPermutation (filter q (tables_of old.now.trees).nodes)) old new r
+      → (HasCleanDisk new → IfErr r (FailsToShow ReadsNode sql params old new)) → IsQuery (IsPermutation (filter q (tables_of old.now.trees).nodes)) sql params old new r
   finds_nodes q tests asks takes =
       let nodes = filter q (tables_of old.now.trees).nodes in
       let shows : IsSchemaReady old.now → (given : List Row) → Shown sql params old new given → IsPermutation (map node_values nodes) given =
@@ -99,7 +101,7 @@ module _ (old new : State) (sql : List ℕ) (params : Row) (terms : List Term) w
   pub finds_cells : (q : CellRow → Bool) → ((r : Row) → is_cell_row r ≡ true → passes terms params r ≡ q (cell_of r)) → ((o : Others) → Asks (schema o) sql (Select (alone (rows_by 2 terms cell_shown)) cell_names))
       → ((o : Others) → Takes (length params) (schema o) sql)
       → (r : Result (Vec CellRow Global) Error) → (HasCleanDisk new → HasCleanDisk old) → (HasCleanDisk new → IfOk r (λ xs. ShowsSome shown_cell shows_cell sql params old new xs.items))
-      → (HasCleanDisk new → IfErr r (FailsToShow ReadsCell sql params old new)) → IsQuery (IsPermutation (filter q (tables_of old.now.trees).cells)) old new r
+      → (HasCleanDisk new → IfErr r (FailsToShow ReadsCell sql params old new)) → IsQuery (IsPermutation (filter q (tables_of old.now.trees).cells)) sql params old new r
   finds_cells q tests asks takes =
       let cells = filter q (tables_of old.now.trees).cells in
       let shows : IsSchemaReady old.now → (given : List Row) → Shown sql params old new given → IsPermutation (map cell_values cells) given =
@@ -131,7 +133,7 @@ module _ (old new : State) (has : HasTables old.now.schema) where
   finds_meta = shows_all all_meta 5 (col 1 0 ∷ col 1 2 ∷ col 1 3 ∷ col 1 4 ∷ []) meta_names [] (all_meta_is has.others) refl
 
 pub finds_entries : (old new : State) (r : Result (Vec AuditRow Global) Error) → (HasCleanDisk new → HasCleanDisk old) → (HasCleanDisk new → IfOk r (λ xs. ShowsSome shown_entry shows_entry all_entries [] old new xs.items))
-    → (HasCleanDisk new → IfErr r (FailsToShow ReadsEntry all_entries [] old new)) → IsQuery (IsPermutation (tables_of old.now.trees).audit) old new r
+    → (HasCleanDisk new → IfErr r (FailsToShow ReadsEntry all_entries [] old new)) → IsQuery (IsPermutation (tables_of old.now.trees).audit) all_entries [] old new r
 finds_entries old new =
     let entries = (tables_of old.now.trees).audit in
     let shows : IsSchemaReady old.now → (given : List Row) → Shown all_entries [] old new given → IsPermutation (map audit_values entries) given =

@@ -13,10 +13,12 @@ pub mod EditParts
 pub mod EndLemmas
 pub mod Finds
 pub mod NumberedLemmas
+pub mod OwnCells
 pub mod PlainWrites
 pub mod QueryAnswers
 pub mod ReadLemmas
 pub mod ReadyLemmas
+pub mod ReasonLemmas
 pub mod RefusalLemmas
 pub mod RowLists
 pub mod RowValues

@@ -15,6 +15,7 @@ use Rattle.sqlite_trees.proofs.ListLemmas.{map-map, all_of, all-map, all-permuta
 use Rattle.mls_tables.specs.Adopting.{IsBytes, ShowsSome, FailsToShow}
 use Rattle.mls_tables.specs.Rows.{tables_of, is_blob, is_node, node_of, is_node_row, class_values}
 use Rattle.mls_tables.specs.Pattern.{shown_bytes}
+use Rattle.mls_tables.specs.Sql.{patterns_of_key}
 use Rattle.mls_tables.specs.Statements.{IsSchemaReady, IsQuery}
 use Rattle.mls_tables.proofs.RowValues.{pattern_values}
 use Rattle.mls_tables.proofs.EditParts.{alone}
@@ -28,9 +29,6 @@ use Rattle.mls_tables.proofs.Finds.{found, query}
 
 abbrev pattern_shown : List Term
 pattern_shown = col 1 5 ∷ []
-
-abbrev pub patterns_of_key : List ℕ
-patterns_of_key = codes "SELECT pattern FROM node WHERE rel = ?1 AND ent = ?2 AND kclass = ?3 AND label = ?4"
 
 pub patterns_of_key_is : (o : Others) → Asks (schema o) patterns_of_key (Select (alone (rows_by 0 by_class pattern_shown)) (codes "pattern" ∷ []))
 unfolding understood everything
@@ -48,7 +46,7 @@ pattern_shows params r h = let c = node_parts r h in rw (← blob_is (column r 5
 pub finds_patterns_of_key : (old new : State) (k : TupleKey) (r : Result (Vec (List ℕ) Global) Error) → (HasCleanDisk new → HasCleanDisk old)
     → (HasCleanDisk new → IfOk r (λ xs. ShowsSome shown_bytes (λ r. is_blob (column r 0)) patterns_of_key (class_values k) old new xs.items))
     → (HasCleanDisk new → IfErr r (FailsToShow (λ r. IsBytes (column r 0)) patterns_of_key (class_values k) old new))
-    → IsQuery (IsPermutation (map (λ n. n.pattern) (filter (is_node k) (tables_of old.now.trees).nodes))) old new r
+    → IsQuery (IsPermutation (map (λ n. n.pattern) (filter (is_node k) (tables_of old.now.trees).nodes))) patterns_of_key (class_values k) old new r
 finds_patterns_of_key old new k =
     let params = class_values k in
     let nodes = filter (is_node k) (tables_of old.now.trees).nodes in

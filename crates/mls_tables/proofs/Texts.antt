@@ -21,6 +21,7 @@ use Rattle.sqlite.proofs.Callers.{IsPlain, command_of, statement_of}
 use Rattle.sqlite_resolve.specs.declared.compiled.Compiled.{Compiled}
 use Rattle.sqlite_resolve.specs.declared.error.CompileError.{CompileError}
 use Rattle.mls_tables.specs.declared.statements.cell.TheConstants.{ADD_CELLS}
+pub use Rattle.mls_tables.specs.Sql.{add_node, drop_node, nodes_of_class, nodes_among, nodes_of_key, set_cell, drop_cells, cells_of_class, cells_among, cells_of_tuple, add_entry, clear_entries, all_entries}
 use Rattle.mls_tables.specs.Schema.{Others, no_schema, with_node, with_cell, with_audit, schema, node, cell, audit, meta}
 use Rattle.mls_tables.proofs.EditParts.{alone}
 use Rattle.mls_tables.proofs.QueryAnswers.{rows_by, rows_sorted}
@@ -80,9 +81,6 @@ create_meta_is = (refl, (refl, refl), refl, refl)
 abbrev pub node_terms : List Term
 node_terms = lit Null ∷ col 0 0 ∷ col 0 1 ∷ col 0 2 ∷ col 0 3 ∷ col 0 4 ∷ []
 
-abbrev pub add_node : List ℕ
-add_node = codes "INSERT INTO node (rel, ent, kclass, label, pattern) VALUES (?1, ?2, ?3, ?4, ?5)"
-
 pub add_node_is : (o : Others) → Means (schema o) add_node (Insert 0 (Values node_terms 6))
 unfolding understood everything
 add_node_is o = (refl, (refl, refl))
@@ -141,9 +139,6 @@ add_own_is count some few =
 abbrev pub audit_terms : List Term
 audit_terms = col 0 0 ∷ lit Null ∷ col 0 1 ∷ []
 
-abbrev pub add_entry : List ℕ
-add_entry = codes "INSERT INTO audit (number, bytes) VALUES (?1, ?2)"
-
 pub add_entry_is : (o : Others) → Means (schema o) add_entry (Insert 2 (Values audit_terms 3))
 unfolding understood everything
 add_entry_is o = (refl, (refl, refl))
@@ -175,9 +170,6 @@ same column param = op2 (Compare Eq Binary) (col 1 column) (col 0 param)
 abbrev pub by_class : List Term
 by_class = same 1 0 ∷ same 2 1 ∷ same 3 2 ∷ same 4 3 ∷ []
 
-abbrev pub drop_node : List ℕ
-drop_node = codes "DELETE FROM node WHERE rel = ?1 AND ent = ?2 AND kclass = ?3 AND label = ?4"
-
 pub drop_node_is : (o : Others) → Means (schema o) drop_node (Delete 0 (alone (rows_by 0 by_class (col 1 0 ∷ []))))
 unfolding understood everything
 drop_node_is o = (refl, (refl, refl))
@@ -185,9 +177,6 @@ drop_node_is o = (refl, (refl, refl))
 pub drop_node_takes : (o : Others) → Takes 4 (schema o) drop_node
 unfolding understood everything
 drop_node_takes o = (lit≤ tt, refl)
-
-abbrev pub drop_cells : List ℕ
-drop_cells = codes "DELETE FROM cell WHERE rel = ?1 AND ent = ?2 AND kclass = ?3 AND label = ?4"
 
 pub drop_cells_is : (o : Others) → Means (schema o) drop_cells (Delete 1 (alone (rows_by 2 by_class (col 1 0 ∷ []))))
 unfolding understood everything
@@ -203,9 +192,6 @@ by_cell = same 1 0 ∷ same 2 1 ∷ same 3 2 ∷ same 4 3 ∷ same 5 4 ∷ []
 -- the row's place, and then the row as it will be
 abbrev pub set_terms : List Term
 set_terms = col 1 0 ∷ col 1 0 ∷ col 1 1 ∷ col 1 2 ∷ col 1 3 ∷ col 1 4 ∷ col 1 5 ∷ col 0 5 ∷ []
-
-abbrev pub set_cell : List ℕ
-set_cell = codes "UPDATE cell SET value = ?6 WHERE rel = ?1 AND ent = ?2 AND kclass = ?3 AND label = ?4 AND attr = ?5"
 
 pub set_cell_is : (o : Others) → Means (schema o) set_cell (Update 1 (alone (rows_by 2 by_cell set_terms)))
 unfolding understood everything
@@ -243,9 +229,6 @@ pub clear_cells_takes : (o : Others) → Takes 0 (schema o) clear_cells
 unfolding understood everything
 clear_cells_takes o = (lit≤ tt, refl)
 
-abbrev pub clear_entries : List ℕ
-clear_entries = codes "DELETE FROM audit"
-
 pub clear_entries_is : (o : Others) → Means (schema o) clear_entries (Delete 2 (alone (every 4)))
 unfolding understood everything
 clear_entries_is o = (refl, (refl, refl))
@@ -280,9 +263,6 @@ by_label = same 1 0 ∷ same 4 1 ∷ []
 abbrev pub by_labels : List Term
 by_labels = same 1 0 ∷ op2 (Bits bit.And) (col 0 1) (op2 (Bits bit.Shl) (lit (Int (pos 1))) (col 1 4)) ∷ []
 
-abbrev pub nodes_of_class : List ℕ
-nodes_of_class = codes "SELECT rel, ent, kclass, label, pattern FROM node WHERE rel = ?1 AND label = ?2"
-
 pub nodes_of_class_is : (o : Others) → Asks (schema o) nodes_of_class (Select (alone (rows_by 0 by_label node_shown)) node_names)
 unfolding understood everything
 nodes_of_class_is o = (refl, (refl, refl), refl)
@@ -291,9 +271,6 @@ pub nodes_of_class_takes : (o : Others) → Takes 2 (schema o) nodes_of_class
 unfolding understood everything
 nodes_of_class_takes o = (lit≤ tt, refl)
 
-abbrev pub nodes_among : List ℕ
-nodes_among = codes "SELECT rel, ent, kclass, label, pattern FROM node WHERE rel = ?1 AND ?2 & (1 << label)"
-
 pub nodes_among_is : (o : Others) → Asks (schema o) nodes_among (Select (alone (rows_by 0 by_labels node_shown)) node_names)
 unfolding understood everything
 nodes_among_is o = (refl, (refl, refl), refl)
@@ -301,9 +278,6 @@ nodes_among_is o = (refl, (refl, refl), refl)
 pub nodes_among_takes : (o : Others) → Takes 2 (schema o) nodes_among
 unfolding understood everything
 nodes_among_takes o = (lit≤ tt, refl)
-
-abbrev pub nodes_of_key : List ℕ
-nodes_of_key = codes "SELECT rel, ent, kclass, label, pattern FROM node WHERE rel = ?1 AND ent = ?2 AND kclass = ?3 AND label = ?4"
 
 pub nodes_of_key_is : (o : Others) → Asks (schema o) nodes_of_key (Select (alone (rows_by 0 by_class node_shown)) node_names)
 unfolding understood everything
@@ -319,9 +293,6 @@ cell_names = codes "rel" ∷ codes "ent" ∷ codes "kclass" ∷ codes "label" �
 abbrev pub cell_shown : List Term
 cell_shown = col 1 1 ∷ col 1 2 ∷ col 1 3 ∷ col 1 4 ∷ col 1 5 ∷ col 1 6 ∷ []
 
-abbrev pub cells_of_class : List ℕ
-cells_of_class = codes "SELECT rel, ent, kclass, label, attr, value FROM cell WHERE rel = ?1 AND label = ?2"
-
 pub cells_of_class_is : (o : Others) → Asks (schema o) cells_of_class (Select (alone (rows_by 2 by_label cell_shown)) cell_names)
 unfolding understood everything
 cells_of_class_is o = (refl, (refl, refl), refl)
@@ -330,9 +301,6 @@ pub cells_of_class_takes : (o : Others) → Takes 2 (schema o) cells_of_class
 unfolding understood everything
 cells_of_class_takes o = (lit≤ tt, refl)
 
-abbrev pub cells_among : List ℕ
-cells_among = codes "SELECT rel, ent, kclass, label, attr, value FROM cell WHERE rel = ?1 AND ?2 & (1 << label)"
-
 pub cells_among_is : (o : Others) → Asks (schema o) cells_among (Select (alone (rows_by 2 by_labels cell_shown)) cell_names)
 unfolding understood everything
 cells_among_is o = (refl, (refl, refl), refl)
@@ -340,9 +308,6 @@ cells_among_is o = (refl, (refl, refl), refl)
 pub cells_among_takes : (o : Others) → Takes 2 (schema o) cells_among
 unfolding understood everything
 cells_among_takes o = (lit≤ tt, refl)
-
-abbrev pub cells_of_tuple : List ℕ
-cells_of_tuple = codes "SELECT rel, ent, kclass, label, attr, value FROM cell WHERE rel = ?1 AND ent = ?2 AND kclass = ?3 AND label = ?4"
 
 pub cells_of_tuple_is : (o : Others) → Asks (schema o) cells_of_tuple (Select (alone (rows_by 2 by_class cell_shown)) cell_names)
 unfolding understood everything
@@ -374,9 +339,6 @@ all_cells = codes "SELECT rel, ent, kclass, label, attr, value, rowid FROM cell 
 pub all_cells_is : (o : Others) → Asks (schema o) all_cells (Select (alone (rows_sorted 2 [] (cell_shown ++ col 1 0 ∷ []) ((col 1 0, ascending Binary) ∷ []))) (cell_names ++ codes "rowid" ∷ []))
 unfolding understood everything
 all_cells_is o = (refl, (refl, refl), refl)
-
-abbrev pub all_entries : List ℕ
-all_entries = codes "SELECT number, bytes FROM audit ORDER BY number"
 
 pub all_entries_is : (o : Others) → Asks (schema o) all_entries (Select (alone (rows_sorted 4 [] audit_shown ((col 1 0, ascending Binary) ∷ []))) audit_names)
 unfolding understood everything

@@ -3,6 +3,7 @@
 pub mod Adopting
 pub mod Rows
 pub mod Schema
+pub mod Sql
 pub mod Statements
 pub mod Store
 pub mod Pattern

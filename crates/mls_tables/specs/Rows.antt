@@ -1,7 +1,7 @@
 -- What the rows of the four tables are, as plain data.
 use Rattle.std.specs.Prelude.{ℕ, ◌+◌, ℤ, ◌+ℤ◌, pos, Bool, true, false, ◌&&◌, nat_eq, bytes_eq, List, [], ◌∷◌, ◌++◌, map}
 use Rattle.std.specs.Prelude.{flat_map}
-use Rattle.std.specs.Int.{bit_at}
+use Rattle.std.specs.Int.{bit_at, cast_signed, w64}
 use Rattle.std.specs.Ordering.{int_eq}
 use Rattle.sqlite_value.specs.declared.value.Value.{Value}
 use Rattle.sqlite_value.specs.declared.value.Value.TheVariants.{Int, Text, Blob}
@@ -148,6 +148,24 @@ abbrev pub tables_of : Trees → Tables
 tables_of trees = record { nodes = map node_of (trees 0); cells = map cell_of (trees 2); audit = map audit_of (trees 4); meta = map meta_of (trees 5) }
 
 -- ---- rows as queries show them
+
+-- what a row is written as
+abbrev pub node_values : NodeRow → Row
+node_values n = Int (pos n.rel) ∷ Blob n.ent ∷ Int (pos n.kclass) ∷ Int (pos n.label) ∷ Blob n.pattern ∷ []
+
+abbrev pub cell_values : CellRow → Row
+cell_values c =
+    Int (pos c.rel) ∷ Blob c.ent ∷ Int (pos c.kclass) ∷ Int (pos c.label) ∷ Int (pos c.attr) ∷ Blob c.value ∷ []
+
+abbrev pub audit_values : AuditRow → Row
+audit_values a = Int a.number ∷ Blob a.bytes ∷ []
+
+-- a relation and a label, or labels by their bits
+abbrev pub at_values : ℕ → ℕ → Row
+at_values rel label = Int (pos rel) ∷ Int (pos label) ∷ []
+
+abbrev pub among_values : ℕ → ℕ → Row
+among_values rel labels = Int (pos rel) ∷ Int (cast_signed w64 labels) ∷ []
 
 -- the key of a tuple's own class
 abbrev pub class_values : TupleKey → Row

@@ -1,24 +1,33 @@
 -- What the statements do to the four tables.
-use Rattle.std.specs.Prelude.{◌≡◌, ◌⊎◌, ℕ, ◌<◌, ◌^◌, Bool, true, false, not, if◌then◌else◌, List, [], ◌∷◌, ◌++◌, filter, IsTrue}
-use Rattle.std.specs.Prelude.{IsPermutation, Result, Vec, IfOk, IfErr, OnOk, OnErr}
+use Rattle.std.specs.Prelude.{◌≡◌, ◌≢◌, ◌⊎◌, ℕ, ◌<◌, ◌^◌, Bool, true, false, not, if◌then◌else◌, List, [], ◌∷◌, ◌++◌, filter, map, length, IsTrue}
+use Rattle.std.specs.Prelude.{IsPermutation, Option, Some, None, Result, Ok, Err, Vec, IfOk, IfErr, OnOk, OnErr}
 use Rattle.std.specs.List.{AllByRecursion}
 use Rattle.std.specs.Ordering.{is_eq}
 use Rattle.std.specs.declared.alloc.Global.{Global}
 use Rattle.sqlite_value.specs.Order.{Row, value_cmp}
-use Rattle.sqlite_trees.specs.Tree.{rowid, IsAscending}
-use Rattle.sqlite.specs.Effect.{Database}
+use Rattle.sqlite_trees.specs.Tree.{Trees, rowid, IsAscending}
+use Rattle.sqlite_disk.specs.Disk.{MoreFaults}
+use Rattle.sqlite.specs.Effect.{Database, RefusesToRead}
+use Rattle.sqlite.specs.Clock.{timed}
+use Rattle.sqlite.specs.Does.{Tally, Does}
+use Rattle.sqlite.specs.Listing.{understood, reads_listing, IsSourceOf}
+use Rattle.sqlite.specs.declared.run.Mode.{Mode}
+use Rattle.sqlite_resolve.specs.declared.compiled.Compiled.{Compiled}
+use Rattle.sqlite_schema.specs.declared.schema.Keys.TheVariants.{Enforced}
 use Rattle.sqlite.specs.Schema.{Schema}
-use Rattle.sqlite.specs.State.{State, IsUnchanged, IsRolledBack, HasCleanDisk, KeepsCommit}
+use Rattle.sqlite.specs.State.{State, IsUnchanged, IsRolledBack, HasCleanDisk, KeepsCommit, FailsToQuery, text_of}
 use Rattle.sqlite.specs.declared.error.Error.{Error}
 use Rattle.sqlite.specs.declared.error.Error.TheVariants.{SqliteFailure}
 use Rattle.sqlite.specs.declared.error.ErrorCode.TheVariants as code
 use Rattle.mls_tables.specs.declared.rows.NodeRow.{NodeRow}
 use Rattle.mls_tables.specs.declared.rows.CellRow.{CellRow}
+use Rattle.mls_tables.specs.declared.rows.OwnCell.{OwnCell}
 use Rattle.mls_tables.specs.declared.rows.AuditRow.{AuditRow}
 use Rattle.mls_tables.specs.declared.rows.MetaRow.{MetaRow}
 use Rattle.mls_tables.specs.declared.rows.TupleKey.{TupleKey}
 use Rattle.mls_tables.specs.Rows.{Tables, tables_of, described, first_meta, is_node, is_cell, is_cell_in, is_node_row}
-use Rattle.mls_tables.specs.Rows.{is_cell_row, is_audit_row, is_meta_row}
+use Rattle.mls_tables.specs.Rows.{is_cell_row, is_audit_row, is_meta_row, own_values}
+use Rattle.mls_tables.specs.Sql.{add_cells}
 use Rattle.mls_tables.specs.Schema.{HasTables, IsMade}
 
 -- no two rows have one rowid
@@ -171,6 +180,56 @@ is_of_run _ = false
 abbrev pub IsOfRun : Error → Type 0
 IsOfRun e = is_of_run e ≡ true
 
+-- foreign keys hold at once
+abbrev pub enforced : Mode
+enforced = record { keys = Enforced; in_doubt = false; may_wait = false }
+
+-- The database refuses a statement that it understands, with these parameters: no row that is written can be stored; or it
+-- breaks a rule, is of another kind or goes past a limit; or so does what is read.
+pub data IsRefusal (sql : List ℕ) (c : Compiled) (params : Row) (limit : Option ℕ) (db : Database) : Type 0 where
+  unstorable : Does limit enforced params db (text_of sql c) c.returning c.command (Err None)
+      → IsRefusal sql c params limit db
+  refused : (e : Error) → IsOfRun e → Does limit enforced params db (text_of sql c) c.returning c.command (Err (Some e))
+      → IsRefusal sql c params limit db
+  unread : (e : Error) → IsOfRun e → (from : Database) → IsSourceOf (reads_listing db.schema sql) db from
+      → RefusesToRead limit c.command from params e → IsRefusal sql c params limit db
+
+abbrev pub Refuses : List ℕ → Row → Option ℕ → Database → Type 0
+Refuses sql params limit db =
+    (c : Compiled) × (understood db.schema sql ≡ Ok c) × (now : ℕ)
+    × IsRefusal sql c (timed params c.formats now) limit db
+
+-- It does such a statement, and is another then.
+abbrev pub Performs : List ℕ → Row → Option ℕ → Database → Database → Type 0
+Performs sql params limit db next =
+    (c : Compiled) × (understood db.schema sql ≡ Ok c) × (now : ℕ) × (tally : Tally)
+    × Does limit enforced (timed params c.formats now) db (text_of sql c) c.returning c.command (Ok (tally, next))
+
+-- Statements that each add some cells beside a node are done, and have added these.
+pub data HasAdded (node : NodeRow) (limit : Option ℕ) (db : Database) : List OwnCell → Database → Type 0 where
+  nothing : HasAdded node limit db [] db
+  also : (done some : List OwnCell) (mid next : Database) → HasAdded node limit db done mid
+      → Performs (add_cells (length some)) (own_values node some) limit mid next
+      → HasAdded node limit db (done ++ some) next
+
+-- Such statements are done for a first part of the cells, and the next is refused.
+pub record RefusesCells (node : NodeRow) (cells : List OwnCell) (limit : Option ℕ) (db : Database) : Type 0 where
+  pub done : List OwnCell
+  pub some : List OwnCell
+  pub rest : List OwnCell
+  pub parts : done ++ (some ++ rest) ≡ cells
+  pub mid : Database
+  pub added : HasAdded node limit db done mid
+  pub refused : Refuses (add_cells (length some)) (own_values node some) limit mid
+
+-- the disk failed or refused, or the connection was shut
+abbrev pub IsFailed : State → State → Type 0
+IsFailed old new = MoreFaults old.faults new.faults ⊎ (old.is_open ≡ false)
+
+-- the rows of the four tables and of the indexes of their keys, with their rowids
+abbrev pub trees_of : Trees → List (List Row)
+trees_of trees = map trees (0 ∷ 1 ∷ 2 ∷ 3 ∷ 4 ∷ 5 ∷ [])
+
 -- every number of the tables' rows fits 32 bits
 abbrev pub FitsNode : NodeRow → Type 0
 FitsNode n = (n.rel < 2 ^ 32) × ((n.kclass < 2 ^ 32) × (n.label < 2 ^ 32))
@@ -203,13 +262,18 @@ pub record IsMaking (before after : Schema) (old new : State) (result : Result �
 
 -- a query over an open connection: of the four tables it finds this and changes nothing; an error leaves what was there, or undoes
 -- the transaction
-pub record IsQuery {X : Type 0} (Finds : List X → Type 0) (old new : State) (result : Result (Vec X Global) Error) : Type 0 where
+pub record IsQuery {X : Type 0} (Finds : List X → Type 0) (sql : List ℕ) (params : Row) (old new : State)
+    (result : Result (Vec X Global) Error) : Type 0 where
   pub clean : HasCleanDisk new → HasCleanDisk old
   pub was_open : HasCleanDisk new → OnOk result (IsTrue old.is_open)
   pub found : HasCleanDisk new → IsSchemaReady old.now → IfOk result (λ xs. Finds xs.items)
   pub same : HasCleanDisk new → IsSchemaReady old.now → OnOk result (IsUnchanged old new)
   pub cause : HasCleanDisk new → (IsTrue old.is_open → IsSchemaReady old.now) → IfErr result (λ e. IsOfRun e ⊎ (¬ AreInRange (tables_of old.now.trees)))
   pub err : HasCleanDisk new → (IsTrue old.is_open → IsSchemaReady old.now) → OnErr result (IsEnded old new)
+  -- it was not answered, or not every number fits
+  pub stopped : HasCleanDisk new → (IsTrue old.is_open → IsSchemaReady old.now)
+      → IfErr result (λ e. e ≢ SqliteFailure code.OutOfMemory
+      → FailsToQuery sql params old new e ⊎ (¬ AreInRange (tables_of old.now.trees)))
 
 -- exactly one item passes the test
 abbrev pub IsOne : {X : Type 0} → (X → Bool) → List X → X → Type 0

@@ -1,5 +1,6 @@
 //! The four tables over a connection, with the rows of the last commit.
-ghost use Rattle.std.specs.Prelude.{◌≡◌, ◌≢◌, ◌↔◌, ◌+◌, ◌≤◌, true, false, map, filter, IsTrue, IfOk, IfErr};
+ghost use Rattle.std.specs.Prelude.{◌≡◌, ◌≢◌, ◌↔◌, ◌+◌, ◌≤◌, true, false, []};
+ghost use Rattle.std.specs.Prelude.{map, filter, IsTrue, IfOk, IfErr};
 ghost use Rattle.std.specs.Prelude.{IsPermutation};
 ghost use Rattle.sqlite.specs.State.{HasCleanDisk};
 ghost use Rattle.sqlite.specs.Held.{state};
@@ -12,7 +13,11 @@ ghost use Rattle.mls_tables.specs.Schema.{no_schema};
 ghost use Rattle.mls_tables.specs.Statements.{IsSchemaReady, AddsNode, DropsNode, AddsCells, SetsCell, DropsCells};
 ghost use Rattle.mls_tables.specs.Statements.{AddsEntry, ClearsEntries, IsOne, has_key_of, HasSettled};
 ghost use Rattle.mls_tables.specs.Store.{IsClean, IsStoreFault, IsStoreTurn, IsStoreWrite, IsStoreQuery, HasEnded};
-ghost use Rattle.mls_tables.specs.Store.{HasFallen};
+ghost use Rattle.mls_tables.specs.Rows.{node_values, cell_values, audit_values, class_values, at_values, among_values};
+ghost use Rattle.mls_tables.specs.Sql.{add_node, drop_node, nodes_of_class, nodes_among, nodes_of_key, patterns_of_key};
+ghost use Rattle.mls_tables.specs.Sql.{set_cell, drop_cells, cells_of_class, cells_among, cells_of_tuple};
+ghost use Rattle.mls_tables.specs.Sql.{add_entry, clear_entries, all_entries};
+ghost use Rattle.mls_tables.specs.Store.{HasFallen, IsRefused, AreCellsRefused, IsUnread};
 
 use crate::ghost_store::GhostStore;
 use crate::rows::{AuditRow, CellRow, NodeRow, OwnCell, TupleKey};
@@ -232,8 +237,8 @@ impl<S: Alter> TableStore<S> {
         self.begun
     }
 
-    /// Begins a change. That a `Store` has a cause is said of the begin and the ends of a change. A statement on rows is understood,
-    /// but may be refused for a constraint, a size or a limit of steps: that none of these comes is not said.
+    /// Begins a change. A `Store` has a cause: the disk failed or refused, the connection was shut, or, where rows are asked for or
+    /// written, the database refuses the statement, as for a constraint, a size or a limit of steps.
     pub fn begin(&mut self) -> Result<(), StoreFault>
         requires begun { self.old.begun ≡ false }
         ensures { IsStoreTurn true self.old.now self.old self.new result }
@@ -271,7 +276,8 @@ impl<S: Alter> TableStore<S> {
     /// Adds a node.
     pub fn add_node(&mut self, node: &NodeRow) -> Result<(), StoreFault>
         requires begun { self.old.begun ≡ true }
-        ensures { IsStoreWrite (AddsNode node.now) self.old self.new result }
+        ensures { IsStoreWrite (AddsNode node.now) (IsRefused add_node (node_values node.now) self.old)
+            self.old self.new result }
     {
         settle!(self, _ => (), node::add_node(&mut self.conn, node))
     }
@@ -279,7 +285,8 @@ impl<S: Alter> TableStore<S> {
     /// Drops the node at a key.
     pub fn drop_node(&mut self, key: &TupleKey) -> Result<(), StoreFault>
         requires begun { self.old.begun ≡ true }
-        ensures { IsStoreWrite (DropsNode key.now) self.old self.new result }
+        ensures { IsStoreWrite (DropsNode key.now) (IsRefused drop_node (class_values key.now) self.old)
+            self.old self.new result }
     {
         settle!(self, _ => (), node::drop_node(&mut self.conn, key))
     }
@@ -287,7 +294,7 @@ impl<S: Alter> TableStore<S> {
     /// The nodes of one class.
     pub fn nodes_of_class(&mut self, rel: u32, label: u32) -> Result<Vec<NodeRow>, StoreFault>
         ensures { IsStoreQuery (IsPermutation (filter (is_node_at rel label) self.old.now.nodes))
-            self.old self.new result }
+            (IsUnread nodes_of_class (at_values rel label) self.old) self.old self.new result }
     {
         settle!(self, rows => rows, node::nodes_of_class(&mut self.conn, self.alloc, rel, label))
     }
@@ -295,7 +302,7 @@ impl<S: Alter> TableStore<S> {
     /// The nodes of the labels whose bits are set, in one scan of the table.
     pub fn nodes_among(&mut self, rel: u32, labels: u64) -> Result<Vec<NodeRow>, StoreFault>
         ensures { IsStoreQuery (IsPermutation (filter (is_node_among rel labels) self.old.now.nodes))
-            self.old self.new result }
+            (IsUnread nodes_among (among_values rel labels) self.old) self.old self.new result }
     {
         settle!(self, rows => rows, node::nodes_among(&mut self.conn, self.alloc, rel, labels))
     }
@@ -303,7 +310,7 @@ impl<S: Alter> TableStore<S> {
     /// The node at a key, where there is one.
     pub fn nodes_of_key(&mut self, key: &TupleKey) -> Result<Vec<NodeRow>, StoreFault>
         ensures { IsStoreQuery (IsPermutation (filter (is_node key.now) self.old.now.nodes))
-            self.old self.new result }
+            (IsUnread nodes_of_key (class_values key.now) self.old) self.old self.new result }
     {
         settle!(self, rows => rows, node::nodes_of_key(&mut self.conn, self.alloc, key))
     }
@@ -311,7 +318,7 @@ impl<S: Alter> TableStore<S> {
     /// The pattern of the node at a key, where there is one.
     pub fn patterns_of_key(&mut self, key: &TupleKey) -> Result<Vec<Items<u8>>, StoreFault>
         ensures { IsStoreQuery (IsPermutation (map (λ n. n.pattern) (filter (is_node key.now) self.old.now.nodes)))
-            self.old self.new result }
+            (IsUnread patterns_of_key (class_values key.now) self.old) self.old self.new result }
     {
         settle!(self, rows => rows, node::patterns_of_key(&mut self.conn, self.alloc, key))
     }
@@ -319,7 +326,9 @@ impl<S: Alter> TableStore<S> {
     /// Adds the cells of a tuple's own class beside its node.
     pub fn add_cells(&mut self, node: &NodeRow, cells: &[OwnCell]) -> Result<(), StoreFault>
         requires begun { self.old.begun ≡ true }
-        ensures { IsStoreWrite (AddsCells (map (cell_beside node.now) cells.now)) self.old self.new result }
+        ensures { IsStoreWrite (AddsCells (map (cell_beside node.now) cells.now))
+            (AreCellsRefused node.now cells.now self.old)
+            self.old self.new result }
     {
         settle!(self, _ => (), cell::add_own(&mut self.conn, self.alloc, node, cells))
     }
@@ -328,7 +337,8 @@ impl<S: Alter> TableStore<S> {
     pub fn set_cell(&mut self, cell: &CellRow) -> Result<(), StoreFault>
         requires begun { self.old.begun ≡ true }
         requires there { IsClean self.old → (was : SpecCell) × IsOne (has_key_of cell.now) self.old.now.cells was }
-        ensures { IsStoreWrite (SetsCell cell.now) self.old self.new result }
+        ensures { IsStoreWrite (SetsCell cell.now) (IsRefused set_cell (cell_values cell.now) self.old)
+            self.old self.new result }
     {
         settle!(self, _ => (), cell::set_cell(&mut self.conn, cell))
     }
@@ -336,7 +346,8 @@ impl<S: Alter> TableStore<S> {
     /// Drops the cells of one tuple's own class.
     pub fn drop_cells(&mut self, key: &TupleKey) -> Result<(), StoreFault>
         requires begun { self.old.begun ≡ true }
-        ensures { IsStoreWrite (DropsCells key.now) self.old self.new result }
+        ensures { IsStoreWrite (DropsCells key.now) (IsRefused drop_cells (class_values key.now) self.old)
+            self.old self.new result }
     {
         settle!(self, _ => (), cell::drop_cells(&mut self.conn, key))
     }
@@ -344,7 +355,7 @@ impl<S: Alter> TableStore<S> {
     /// The cells of one class.
     pub fn cells_of_class(&mut self, rel: u32, label: u32) -> Result<Vec<CellRow>, StoreFault>
         ensures { IsStoreQuery (IsPermutation (filter (is_cell_at rel label) self.old.now.cells))
-            self.old self.new result }
+            (IsUnread cells_of_class (at_values rel label) self.old) self.old self.new result }
     {
         settle!(self, rows => rows, cell::cells_of_class(&mut self.conn, self.alloc, rel, label))
     }
@@ -352,7 +363,7 @@ impl<S: Alter> TableStore<S> {
     /// The cells of the labels whose bits are set, in one scan of the table.
     pub fn cells_among(&mut self, rel: u32, labels: u64) -> Result<Vec<CellRow>, StoreFault>
         ensures { IsStoreQuery (IsPermutation (filter (is_cell_among rel labels) self.old.now.cells))
-            self.old self.new result }
+            (IsUnread cells_among (among_values rel labels) self.old) self.old self.new result }
     {
         settle!(self, rows => rows, cell::cells_among(&mut self.conn, self.alloc, rel, labels))
     }
@@ -360,7 +371,7 @@ impl<S: Alter> TableStore<S> {
     /// The cells of one tuple's own class.
     pub fn cells_of_tuple(&mut self, key: &TupleKey) -> Result<Vec<CellRow>, StoreFault>
         ensures { IsStoreQuery (IsPermutation (filter (is_cell_in key.now) self.old.now.cells))
-            self.old self.new result }
+            (IsUnread cells_of_tuple (class_values key.now) self.old) self.old self.new result }
     {
         settle!(self, rows => rows, cell::cells_of_tuple(&mut self.conn, self.alloc, key))
     }
@@ -369,7 +380,8 @@ impl<S: Alter> TableStore<S> {
     /// ones.
     pub fn add_entry(&mut self, entry: &AuditRow) -> Result<(), StoreFault>
         requires begun { self.old.begun ≡ true }
-        ensures { IsStoreWrite (AddsEntry entry.now) self.old self.new result }
+        ensures { IsStoreWrite (AddsEntry entry.now) (IsRefused add_entry (audit_values entry.now) self.old)
+            self.old self.new result }
     {
         settle!(self, _ => (), audit::add_entry(&mut self.conn, entry))
     }
@@ -377,7 +389,8 @@ impl<S: Alter> TableStore<S> {
     /// Drops every entry.
     pub fn clear_entries(&mut self) -> Result<(), StoreFault>
         requires begun { self.old.begun ≡ true }
-        ensures { IsStoreWrite ClearsEntries self.old self.new result }
+        ensures { IsStoreWrite ClearsEntries (IsRefused clear_entries [] self.old)
+            self.old self.new result }
     {
         settle!(self, _ => (), audit::clear_entries(&mut self.conn))
     }
@@ -385,7 +398,8 @@ impl<S: Alter> TableStore<S> {
     /// Every entry, in any order. A base orders them and tests their numbers, which it knows over a clean
     /// store.
     pub fn entries(&mut self) -> Result<Vec<AuditRow>, StoreFault>
-        ensures { IsStoreQuery (IsPermutation self.old.now.audit) self.old self.new result }
+        ensures { IsStoreQuery (IsPermutation self.old.now.audit)
+            (IsUnread all_entries [] self.old) self.old self.new result }
     {
         settle!(self, rows => rows, audit::entries(&mut self.conn, self.alloc))
     }

@@ -1,14 +1,19 @@
 //! Statements on the table of cells. Its key has `attr` before `label`: the rows of an entity at a key class
 //! are looked up by what the key begins with, and those of a class are chosen among them.
-ghost use Rattle.std.specs.Prelude.{◌≡◌, ◌<◌, ◌≤◌, ◌+◌, ◌*◌, length, take, map, filter, IfOk, IfErr, OnOk, OnErr};
+ghost use Rattle.std.specs.Prelude.{◌≡◌, ◌≢◌, ◌⊎◌, ◌<◌, ◌≤◌, ◌+◌, ◌*◌, length, take, map, filter, IfOk, IfErr, OnOk, OnErr};
 ghost use Rattle.std.specs.Prelude.{IsTrue, IsPermutation};
-ghost use Rattle.sqlite.specs.State.{HasCleanDisk};
+ghost use Rattle.sqlite.specs.State.{HasCleanDisk, Executes};
 ghost use Rattle.sqlite.specs.Held.{state};
 ghost use Rattle.sqlite.specs.Values.{bound};
 ghost use Rattle.mls_tables.specs.declared.rows.CellRow.{CellRow as SpecCell};
 ghost use Rattle.mls_tables.specs.Rows.{tables_of, is_cell_at, is_cell_among, is_cell_in, cell_beside, own_values};
+ghost use Rattle.mls_tables.specs.Rows.{cell_values, class_values, at_values, among_values};
+ghost use Rattle.sqlite.specs.declared.error.Error.TheVariants.{SqliteFailure};
+ghost use Rattle.sqlite.specs.declared.error.ErrorCode.TheVariants.{OutOfMemory};
+ghost use Rattle.mls_tables.specs.Sql.{add_cells, set_cell, drop_cells, cells_of_class, cells_among, cells_of_tuple};
 ghost use Rattle.mls_tables.specs.Statements.{IsSchemaReady, Changes, IsWrite, AreWrites, IsQuery, AddsCell, AddsCells};
 ghost use Rattle.mls_tables.specs.Statements.{ClearsCells, SetsCell, DropsCells, IsOne, has_key_of, IsEnded, IsOfRun};
+ghost use Rattle.mls_tables.specs.Statements.{IsWithin, Performs, Refuses, RefusesCells, IsFailed};
 
 use crate::rows::{CellRow, NodeRow, OwnCell, TupleKey};
 use crate::statements::streaming::select;
@@ -87,8 +92,17 @@ fn add_some<S: Alter>(
 ) -> Result<usize, Error>
     requires some { 0 < length cells.now }
     requires few { length cells.now ≤ 15 }
-    ensures { AreWrites (AddsCells (map (cell_beside node.now) cells.now))
+    ensures wrote { AreWrites (AddsCells (map (cell_beside node.now) cells.now))
         (state S.Store conn.old) (state S.Store conn.new) result }
+    ensures did { HasCleanDisk (state S.Store conn.new) → IsWithin (state S.Store conn.old)
+        → OnOk result (Performs (add_cells (length cells.now)) (own_values node.now cells.now)
+        conn.old.step_limit (state S.Store conn.old).now (state S.Store conn.new).now) }
+    ensures stopped { HasCleanDisk (state S.Store conn.new) → IsWithin (state S.Store conn.old)
+        → IfErr result (λ e. e ≢ SqliteFailure OutOfMemory → IsFailed (state S.Store conn.old) (state S.Store conn.new)
+        ⊎ Refuses (add_cells (length cells.now)) (own_values node.now cells.now)
+        conn.old.step_limit (state S.Store conn.old).now) }
+    ensures faults { (state S.Store conn.old).faults ≤ (state S.Store conn.new).faults }
+    ensures limit { conn.new.step_limit ≡ conn.old.step_limit }
 {
     let params = params_of(alloc, node, cells)?;
     conn.execute(adding(cells.len()), &params)
@@ -101,8 +115,11 @@ pub fn add_own<S: Alter>(
     node: &NodeRow,
     cells: &[OwnCell],
 ) -> Result<(), Error>
-    ensures { AreWrites (AddsCells (map (cell_beside node.now) cells.now))
+    ensures wrote { AreWrites (AddsCells (map (cell_beside node.now) cells.now))
         (state S.Store conn.old) (state S.Store conn.new) result }
+    ensures stopped { HasCleanDisk (state S.Store conn.new) → IsWithin (state S.Store conn.old)
+        → IfErr result (λ e. e ≢ SqliteFailure OutOfMemory → IsFailed (state S.Store conn.old) (state S.Store conn.new)
+        ⊎ RefusesCells node.now cells.now conn.old.step_limit (state S.Store conn.old).now) }
 {
     for some in cells.chunks(15) {
         add_some(conn, alloc, node, some)?;
@@ -127,6 +144,8 @@ pub fn set_cell<S: Alter>(conn: &mut Connection<S>, cell: &CellRow) -> Result<us
     ensures err { HasCleanDisk (state S.Store conn.new)
         → OnErr result (IsEnded (state S.Store conn.old) (state S.Store conn.new)) }
     ensures clean { HasCleanDisk (state S.Store conn.new) → HasCleanDisk (state S.Store conn.old) }
+    ensures runs { HasCleanDisk (state S.Store conn.new)
+        → Executes set_cell (cell_values cell.now) (state S.Store conn.old) (state S.Store conn.new) result }
 {
     conn.execute(
         "UPDATE cell SET value = ?6 WHERE rel = ?1 AND ent = ?2 AND kclass = ?3 AND label = ?4 AND attr = ?5",
@@ -143,7 +162,9 @@ pub fn set_cell<S: Alter>(conn: &mut Connection<S>, cell: &CellRow) -> Result<us
 
 /// Drops the cells of one tuple's own class.
 pub fn drop_cells<S: Alter>(conn: &mut Connection<S>, key: &TupleKey) -> Result<usize, Error>
-    ensures { IsWrite (DropsCells key.now) (state S.Store conn.old) (state S.Store conn.new) result }
+    ensures wrote { IsWrite (DropsCells key.now) (state S.Store conn.old) (state S.Store conn.new) result }
+    ensures runs { HasCleanDisk (state S.Store conn.new)
+        → Executes drop_cells (class_values key.now) (state S.Store conn.old) (state S.Store conn.new) result }
 {
     conn.execute(
         "DELETE FROM cell WHERE rel = ?1 AND ent = ?2 AND kclass = ?3 AND label = ?4",
@@ -159,6 +180,7 @@ pub fn cells_of_class<S: Alter>(
     label: u32,
 ) -> Result<Vec<CellRow>, Error>
     ensures { IsQuery (IsPermutation (filter (is_cell_at rel label) (tables_of (state S.Store conn.old).now.trees).cells))
+        cells_of_class (at_values rel label)
         (state S.Store conn.old) (state S.Store conn.new) result }
 {
     select::<S, CellRow>(
@@ -177,6 +199,7 @@ pub fn cells_among<S: Alter>(
     labels: u64,
 ) -> Result<Vec<CellRow>, Error>
     ensures { IsQuery (IsPermutation (filter (is_cell_among rel labels) (tables_of (state S.Store conn.old).now.trees).cells))
+        cells_among (among_values rel labels)
         (state S.Store conn.old) (state S.Store conn.new) result }
 {
     select::<S, CellRow>(
@@ -195,6 +218,7 @@ pub fn cells_of_tuple<S: Alter>(
 ) -> Result<Vec<CellRow>, Error>
     ensures { IsQuery (IsPermutation
         (filter (is_cell_in key.now) (tables_of (state S.Store conn.old).now.trees).cells))
+        cells_of_tuple (class_values key.now)
         (state S.Store conn.old) (state S.Store conn.new) result }
 {
     select::<S, CellRow>(

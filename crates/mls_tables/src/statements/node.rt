@@ -1,7 +1,10 @@
 //! Statements on the table of nodes.
 ghost use Rattle.std.specs.Prelude.{map, filter, IsPermutation};
+ghost use Rattle.sqlite.specs.State.{HasCleanDisk, Executes};
 ghost use Rattle.sqlite.specs.Held.{state};
-ghost use Rattle.mls_tables.specs.Rows.{tables_of, is_node_at, is_node_among, is_node};
+ghost use Rattle.mls_tables.specs.Rows.{tables_of, is_node_at, is_node_among, is_node, node_values, class_values};
+ghost use Rattle.mls_tables.specs.Rows.{at_values, among_values};
+ghost use Rattle.mls_tables.specs.Sql.{add_node, drop_node, nodes_of_class, nodes_among, nodes_of_key, patterns_of_key};
 ghost use Rattle.mls_tables.specs.Statements.{IsWrite, AreWrites, IsQuery, AddsNode, AddsNodes, ClearsNodes, DropsNode};
 
 use crate::rows::{NodeRow, TupleKey};
@@ -12,7 +15,9 @@ use std::alloc::Global;
 
 /// Adds a node.
 pub fn add_node<S: Alter>(conn: &mut Connection<S>, node: &NodeRow) -> Result<usize, Error>
-    ensures { IsWrite (AddsNode node.now) (state S.Store conn.old) (state S.Store conn.new) result }
+    ensures wrote { IsWrite (AddsNode node.now) (state S.Store conn.old) (state S.Store conn.new) result }
+    ensures runs { HasCleanDisk (state S.Store conn.new)
+        → Executes add_node (node_values node.now) (state S.Store conn.old) (state S.Store conn.new) result }
 {
     conn.execute(
         "INSERT INTO node (rel, ent, kclass, label, pattern) VALUES (?1, ?2, ?3, ?4, ?5)",
@@ -45,7 +50,9 @@ pub fn clear_nodes<S: Alter>(conn: &mut Connection<S>) -> Result<usize, Error>
 
 /// Drops the node at a key.
 pub fn drop_node<S: Alter>(conn: &mut Connection<S>, key: &TupleKey) -> Result<usize, Error>
-    ensures { IsWrite (DropsNode key.now) (state S.Store conn.old) (state S.Store conn.new) result }
+    ensures wrote { IsWrite (DropsNode key.now) (state S.Store conn.old) (state S.Store conn.new) result }
+    ensures runs { HasCleanDisk (state S.Store conn.new)
+        → Executes drop_node (class_values key.now) (state S.Store conn.old) (state S.Store conn.new) result }
 {
     conn.execute(
         "DELETE FROM node WHERE rel = ?1 AND ent = ?2 AND kclass = ?3 AND label = ?4",
@@ -61,6 +68,7 @@ pub fn nodes_of_class<S: Alter>(
     label: u32,
 ) -> Result<Vec<NodeRow>, Error>
     ensures { IsQuery (IsPermutation (filter (is_node_at rel label) (tables_of (state S.Store conn.old).now.trees).nodes))
+        nodes_of_class (at_values rel label)
         (state S.Store conn.old) (state S.Store conn.new) result }
 {
     select::<S, NodeRow>(
@@ -79,6 +87,7 @@ pub fn nodes_among<S: Alter>(
     labels: u64,
 ) -> Result<Vec<NodeRow>, Error>
     ensures { IsQuery (IsPermutation (filter (is_node_among rel labels) (tables_of (state S.Store conn.old).now.trees).nodes))
+        nodes_among (among_values rel labels)
         (state S.Store conn.old) (state S.Store conn.new) result }
 {
     select::<S, NodeRow>(
@@ -97,6 +106,7 @@ pub fn nodes_of_key<S: Alter>(
 ) -> Result<Vec<NodeRow>, Error>
     ensures { IsQuery (IsPermutation
         (filter (is_node key.now) (tables_of (state S.Store conn.old).now.trees).nodes))
+        nodes_of_key (class_values key.now)
         (state S.Store conn.old) (state S.Store conn.new) result }
 {
     select::<S, NodeRow>(
@@ -116,6 +126,7 @@ pub fn patterns_of_key<S: Alter>(
     ensures { IsQuery (IsPermutation
         (map (λ n. n.pattern) (filter (is_node key.now)
         (tables_of (state S.Store conn.old).now.trees).nodes)))
+        patterns_of_key (class_values key.now)
         (state S.Store conn.old) (state S.Store conn.new) result }
 {
     select::<S, Items<u8>>(

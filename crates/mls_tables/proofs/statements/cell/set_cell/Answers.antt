@@ -16,3 +16,6 @@ pub returns-clause-cause : goal.returns-clause-cause
 returns-clause-cause g c clean ready =
     set_cell_fails (state g.S.Store c.args.conn.now) (state g.S.Store c.execute.new.self) c.execute.result ready c.args.cell.now
     (rw (c.params-to_sql.ensures, c.params-to_sql-2.ensures, c.params-to_sql-3.ensures, c.params-to_sql-4.ensures, c.params-to_sql-5.ensures, c.params-to_sql-6.ensures, c.as_slice.ensures, c.as_slice-2.ensures) at (c.execute.ensures.runs clean))
+
+pub returns-clause-runs : goal.returns-clause-runs
+returns-clause-runs g c = rw (c.params-to_sql.ensures, c.params-to_sql-2.ensures, c.params-to_sql-3.ensures, c.params-to_sql-4.ensures, c.params-to_sql-5.ensures, c.params-to_sql-6.ensures, c.as_slice.ensures, c.as_slice-2.ensures) at c.execute.ensures.runs

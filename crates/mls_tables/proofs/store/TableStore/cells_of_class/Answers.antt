@@ -1,0 +1,25 @@
+use Rattle.std.proofs.Common.{Err, rules, subst, IsPermutation, filter}
+use Rattle.sqlite.specs.Held.{state}
+use Rattle.mls_tables.specs.Rows.{at_values, is_cell_at}
+use Rattle.mls_tables.specs.Sql.{cells_of_class}
+use Rattle.mls_tables.specs.Store.{TableState, IsStoreCall, table_state, IsStoreQuery, IsUnread}
+use Rattle.mls_tables.proofs.ReasonLemmas.{query_caused}
+use Rattle.mls_tables.proofs.store.TableStore.cells_of_class.Goals as goal
+
+pub returns-in-Err : goal.returns-in-Err
+returns-in-Err g c =
+    let t = c.self.inside in
+    let left = c.abandon_after.new in
+    let old = state g.S.Store t.conn in
+    let mid = state g.S.Store c.cells_of_class.new.conn in
+    let new = state g.S.Store left.conn in
+    let before : TableState = table_state old t.begun t.notes.noted.failures t.notes.noted.rows in
+    let after : TableState = table_state new left.begun left.store.noted.failures left.store.noted.rows in
+    let call : IsStoreCall before after (Err c.abandon_after.result) = search rules in
+    subst (λ (v : TableState). IsStoreQuery (IsPermutation (filter (is_cell_at c.args.rel c.args.label) v.now.cells)) (IsUnread cells_of_class (at_values c.args.rel c.args.label) v) v after (Err c.abandon_after.result)) c.self.view_is (record {
+      call = call;
+      mode = tt;
+      found = λ _. tt;
+      same = λ _. tt;
+      cause = λ disk is. query_caused old mid new t.begun t.notes.noted.rows _ _ c.in-Err.error c.abandon_after.result c.self.invariant c.abandon_after.ensures.fallen c.in-Err.ensures.clean disk is cells_of_class (at_values c.args.rel c.args.label) (λ now ready. c.in-Err.ensures.cause now ready) (λ now ready other. c.in-Err.ensures.stopped now ready other);
+    })

@@ -1,15 +1,13 @@
-//! A policy and schemes for people: labels in rows, which covers which, users and rights, and the intervals of attributes.
+//! A policy and schemes for people: labels, users and rights, and the intervals of attributes.
 ghost use Rattle.std.specs.Prelude.{◌<◌, length};
 
 use crate::columns::{Told, columns_to, row_of};
+use crate::labels::labels_to;
 use crate::names::label_name;
 use bitflags::Flags;
 use mls_lattice::{LabelNo, Modes, Policy, UserNo};
 use mls_scheme::{Attributes, RelNo, Schemes};
 use std::alloc::{AllocError, Global};
-
-/// The columns of the widest drawing.
-const WIDEST: usize = 100;
 
 /// What stands before the first object that is no relation.
 const FIRST_OTHER: &str = "  no relation has these names, so they are transactions: ";
@@ -25,82 +23,8 @@ struct Drawing<'a> {
 }
 
 impl<'a> Drawing<'a> {
-    // ---- labels
-
     fn name_of(&self, label: LabelNo) -> &'a str {
         label_name(self.policy, label)
-    }
-
-    /// Whether the one label dominates the other, and is another one.
-    fn is_strictly_above(&self, high: LabelNo, low: LabelNo) -> bool {
-        let count = self.policy.label_count();
-        if high.index() >= count || low.index() >= count || high.byte() == low.byte() {
-            return false;
-        }
-        self.policy.dominates(high, low)
-    }
-
-    /// Whether a declared label stands between two others.
-    fn has_between(&self, high: LabelNo, low: LabelNo) -> bool {
-        (0..self.policy.label_count()).any(|place| {
-            let middle = LabelNo::new(place as u8);
-            self.is_strictly_above(high, middle) && self.is_strictly_above(middle, low)
-        })
-    }
-
-    /// How many other labels a label dominates.
-    fn weight(&self, label: LabelNo) -> usize {
-        (0..self.policy.label_count())
-            .filter(|place| self.is_strictly_above(label, LabelNo::new(*place as u8)))
-            .count()
-    }
-
-    /// Appends a label, and those that it covers.
-    fn cover_to(&self, text: &mut String, label: LabelNo) -> Told {
-        let name = self.name_of(label);
-        let mut end = " nothing\n";
-        write!(text, "  {name} covers")?;
-        for place in 0..self.policy.label_count() {
-            let low = LabelNo::new(place as u8);
-            if self.is_strictly_above(label, low) && !self.has_between(label, low) {
-                let name = self.name_of(low);
-                write!(text, " {name}")?;
-                end = "\n";
-            }
-        }
-        text.push_str(end)
-    }
-
-    /// Appends the labels that dominate so many others, side by side, and what each covers.
-    fn rank_to(&self, row: &mut String, covers: &mut String, count: usize) -> Told {
-        for place in 0..self.policy.label_count() {
-            let label = LabelNo::new(place as u8);
-            if self.weight(label) == count {
-                let name = self.name_of(label);
-                write!(row, "   {name}")?;
-                self.cover_to(covers, label)?;
-            }
-        }
-        Ok(())
-    }
-
-    /// Appends the labels in rows, from the top down, and then what each covers, since rows have no edges. Each
-    /// label stands below those that dominate it, and no two of a row are comparable.
-    fn labels_to(&self, text: &mut String) -> Told {
-        let mut rows = Vec::new(self.alloc);
-        let mut covers = String::new(self.alloc);
-        let mut widest = 0;
-        for count in (0..self.policy.label_count()).rev() {
-            let mut row = String::new(self.alloc);
-            self.rank_to(&mut row, &mut covers, count)?;
-            widest = row.len().max(widest);
-            rows.push(row)?;
-        }
-        if widest <= WIDEST {
-            drawing_to(text, widest, &rows)?;
-        }
-        text.push_str("labels, from the top down, each with those next below it:\n")?;
-        text.push_str(&covers)
     }
 
     // ---- users and rights
@@ -245,23 +169,11 @@ impl<'a> Drawing<'a> {
     }
 }
 
-/// Appends the labels in rows, each in the middle of so many columns.
-fn drawing_to(text: &mut String, room: usize, rows: &[String]) -> Told {
-    text.push_str("labels, each below those that dominate it:\n")?;
-    for row in rows {
-        if !row.is_empty() {
-            let indent = room.saturating_sub(row.len()) / 2;
-            writeln!(text, "{:indent$}{row}", "")?;
-        }
-    }
-    Ok(())
-}
-
 /// The labels, in rows and each with those that it covers, the users, their rights, and the intervals of the relations.
 pub fn picture(alloc: Global, policy: &Policy, schemes: &Schemes) -> Result<String, AllocError> {
     let drawing = Drawing { alloc, policy };
     let mut text = String::new(alloc);
-    drawing.labels_to(&mut text)?;
+    labels_to(&mut text, alloc, policy)?;
     drawing.users_to(&mut text)?;
     drawing.rights_to(&mut text, schemes)?;
     drawing.relations_to(&mut text, schemes)?;

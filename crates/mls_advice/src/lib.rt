@@ -12,6 +12,7 @@ mod forms;
 mod habits;
 mod ignored;
 mod keys;
+mod labels;
 mod listing;
 mod names;
 mod nearest;

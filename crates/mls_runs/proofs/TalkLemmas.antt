@@ -107,8 +107,14 @@ fits_at p q policy schemes same a b fate h =
     subst (λ (x : Site). FateFits x.policy x.schemes fate) (sym same) (subst (λ y. FateFits q.policy y fate) (sym b) (subst (λ x. FateFits x schemes fate) (sym a) h))
 
 -- the parts of a site make it
-pub site_made : (p q : Site) (policy : Policy) (schemes : Schemes) (stored : List Stored) → p ≡ q → q.policy ≡ policy → q.schemes ≡ schemes → stored ≡ p.stored → site_of policy schemes stored ≡ q
-site_made p q policy schemes stored same a b k = (λ i. site_of (sym a i) (sym b i) ((k ∙ ap (λ (x : Site). x.stored) same) i))
+pub site_made : (at : Site) (policy : Policy) (schemes : Schemes) (stored : List Stored) → at.policy ≡ policy → at.schemes ≡ schemes → stored ≡ at.stored → site_of policy schemes stored ≡ at
+site_made at policy schemes stored a b k = (λ i. site_of (sym a i) (sym b i) (k i))
+
+pub policy_at : (p q : Site) (policy : Policy) → p ≡ q → q.policy ≡ policy → p.policy ≡ policy
+policy_at p q policy same a = ap (λ (x : Site). x.policy) same ∙ a
+
+pub schemes_at : (p q : Site) (schemes : Schemes) → p ≡ q → q.schemes ≡ schemes → p.schemes ≡ schemes
+schemes_at p q schemes same a = ap (λ (x : Site). x.schemes) same ∙ a
 
 pub level_at : (p q : Site) (policy : Policy) → p ≡ q → q.policy ≡ policy → (level : ℕ) → level < length policy.labels → level < length p.policy.labels
 level_at p q policy same a level h = subst (λ (x : Site). level < length x.policy.labels) (sym same) (subst (λ (x : Policy). level < length x.labels) (sym a) h)
@@ -171,11 +177,12 @@ module _ {B E : Type 0} (seen : B → Seen) (contents : E → Option (List ℕ))
   abbrev pub MayGreet : List ℕ → Type 0
   MayGreet = x.greets at session (opening session ∷ []) (notice_in at w (opening session ∷ []))
 
-  pub may_greet : (p : Site) → p ≡ at → (events : List Event) (notice : Option Notice) → events ≡ opening session ∷ [] → notice ≡ notice_in at w events
-      → (text : List ℕ) → x.greets p session events notice text → MayGreet text
-  may_greet p same events notice first noticed text h =
+  pub may_greet : (p : Site) (to : ShellSession) → p ≡ at → to ≡ session → (events : List Event) (notice : Option Notice) → events ≡ opening session ∷ [] → notice ≡ notice_in at w events
+      → (text : List ℕ) → x.greets p to events notice text → MayGreet text
+  may_greet p to same is events notice first noticed text h =
       subst (λ n. x.greets at session (opening session ∷ []) n text) (noticed ∙ ap (notice_in at w) first)
-      (subst (λ es. x.greets at session es notice text) first (subst (λ (q : Site). x.greets q session events notice text) same h))
+      (subst (λ es. x.greets at session es notice text) first
+      (subst (λ (s : ShellSession). x.greets at s events notice text) is (subst (λ (q : Site). x.greets q to events notice text) same h)))
 
   -- what is told of these lines, behind what is told of the opening
   pub record AreSoFarTold (turns : List Turn) (err : Errors E) : Type 0 where
@@ -257,14 +264,15 @@ module _ {B E : Type 0} (seen : B → Seen) (contents : E → Option (List ℕ))
       IsSaid = IsExplained session.is_watched (MayTell x at session met turn) (λ more. IsTold contents asked said (told_of session (count + 1) fate ++ more))
 
       -- what is said of the line as it was heard may be told
-      pub may_tell : (p : Site) → p ≡ at → (heard : List ℕ) (notice : Option Notice) → heard ≡ heard_of fate turn.line → notice ≡ notice_in (site now) (world_of seen now) (events_of fate)
-          → (seen now.base).is_clean → (text : List ℕ) → x.says p session heard fate notice text → MayTell x at session met turn text
-      may_tell p same heard notice known noticed c text h =
+      pub may_tell : (p : Site) (to : ShellSession) → p ≡ at → to ≡ session → (heard : List ℕ) (notice : Option Notice) → heard ≡ heard_of fate turn.line → notice ≡ notice_in (site now) (world_of seen now) (events_of fate)
+          → (seen now.base).is_clean → (text : List ℕ) → x.says p to heard fate notice text → MayTell x at session met turn text
+      may_tell p to same is heard notice known noticed c text h =
           let why : notice ≡ notice_in at met (events_of fate)
           = noticed ∙ ap (λ (p : Site). notice_in p (world_of seen now) (events_of fate)) same_site ∙ ap (λ (u : World). notice_in at u (events_of fate)) (s.world c) in
           subst (λ (y : Fate). x.says at session (heard_of y turn.line) y (notice_in at met (events_of y)) text) (sym l.read.same)
           (subst (λ n. x.says at session (heard_of fate turn.line) fate n text) why
-          (subst (λ b. x.says at session b fate notice text) known (subst (λ (q : Site). x.says q session heard fate notice text) same h)))
+          (subst (λ b. x.says at session b fate notice text) known
+          (subst (λ (s : ShellSession). x.says at s heard fate notice text) is (subst (λ (q : Site). x.says q to heard fate notice text) same h))))
 
       told_now : AreSoFarTold s.turns err → IsSaid → AreSoFarTold turns said
       told_now told k = record {

@@ -12,7 +12,7 @@ ghost use Rattle.mls_runs.specs.Shell.{is_lost, noticed_by, FateFits, MayTalk, I
 use crate::explaining::{Explains, Listener};
 use crate::form::form_of;
 use crate::shell_session::{Fate, ShellSession};
-use crate::tally::{is_short, tally_with};
+use crate::tally::{NO_LINES, is_short, tally_with};
 use crate::telling::{ask, tell_end, tell_fate, tell_more};
 use crate::typed::next_fate;
 use mls_filterview::Base;
@@ -104,6 +104,28 @@ fn noticed<B: Base>(engine: &Engine<B>, fate: &Fate) -> Option<Notice>
     }
 }
 
+/// Who is told why what a session asks for is not done: the session, under what the engine is under.
+fn listener_of<'a, B: Base>(
+    alloc: Global,
+    engine: &'a Engine<B>,
+    policy: &'a Policy,
+    schemes: &'a Schemes,
+    session: &'a ShellSession,
+) -> Listener<'a>
+    requires policy { (site engine.now).policy ≡ policy.now }
+    requires schemes { (site engine.now).schemes ≡ schemes.now }
+    ensures site { site_of result.policy.now result.schemes.now result.stored.now ≡ site engine.now }
+    ensures session { result.session.now ≡ session.now }
+{
+    Listener {
+        alloc,
+        policy,
+        schemes,
+        stored: engine.stored(),
+        session,
+    }
+}
+
 /// Whether no line is read behind it.
 pub(crate) fn is_last(fate: &Fate) -> bool
     ensures { result ≡ is_last fate.now }
@@ -153,21 +175,11 @@ fn converse<X: Explains, B: Base, L: TypedLines, W: Write, E: Write>(
         (IsTold E.contents err.old err.new) result (world_of B.seen engine.old) (world_of B.seen engine.new) }
 {
     answer(engine, session, 0, first, out)?;
-    let to = Listener {
-        alloc,
-        policy,
-        schemes,
-        stored: engine.stored(),
-        session,
-    };
+    let to = listener_of(alloc, engine, policy, schemes, session);
     let greeting = X::greeting(&to, first, engine.notice());
     tell_more(err, session, greeting);
     let was_opened = engine.is_open(session.level, session.user.as_str());
-    let mut tally = Tally {
-        lines: 0,
-        refused: 0,
-        misunderstood: 0,
-    };
+    let mut tally = NO_LINES;
     for before in 0..usize::MAX {
         if !engine.is_open(session.level, session.user.as_str()) {
             return Ok(finish(err, session, was_opened, &tally));
@@ -178,13 +190,7 @@ fn converse<X: Explains, B: Base, L: TypedLines, W: Write, E: Write>(
         tell_fate(err, session, before + 1, &fate);
         follow(engine, session, before + 1, &fate, out)?;
         let notice = noticed(engine, &fate);
-        let to = Listener {
-            alloc,
-            policy,
-            schemes,
-            stored: engine.stored(),
-            session,
-        };
+        let to = listener_of(alloc, engine, policy, schemes, session);
         let words = X::words(&to, &heard, &fate, notice);
         tell_more(err, session, words);
         tally = tally_with(tally, &fate, notice);

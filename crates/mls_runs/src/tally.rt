@@ -7,6 +7,13 @@ use crate::shell_session::Fate;
 use mls_host::Tally;
 use mls_sessions::Notice;
 
+/// What is counted before the first line.
+pub(crate) const NO_LINES: Tally = Tally {
+    lines: 0,
+    refused: 0,
+    misunderstood: 0,
+};
+
 /// What is counted of a line.
 #[derive(Clone, Copy)]
 pub enum Verdict {

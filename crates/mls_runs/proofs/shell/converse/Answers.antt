@@ -8,7 +8,7 @@ use Rattle.mls_sessions.specs.Run.{notice_in}
 use Rattle.mls_runs.specs.Shell.{audience_at, events_of, verdict_of, is_short, end_told, IsShellFollowed, IsConversation}
 use Rattle.mls_runs.specs.Tally.{tally_with}
 use Rattle.mls_runs.proofs.ShellLemmas.{said_more, explained_as}
-use Rattle.mls_runs.proofs.TalkLemmas.{SoFar, Line, IsSaid, MayGreet, may_greet, may_tell, site_made, verdict_noticed, so_far_start, so_far_more, broken, broken_first, over_closed, over_last, worn_out, fits_at, level_at, heard_at}
+use Rattle.mls_runs.proofs.TalkLemmas.{SoFar, Line, IsSaid, MayGreet, may_greet, may_tell, policy_at, schemes_at, verdict_noticed, so_far_start, so_far_more, broken, broken_first, over_closed, over_last, worn_out, fits_at, level_at, heard_at}
 use Rattle.mls_sessions.proofs.FrameLemmas.{carried, goes_first, goes_well, goes_on, goes_to, worn_frame}
 use Rattle.mls_runs.proofs.shell.converse.Goals as goal
 
@@ -24,8 +24,16 @@ returns-in_err-answer-clause-conversation g c = λ clean.
     (broken_first g.B.Base.seen g.E.Write.contents g.X.Explains.explaining g.L.TypedLines.echo c.args.session.now c.args.engine.now c.args.err.now (g.L.TypedLines.remaining c.args.lines.now) (g.W.Write.contents c.args.out.now) c.requires.fits (g.L.TypedLines.breaks c.args.lines.now) c.answer.new.engine (g.W.Write.contents c.answer.new.out) c.in_err-answer.field-0.0
     (subst (λ es. IsShellFollowed (site c.args.engine.now) (audience_at c.args.session.now) (world_of g.B.Base.seen c.args.engine.now) es (g.W.Write.contents c.args.out.now) (g.W.Write.contents c.answer.new.out) (world_of g.B.Base.seen c.answer.new.engine) 0 (Err c.in_err-answer.field-0.0)) c.requires.first (c.in_err-answer.ensures.followed clean)))
 
+pub listener_of-to-requires-clause-policy : goal.listener_of-to-requires-clause-policy
+listener_of-to-requires-clause-policy g c =
+    policy_at (site c.answer.new.engine) (site c.args.engine.now) c.args.policy.now (ap site_of_run c.answer.ensures.continues.kept.site) c.requires.policy
+
+pub listener_of-to-requires-clause-schemes : goal.listener_of-to-requires-clause-schemes
+listener_of-to-requires-clause-schemes g c =
+    schemes_at (site c.answer.new.engine) (site c.args.engine.now) c.args.schemes.now (ap site_of_run c.answer.ensures.continues.kept.site) c.requires.schemes
+
 pub loop-before-init : goal.loop-before-init
-loop-before-init g c = (
+loop-before-init g c = let to = c.listener_of-to.result in (
   goes_well g.B.Base.seen c.args.engine.now c.answer.new.engine tt c.in_ok-answer.ensures.continues tt,
   so_far_start g.B.Base.seen g.E.Write.contents g.X.Explains.explaining g.L.TypedLines.echo c.args.session.now c.args.engine.now c.args.err.now (g.L.TypedLines.remaining c.args.lines.now) (g.W.Write.contents c.args.out.now) c.answer.new.engine (g.W.Write.contents c.answer.new.out) c.is_open-was_opened.result
       (record {
@@ -34,11 +42,11 @@ loop-before-init g c = (
         followed = λ clean. subst (λ es. IsShellFollowed (site c.args.engine.now) (audience_at c.args.session.now) (world_of g.B.Base.seen c.args.engine.now) es (g.W.Write.contents c.args.out.now) (g.W.Write.contents c.answer.new.out) (world_of g.B.Base.seen c.answer.new.engine) 0 (Ok tt)) c.requires.first (c.in_ok-answer.ensures.followed clean);
         opened_is = c.is_open-was_opened.ensures ∙ ap (λ n. is_some ((world_of g.B.Base.seen c.answer.new.engine).sessions c.args.session.now.level n)) c.as_str.ensures;
       }) c.tell_more.new.err (λ clean.
-      explained_as _ c.greeting-greeting.result c.args.session.now.is_watched (g.X.Explains.explaining.greets (site_of c.args.policy.now c.args.schemes.now c.stored.result.now) c.args.session.now c.args.first.now c.notice.result)
+      explained_as _ c.greeting-greeting.result c.args.session.now.is_watched (g.X.Explains.explaining.greets (site_of to.policy.now to.schemes.now to.stored.now) to.session.now c.args.first.now c.notice.result)
       (MayGreet g.B.Base.seen g.E.Write.contents g.X.Explains.explaining g.L.TypedLines.echo c.args.session.now c.args.engine.now c.args.err.now (g.L.TypedLines.remaining c.args.lines.now) (g.W.Write.contents c.args.out.now)) _
       (may_greet g.B.Base.seen g.E.Write.contents g.X.Explains.explaining g.L.TypedLines.echo c.args.session.now c.args.engine.now c.args.err.now (g.L.TypedLines.remaining c.args.lines.now) (g.W.Write.contents c.args.out.now)
-      (site_of c.args.policy.now c.args.schemes.now c.stored.result.now)
-      (site_made (site c.answer.new.engine) (site c.args.engine.now) c.args.policy.now c.args.schemes.now c.stored.result.now (ap site_of_run c.answer.ensures.continues.kept.site) c.requires.policy c.requires.schemes c.stored.ensures) c.args.first.now c.notice.result c.requires.first (c.notice.ensures ∙ c.in_ok-answer.ensures.noticed clean))
+      (site_of to.policy.now to.schemes.now to.stored.now) to.session.now
+      (c.listener_of-to.ensures.site ∙ ap site_of_run c.answer.ensures.continues.kept.site) c.listener_of-to.ensures.session c.args.first.now c.notice.result c.requires.first (c.notice.ensures ∙ c.in_ok-answer.ensures.noticed clean))
       c.greeting-greeting.ensures c.tell_more.ensures),
 )
 
@@ -61,6 +69,14 @@ follow-requires-clause-fits g c =
 pub follow-requires-clause-level : goal.follow-requires-clause-level
 follow-requires-clause-level g c =
     level_at (site c.loop-before.engine) (site c.args.engine.now) c.args.policy.now (ap site_of_run c.loop-before.invariant.1.heard.kept.site) c.requires.policy c.args.session.now.level c.requires.level
+
+pub listener_of-to-requires-in-loop-before-clause-policy : goal.listener_of-to-requires-in-loop-before-clause-policy
+listener_of-to-requires-in-loop-before-clause-policy g c =
+    policy_at (site c.follow.new.engine) (site c.args.engine.now) c.args.policy.now (ap site_of_run (c.follow.ensures.continues.kept.site ∙ c.loop-before.invariant.1.heard.kept.site)) c.requires.policy
+
+pub listener_of-to-requires-in-loop-before-clause-schemes : goal.listener_of-to-requires-in-loop-before-clause-schemes
+listener_of-to-requires-in-loop-before-clause-schemes g c =
+    schemes_at (site c.follow.new.engine) (site c.args.engine.now) c.args.schemes.now (ap site_of_run (c.follow.ensures.continues.kept.site ∙ c.loop-before.invariant.1.heard.kept.site)) c.requires.schemes
 
 pub returns-in_err-follow-clause-continues : goal.returns-in_err-follow-clause-continues
 returns-in_err-follow-clause-continues g c =
@@ -93,13 +109,14 @@ returns-then-is_last-clause-conversation g c = λ clean.
       fits = fits_at (site c.args.engine.now) (site c.args.engine.now) c.args.policy.now c.args.schemes.now refl c.requires.policy c.requires.schemes _ c.next_fate-fate.ensures.fits;
     } in
     let notice = c.noticed-notice.result in
+    let to = c.listener_of-to-in-loop-before.result in
     let Clean : Type 0 = (g.B.Base.seen c.follow.new.engine.base).is_clean in
     let why : Clean → notice ≡ notice_in (site c.loop-before.engine) (world_of g.B.Base.seen c.loop-before.engine) (events_of c.next_fate-fate.result) = λ h. c.noticed-notice.ensures ∙ c.in_ok-follow.ensures.noticed h in
     let says : Clean → IsSaid g.B.Base.seen g.E.Write.contents g.X.Explains.explaining g.L.TypedLines.echo c.args.session.now c.args.engine.now c.args.err.now (g.L.TypedLines.remaining c.args.lines.now) (g.W.Write.contents c.args.out.now) c.loop-before.before c.loop-before.engine c.loop-before.err (g.L.TypedLines.remaining c.loop-before.lines) (g.W.Write.contents c.loop-before.out) c.is_open-was_opened.result c.loop-before.tally c.loop-before.invariant.1 c.next_fate-fate.result c.ask.new.err c.tell_more-in-loop-before.new.err (g.L.TypedLines.remaining c.next_fate-fate.new.lines) (g.W.Write.contents c.next_fate-fate.new.out) (g.L.TypedLines.breaks c.next_fate-fate.new.lines) line = λ h.
     said_more g.E.Write.contents c.args.session.now c.ask.new.err c.tell_fate.new.err _ _ c.tell_fate.ensures c.tell_more-in-loop-before.new.err
-    (explained_as _ c.words-words.result c.args.session.now.is_watched (g.X.Explains.explaining.says (site_of c.args.policy.now c.args.schemes.now c.stored-in-loop-before.result.now) c.args.session.now c.deref.result.now c.next_fate-fate.result notice) _ _
-    (may_tell g.B.Base.seen g.E.Write.contents g.X.Explains.explaining g.L.TypedLines.echo c.args.session.now c.args.engine.now c.args.err.now (g.L.TypedLines.remaining c.args.lines.now) (g.W.Write.contents c.args.out.now) c.loop-before.before c.loop-before.engine c.loop-before.err (g.L.TypedLines.remaining c.loop-before.lines) (g.W.Write.contents c.loop-before.out) c.is_open-was_opened.result c.loop-before.tally c.loop-before.invariant.1 c.next_fate-fate.result c.ask.new.err c.tell_more-in-loop-before.new.err (g.L.TypedLines.remaining c.next_fate-fate.new.lines) (g.W.Write.contents c.next_fate-fate.new.out) (g.L.TypedLines.breaks c.next_fate-fate.new.lines) line (site_of c.args.policy.now c.args.schemes.now c.stored-in-loop-before.result.now)
-    (site_made (site c.follow.new.engine) (site c.args.engine.now) c.args.policy.now c.args.schemes.now c.stored-in-loop-before.result.now (ap site_of_run (c.follow.ensures.continues.kept.site ∙ c.loop-before.invariant.1.heard.kept.site)) c.requires.policy c.requires.schemes c.stored-in-loop-before.ensures) c.deref.result.now notice
+    (explained_as _ c.words-words.result c.args.session.now.is_watched (g.X.Explains.explaining.says (site_of to.policy.now to.schemes.now to.stored.now) to.session.now c.deref.result.now c.next_fate-fate.result notice) _ _
+    (may_tell g.B.Base.seen g.E.Write.contents g.X.Explains.explaining g.L.TypedLines.echo c.args.session.now c.args.engine.now c.args.err.now (g.L.TypedLines.remaining c.args.lines.now) (g.W.Write.contents c.args.out.now) c.loop-before.before c.loop-before.engine c.loop-before.err (g.L.TypedLines.remaining c.loop-before.lines) (g.W.Write.contents c.loop-before.out) c.is_open-was_opened.result c.loop-before.tally c.loop-before.invariant.1 c.next_fate-fate.result c.ask.new.err c.tell_more-in-loop-before.new.err (g.L.TypedLines.remaining c.next_fate-fate.new.lines) (g.W.Write.contents c.next_fate-fate.new.out) (g.L.TypedLines.breaks c.next_fate-fate.new.lines) line (site_of to.policy.now to.schemes.now to.stored.now) to.session.now
+    (c.listener_of-to-in-loop-before.ensures.site ∙ ap site_of_run (c.follow.ensures.continues.kept.site ∙ c.loop-before.invariant.1.heard.kept.site)) c.listener_of-to-in-loop-before.ensures.session c.deref.result.now notice
     (c.deref.ensures.value ∙ heard_line.known c.in_ok-follow.ensures.found) (why h) (c.follow.ensures.continues.clean h))
     c.words-words.ensures c.tell_more-in-loop-before.ensures) in
     subst (λ e. IsConversation g.X.Explains.explaining g.L.TypedLines.echo (site c.args.engine.now) c.args.session.now (g.L.TypedLines.remaining c.args.lines.now) (g.L.TypedLines.remaining c.next_fate-fate.new.lines) (g.W.Write.contents c.args.out.now) (g.W.Write.contents c.follow.new.out) (g.L.TypedLines.breaks c.next_fate-fate.new.lines) (IsTold g.E.Write.contents c.args.err.now c.finish-then-is_last.new.err) (Ok e) (world_of g.B.Base.seen c.args.engine.now) (world_of g.B.Base.seen c.follow.new.engine)) (sym (c.finish-then-is_last.ensures.is ∙ ap (λ t. ending_if (not c.is_open-was_opened.result || is_short t)) c.tally_with-tally.ensures))
@@ -117,13 +134,14 @@ loop-before-preserved g c =
       fits = fits_at (site c.args.engine.now) (site c.args.engine.now) c.args.policy.now c.args.schemes.now refl c.requires.policy c.requires.schemes _ c.next_fate-fate.ensures.fits;
     } in
     let notice = c.noticed-notice.result in
+    let to = c.listener_of-to-in-loop-before.result in
     let Clean : Type 0 = (g.B.Base.seen c.follow.new.engine.base).is_clean in
     let why : Clean → notice ≡ notice_in (site c.loop-before.engine) (world_of g.B.Base.seen c.loop-before.engine) (events_of c.next_fate-fate.result) = λ h. c.noticed-notice.ensures ∙ c.in_ok-follow.ensures.noticed h in
     let says : Clean → IsSaid g.B.Base.seen g.E.Write.contents g.X.Explains.explaining g.L.TypedLines.echo c.args.session.now c.args.engine.now c.args.err.now (g.L.TypedLines.remaining c.args.lines.now) (g.W.Write.contents c.args.out.now) c.loop-before.before c.loop-before.engine c.loop-before.err (g.L.TypedLines.remaining c.loop-before.lines) (g.W.Write.contents c.loop-before.out) c.is_open-was_opened.result c.loop-before.tally c.loop-before.invariant.1 c.next_fate-fate.result c.ask.new.err c.tell_more-in-loop-before.new.err (g.L.TypedLines.remaining c.next_fate-fate.new.lines) (g.W.Write.contents c.next_fate-fate.new.out) (g.L.TypedLines.breaks c.next_fate-fate.new.lines) line = λ h.
     said_more g.E.Write.contents c.args.session.now c.ask.new.err c.tell_fate.new.err _ _ c.tell_fate.ensures c.tell_more-in-loop-before.new.err
-    (explained_as _ c.words-words.result c.args.session.now.is_watched (g.X.Explains.explaining.says (site_of c.args.policy.now c.args.schemes.now c.stored-in-loop-before.result.now) c.args.session.now c.deref.result.now c.next_fate-fate.result notice) _ _
-    (may_tell g.B.Base.seen g.E.Write.contents g.X.Explains.explaining g.L.TypedLines.echo c.args.session.now c.args.engine.now c.args.err.now (g.L.TypedLines.remaining c.args.lines.now) (g.W.Write.contents c.args.out.now) c.loop-before.before c.loop-before.engine c.loop-before.err (g.L.TypedLines.remaining c.loop-before.lines) (g.W.Write.contents c.loop-before.out) c.is_open-was_opened.result c.loop-before.tally c.loop-before.invariant.1 c.next_fate-fate.result c.ask.new.err c.tell_more-in-loop-before.new.err (g.L.TypedLines.remaining c.next_fate-fate.new.lines) (g.W.Write.contents c.next_fate-fate.new.out) (g.L.TypedLines.breaks c.next_fate-fate.new.lines) line (site_of c.args.policy.now c.args.schemes.now c.stored-in-loop-before.result.now)
-    (site_made (site c.follow.new.engine) (site c.args.engine.now) c.args.policy.now c.args.schemes.now c.stored-in-loop-before.result.now (ap site_of_run (c.follow.ensures.continues.kept.site ∙ c.loop-before.invariant.1.heard.kept.site)) c.requires.policy c.requires.schemes c.stored-in-loop-before.ensures) c.deref.result.now notice
+    (explained_as _ c.words-words.result c.args.session.now.is_watched (g.X.Explains.explaining.says (site_of to.policy.now to.schemes.now to.stored.now) to.session.now c.deref.result.now c.next_fate-fate.result notice) _ _
+    (may_tell g.B.Base.seen g.E.Write.contents g.X.Explains.explaining g.L.TypedLines.echo c.args.session.now c.args.engine.now c.args.err.now (g.L.TypedLines.remaining c.args.lines.now) (g.W.Write.contents c.args.out.now) c.loop-before.before c.loop-before.engine c.loop-before.err (g.L.TypedLines.remaining c.loop-before.lines) (g.W.Write.contents c.loop-before.out) c.is_open-was_opened.result c.loop-before.tally c.loop-before.invariant.1 c.next_fate-fate.result c.ask.new.err c.tell_more-in-loop-before.new.err (g.L.TypedLines.remaining c.next_fate-fate.new.lines) (g.W.Write.contents c.next_fate-fate.new.out) (g.L.TypedLines.breaks c.next_fate-fate.new.lines) line (site_of to.policy.now to.schemes.now to.stored.now) to.session.now
+    (c.listener_of-to-in-loop-before.ensures.site ∙ ap site_of_run (c.follow.ensures.continues.kept.site ∙ c.loop-before.invariant.1.heard.kept.site)) c.listener_of-to-in-loop-before.ensures.session c.deref.result.now notice
     (c.deref.ensures.value ∙ heard_line.known c.in_ok-follow.ensures.found) (why h) (c.follow.ensures.continues.clean h))
     c.words-words.ensures c.tell_more-in-loop-before.ensures) in
     let next = so_far_more g.B.Base.seen g.E.Write.contents g.X.Explains.explaining g.L.TypedLines.echo c.args.session.now c.args.engine.now c.args.err.now (g.L.TypedLines.remaining c.args.lines.now) (g.W.Write.contents c.args.out.now) c.loop-before.before c.loop-before.engine c.loop-before.err (g.L.TypedLines.remaining c.loop-before.lines) (g.W.Write.contents c.loop-before.out) c.is_open-was_opened.result c.loop-before.tally c.loop-before.invariant.1 c.next_fate-fate.result c.ask.new.err c.tell_more-in-loop-before.new.err (g.L.TypedLines.remaining c.next_fate-fate.new.lines) (g.W.Write.contents c.next_fate-fate.new.out) (g.L.TypedLines.breaks c.next_fate-fate.new.lines) line c.follow.new.engine (g.W.Write.contents c.follow.new.out) c.follow.ensures.continues.clean c.follow.ensures.continues.kept c.in_ok-follow.ensures.found c.in_ok-follow.ensures.followed

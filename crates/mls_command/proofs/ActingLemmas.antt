@@ -10,7 +10,6 @@ use Rattle.clap.specs.Words.{Text}
 use Rattle.mls_host.specs.declared.ending.Ending.{Ending}
 use Rattle.mls_host.specs.declared.ending.Ending.TheVariants.{Well}
 use Rattle.mls_host.specs.declared.job.Inputs.{Inputs}
-use Rattle.mls_host.specs.declared.reason.Reason.{Reason}
 use Rattle.mls_host.specs.declared.stop.Stop.{Stop}
 use Rattle.mls_host.specs.declared.stop.Stop.TheVariants.{Before, Run, NotClosed}
 use Rattle.mls_host.specs.Deed.{Deed, end_text}

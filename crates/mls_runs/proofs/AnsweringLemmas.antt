@@ -18,7 +18,7 @@ use Rattle.mls_runs.specs.declared.shell_session.Fate.TheVariants as fates
 use Rattle.mls_runs.specs.Shell.{events_of}
 use Rattle.mls_runs.proofs.TalkLemmas.{no_events}
 use Rattle.mls_runs.specs.Marks.{mark_of, IsCutMark}
-use Rattle.mls_runs.specs.Desk.{IsCutShort, IsDeskFollowed}
+use Rattle.mls_runs.specs.Desk.{IsDeskFollowed}
 
 module _ (site : Site) (w : World) where
   -- ---- one event

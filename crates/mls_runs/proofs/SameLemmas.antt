@@ -1,27 +1,22 @@
 -- Two shells, and two desks, over contents that look alike, show the same.
-use Rattle.std.proofs.Common.{◌≡◌, ℕ, suc, ◌+◌, Bool, true, false, true≢false, cond, not, ◌&&◌, ◌||◌, nat_eq, eqb-true, List, [], ◌∷◌, ◌++◌, length, take, Option, Some, None, is_some, Result, Ok, refl, sym, ap, ◌∙◌, subst, ◌⊎◌, inl, inr, append_assoc, append-nil, arith, take_all, flat_map, bytes_eq, filter, map}
+use Rattle.std.proofs.Common.{◌≡◌, ℕ, suc, ◌+◌, Bool, true, false, true≢false, cond, not, ◌&&◌, ◌||◌, nat_eq, eqb-true, List, [], ◌∷◌, ◌++◌, length, Option, None, is_some, Ok, refl, sym, ap, ◌∙◌, subst, ◌⊎◌, inr, append_assoc, arith, take_all, bytes_eq, map}
 use Rattle.std.specs.List.{AllByRecursion, list_all, list_any, concat}
 use Rattle.mls_lattice.specs.Labels.{below}
 use Rattle.mls_lattice.proofs.LatticeLemmas.{below-refl}
 use Rattle.mls_filterview.specs.Content.{Content}
-use Rattle.mls_updates.specs.declared.outcome.Outcome.{Outcome}
 use Rattle.mls_translang.specs.declared.event.Event.{Event}
 use Rattle.mls_script.specs.declared.fault.ScriptFault.{ScriptFault}
-use Rattle.mls_certcheck.specs.Site.{Site, site_labels, site_of}
+use Rattle.mls_certcheck.specs.Site.{Site, site_labels}
 use Rattle.mls_machine.specs.declared.reply.Reply.{Reply}
 use Rattle.mls_machine.specs.declared.reply.Reply.TheVariants as replies
 use Rattle.mls_machine.specs.Machine.{World, step, end_of}
-use Rattle.mls_machine.specs.Observation.{glimpse, seen, reply_shown, replies_shown, run_shows, reader_of, EndAlike, PassesOnlyReleasesDown, ShowsOnlyReleases, IsBelowCeiling}
+use Rattle.mls_machine.specs.Observation.{glimpse, reply_shown, replies_shown, run_shows, EndAlike, PassesOnlyReleasesDown, ShowsOnlyReleases, IsBelowCeiling}
 use Rattle.mls_machine.specs.Serving.{answer_to, answers_to, served_to, ServesOnlyReleases}
-use Rattle.mls_translang.specs.declared.run_fault.RunFault.{RunFault}
 use Rattle.mls_sessions.specs.declared.notice.Notice.{Notice}
 use Rattle.mls_sessions.specs.Run.{is_done, are_done, notice_of, last_of, notice_in}
 use Rattle.mls_host.specs.declared.ending.Ending.{Ending}
 use Rattle.mls_host.specs.Ending.{ending_if}
-use Rattle.mls_host.specs.declared.job.Inputs.{Inputs}
-use Rattle.mls_host.specs.declared.job.Setting.{Setting}
 use Rattle.mls_host.specs.Hosting.{Hosted}
-use Rattle.mls_certcheck.specs.declared.stored.Stored.{Stored}
 use Rattle.mls_runs.specs.declared.shell_session.ShellSession.{ShellSession}
 use Rattle.mls_runs.specs.declared.shell_session.Fate.{Fate}
 use Rattle.mls_runs.specs.declared.shell_session.Fate.TheVariants as fates
@@ -29,7 +24,7 @@ use Rattle.mls_runs.specs.Explaining.{Explaining, heard_of}
 use Rattle.mls_runs.specs.Running.{first_world, form_of, output, IsWritten}
 use Rattle.mls_runs.specs.ScriptRun.{site_of_setting}
 use Rattle.mls_runs.specs.Marks.{mark_of}
-use Rattle.mls_runs.specs.Shell.{Turn, IsShellTurn, IsShellFate, over, help, asked, said, blank, refused, whole, long, cut, IsCut, MayTell, AreTold, AreAllTold, told_from, tally, is_short, end_told, has_refused, last_told, tally_of, audience_at, opening, is_own, is_open, is_failed, events_of, events_in, answers, after_opening, transcript, verdict_of, verdicts_in, AreTurns, IsSilent, IsShell}
+use Rattle.mls_runs.specs.Shell.{Turn, IsShellTurn, IsShellFate, over, help, asked, said, blank, refused, whole, long, cut, IsCut, AreTold, AreAllTold, told_from, tally, is_short, end_told, has_refused, last_told, audience_at, opening, is_own, is_open, is_failed, events_of, events_in, answers, after_opening, verdict_of, verdicts_in, AreTurns, IsSilent, IsShell}
 use Rattle.mls_runs.specs.ShellRun.{shell_session_of}
 use Rattle.mls_runs.specs.Desk.{desk, IsDesk}
 use Rattle.mls_runs.specs.Alike.{LooksAlike, ShowTheSame, TellTheSame, ServeTheSame}

@@ -1,10 +1,9 @@
 -- Calls over a store are steps of a history.
-use Rattle.std.proofs.Common.{◌≡◌, ◌⊎◌, inl, inr, ℕ, zero, suc, ◌-◌, if◌then◌else◌, Bool, true, false, cond, List, [], ◌∷◌, ◌++◌, length, take, Option, Some, Result, Ok, Err, refl, sym, ap, ◌∙◌, subst, append-nil, arith, take_all}
+use Rattle.std.proofs.Common.{◌≡◌, inl, inr, ℕ, zero, suc, ◌-◌, if◌then◌else◌, Bool, true, false, cond, List, [], ◌∷◌, ◌++◌, length, take, Option, Result, Ok, Err, refl, sym, ap, ◌∙◌, subst, append-nil, arith, take_all}
 use Rattle.std.proofs.Math.Seq.{take-append_seam}
 use Rattle.mls_lattice.specs.Labels.{AreDistinct}
 use Rattle.mls_lattice.specs.Policy.{Policy, labels_of}
 use Rattle.mls_scheme.specs.Scheme.{Schemes}
-use Rattle.mls_scheme.specs.declared.file.SchemesFile.{SchemesFile}
 use Rattle.mls_filterview.specs.Content.{Content}
 use Rattle.mls_audit.specs.Sound.{IsSoundContent}
 use Rattle.mls_fragments.specs.Holdings.{Holdings, Takes, holdings_of, made, as_it_was, widened}
@@ -29,14 +28,13 @@ use Rattle.mls_machine.proofs.KeepingLemmas.{keep_integrity}
 use Rattle.mls_machine.proofs.RunLemmas.{first_accepted_alike}
 use Rattle.mls_sessions.specs.Engine.{MayServe}
 use Rattle.mls_host.specs.declared.ending.Ending.{Ending}
-use Rattle.mls_host.specs.declared.job.Inputs.{Inputs}
 use Rattle.mls_host.specs.declared.job.Setting.{Setting}
 use Rattle.mls_host.specs.Hosting.{Hosted}
 use Rattle.mls_runs.specs.Explaining.{Explaining}
-use Rattle.mls_runs.specs.Running.{first_world, standing, IsLeftBy, IsRun}
+use Rattle.mls_runs.specs.Running.{first_world, IsLeftBy, IsRun}
 use Rattle.mls_runs.specs.History.{world_of, run_to}
 use Rattle.mls_runs.specs.ScriptRun.{site_of_setting}
-use Rattle.mls_runs.specs.Shell.{Turn, opening, events_of, events_in, audience_at}
+use Rattle.mls_runs.specs.Shell.{Turn, events_of, events_in}
 use Rattle.mls_runs.specs.Desk.{IsDesk, IsEndOf, IsGivenUp, IsCutAt, at_line, between}
 use Rattle.mls_runs.specs.TurnRun.{IsTurning}
 use Rattle.mls_runs.specs.Steps.{StoreStep, AreStoreSteps, StepsAreHistories, WideningPassesNothingDown, OpeningsAreSteps, CallsAreSteps, CallsAreInTurn, turning_at}

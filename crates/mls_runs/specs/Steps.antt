@@ -9,7 +9,7 @@ use Rattle.mls_filterview.specs.Content.{Content}
 use Rattle.mls_audit.specs.Sound.{IsSoundContent}
 use Rattle.mls_fragments.specs.Holdings.{Holdings, Takes}
 use Rattle.mls_fragments.specs.Migrating.{IsWidenedContent}
-use Rattle.mls_certcheck.specs.Site.{Site, site_of}
+use Rattle.mls_certcheck.specs.Site.{site_of}
 use Rattle.mls_machine.specs.History.{RunAt, run_at, run_start, run_end, IsSiteUnder}
 use Rattle.mls_machine.specs.Laws.{KeepsIntegrity}
 use Rattle.mls_machine.specs.Observation.{AgreeAt, PassesOnlyReleasesDown}

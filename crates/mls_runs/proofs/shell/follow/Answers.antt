@@ -1,7 +1,7 @@
 use Rattle.std.proofs.Common.{subst}
 use Rattle.std.proofs.lemmas.Result.{on_ok_weaker}
 use Rattle.mls_sessions.specs.Engine.{site, world_of}
-use Rattle.mls_runs.specs.Shell.{audience_at, events_of, FateFits}
+use Rattle.mls_runs.specs.Shell.{audience_at, FateFits}
 use Rattle.mls_runs.proofs.TalkLemmas.{followed_lost, followed_none, none_is_lost, noticed_said, noticed_none}
 use Rattle.mls_sessions.proofs.FrameLemmas.{goes_nowhere}
 use Rattle.mls_runs.proofs.shell.follow.Goals as goal

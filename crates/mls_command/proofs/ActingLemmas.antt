@@ -43,7 +43,7 @@ module _ (explaining : Explaining) (h : Hosted) (job : Job) (inputs : Inputs) wh
 
   module _ (at : Option (Bor (List ℕ))) (is_table : Bool) (wrote told : List ℕ → Type 0) where
     abbrev IsRunEnd : Result (Unit {0}) Stop → Type 0
-    IsRunEnd r = IsCaused h store r × IsEnd (IsScriptRun h inputs store is_table wrote) (λ reason. IsNotBegun h.before inputs.setting.policy inputs.setting.file store reason × wrote []) r
+    IsRunEnd r = IsCaused h store r × IsEnd (IsScriptRun h inputs store is_table wrote) (λ reason. IsNotBegun h.after inputs.setting.policy inputs.setting.file store reason × wrote []) r
 
     -- one that ended
     pub run_done : (r : Result (Unit {0}) Stop) → r ≡ Ok tt → IsRunEnd r → told [] → IsRunDeed explaining h job inputs (tasks.Run at is_table) (record { wrote = wrote; told = told; end = Ok Well })
@@ -64,7 +64,7 @@ module _ (explaining : Explaining) (h : Hosted) (job : Job) (inputs : Inputs) wh
 
   -- a shell that ended, or was given up
   pub shell_ended : (label user : Bor (List ℕ)) (wrote told : List ℕ → Type 0) (r : Result Ending Stop) → IsCaused h store r
-      → IsEnd (IsShellRun explaining h inputs store label.now user.now wrote told) (λ reason. IsShellRefused h.before inputs.setting store reason × wrote [] × told []) r
+      → IsEnd (IsShellRun explaining h inputs store label.now user.now wrote told) (λ reason. IsShellRefused h.after inputs.setting store reason × wrote [] × told []) r
       → IsRunDeed explaining h job inputs (tasks.Shell label user) (record { wrote = wrote; told = told; end = r })
   shell_ended label user wrote told (Ok end) caused k = (caused, k)
   shell_ended label user wrote told (Err (Before reason)) caused k = (caused, (k.0, (k.1, k.2)))
@@ -74,7 +74,7 @@ module _ (explaining : Explaining) (h : Hosted) (job : Job) (inputs : Inputs) wh
 
   -- a desk that ended, or was given up
   pub desk_ended : (wrote told : List ℕ → Type 0) (r : Result Ending Stop) → IsCaused h store r
-      → IsEnd (IsDeskRun h inputs store wrote) (λ reason. IsNotBegun h.before inputs.setting.policy inputs.setting.file store reason × wrote []) r → told []
+      → IsEnd (IsDeskRun h inputs store wrote) (λ reason. IsNotBegun h.after inputs.setting.policy inputs.setting.file store reason × wrote []) r → told []
       → IsRunDeed explaining h job inputs tasks.Serve (record { wrote = wrote; told = told; end = r })
   desk_ended wrote told (Ok end) caused k quiet = (caused, (quiet, k))
   desk_ended wrote told (Err (Before reason)) caused k quiet = (caused, (k.0, (k.1, quiet)))

@@ -3,6 +3,5 @@ pub mod AccountLemmas
 pub mod TellingLemmas
 pub mod CertifyingLemmas
 pub mod PrintingLemmas
-pub mod ClosingLemmas
 pub mod IgnoredLemmas
 pub mod NamedLemmas

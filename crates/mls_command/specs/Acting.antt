@@ -60,9 +60,9 @@ module _ (h : Hosted) (job : Job) (inputs : Inputs) where
   -- why a task is not begun: its store is not opened; or none has the name that it explains; or memory
   abbrev pub IsTaskRefused : Task → Reason → Type 0
   IsTaskRefused (Run at is_table) reason =
-      IsNotBegun h.before inputs.setting.policy inputs.setting.file (named job.files.store) reason
-  IsTaskRefused (Shell label user) reason = IsShellRefused h.before inputs.setting (named job.files.store) reason
-  IsTaskRefused Serve reason = IsNotBegun h.before inputs.setting.policy inputs.setting.file (named job.files.store) reason
+      IsNotBegun h.after inputs.setting.policy inputs.setting.file (named job.files.store) reason
+  IsTaskRefused (Shell label user) reason = IsShellRefused h.after inputs.setting (named job.files.store) reason
+  IsTaskRefused Serve reason = IsNotBegun h.after inputs.setting.policy inputs.setting.file (named job.files.store) reason
   IsTaskRefused (Explain name) reason = IsUnexplained inputs.transactions (named name) reason
   IsTaskRefused task reason = reason ≡ Memory
 
@@ -93,7 +93,7 @@ module _ (explaining : Explaining) (h : Hosted) (job : Job) (inputs : Inputs) wh
   IsTurnDeed d =
       (end : Result (Unit {0}) Stop) × (d.end ≡ turned end) × IsCaused h (named job.files.store) end × d.told []
       × IsEnd (λ e. IsTurnRun inputs.setting d.wrote e h (named job.files.store))
-      (λ reason. IsTurnRefused h.before inputs.setting (named job.files.store) reason × d.wrote []) end
+      (λ reason. IsTurnRefused h.after inputs.setting (named job.files.store) reason × d.wrote []) end
 
   -- all else is printed, and each store keeps what it kept
   abbrev pub IsTaskDeed : Task → Deed → Type 0

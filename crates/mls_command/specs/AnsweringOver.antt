@@ -13,13 +13,14 @@ use Rattle.mls_runs.specs.Explaining.{any_text}
 use Rattle.mls_command.specs.Answering.{IsOutcomeOf}
 use Rattle.mls_command.specs.declared.machine.Machine.{Machine}
 
-module _ {B L O : Type 0} (seen : B → Seen) (image : Image)
-    (bars : Image → Policy → SchemesFile → OpenFault → Type 0) (keeps : L → Holdings → Type 0)
+module _ {B L R O : Type 0} (seen : B → Seen) (image : Image)
+    (bars : R → Image → Policy → SchemesFile → OpenFault → Type 0) (keeps : L → Holdings → Type 0)
     (is_open : L → Type 0) where
   -- Any bytes, and any cause: what a file has, and what is typed, is known to nobody before it is read. A store keeps
   -- what the files held, before anything of it was taken; and after a run, what is left of it keeps. Honest is a base
-  -- that is clean, and a machine that took none back.
-  abbrev pub hosting : Machine B L O → Hosting
+  -- that is clean, and a machine that took none back. A store is barred for itself, for memory, or for what was given
+  -- back of it.
+  abbrev pub hosting : Machine B L R O → Hosting
   hosting m = record {
     gives = λ _ _. ⊤;
     lacks = λ _ _. ⊤;
@@ -28,7 +29,7 @@ module _ {B L O : Type 0} (seen : B → Seen) (image : Image)
     is_terminal = m.is_terminal;
     is_watched = m.is_watched;
     keeps = λ path h. MatchOption m.left (FindsHoldings image h) (λ l. keeps l.value h);
-    bars = λ path policy file e. IsStoreOrMemory e ⊎ bars image policy file e;
+    bars = λ path policy file e. IsStoreOrMemory e ⊎ MatchOption m.refused ⊥ (λ r. bars r.value image policy file e);
     shows = λ _ _ _. ⊤;
     hides = λ _ _. ⊤;
     ignores = λ _ _. ⊤;
@@ -38,6 +39,6 @@ module _ {B L O : Type 0} (seen : B → Seen) (image : Image)
   }
 
   -- what comes of words over it, from how it was to how it is; a shell at a terminal may explain by any text
-  abbrev pub IsAnsweredOver : (was now : Machine B L O) → List (List ℕ) → (Wrote Told : List ℕ → Type 0) → ℕ → Type 0
+  abbrev pub IsAnsweredOver : (was now : Machine B L R O) → List (List ℕ) → (Wrote Told : List ℕ → Type 0) → ℕ → Type 0
   IsAnsweredOver was now words Wrote Told status =
       IsOutcomeOf any_text (hosted hosting (λ line. []) was now) words Wrote Told status

@@ -1,4 +1,4 @@
-//! Stores that are closed, and what their files keep then.
+//! Stores that are closed, and what their files keep then; and what comes back of those that are not opened.
 ghost use Rattle.std.specs.Prelude.{◌≡◌, ◌↔◌, false, IsErr};
 ghost use Rattle.mls_tables.specs.Store.{IsClean};
 ghost use Rattle.mls_tables.specs.declared.rows.MetaRow.{MetaRow};
@@ -7,19 +7,27 @@ ghost use Rattle.mls_fragments.specs.Holdings.{Holdings, holdings_of};
 ghost use Rattle.mls_fragments.specs.declared.open_fault.OpenFault.{OpenFault};
 ghost use Rattle.mls_lattice.specs.Policy.{Policy};
 ghost use Rattle.mls_scheme.specs.declared.file.SchemesFile.{SchemesFile};
-ghost use Rattle.mls_command.specs.Closing.{IsBarred, KeepIn};
+ghost use Rattle.mls_fragments.specs.Opening.{IsFoundUnadopted};
+ghost use Rattle.mls_command.specs.Closing.{KeepIn};
 ghost use Rattle.sqlite.specs.Recovery.{Image};
 
 use mls_fragments::SqlBase;
 use mls_host::CloseFault;
-use sqlite::{FileStore, Files};
+use sqlite::{Connection, FileStore, Files};
 use sqlite_disk::Disk;
+
+/// What is given back of a store that is not opened.
+pub trait Refused {
+    // Why it is not, under a policy and schemes: in its files this was found.
+    ghost bars: { Self → Image → Policy → SchemesFile → OpenFault → Type 0 };
+}
+
+impl<D: Disk + Drop> Refused for Connection<FileStore<D>> {
+    ghost bars = { λ conn image policy file e. IsFoundUnadopted policy file image e conn };
+}
 
 /// What is left of a store.
 pub trait Left {
-    // Why a store is not opened under a policy and schemes in whose files this was found.
-    ghost bars: { Image → Policy → SchemesFile → OpenFault → Type 0 };
-
     // What it keeps.
     ghost keeps: { Self → Holdings → Type 0 };
 
@@ -35,8 +43,6 @@ pub struct LeftFiles<D: Disk + Drop> {
 }
 
 impl<D: Disk + Drop> Left for LeftFiles<D> {
-    ghost bars = { λ image policy file e. IsBarred D.Disk image policy file e };
-
     ghost keeps = { λ l h. KeepIn D.Disk l.is_closed l.files h };
 
     ghost is_open = { λ l. l.is_closed ≡ false };

@@ -1,13 +1,14 @@
 //! Files, the standard input and stores, as the program has them.
-ghost use Rattle.std.specs.Prelude.{◌≡◌, ◌↔◌, false, length, None, IfOk, IfErr, IsErr};
+ghost use Rattle.std.specs.Prelude.{◌≡◌, ◌↔◌, false, length, None, option_map, IfOk, IfErr, IfSome, IsErr};
 ghost use Rattle.mls_scheme.specs.Scheme.{AreUnder};
 ghost use Rattle.mls_audit.specs.Sound.{IsSoundContent};
 ghost use Rattle.mls_tables.specs.declared.rows.MetaRow.{MetaRow};
 ghost use Rattle.mls_fragments.specs.Again.{FindsHoldings};
 ghost use Rattle.mls_fragments.specs.Holdings.{holdings_of, IsTakenOf};
+ghost use Rattle.mls_fragments.specs.Opening.{IsStoreOrMemory};
 ghost use Rattle.sqlite.specs.Recovery.{Image};
 
-use crate::closing::{Left, LeftFiles, close};
+use crate::closing::{Left, LeftFiles, Refused, close};
 use crate::documents::{Advises, ignored_of};
 use crate::{private, shown};
 use mls_filterview::Base;
@@ -17,7 +18,7 @@ use mls_lattice::Policy;
 use mls_runs::Advice;
 use mls_scheme::SchemesFile;
 use mls_tokens::{AnyReader, LinesOf};
-use sqlite::{FileFrom, FileStore, Start};
+use sqlite::{Connection, FileFrom, FileStore, Start};
 use std::alloc::{AllocError, Global};
 use std::fs;
 use std::io::{ErrorKind, Input, IsTerminal};
@@ -26,18 +27,24 @@ use std::snapshot::Snapshot;
 /// What opens the stores at paths as bases, and closes them.
 /// The checker states no field and no associated type that is a base over files, since its bound `Alter` is met by a
 /// generic `impl` alone; a trait's parameter may be one.
-pub trait Opens<B: Base, L: Left> {
+pub trait Opens<B: Base, L: Left, R: Refused> {
     // The bytes of the store's files before it is opened.
     ghost image: { Image };
 
-    /// The base over the store at a path, which is made where there is none.
-    fn open(&mut self, path: &str, policy: &Policy, file: &SchemesFile) -> Result<B, OpenFault>
+    /// The base over the store at a path, which is made where there is none. An `Err` hands over what is given back of it.
+    fn open(
+        &mut self,
+        path: &str,
+        policy: &Policy,
+        file: &SchemesFile,
+    ) -> Result<B, (OpenFault, Option<R>)>
         requires under { AreUnder (length policy.now.labels) file.now.schemes }
         ensures idle { IfOk result (λ b. (B.seen b).state.begun ≡ false) }
         ensures sound { IfOk result (λ b. IsSoundContent policy.now file.now.schemes (B.seen b).state.now) }
         ensures held { IfOk result (λ b. (B.seen b).is_clean
             → IsTakenOf (FindsHoldings image) policy.now file.now (B.seen b).state.now) }
-        ensures barred { IfErr result (L.bars image policy.now file.now) };
+        ensures unopened { IfErr result (λ e. e.1 ≡ None → IsStoreOrMemory e.0) }
+        ensures barred { IfErr result (λ e. IfSome e.1 (λ back. R.bars back image policy.now file.now e.0)) };
 
     /// Closes the store of a base, and gives what is left of it.
     fn close(&self, store: B) -> (Result<(), CloseFault>, L)
@@ -54,8 +61,11 @@ pub struct FilesOf<'a, F: Start> {
     pub start: Option<F>,
 }
 
-impl<'a, F: Start> Opens<SqlBase<FileStore<FileFrom<F>>>, LeftFiles<FileFrom<F>>>
-    for FilesOf<'a, F> {
+impl<'a, F: Start> Opens<
+    SqlBase<FileStore<FileFrom<F>>>,
+    LeftFiles<FileFrom<F>>,
+    Connection<FileStore<FileFrom<F>>>,
+> for FilesOf<'a, F> {
     ghost use Rattle.sqlite.specs.WalFiles.{image_at};
 
     ghost image = { image_at F.Start };
@@ -65,12 +75,17 @@ impl<'a, F: Start> Opens<SqlBase<FileStore<FileFrom<F>>>, LeftFiles<FileFrom<F>>
         path: &str,
         policy: &Policy,
         file: &SchemesFile,
-    ) -> Result<SqlBase<FileStore<FileFrom<F>>>, OpenFault> {
-        let start = self.start.take().ok_or(OpenFault::Store)?;
+    ) -> Result<
+        SqlBase<FileStore<FileFrom<F>>>,
+        (OpenFault, Option<Connection<FileStore<FileFrom<F>>>>),
+    > {
+        let Some(start) = self.start.take() else {
+            return Err((OpenFault::Store, None));
+        };
         private::make(self.rt, path);
         match SqlBase::open_from(self.rt, path, start, policy, file) {
             Ok(base) => Ok(base),
-            Err((fault, _)) => Err(fault),
+            Err(refused) => Err(refused),
         }
     }
 
@@ -82,20 +97,38 @@ impl<'a, F: Start> Opens<SqlBase<FileStore<FileFrom<F>>>, LeftFiles<FileFrom<F>>
     }
 }
 
-/// The machine itself, and, for contracts alone, the store that a run left, as a base and as what is left of it.
+/// What was given back, for contracts alone.
+fn snapshot_of<R: Drop>(back: Option<R>) -> Option<Snapshot<R>>
+    ensures { option_map (λ s. s.value) result ≡ back }
+{
+    match back {
+        Some(back) => Some(Snapshot::of(&back)),
+        None => None,
+    }
+}
+
+/// The machine itself, and, for contracts alone, what was given back of a store that was not opened, and the store that a run left, as a
+/// base and as what is left of it.
 #[derive(Drop)]
-pub struct Machine<'a, B: Base + Drop, L: Left + Drop, O: Drop> {
+pub struct Machine<'a, B: Base + Drop, L: Left + Drop, R: Refused + Drop, O: Drop> {
     rt: &'a HostRuntime,
     stores: O,
     is_terminal: bool,
     is_watched: bool,
+    refused: Option<Snapshot<R>>,
     base: Option<Snapshot<B>>,
     left: Option<Snapshot<L>>,
 }
 
-impl<'a, B: Base + Drop, L: Left + Drop, O: Opens<B, L> + Drop> Machine<'a, B, L, O> {
+impl<'a, B: Base + Drop, L: Left + Drop, R: Refused + Drop, O: Opens<B, L, R> + Drop> Machine<
+    'a,
+    B,
+    L,
+    R,
+    O,
+> {
     /// The files and the standard input of a runtime, and stores, of which none was taken back.
-    pub fn new(rt: &'a HostRuntime, stores: O) -> Machine<'a, B, L, O>
+    pub fn new(rt: &'a HostRuntime, stores: O) -> Machine<'a, B, L, R, O>
         ensures base { result.base ≡ None }
         ensures left { result.left ≡ None }
     {
@@ -104,16 +137,18 @@ impl<'a, B: Base + Drop, L: Left + Drop, O: Opens<B, L> + Drop> Machine<'a, B, L
             stores,
             is_terminal: rt.stdin().is_terminal(),
             is_watched: rt.stderr().is_terminal(),
+            refused: None,
             base: None,
             left: None,
         }
     }
 }
 
-impl<'a, B: Base + Drop, L: Left + Drop, O: Opens<B, L> + Drop> Host for Machine<'a, B, L, O> {
+impl<'a, B: Base + Drop, L: Left + Drop, R: Refused + Drop, O: Opens<B, L, R> + Drop> Host
+    for Machine<'a, B, L, R, O> {
     ghost use Rattle.mls_command.specs.AnsweringOver.{hosting};
 
-    ghost hosting = { hosting B.seen O.image L.bars L.keeps L.is_open };
+    ghost hosting = { hosting B.seen O.image R.bars L.keeps L.is_open };
 
     type Store = B;
 
@@ -152,7 +187,13 @@ impl<'a, B: Base + Drop, L: Left + Drop, O: Opens<B, L> + Drop> Host for Machine
     ) -> Result<B, OpenFault> {
         match &self.left {
             Some(_) => Err(OpenFault::Store),
-            None => self.stores.open(path, policy, file),
+            None => match self.stores.open(path, policy, file) {
+                Ok(base) => Ok(base),
+                Err((fault, back)) => {
+                    self.refused = snapshot_of(back);
+                    Err(fault)
+                }
+            },
         }
     }
 
@@ -169,7 +210,8 @@ impl<'a, B: Base + Drop, L: Left + Drop, O: Opens<B, L> + Drop> Host for Machine
     }
 }
 
-impl<'a, B: Base + Drop, L: Left + Drop, O: Opens<B, L> + Drop> Advises for Machine<'a, B, L, O> {
+impl<'a, B: Base + Drop, L: Left + Drop, R: Refused + Drop, O: Opens<B, L, R> + Drop> Advises
+    for Machine<'a, B, L, R, O> {
     type Advice = Advice;
 
     fn ignored(&self, alloc: Global, documents: Option<Documents>) -> Result<String, AllocError> {

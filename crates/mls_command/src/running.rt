@@ -4,50 +4,69 @@ ghost use Rattle.mls_host.specs.Hosting.{IsAppended, IsTold};
 ghost use Rattle.mls_command.specs.AnsweringOver.{IsAnsweredOver};
 
 use crate::act;
-use crate::closing::{Left, LeftFiles};
+use crate::closing::{Left, LeftFiles, Refused};
 use crate::machine::{FilesOf, Machine, Opens};
 use mls_filterview::Base;
 use mls_fragments::SqlBase;
 use mls_host::Errors;
-use sqlite::{FileFrom, FileStore, Start, Unknown};
+use sqlite::{Connection, FileFrom, FileStore, Start, Unknown};
 use sqlite_disk::Disk;
 use std::alloc::Global;
 use std::io::Write;
 
 /// Does what the words ask for over a machine, and answers the exit status.
-fn answer<B: Base + Drop, L: Left + Drop, O: Opens<B, L> + Drop, W: Write, E: Write>(
+fn answer<
+    B: Base + Drop,
+    L: Left + Drop,
+    R: Refused + Drop,
+    O: Opens<B, L, R> + Drop,
+    W: Write,
+    E: Write,
+>(
     alloc: Global,
     words: &[&str],
-    machine: &mut Machine<'_, B, L, O>,
+    machine: &mut Machine<'_, B, L, R, O>,
     out: &mut W,
     err: &mut Errors<E>,
 ) -> u8
-    ensures { IsAnsweredOver B.seen O.image L.bars L.keeps L.is_open machine.old machine.new (texts_of words.now)
+    ensures { IsAnsweredOver B.seen O.image R.bars L.keeps L.is_open machine.old machine.new (texts_of words.now)
         (IsAppended W.contents out.old out.new) (IsTold E.contents err.old err.new) result }
 {
     act(alloc, words, machine, out, err)
 }
 
 /// The same over a new machine.
-fn answer_anew<B: Base + Drop, L: Left + Drop, O: Opens<B, L> + Drop, W: Write, E: Write>(
-    rt: &HostRuntime,
-    words: &[&str],
-    stores: O,
-    out: &mut W,
-    err: &mut Errors<E>,
-) -> u8 {
-    let mut machine = Machine::<B, L, O>::new(rt, stores);
-    answer(rt.alloc(), words, &mut machine, out, err)
-}
-
-/// The same over stores in files of a disk.
-fn answer_in_files<
-    D: Disk + Drop,
-    O: Opens<SqlBase<FileStore<D>>, LeftFiles<D>> + Drop,
+fn answer_anew<
+    B: Base + Drop,
+    L: Left + Drop,
+    R: Refused + Drop,
+    O: Opens<B, L, R> + Drop,
     W: Write,
     E: Write,
 >(rt: &HostRuntime, words: &[&str], stores: O, out: &mut W, err: &mut Errors<E>) -> u8 {
-    answer_anew::<SqlBase<FileStore<D>>, LeftFiles<D>, O, W, E>(rt, words, stores, out, err)
+    let mut machine = Machine::<B, L, R, O>::new(rt, stores);
+    answer(rt.alloc(), words, &mut machine, out, err)
+}
+
+/// The same over stores in files of a disk, and any base over them.
+fn answer_over_files<
+    B: Base + Drop,
+    D: Disk + Drop,
+    O: Opens<B, LeftFiles<D>, Connection<FileStore<D>>> + Drop,
+    W: Write,
+    E: Write,
+>(rt: &HostRuntime, words: &[&str], stores: O, out: &mut W, err: &mut Errors<E>) -> u8 {
+    answer_anew::<B, LeftFiles<D>, Connection<FileStore<D>>, O, W, E>(rt, words, stores, out, err)
+}
+
+/// The same, where the base is that over the rows of such a store.
+fn answer_in_files<
+    D: Disk + Drop,
+    O: Opens<SqlBase<FileStore<D>>, LeftFiles<D>, Connection<FileStore<D>>> + Drop,
+    W: Write,
+    E: Write,
+>(rt: &HostRuntime, words: &[&str], stores: O, out: &mut W, err: &mut Errors<E>) -> u8 {
+    answer_over_files::<SqlBase<FileStore<D>>, D, O, W, E>(rt, words, stores, out, err)
 }
 
 /// Does what the words ask for over stores in files, whatever these held, and answers the exit status.

@@ -29,7 +29,7 @@ pub record Hosting : Type 1 where
   pub is_watched : Bool
   -- what the store at a path keeps: the row that describes it, and its content
   pub keeps : List ℕ → Holdings → Type 0
-  -- why that store is not opened under a policy and schemes
+  -- why that store was not opened under a policy and schemes, by a host that has tried to
   pub bars : List ℕ → Policy → SchemesFile → OpenFault → Type 0
   -- the bytes of its log and of its database file, as they are shown
   pub shows : List ℕ → List ℕ → List ℕ → Type 0

@@ -55,8 +55,9 @@ pub enum StoreCause {
 ///
 /// Contracts see which bytes a host gives for the file at a path, and, with no path, for the standard input, and why it gives none;
 /// what is typed there, whether reading that may fail, and whether it is a terminal, as standard error may be; what the store at a path
-/// keeps, and why it is not opened; which bytes its files are shown to have, and why they are not shown; and of the store which it took back last, whether it was
+/// keeps, and why it was not opened; which bytes its files are shown to have, and why they are not shown; and of the store which it took back last, whether it was
 /// clean, whether a call of it failed, and whether it was closed.
+/// Why a store was not opened is asked of the host that has tried to: only what was found then tells it.
 /// Whether a call of the store failed is asked of the store that it took back last, and not how many; the failed calls
 /// of an opening count too. Whether there is a terminal is asked when the host is made, and kept: a contract can name a
 /// field, and not what a stream would answer.
@@ -107,7 +108,7 @@ pub trait Host {
             (Self.Store.Base.seen b).state.now) }
         ensures kept { IfOk result (λ b. (Self.Store.Base.seen b).is_clean
             → IsTakenOf ((hosting self.old).keeps path.now) policy.now file.now (Self.Store.Base.seen b).state.now) }
-        ensures barred { IfErr result ((hosting self.old).bars path.now policy.now file.now) }
+        ensures barred { IfErr result ((hosting self.new).bars path.now policy.now file.now) }
         ensures same { OnErr result (KeepSame (hosting self.old) (hosting self.new)) };
 
     /// The bytes of the files of the store at a path, which stay as they are: no bytes, where there is none yet.

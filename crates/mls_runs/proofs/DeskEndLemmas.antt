@@ -66,7 +66,7 @@ read_only_so echo site before after Broken May Wrote end first left f k = record
 module _ (h : Hosted) (inputs : Inputs) (store : Option (List ℕ)) (Wrote : List ℕ → Type 0) where
   -- it was not begun, and nothing was written
   abbrev Nothing : Reason → Type 0
-  Nothing reason = IsNotBegun h.before inputs.setting.policy inputs.setting.file store reason × Wrote []
+  Nothing reason = IsNotBegun h.after inputs.setting.policy inputs.setting.file store reason × Wrote []
 
   abbrev pub Ends : Result Ending Stop → Type 0
   Ends r = IsEnd (IsDeskRun h inputs store Wrote) Nothing r
@@ -102,7 +102,7 @@ module _ (h : Hosted) (inputs : Inputs) (store : Option (List ℕ)) (Wrote : Lis
 
     -- its store was barred, and all is still as it was
     abbrev Barred : Reason → Type 0
-    Barred reason = IsBarred h.before inputs.setting.policy inputs.setting.file store reason × Still
+    Barred reason = IsBarred h.after inputs.setting.policy inputs.setting.file store reason × Still
 
     pub desk_over_stored : (r : Result Ending Stop) → IsEnd Desks Barred r → Ends r
     desk_over_stored r k =

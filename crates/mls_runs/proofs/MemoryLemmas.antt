@@ -1,5 +1,5 @@
 -- The store of a machine in memory is not opened for the causes that its connection is handed back for.
-use Rattle.std.proofs.Common.{◌≡◌, ◌↔◌, ◌⊎◌, inl, inr, Bool, Option, Some, option_map, refl, sym, ◌∙◌, subst, MatchOption, IsTrue}
+use Rattle.std.proofs.Common.{◌≡◌, ◌↔◌, ◌⊎◌, inl, inr, Bool, Option, Some, refl, sym, ◌∙◌, subst, MatchOption, IsTrue}
 use Rattle.sqlite.specs.Effect.{Database}
 use Rattle.sqlite.specs.State.{State}
 use Rattle.mls_lattice.specs.Policy.{Policy}
@@ -10,14 +10,13 @@ use Rattle.mls_fragments.specs.declared.open_fault.OpenFault.{OpenFault}
 use Rattle.mls_fragments.specs.declared.open_fault.OpenFault.TheVariants as stores
 use Rattle.mls_runs.specs.Memory.{in_memory_fault, IsUnopenedFor}
 
--- the store that a connection was, in which no transaction had begun, is not opened for the cause that it comes back with
-pub barred : {A : Type 0} (show : A → Bool × Database) (policy : Policy) (file : SchemesFile) (store : Option A) (conn : A) → Some conn ≡ store → (fault : OpenFault)
-    → (fault ≡ stores.OtherPolicy → IsOfOthers policy file (show conn).1) → (fault ≡ stores.BadRows → IsBad policy file (show conn).1)
-    → IsUnopenedFor policy file (option_map show store) (in_memory_fault fault)
-barred show policy file store conn is stores.Store other bad = tt
-barred show policy file store conn is stores.OtherPolicy other bad = subst (λ o. MatchOption (option_map show o) ⊥ (λ s. IsOfOthers policy file s.1)) is (other refl)
-barred show policy file store conn is stores.BadRows other bad = subst (λ o. MatchOption (option_map show o) ⊥ (λ s. IsBad policy file s.1)) is (bad refl)
-barred show policy file store conn is stores.Memory other bad = tt
+-- the store of a connection that comes back as it was is not opened for the cause that it comes back with
+pub barred : (policy : Policy) (file : SchemesFile) (begun : Bool) (old new : Database) → new ≡ old → (fault : OpenFault) → (fault ≡ stores.OtherPolicy → IsOfOthers policy file old) → (fault ≡ stores.BadRows → IsBad policy file old)
+    → IsUnopenedFor policy file (Some (begun, new)) (in_memory_fault fault)
+barred policy file begun old new same stores.Store other bad = tt
+barred policy file begun old new same stores.OtherPolicy other bad = subst (IsOfOthers policy file) (sym same) (other refl)
+barred policy file begun old new same stores.BadRows other bad = subst (IsBad policy file) (sym same) (bad refl)
+barred policy file begun old new same stores.Memory other bad = tt
 
 -- ---- a store that is refused keeps what it kept
 

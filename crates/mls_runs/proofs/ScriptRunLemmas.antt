@@ -23,7 +23,7 @@ use Rattle.mls_runs.specs.Work.{IsOverStore}
 module _ (h : Hosted) (inputs : Inputs) (store : Option (List ℕ)) (is_table : Bool) (Wrote : List ℕ → Type 0) where
   -- it was not begun, and nothing was written
   abbrev pub NotBegun : Reason → Type 0
-  NotBegun reason = IsNotBegun h.before inputs.setting.policy inputs.setting.file store reason × Wrote []
+  NotBegun reason = IsNotBegun h.after inputs.setting.policy inputs.setting.file store reason × Wrote []
 
   abbrev pub Ends : Result (Unit {0}) Stop → Type 0
   Ends r = IsEnd (IsScriptRun h inputs store is_table Wrote) NotBegun r
@@ -34,13 +34,13 @@ module _ (h : Hosted) (inputs : Inputs) (store : Option (List ℕ)) (is_table : 
 
     -- the events of a script, over what is stored; where none is answered, all is still as it was
     pub script_run : (form : Form) (events : List Event) → form ≡ form_of is_table → events ≡ inputs.events → (r : Result (Unit {0}) Stop)
-        → IsEnd (Runs form events) (λ reason. IsBarred h.before inputs.setting.policy inputs.setting.file store reason × Still) r → Ends r
+        → IsEnd (Runs form events) (λ reason. IsBarred h.after inputs.setting.policy inputs.setting.file store reason × Still) r → Ends r
     script_run form events is are r run =
         let f : (end : Result (Unit {0}) RunFault) → Runs form events end → IsScriptRun h inputs store is_table Wrote end
         = λ end k. record { stored = stored; stored_are = stored_are; run = subst (λ es. Runs (form_of is_table) es end) are (subst (λ (x : Form). Runs x events end) is k) } in
-        let g : (reason : Reason) → (IsBarred h.before inputs.setting.policy inputs.setting.file store reason × Still) → NotBegun reason
+        let g : (reason : Reason) → (IsBarred h.after inputs.setting.policy inputs.setting.file store reason × Still) → NotBegun reason
         = λ reason k. (no_store k.0, still k.1) in
-        end_weaker (Runs form events) (λ reason. IsBarred h.before inputs.setting.policy inputs.setting.file store reason × Still) (IsScriptRun h inputs store is_table Wrote) NotBegun f g r run
+        end_weaker (Runs form events) (λ reason. IsBarred h.after inputs.setting.policy inputs.setting.file store reason × Still) (IsScriptRun h inputs store is_table Wrote) NotBegun f g r run
 
   -- at the exit of a `?`
   pub not_begun : (r : Result (Unit {0}) Stop) → IsErrAnd r (λ e. e ≡ Before Memory) → Wrote [] → Ends r

@@ -74,7 +74,7 @@ read_only_so x echo site session before after Broken May Wrote Told end first le
 module _ (x : Explaining) (h : Hosted) (inputs : Inputs) (store : Option (List ℕ)) (label user : List ℕ) (Wrote Told : List ℕ → Type 0) where
   -- it was not begun, and nothing was written or told
   abbrev Nothing : Reason → Type 0
-  Nothing reason = IsShellRefused h.before inputs.setting store reason × Wrote [] × Told []
+  Nothing reason = IsShellRefused h.after inputs.setting store reason × Wrote [] × Told []
 
   abbrev pub Ends : Result Ending Stop → Type 0
   Ends r = IsEnd (IsShellRun x h inputs store label user Wrote Told) Nothing r
@@ -116,7 +116,7 @@ module _ (x : Explaining) (h : Hosted) (inputs : Inputs) (store : Option (List �
 
     -- its store was barred, and all is still as it was
     abbrev Barred : Reason → Type 0
-    Barred reason = IsBarred h.before inputs.setting.policy inputs.setting.file store reason × Still
+    Barred reason = IsBarred h.after inputs.setting.policy inputs.setting.file store reason × Still
 
     pub shell_over_stored : (who : ShellSession) → who ≡ session → (r : Result Ending Stop) → IsEnd (Shells who) Barred r → Ends r
     shell_over_stored who is r k =

@@ -105,7 +105,7 @@ pub fn run_shell<X: Explains, H: Host, W: Write, E: Write>(
     requires user { is_name user.now ≡ true }
     ensures shell { IsEnd (IsShellRun X.explaining (hosted H.hosting H.Lines.echo host.old host.new) inputs
         (named store.entry) label.now user.now (IsAppended W.contents out.old out.new) (IsTold E.contents err.old err.new))
-        (λ reason. IsShellRefused (H.hosting host.old) inputs.setting (named store.entry) reason
+        (λ reason. IsShellRefused (H.hosting host.new) inputs.setting (named store.entry) reason
         × IsAppended W.contents out.old out.new [] × IsTold E.contents err.old err.new []) result }
     ensures caused { IsCaused (hosted H.hosting H.Lines.echo host.old host.new) (named store.entry) result }
 {

@@ -40,7 +40,7 @@ fn turn_in_store<H: Host, W: Write>(
 ) -> Result<(), Stop>
     ensures ends { IsEnd (λ end. IsTurnRun setting.now (IsAppended W.contents out.old out.new) end
         (hosted H.hosting H.Lines.echo host.old host.new) (Some path.now))
-        (λ reason. IsTurnRefused (H.hosting host.old) setting.now (Some path.now) reason
+        (λ reason. IsTurnRefused (H.hosting host.new) setting.now (Some path.now) reason
         × IsAppended W.contents out.old out.new []) result }
     ensures caused { IsCaused (hosted H.hosting H.Lines.echo host.old host.new) (Some path.now) result }
 {
@@ -66,7 +66,7 @@ pub fn turn_store<H: Host, W: Write>(
 ) -> Result<(), Stop>
     ensures ends { IsEnd (λ end. IsTurnRun setting.now (IsAppended W.contents out.old out.new) end
         (hosted H.hosting H.Lines.echo host.old host.new) (named store.entry))
-        (λ reason. IsTurnRefused (H.hosting host.old) setting.now (named store.entry) reason
+        (λ reason. IsTurnRefused (H.hosting host.new) setting.now (named store.entry) reason
         × IsAppended W.contents out.old out.new []) result }
     ensures caused { IsCaused (hosted H.hosting H.Lines.echo host.old host.new) (named store.entry) result }
 {

@@ -89,7 +89,7 @@ pub(crate) fn over_store<H: Host, K: Work>(
     ensures same { K.is_same work.old work.new }
     ensures ends { IsEnd (IsOverStore (hosted H.hosting H.Lines.echo host.old host.new) setting.now.policy setting.now.file
         (named store.entry) (K.leads work.old work.new (site_of setting.now.policy setting.now.file.schemes stored)))
-        (λ reason. IsBarred (H.hosting host.old) setting.now.policy setting.now.file (named store.entry) reason
+        (λ reason. IsBarred (H.hosting host.new) setting.now.policy setting.now.file (named store.entry) reason
         × (work.new ≡ work.old)) result }
     ensures caused { IsCaused (hosted H.hosting H.Lines.echo host.old host.new) (named store.entry) result }
 {

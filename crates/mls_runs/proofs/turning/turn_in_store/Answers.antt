@@ -27,8 +27,8 @@ returns-clause-ends g c =
           let clean = c.keep-closed.ensures.honest.0 honest in
           record { first = _; left = _; begins = c.in-Ok.ensures.kept (c.turn-outcome.ensures.clean clean); kept = c.keep-closed.ensures.kept honest; leads = turning setting Wrote _ _ c.turn-outcome.result (c.turn-outcome.ensures.turned clean) c.in-Ok.ensures.sound };
     } in
-    subst (λ (r : Result (Unit {0}) Stop). IsEnd Turns (λ reason. IsTurnRefused (g.H.Host.hosting c.args.host.now) setting (Some c.args.path.now) reason × Wrote []) r) (sym c.ended.ensures)
-    (ended_so Turns (λ reason. IsTurnRefused (g.H.Host.hosting c.args.host.now) setting (Some c.args.path.now) reason × Wrote []) c.turn-outcome.result c.keep-closed.result ran)
+    subst (λ (r : Result (Unit {0}) Stop). IsEnd Turns (λ reason. IsTurnRefused (g.H.Host.hosting c.keep-closed.new.self) setting (Some c.args.path.now) reason × Wrote []) r) (sym c.ended.ensures)
+    (ended_so Turns (λ reason. IsTurnRefused (g.H.Host.hosting c.keep-closed.new.self) setting (Some c.args.path.now) reason × Wrote []) c.turn-outcome.result c.keep-closed.result ran)
 
 pub returns-in-Err-clause-caused : goal.returns-in-Err-clause-caused
 returns-in-Err-clause-caused g c = c.in-Err.ensures.same

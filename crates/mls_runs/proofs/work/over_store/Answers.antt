@@ -28,7 +28,7 @@ returns-in-None-clause-caused g c =
 
 pub returns-in-Err-clause-ends : goal.returns-in-Err-clause-ends
 returns-in-Err-clause-ends g c = (
-  subst (λ (s : Option (Bor (List ℕ))). IsBarred (g.H.Host.hosting c.args.host.now) c.args.setting.now.policy c.args.setting.now.file (named s) (Store c.in-Err.fault)) (sym c.in-Some.is)
+  subst (λ (s : Option (Bor (List ℕ))). IsBarred (g.H.Host.hosting c.store.new.self) c.args.setting.now.policy c.args.setting.now.file (named s) (Store c.in-Err.fault)) (sym c.in-Some.is)
       (c.in-Err.fault, c.in-Err.ensures.barred, refl),
   refl,
 )
@@ -50,7 +50,7 @@ returns-clause-ends g c =
     let clean = c.keep-closed.ensures.honest.0 honest in
     record { first = _; left = _; begins = c.in-Ok.ensures.kept (c.over-outcome.ensures.leaves.clean clean); kept = c.keep-closed.ensures.kept honest; leads = c.over-outcome.ensures.led clean } in
     let Nothing : Option (List ℕ) → Reason → Type 0
-    = λ store reason. IsBarred (g.H.Host.hosting c.args.host.now) c.args.setting.now.policy c.args.setting.now.file store reason × (new ≡ c.args.work.now) in
+    = λ store reason. IsBarred (g.H.Host.hosting c.keep-closed.new.self) c.args.setting.now.policy c.args.setting.now.file store reason × (new ≡ c.args.work.now) in
     from_store h c.args.setting.now.file c.args.setting.now.policy Leads Nothing c.args.store c.ended.result path c.in-Some.is
     (subst (λ (r : Result End Stop). IsEnd Ends (Nothing (Some path.now)) r) (sym c.ended.ensures) (ended_so Ends (Nothing (Some path.now)) end c.keep-closed.result led))
 

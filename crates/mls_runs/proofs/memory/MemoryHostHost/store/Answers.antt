@@ -1,4 +1,4 @@
-use Rattle.std.proofs.Common.{option_map, not, refl, ap, ◌∙◌, subst, sym, MatchOption}
+use Rattle.std.proofs.Common.{Some, not, refl, ap, ◌∙◌, subst, sym, MatchOption}
 use Rattle.sqlite.specs.Held.{state}
 use Rattle.sqlite.specs.Steps.{over_memory}
 use Rattle.sqlite.proofs.Callers.{memory_is_clean}
@@ -18,8 +18,13 @@ returns-in-Ok-clause-kept c = λ clean.
 
 pub returns-in-Err-clause-barred : goal.returns-in-Err-clause-barred
 returns-in-Err-clause-barred c =
-    subst (IsUnopenedFor c.args.policy.now c.args.file.now (option_map shown c.args.self.now.store)) (sym c.in_memory_fault.ensures)
-    (barred shown c.args.policy.now c.args.file.now c.args.self.now.store c.in-Some.conn c.in-Some.ensures.value c.in-Err.fault
+    let old = state over_memory c.in-Some.conn in
+    let new = state over_memory c.in-Err.conn in
+    let back = c.in-Err.ensures.refused.refused (memory_is_clean c.in-Err.conn) in
+    let settled = c.is_autocommit-in-Err.ensures.settled (c.is_autocommit-in-Err.ensures.value ∙ ap not (back.mode refl)) refl in
+    let was = c.is_autocommit.ensures.settled c.if-not-is_autocommit.false refl in
+    subst (IsUnopenedFor c.args.policy.now c.args.file.now (Some (shown c.in-Err.conn))) (sym c.in_memory_fault.ensures)
+    (barred c.args.policy.now c.args.file.now new.in_transaction old.now new.now (handed_back old new back refl settled was) c.in-Err.fault
     (c.in-Err.ensures.refused.texts (memory_is_clean c.in-Err.conn)) (c.in-Err.ensures.refused.bad (memory_is_clean c.in-Err.conn)))
 
 pub returns-in-Err-clause-same : goal.returns-in-Err-clause-same

@@ -1,6 +1,7 @@
 //! What opening a store comes to.
 ghost use Rattle.std.specs.Prelude.{◌≢◌, length, IfOk, IfSome};
 ghost use Rattle.mls_scheme.specs.Scheme.{AreUnder};
+ghost use Rattle.mls_tokens.specs.Screen.{IsHarmless};
 ghost use Rattle.mls_explain.specs.Diagnosis.{IsDiagnosis};
 
 use crate::copies::{connection, verdict};
@@ -65,8 +66,8 @@ fn advice_of(fault: OpenFault) -> Option<&'static str>
     }
 }
 
-/// What is told of a store that is not opened, and what to do: lines without control characters. One of others, or with bad rows, was
-/// opened before, so that only memory can lack.
+/// What is told of a store that is not opened, and what to do. One of others, or with bad rows, was opened before, so that only memory can
+/// lack.
 fn lines_of(
     alloc: Global,
     log: &[u8],
@@ -74,7 +75,8 @@ fn lines_of(
     design: &Design<'_>,
     fault: OpenFault,
 ) -> Result<Vec<u8>, AllocError>
-    ensures { IfOk result (λ _. fault ≢ OpenFault.Memory) }
+    ensures fault { IfOk result (λ _. fault ≢ OpenFault.Memory) }
+    ensures lines { IfOk result (λ text. IsHarmless text.items) }
 {
     let Some(advice) = advice_of(fault) else {
         return Err(AllocError);
@@ -100,7 +102,9 @@ pub fn diagnosis_of(
     file: &SchemesFile,
 ) -> Result<Diagnosis, AllocError>
     requires under { AreUnder (length policy.now.labels) file.now.schemes }
-    ensures { IfOk result (λ d. IsDiagnosis policy.now file.now log.now db.now d.fault) }
+    ensures fault { IfOk result (λ d. IsDiagnosis policy.now file.now log.now db.now d.fault) }
+    // What a screen is told has no control characters but line feeds, and none that is invisible or turns a line round.
+    ensures text { IfOk result (λ d. IsHarmless d.text.items) }
 {
     let design = Design { policy, file };
     match verdict(alloc, log, db, &design) {

@@ -8,7 +8,7 @@ pub returns-then-not-is_absent : goal.returns-then-not-is_absent
 returns-then-not-is_absent c =
     if_ok (λ d is. opened d.fault
     (subst₂ (λ (log db : List ℕ). IsDiagnosis c.args.setting.now.policy c.args.setting.now.file log db d.fault) c.deref.ensures.value c.deref-then-not-is_absent.ensures.value is))
-    c.diagnosis_of.result c.diagnosis_of.ensures
+    c.diagnosis_of.result c.diagnosis_of.ensures.fault
 
 pub returns : goal.returns
 returns c = let no = c.is_absent.ensures c.if-not-is_absent.false in absent no.0 no.1 no.2

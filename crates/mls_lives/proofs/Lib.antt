@@ -1,0 +1,5 @@
+pub mod ListLemmas
+pub mod RanLemmas
+pub mod ReleasedLemmas
+pub mod LifeLemmas
+pub mod HistoryLemmas

@@ -1,0 +1,15 @@
+//! Lives: how much a level can learn in a run of events, and in a history of runs.
+#![tactic(auto)]
+
+ghost use Rattle.mls_lives.specs.Histories.{HistoriesTellFew, HistoryCallsMultiply};
+ghost use Rattle.mls_lives.specs.Lives.{CallsMultiply, RunsTellFew};
+
+/// In a life a level tells apart at most as many classes of worlds, and of what is done unseen, as there are lists of
+/// items that can be released to it; and at most the product of the numbers of lists that the calls can release to it
+/// which it sees done: of each call the number that `ranges_of` counts.
+pub fn lives_tell_few()
+    ensures runs { RunsTellFew }
+    ensures calls { CallsMultiply }
+    ensures histories { HistoriesTellFew }
+    ensures history_calls { HistoryCallsMultiply }
+{}

@@ -1,8 +1,9 @@
-//! Lives: how much a level can learn in a run of events, and in a history of runs.
+//! Lives: how much a level can learn in a run of events, and in a history of runs. And dumps load back.
 #![tactic(auto)]
 
 ghost use Rattle.mls_lives.specs.Histories.{HistoriesTellFew, HistoryCallsMultiply};
 ghost use Rattle.mls_lives.specs.Lives.{CallsMultiply, RunsTellFew};
+ghost use Rattle.mls_lives.specs.Loading.{DumpsHaveEach, DumpsLoadBack};
 
 /// In a life a level tells apart at most as many classes of worlds, and of what is done unseen, as there are lists of
 /// items that can be released to it; and at most the product of the numbers of lists that the calls can release to it
@@ -12,4 +13,11 @@ pub fn lives_tell_few()
     ensures calls { CallsMultiply }
     ensures histories { HistoriesTellFew }
     ensures history_calls { HistoryCallsMultiply }
+{}
+
+/// The events that a dump at a label prints, done over nothing, are each Done, and make all tuples of classes that the
+/// label dominates; it has each of these once.
+pub fn dumps_load_back()
+    ensures made { DumpsLoadBack }
+    ensures each { DumpsHaveEach }
 {}

@@ -1,0 +1,8 @@
+use Rattle.mls_lives.proofs.LoadLemmas.{dumps_load_back, dumps_have_each}
+use Rattle.mls_lives.proofs.dumps_load_back.Goals as goal
+
+pub returns-clause-made : goal.returns-clause-made
+returns-clause-made c = dumps_load_back
+
+pub returns-clause-each : goal.returns-clause-each
+returns-clause-each c = dumps_have_each

@@ -5,4 +5,5 @@ pub mod LifeLemmas
 pub mod HistoryLemmas
 pub mod UpwardLemmas
 pub mod MadeLemmas
+pub mod QueryLemmas
 pub mod LoadLemmas

@@ -1,5 +1,6 @@
--- The definitions of what lives tell, `Lives` of runs and `Histories` of runs one after another, and of dumps that load
--- back (`Loading`).
+-- The definitions of what lives tell, `Lives` of runs and `Histories` of runs one after another; of dumps that load
+-- back (`Loading`); and of what `Queries` find.
 pub mod Lives
 pub mod Histories
 pub mod Loading
+pub mod Queries

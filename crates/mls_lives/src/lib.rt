@@ -1,9 +1,12 @@
-//! Lives: how much a level can learn in a run of events, and in a history of runs. And dumps load back.
+//! Lives: how much a level can learn in a run of events, and in a history of runs. Dumps load back, and queries find
+//! rows in order.
 #![tactic(auto)]
 
 ghost use Rattle.mls_lives.specs.Histories.{HistoriesTellFew, HistoryCallsMultiply};
 ghost use Rattle.mls_lives.specs.Lives.{CallsMultiply, RunsTellFew};
 ghost use Rattle.mls_lives.specs.Loading.{DumpsHaveEach, DumpsLoadBack};
+ghost use Rattle.mls_lives.specs.Queries.{CountsAreLengths, FoundAreRowsInOrder, HighestKeepEachKey};
+ghost use Rattle.mls_lives.specs.Queries.{OneKeyIsEnough};
 
 /// In a life a level tells apart at most as many classes of worlds, and of what is done unseen, as there are lists of
 /// items that can be released to it; and at most the product of the numbers of lists that the calls can release to it
@@ -20,4 +23,13 @@ pub fn lives_tell_few()
 pub fn dumps_load_back()
     ensures made { DumpsLoadBack }
     ensures each { DumpsHaveEach }
+{}
+
+/// What a query finds are rows of the view in its order, each once; a count is how many; of each key that the view has
+/// a highest row is kept; and a condition that can hold of one key alone finds the same among that key's tuples.
+pub fn queries_find_rows()
+    ensures rows { FoundAreRowsInOrder }
+    ensures count { CountsAreLengths }
+    ensures highest { HighestKeepEachKey }
+    ensures key { OneKeyIsEnough }
 {}

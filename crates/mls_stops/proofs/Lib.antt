@@ -1,0 +1,2 @@
+pub mod AnswerLineLemmas
+pub mod MarkLemmas

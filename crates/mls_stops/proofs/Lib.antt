@@ -1,2 +1,5 @@
+pub mod SoFarLemmas
+pub mod StopLemmas
+pub mod DeskStopLemmas
 pub mod AnswerLineLemmas
 pub mod MarkLemmas

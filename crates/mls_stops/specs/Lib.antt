@@ -1,3 +1,6 @@
--- The definitions of marks among answers: `AnswerLines`, and `Marks` of the lines of desks.
+-- The definitions of what is shown of runs that stop, and of marks: `SoFar` of two runs as far as both go, `Stops` of the
+-- program's, `AnswerLines` and `Marks` of the lines of desks.
+pub mod SoFar
+pub mod Stops
 pub mod AnswerLines
 pub mod Marks

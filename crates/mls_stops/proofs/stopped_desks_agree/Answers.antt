@@ -1,0 +1,9 @@
+use Rattle.mls_host.specs.Hosting.{hosted, IsAppended}
+use Rattle.mls_stops.proofs.DeskStopLemmas.{serve_so_far}
+use Rattle.mls_stops.proofs.stopped_desks_agree.Goals as goal
+
+pub returns : goal.returns
+returns g c = λ old new before after first written second over.
+    serve_so_far (hosted g.H.Host.hosting g.H.Lines.TypedLines.echo old new)
+    (IsAppended g.W.Write.contents first written)
+    (hosted g.K.Host.hosting g.K.Lines.TypedLines.echo before after) (IsAppended g.V.Write.contents second over)

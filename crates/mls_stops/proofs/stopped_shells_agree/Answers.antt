@@ -1,0 +1,10 @@
+use Rattle.mls_host.specs.Hosting.{hosted, IsAppended, IsTold}
+use Rattle.mls_stops.proofs.StopLemmas.{tell_so_far}
+use Rattle.mls_stops.proofs.stopped_shells_agree.Goals as goal
+
+pub returns : goal.returns
+returns g c = λ old new before after first written asked told second over begun ended.
+    tell_so_far g.X.Explains.explaining (hosted g.H.Host.hosting g.H.Lines.TypedLines.echo old new)
+    (IsAppended g.W.Write.contents first written) (IsTold g.E.Write.contents asked told)
+    (hosted g.K.Host.hosting g.K.Lines.TypedLines.echo before after) (IsAppended g.V.Write.contents second over)
+    (IsTold g.F.Write.contents begun ended)

@@ -3,3 +3,4 @@ pub mod StopLemmas
 pub mod DeskStopLemmas
 pub mod AnswerLineLemmas
 pub mod MarkLemmas
+pub mod LifetimeLemmas

@@ -1,9 +1,11 @@
-//! What is written of runs, shells and desks that stop, as far as two of them go, and of marks among answers.
+//! What is written of runs, shells and desks that stop, as far as two of them go; of marks among
+//! answers; and that the life of a store passes nothing down but releases.
 #![tactic(auto)]
 
 ghost use Rattle.mls_host.specs.Hosting.{hosted, IsAppended, IsTold};
 ghost use Rattle.mls_host.specs.declared.errors.Errors.{Errors as SpecErrors};
 ghost use Rattle.mls_stops.specs.AnswerLines.{AnswersAreUnmarked};
+ghost use Rattle.mls_stops.specs.Lifetimes.{LifetimesPassOnlyReleases};
 ghost use Rattle.mls_stops.specs.Marks.{MarksAreLines, OnlyMarksAreMarked};
 ghost use Rattle.mls_stops.specs.SoFar.{RunsAgreeSoFar, StopsTellFew};
 ghost use Rattle.mls_stops.specs.Stops.{ServeTheSameSoFar, TellTheSameSoFar, WriteTheSameSoFar};
@@ -49,4 +51,9 @@ pub fn stopped_desks_agree<H: Host, K: Host, W: Write, V: Write>()
     ensures { (old new : H) (before after : K) (first written : W) (second over : V)
         → ServeTheSameSoFar (hosted H.hosting H.Lines.echo old new) (IsAppended W.contents first written)
         (hosted K.hosting K.Lines.echo before after) (IsAppended V.contents second over) }
+{}
+
+/// In the life of a store nothing flows down but what is released, also where it is migrated to later files.
+pub fn lifetimes_pass_only_releases()
+    ensures { LifetimesPassOnlyReleases }
 {}

@@ -1,6 +1,8 @@
 //! Views over a base that fails where it reads what one label holds: a view reads only what labels hold that its own dominates.
-ghost use Rattle.std.specs.Prelude.{◌<◌, length};
+ghost use Rattle.std.specs.Prelude.{◌≡◌, ◌<◌, true, length, IfErr};
 ghost use Rattle.std.specs.List.{AllByRecursion};
+ghost use Rattle.mls_lattice.specs.Labels.{below};
+ghost use Rattle.mls_lattice.specs.Policy.{labels_of};
 ghost use Rattle.mls_scheme.specs.Tuple.{HasClassesBelow};
 
 use crate::tuples::{label_of, push_tuples, tuples_of};
@@ -52,11 +54,12 @@ fn fragments_of(alloc: Global, rows: &[Row], labels: &[LabelNo]) -> Result<Fragm
 }
 
 impl Broken {
-    ghost use Rattle.mls_filterview.specs.Calls.{IsRead};
+    ghost use Rattle.mls_filterview.specs.Calls.{IsRead, ReadsAmong};
 
     /// What these labels hold.
     fn held(&mut self, labels: &[LabelNo]) -> Result<Fragment, BaseFault>
-        ensures { IsRead ⟦<Broken as Base>⟧.seen self.old self.new result }
+        ensures read { IsRead ⟦<Broken as Base>⟧.seen self.old self.new result }
+        ensures access { ReadsAmong ⟦<Broken as Base>⟧.seen labels.now self.old self.new }
     {
         if labels.contains(&self.broken) {
             self.failures = self.failures.checked_add(1).ok_or(BaseFault::Memory)?;
@@ -70,14 +73,15 @@ impl Broken {
 }
 
 impl Base for Broken {
-    ghost use Rattle.std.specs.Prelude.{false};
+    ghost use Rattle.std.specs.Prelude.{◌≡◌, ◌<◌, false};
     ghost use Rattle.mls_filterview.specs.Content.{no_content, nowhere};
 
+    // Of what is read it notes its own label alone: a call that asks for that fails.
     ghost seen = { λ b. record {
       state = record { now = no_content; kept = no_content; begun = false };
       failures = b.failures;
       is_clean = ⊥;
-      asked = nowhere;
+      asked = λ m. (m ≡ b.broken) × (0 < b.failures);
       changed = nowhere;
     } };
 
@@ -197,6 +201,22 @@ fn push_view(policy: &Policy, seen: Result<Vec<Tuple>, BaseFault>, out: &mut Tol
     }
 }
 
+/// What a level sees of a base that fails at a label. It fails only where the level dominates that label, which follows
+/// from what a view promises over any base.
+fn view_over(
+    alloc: Global,
+    policy: &Policy,
+    level: LabelNo,
+    base: &mut Broken,
+) -> Result<Vec<Tuple>, BaseFault>
+    requires level { level < length policy.now.labels }
+    requires fresh { base.old.failures ≡ 0 }
+    ensures { IfErr result (λ fault. fault ≡ BaseFault.Store
+        → below (labels_of policy.now) base.new.broken level ≡ true) }
+{
+    view(alloc, base, policy, RelNo::new(0), level)
+}
+
 /// Tells what a level sees of a base that fails at a label.
 fn tell_rows(
     alloc: Global,
@@ -214,11 +234,7 @@ fn tell_rows(
         broken,
         failures: 0,
     };
-    push_view(
-        policy,
-        view(alloc, &mut base, policy, RelNo::new(0), level),
-        out,
-    );
+    push_view(policy, view_over(alloc, policy, level, &mut base), out);
 }
 
 fn tell_view(

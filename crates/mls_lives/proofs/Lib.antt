@@ -7,3 +7,4 @@ pub mod UpwardLemmas
 pub mod MadeLemmas
 pub mod QueryLemmas
 pub mod LoadLemmas
+pub mod OrderLemmas

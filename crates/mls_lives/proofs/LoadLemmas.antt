@@ -98,10 +98,10 @@ module _ (ls : Labels) (c : ℕ) (T : Table) where
   unfolding low
   held_low q h = get_kept T (λ p. below ls p.class c) q ∙ ap (λ b. cond b (get T q) None) h
 
-  abbrev of_number : ℕ → List Entry
+  abbrev pub of_number : ℕ → List Entry
   of_number m = filter (λ e. nat_eq e.0.class m) (entries L)
 
-  in_number : (m : ℕ) (e : Entry) → IsAmong e (of_number m) → (get L e.0 ≡ Some e.1) × (e.0.class ≡ m)
+  pub in_number : (m : ℕ) (e : Entry) → IsAmong e (of_number m) → (get L e.0 ≡ Some e.1) × (e.0.class ≡ m)
   in_number m e i =
       let r = among_filter (λ (e : Entry). nat_eq e.0.class m) (entries L) e i in
       (among_entries L e r.0, eqb-true e.0.class m r.1)
@@ -123,7 +123,7 @@ module _ (ls : Labels) (c : ℕ) (T : Table) where
   once_of (t ∷ ts) h = ((λ i. h.0 t i refl), once_of ts h.1)
 
   module _ (distinct : AreDistinct ls) (n : ℕ) (stored : IsStored ls n T) where
-    has_number : (m : ℕ) (t : Tuple) → IsAmong t (of_class (entries L) m) → class_number ls t ≡ m
+    pub has_number : (m : ℕ) (t : Tuple) → IsAmong t (of_class (entries L) m) → class_number ls t ≡ m
     has_number m t i =
         let (e, j, same) = among_map (λ (e : Entry). tuple_at e.0 e.1) (of_number m) t i in
         let r = in_number m e j in

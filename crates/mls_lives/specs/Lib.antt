@@ -1,6 +1,7 @@
 -- The definitions of what lives tell, `Lives` of runs and `Histories` of runs one after another; of dumps that load
--- back (`Loading`); and of what `Queries` find.
+-- back (`Loading`), and their order (`Upward`); and of what `Queries` find.
 pub mod Lives
 pub mod Histories
 pub mod Loading
+pub mod Upward
 pub mod Queries

@@ -7,6 +7,7 @@ ghost use Rattle.mls_lives.specs.Lives.{CallsMultiply, RunsTellFew};
 ghost use Rattle.mls_lives.specs.Loading.{DumpsHaveEach, DumpsLoadBack};
 ghost use Rattle.mls_lives.specs.Queries.{CountsAreLengths, FoundAreRowsInOrder, HighestKeepEachKey};
 ghost use Rattle.mls_lives.specs.Queries.{OneKeyIsEnough};
+ghost use Rattle.mls_lives.specs.Upward.{ClassNumbersAreGreatest, DumpsComeUpward};
 
 /// In a life a level tells apart at most as many classes of worlds, and of what is done unseen, as there are lists of
 /// items that can be released to it; and at most the product of the numbers of lists that the calls can release to it
@@ -19,10 +20,13 @@ pub fn lives_tell_few()
 {}
 
 /// The events that a dump at a label prints, done over nothing, are each Done, and make all tuples of classes that the
-/// label dominates; it has each of these once.
+/// label dominates; it has each of these once, upward by class. The class number of a tuple is that of its greatest
+/// class.
 pub fn dumps_load_back()
     ensures made { DumpsLoadBack }
     ensures each { DumpsHaveEach }
+    ensures order { DumpsComeUpward }
+    ensures classes { ClassNumbersAreGreatest }
 {}
 
 /// What a query finds are rows of the view in its order, each once; a count is how many; of each key that the view has

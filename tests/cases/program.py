@@ -1,16 +1,15 @@
 """The built program in a folder of its own, with files, pipes, terminals and stores."""
-from __future__ import annotations
 
+import contextlib
 import os
-import select
+import shutil
 import sqlite3
 import subprocess
 import tempfile
 import termios
-import threading
 import time
 import tty
-from collections.abc import Iterable
+from collections.abc import Collection
 from concurrent.futures import ThreadPoolExecutor
 from dataclasses import dataclass
 from pathlib import Path
@@ -21,18 +20,12 @@ SECONDS = 100
 
 def lines_in(text: str) -> list[str]:
     """The lines of a text, without their ends."""
-    lines = text.split("\n")
-    if lines[-1] == "":
-        lines.pop()
-    return [line.removesuffix("\r") for line in lines]
+    return [line.removesuffix("\r") for line in text.removesuffix("\n").split("\n")] if text else []
 
 
 def text_of(data: bytes) -> str:
     """Bytes as text."""
-    try:
-        return data.decode()
-    except UnicodeDecodeError:
-        return "not UTF-8"
+    return data.decode(errors="backslashreplace")
 
 
 def indented(data: bytes) -> str:
@@ -48,6 +41,11 @@ class Written:
     out: bytes
     err: bytes
 
+    @property
+    def lines(self) -> list[str]:
+        """The lines of standard output."""
+        return lines_in(text_of(self.out))
+
     def ending(self) -> str:
         """The status where it is not 0, and standard error."""
         return (f"  status {self.status}\n" if self.status else "") + indented(self.err)
@@ -57,44 +55,39 @@ class Written:
         return self.ending() + indented(self.out)
 
 
-def most_files() -> dict[str, bytes]:
-    """The longest files: as many transactions as may be, one of them as large as may be, and their certificates."""
+def shared_folder(parent: Path, folders: list[Path]) -> Path:
+    """A folder with all that is in others, and files with as many and as large transactions as may be, and as long."""
     names = "transaction T levels U to S (p: int at S" + "".join(f", p{n}: int at U" for n in range(1, 64)) + ") {\n"
     names += "".join(f"var x{n}: int;\n" for n in range(1, 65))
     others = "}\n" + "".join(f"transaction T{n} levels U to S () {{ }}\n" for n in range(1, 64))
     blocks = "".join(f"certificate 1 T{n}\nvars\npcs\n" for n in range(1, 64))
-
-    def labels(word: str, count: int) -> str:
-        return word + " 0:00000000" * count + "\n"
-
-    rows = labels("row 2:00000000", 63) + labels("row", 64) * 999
+    label = " 0:00000000"
+    pcs, row = f"pcs{label * 1000}\n", f"row{label * 64}\n"
     texts = {
         "most.transactions": names + "x1 := 1;\n" * 1000 + others,
-        "most.certificates": "certificate 1 T\n" + labels("vars", 64) + labels("pcs", 1000) + blocks,
+        "most.certificates": f"certificate 1 T\nvars{label * 64}\n{pcs}{blocks}",
         "most2.transactions": names + "x1 := p;\n" + "x1 := 1;\n" * 998 + "emit x1 at U;\n" + others,
-        "most2.certificates": "certificate 2 T\n" + labels("pcs", 1000) + rows + blocks,
+        "most2.certificates": f"certificate 2 T\n{pcs}row 2:00000000{label * 63}\n{row * 999}{blocks}",
         "full": "\n" * MOST_BYTES,
         "long": "\n" * (MOST_BYTES + 1),
     }
-    return {name: text.encode() for name, text in texts.items()}
+    shared = parent / "shared"
+    for folder in folders:
+        shutil.copytree(folder, shared, dirs_exist_ok=True)
+    for name, text in texts.items():
+        (shared / name).write_text(text)
+    return shared
 
 
-@dataclass
 class Room:
     """A folder that the program runs in, with the files of the tables and the store that the last command left."""
 
-    program: Path
-    folder: Path
-    is_left: bool = False
-    is_read: bool = False
-
-    @staticmethod
-    def make(program: Path, shared: Path, parent: Path) -> Room:
+    def __init__(self, program: Path, shared: Path, parent: Path) -> None:
         """A new room, with links to the files that all rooms share."""
-        folder = Path(tempfile.mkdtemp(dir=parent))
+        self.program, self.folder = program, Path(tempfile.mkdtemp(dir=parent))
+        self.is_left = self.is_read = False
         for path in shared.iterdir():
-            (folder / path.name).symlink_to(path)
-        return Room(program, folder)
+            (self.folder / path.name).symlink_to(path)
 
     def put(self, name: str, data: bytes) -> None:
         """Makes a file."""
@@ -111,56 +104,43 @@ class Room:
         for end in ("", "-wal", "-journal", "-shm"):
             (self.folder / (name + end)).unlink(missing_ok=True)
 
-    def own(self, name: str) -> None:
-        """Makes a copy of a file that all rooms share: none waits for a lock that a command of another one has."""
-        path = self.folder / name
-        if path.is_symlink() and path.is_file():
-            self.put(name, path.read_bytes())
-
-    def run(self, words: list[str], typed: bytes, terminals: Iterable[int] = ()) -> Written:
+    def run(self, words: list[str], typed: bytes, terminals: Collection[int] = ()) -> Written:
         """What a command writes that reads these bytes; standard input (0) and standard error (2) may be terminals."""
         store = store_word(words)
-        if store is not None:
-            self.own(store)
-        return Talk(self, words, frozenset(terminals)).of(typed)
+        if store is not None and (self.folder / store).is_symlink() and (self.folder / store).is_file():
+            # A copy of a file that all rooms share: no command waits for a lock that one in another room has.
+            self.put(store, self.read(store))
+        return talk([str(self.program), *words[1:]], self.folder, typed, terminals)
 
     def run_script(self, words: list[str], script: bytes) -> Written:
         """What a command writes whose script is its standard input too."""
         self.put("script", script)
         return self.run(words, script)
 
-    def run_over(self, words: list[str], script: bytes, terminals: Iterable[int] = ()) -> Written:
-        """The same, where the store `new` is empty, `table` has a table of others, `left` is what the last one left."""
+    def run_over(self, words: list[str], script: bytes, terminals: Collection[int] = ()) -> Written:
+        """The same, where the stores `new` and `beside` are empty, `table` has a table of others, `left` is what the
+        last one but `beside` left."""
         self.put("script", script)
         name = store_word(words)
         if name is None:
             return self.run(words, script, terminals)
         path = name if name == "left" and self.is_left else "none/" + name
-        if name in ("new", "table"):
+        if name in ("new", "beside", "table"):
             path = "begun"
             self.drop_store(path)
             if name == "table":
-                with sqlite3.connect(self.folder / path) as connection:
+                with contextlib.closing(sqlite3.connect(self.folder / path)) as connection:
                     connection.execute("CREATE TABLE t (a)")
-                connection.close()
         written = self.run([path if word == name else word for word in words], script, terminals)
-        if path == "begun" and (self.folder / path).exists():
+        if name in ("new", "table") and (self.folder / path).exists():
             self.keep(path)
         return written
-
-    def run_beside(self, words: list[str], typed: bytes, terminals: Iterable[int] = ()) -> Written:
-        """What a command writes over an empty store of its own, where it names one; the store that is left stays."""
-        self.put("script", typed)
-        self.drop_store("beside")
-        words = ["beside" if before == "--store" else word for before, word in zip(["", *words], words)]
-        return self.run(words, typed, terminals)
 
     def keep(self, name: str) -> None:
         """Makes a store the one that is left."""
         self.drop_store("left")
-        for end in ("", "-wal"):
-            if (self.folder / (name + end)).exists():
-                (self.folder / (name + end)).rename(self.folder / ("left" + end))
+        for path in self.folder.glob(f"{name}*"):
+            path.rename(self.folder / path.name.replace(name, "left"))
         self.is_left = True
 
 
@@ -169,83 +149,54 @@ def store_word(words: list[str]) -> str | None:
     return next((name for word, name in zip(words, words[1:]) if word == "--store"), None)
 
 
-def make_raw(terminal: int) -> None:
-    """Makes a terminal pass all bytes as they are; a second in which nothing is typed is the end."""
-    tty.setraw(terminal)
-    modes = termios.tcgetattr(terminal)
-    modes[6][termios.VMIN], modes[6][termios.VTIME] = 0, 10
-    termios.tcsetattr(terminal, termios.TCSANOW, modes)
+class Terminal:
+    """A terminal that passes all bytes as they are; a second in which nothing is typed is the end."""
 
+    def __init__(self) -> None:
+        self.ours, self.theirs = os.openpty()
+        tty.setraw(self.theirs)
+        modes = termios.tcgetattr(self.theirs)
+        modes[6][termios.VMIN], modes[6][termios.VTIME] = 0, 10
+        termios.tcsetattr(self.theirs, termios.TCSANOW, modes)
 
-class Talk:
-    """One run of the program, with its streams."""
-
-    def __init__(self, room: Room, words: list[str], terminals: frozenset[int]) -> None:
-        """Opens pipes, and terminals where they are asked for. `words` begin with the program's name."""
-        self.room, self.words = room, words
-        self.ours: dict[int, int] = {}
-        self.theirs: dict[int, int] = {}
-        for stream in (0, 1, 2):
-            if stream in terminals:
-                ours, theirs = os.openpty()
-                make_raw(theirs)
-            else:
-                ours, theirs = os.pipe() if stream else os.pipe()[::-1]
-            self.ours[stream], self.theirs[stream] = ours, theirs
-        self.type = self.type_at_terminal if 0 in terminals else self.type_into_pipe
-
-    def of(self, typed: bytes) -> Written:
-        """What the program writes where these bytes are typed."""
-        child = subprocess.Popen(
-            [str(self.room.program), *self.words[1:]],
-            cwd=self.room.folder,
-            stdin=self.theirs[0],
-            stdout=self.theirs[1],
-            stderr=self.theirs[2],
-        )
-        for theirs in self.theirs.values():
-            os.close(theirs)
-        timer = threading.Timer(SECONDS, child.kill)
-        timer.start()
-        with ThreadPoolExecutor(1) as typist:
-            typist.submit(self.type, typed, child)
-            read = self.read_all()
-            status = child.wait()
-        timer.cancel()
-        return Written(status, read[1], read[2])
-
-    def type_into_pipe(self, typed: bytes, child: subprocess.Popen[bytes]) -> None:
-        """Types these bytes into a pipe, as far as somebody reads them."""
-        try:
-            with open(self.ours[0], "wb") as pipe:
-                pipe.write(typed)
-        except BrokenPipeError:
-            pass
-
-    def type_at_terminal(self, typed: bytes, child: subprocess.Popen[bytes]) -> None:
-        """Types these bytes at a terminal, as far as somebody reads them."""
-        os.set_blocking(self.ours[0], False)
+    def type(self, typed: bytes, child: subprocess.Popen[bytes]) -> None:
+        """Types these bytes, as far as somebody reads them."""
+        os.set_blocking(self.ours, False)
         left = memoryview(typed)
         while left and child.poll() is None:
             try:
-                left = left[os.write(self.ours[0], left):]
+                left = left[os.write(self.ours, left):]
             except BlockingIOError:
                 time.sleep(0.001)
         child.wait()
-        os.close(self.ours[0])
+        os.close(self.ours)
 
-    def read_all(self) -> dict[int, bytes]:
-        """Reads what the program writes, to the ends of both streams."""
-        read, left = {1: b"", 2: b""}, {self.ours[1]: 1, self.ours[2]: 2}
-        while left:
-            for ours in select.select(list(left), [], [])[0]:
-                try:
-                    data = os.read(ours, 65536)
-                except OSError:
-                    # A terminal whose other end is closed.
-                    data = b""
-                read[left[ours]] += data
-                if not data:
-                    os.close(ours)
-                    del left[ours]
+    def read(self) -> bytes:
+        """Reads what is written there, to its end."""
+        read = b""
+        # It is an error to read where the other end is closed.
+        with contextlib.suppress(OSError):
+            while data := os.read(self.ours, 65536):
+                read += data
+        os.close(self.ours)
         return read
+
+
+def talk(words: list[str], folder: Path, typed: bytes, terminals: Collection[int]) -> Written:
+    """One run of a program in a folder: what it writes where these bytes are typed."""
+    typing, told = (Terminal() if stream in terminals else None for stream in (0, 2))
+    ends = [terminal.theirs if terminal else subprocess.PIPE for terminal in (typing, told)]
+    child = subprocess.Popen(words, cwd=folder, stdin=ends[0], stdout=subprocess.PIPE, stderr=ends[1])
+    for terminal in (typing, told):
+        if terminal:
+            os.close(terminal.theirs)
+    with ThreadPoolExecutor(2) as others:
+        if typing:
+            others.submit(typing.type, typed, child)
+        read = others.submit(told.read) if told else None
+        try:
+            out, err = child.communicate(None if typing else typed, SECONDS)
+        except subprocess.TimeoutExpired:
+            child.kill()
+            out, err = child.communicate()
+    return Written(child.returncode, out, read.result() if read else err)

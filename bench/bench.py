@@ -1,10 +1,10 @@
 #!/usr/bin/env python3
 """Measures the built program beside C SQLite on the same work, and prints a table.
 
-Each workload is a list of commands, made from a seed. The program runs them as a script. Beside it the same commands run
-over the same tables (a node for each tuple, a cell for each element) in plain SQL: Python's `sqlite3`, one transaction a
-command, a full sync at each commit in a file. Both have to print the same lines. Nothing is built: the program is
-crates/mldb/out/mldb, or the one that --program names.
+Each workload is a list of commands, made from a seed. The program runs them as a script. Beside it the same commands
+run over the same tables (a node for each tuple, a cell for each element) in plain SQL: Python's `sqlite3`, one
+transaction a command, a full sync at each commit in a file. Both have to print the same lines. Nothing is built: the
+program is crates/mldb/out/mldb, or the one that --program names.
 """
 import argparse
 import math
@@ -106,11 +106,22 @@ def workloads(seed, entities):
         Workload("the same, file", sizes, instances, in_file=True),
         Workload("n mixed", sizes, lambda n: mixed(n, seed)),
         Workload("n mixed, file", sizes, lambda n: mixed(n, seed), in_file=True),
-        Workload("n calls that read 134 tuples", calls, lambda n: inserts(100) + raised(34) + [("S", "call")] * n, calls=True),
+        Workload(
+            "n calls that read 134 tuples", calls, lambda n: inserts(100) + raised(34) + [("S", "call")] * n, calls=True
+        ),
         Workload("opening: n entities, 2.1 n tuples", stores, lambda n: [], before=instances, in_file=True),
         Workload("50 views of n entities", sizes, lambda n: views[:50], before=instances, in_file=True, less=True),
-        Workload(f"n look-ups by key, {entities:,} entities", sizes, lambda n: looked_up(n, entities), before=stored, in_file=True, less=True),
-        Workload(f"n conditions, {entities:,} entities", (25, 50, 100), conditions, before=stored, in_file=True, less=True),
+        Workload(
+            f"n look-ups by key, {entities:,} entities",
+            sizes,
+            lambda n: looked_up(n, entities),
+            before=stored,
+            in_file=True,
+            less=True,
+        ),
+        Workload(
+            f"n conditions, {entities:,} entities", (25, 50, 100), conditions, before=stored, in_file=True, less=True
+        ),
         Workload("n denied, and an audit", sizes, lambda n: [("U", "view", "S")] * n + [("U", "audit")]),
     ]
 
@@ -121,7 +132,8 @@ def looked_up(n, entities):
 
 
 def conditions(n):
-    """n conditions that name no key, at four levels in turn, each of which finds a third or a tenth of the rows, or none."""
+    """n conditions that name no key, at four levels in turn, each of which finds a third or a tenth of the rows, or
+    none."""
     asked = [(1, "Vulcan"), (2, "Talos"), (1, "Spying"), (2, "Vega")]
     return [(NAMES[i % 4], "view", NAMES[i % 4], *asked[i // 4 % 4]) for i in range(n)]
 
@@ -172,9 +184,11 @@ def scripts_of(commands):
 # ---- in plain SQL
 
 TABLES = """
-CREATE TABLE IF NOT EXISTS node (rel INTEGER NOT NULL, ent BLOB NOT NULL, kclass INTEGER NOT NULL, label INTEGER NOT NULL,
+CREATE TABLE IF NOT EXISTS node (
+  rel INTEGER NOT NULL, ent BLOB NOT NULL, kclass INTEGER NOT NULL, label INTEGER NOT NULL,
   class0 INTEGER NOT NULL, class1 INTEGER NOT NULL, PRIMARY KEY (rel, ent, kclass, label)) STRICT;
-CREATE TABLE IF NOT EXISTS cell (rel INTEGER NOT NULL, ent BLOB NOT NULL, kclass INTEGER NOT NULL, label INTEGER NOT NULL,
+CREATE TABLE IF NOT EXISTS cell (
+  rel INTEGER NOT NULL, ent BLOB NOT NULL, kclass INTEGER NOT NULL, label INTEGER NOT NULL,
   attr INTEGER NOT NULL, value TEXT, PRIMARY KEY (rel, ent, kclass, attr, label)) STRICT;
 CREATE TABLE IF NOT EXISTS audit (number INTEGER PRIMARY KEY NOT NULL, bytes TEXT NOT NULL) STRICT;
 """
@@ -187,23 +201,29 @@ ADD_ENTRY = "INSERT INTO audit (bytes) VALUES (?)"
 
 
 def cell_of(t, a):
-    return f"JOIN cell {t}{a} ON {t}{a}.rel = {t}.rel AND {t}{a}.ent = {t}.ent AND {t}{a}.kclass = {t}.kclass AND {t}{a}.attr = {a} AND {t}{a}.label = {t}.class{a}"
+    same = " AND ".join(f"{t}{a}.{column} = {t}.{column}" for column in ("rel", "ent", "kclass"))
+    return f"JOIN cell {t}{a} ON {same} AND {t}{a}.attr = {a} AND {t}{a}.label = {t}.class{a}"
 
 
 def covers(a):
-    return f"((o.class{a} = n.class{a} AND o{a}.value IS n{a}.value) OR (n{a}.value IS NULL AND o{a}.value IS NOT NULL))"
+    is_same = f"o.class{a} = n.class{a} AND o{a}.value IS n{a}.value"
+    return f"(({is_same}) OR (n{a}.value IS NULL AND o{a}.value IS NOT NULL))"
 
 
 SHOWN = ("n.ent", "n0.value", "n1.value")
 
 
 def view_text(level, shown, column=None):
-    """The tuples that a level sees: those of the labels below that no other one subsumes; of them those with a value in a column."""
+    """The tuples that a level sees: those of the labels below that no other one subsumes; of them those with a value in
+    a column."""
     low = "(" + ", ".join(str(LABELS[name]) for name in BELOW[level]) + ")"
     test = "" if column is None else f"AND {SHOWN[column]} = ? "
-    return f"""SELECT {shown} FROM node n {cell_of('n', 0)} {cell_of('n', 1)} WHERE n.rel = 0 AND n.label IN {low} {test}
-AND ((n0.value IS NOT NULL AND n1.value IS NOT NULL) OR NOT EXISTS (SELECT 1 FROM node o {cell_of('o', 0)} {cell_of('o', 1)}
-  WHERE o.rel = 0 AND o.ent = n.ent AND o.kclass = n.kclass AND o.label IN {low} AND o.label <> n.label AND {covers(0)} AND {covers(1)}))
+    return f"""SELECT {shown} FROM node n {cell_of('n', 0)} {cell_of('n', 1)}
+WHERE n.rel = 0 AND n.label IN {low} {test}
+AND ((n0.value IS NOT NULL AND n1.value IS NOT NULL) OR NOT EXISTS (
+  SELECT 1 FROM node o {cell_of('o', 0)} {cell_of('o', 1)}
+  WHERE o.rel = 0 AND o.ent = n.ent AND o.kclass = n.kclass AND o.label IN {low} AND o.label <> n.label
+  AND {covers(0)} AND {covers(1)}))
 ORDER BY n.ent, n.kclass, n.label"""
 
 
@@ -429,11 +449,19 @@ def table(bench, works):
         ours, theirs = (growth(work.sizes, [row[k] for row in rows]) for k in (1, 3))
         for n, (wall, used, plain_wall, plain_used) in zip(work.sizes, rows):
             last = n == work.sizes[-1]
-            print(
-                f"| {work.title} | {n:,} | {wall:.2f} s | {used:.2f} s | {f'n^{ours:.2f}' if last else ''}"
-                f" | {plain_wall:.2f} s | {plain_used:.2f} s | {f'n^{theirs:.2f}' if last else ''} | {wall / plain_wall:.2f} | {used / plain_used:.2f} |",
-                flush=True,
-            )
+            cells = [
+                work.title,
+                f"{n:,}",
+                f"{wall:.2f} s",
+                f"{used:.2f} s",
+                f"n^{ours:.2f}" if last else "",
+                f"{plain_wall:.2f} s",
+                f"{plain_used:.2f} s",
+                f"n^{theirs:.2f}" if last else "",
+                f"{wall / plain_wall:.2f}",
+                f"{used / plain_used:.2f}",
+            ]
+            print(f"| {' | '.join(cells)} |", flush=True)
 
 
 def main():

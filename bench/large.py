@@ -1,8 +1,8 @@
 #!/usr/bin/env python3
 """Measures the built program over large stores, and prints a table: processor time, its growth, and the most memory.
 
-The stores are loaded by `serve`, which takes any number of lines. What is measured is `run` over them: an opening, updates
-that are each followed by a view, and views at the top of a chain of labels. Nothing is built: the program is
+The stores are loaded by `serve`, which takes any number of lines. What is measured is `run` over them: an opening,
+updates that are each followed by a view, and views at the top of a chain of labels. Nothing is built: the program is
 crates/mldb/out/mldb, or the one that --program names.
 """
 import argparse
@@ -25,7 +25,8 @@ def chain_policy():
     categories = [f'"C{i}"' for i in range(CHAIN // 2)]
     text = f"version = 1\nlevels = [{ranks}]\ncategories = [{', '.join(categories)}]\n"
     for i in range(CHAIN):
-        text += f'\n[[label]]\nname = "L{i}"\nlevel = "R{i // 2}"\ncategories = [{", ".join(categories[: (i + 1) // 2])}]\n'
+        below = ", ".join(categories[: (i + 1) // 2])
+        text += f'\n[[label]]\nname = "L{i}"\nlevel = "R{i // 2}"\ncategories = [{below}]\n'
     text += "".join(f'\n[[user]]\nname = "u{i}"\nclearance = "L{i}"\n' for i in range(CHAIN))
     return text + "".join(f'\n[[matrix]]\nuser = "u{i}"\nobject = "R"\n{WRITE}' for i in range(CHAIN))
 
@@ -81,7 +82,10 @@ class Large:
             file.writelines(lines)
         with open(self.at("lines")) as file:
             child = subprocess.Popen(self.words("serve", documents), stdin=file, stdout=subprocess.PIPE, text=True)
-            bad = next((line for line in child.stdout if line.startswith("= ") or " refused " in line or " denied " in line), None)
+            bad = next(
+                (line for line in child.stdout if line.startswith("= ") or " refused " in line or " denied " in line),
+                None,
+            )
             if child.wait() != 0 or bad:
                 sys.exit(f"large: the store is not loaded: {bad}")
 
@@ -100,7 +104,9 @@ class Large:
 SAMPLES = ("policy.toml", "schemes.toml")
 CHAINED = ("chain.policy", "chain.schemes")
 OPEN = "U a open ann\n"
-UPDATES = "".join(f'U a update SOD key ("{i * 97}") class U from U set Objective = "o{i}"\nU a view SOD at U\n' for i in range(100))
+UPDATES = "".join(
+    f'U a update SOD key ("{i * 97}") class U from U set Objective = "o{i}"\nU a view SOD at U\n' for i in range(100)
+)
 TOP = f"L19 t open u19\n" + "L19 t view R at L19\n"
 
 
@@ -137,10 +143,18 @@ def main():
         openings(large, [n for n in (33_600, 100_000, 1_000_000) if n <= args.most])
         large.load(SAMPLES, inserts(50_000))
         opening = large.timed(SAMPLES, OPEN)
-        row("100 updates, each followed by a view of n rows, less the opening", 50_000, less(large.timed(SAMPLES, OPEN + UPDATES), opening))
+        row(
+            "100 updates, each followed by a view of n rows, less the opening",
+            50_000,
+            less(large.timed(SAMPLES, OPEN + UPDATES), opening),
+        )
         large.load(CHAINED, chained(5_000))
         opening = large.timed(CHAINED, "L19 t open u19\n")
-        row(f"a view at the top of {CHAIN} labels, n entities, less the opening", 5_000, less(large.timed(CHAINED, TOP), opening))
+        row(
+            f"a view at the top of {CHAIN} labels, n entities, less the opening",
+            5_000,
+            less(large.timed(CHAINED, TOP), opening),
+        )
 
 
 if __name__ == "__main__":

@@ -1,7 +1,8 @@
 #!/usr/bin/env python3
-"""How many lines a second ten people get done: by the gateway and the program alone, with a journal, and with three machines at one log, all on this
-machine. Each person sends inserts, and waits for each answer. Usage: python3 bench/lines.py [MLDB [LINES]], as root; three machines need nats-server.
-The store, the journal and the stream are in the folder of temporary files (TMPDIR): on a disk each write waits for it."""
+"""How many lines a second ten people get done: by the gateway and the program alone, with a journal, and with three
+machines at one log, all on this machine. Each person sends inserts, and waits for each answer. Usage: python3
+bench/lines.py [MLDB [LINES]], as root; three machines need nats-server. The store, the journal and the stream are in
+the folder of temporary files (TMPDIR): on a disk each write waits for it."""
 
 import os
 import socket
@@ -59,7 +60,8 @@ def one_machine(filter_words):
         for name in ("policy.toml", "schemes.toml"):
             with open(f"{ROOT}/samples/{name}", "rb") as read, open(f"{folder}/{name}", "wb") as written:
                 written.write(read.read())
-        gate = open_gate(f"{ROOT}/samples/running/mlgate", [f"{folder}/sock", *filter_words, MLDB, *SERVE], folder, f"{folder}/sock", null)
+        words = [f"{folder}/sock", *filter_words, MLDB, *SERVE]
+        gate = open_gate(f"{ROOT}/samples/running/mlgate", words, folder, f"{folder}/sock", null)
         try:
             return speed([f"{folder}/sock"])
         finally:

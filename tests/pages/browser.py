@@ -162,4 +162,6 @@ def find_chromium() -> str | None:
     """The browser, where there is one."""
     # Debian's script of that name adds words for a graphics card.
     plain = "/usr/lib/chromium/chromium"
-    return plain if os.access(plain, os.X_OK) else shutil.which("chromium") or shutil.which("chromium-browser") or shutil.which("google-chrome")
+    if os.access(plain, os.X_OK):
+        return plain
+    return shutil.which("chromium") or shutil.which("chromium-browser") or shutil.which("google-chrome")

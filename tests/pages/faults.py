@@ -1,5 +1,5 @@
-"""Faults that are planted in copies of the tools: the file, what stands there once, what stands there then, and the page
-that shows it where the awkward ones do not."""
+"""Faults that are planted in copies of the tools: the file, what stands there once, what stands there then, and the
+page that shows it where the awkward ones do not."""
 
 FAULTS = (
     ("mlpages/page.py", "else Html(html.escape(text, quote=True))", "else Html(text)"),
@@ -71,7 +71,12 @@ FAULTS = (
         "table.plain th, table.plain td { overflow-wrap: anywhere; }",
         "ministry.report.html",
     ),
-    ("mlpages/page.py", ".drawing svg { min-width: var(--least); }", ".drawing svg { min-width: 0; }", "big.report.html"),
+    (
+        "mlpages/page.py",
+        ".drawing svg { min-width: var(--least); }",
+        ".drawing svg { min-width: 0; }",
+        "big.report.html",
+    ),
     ("mlpages/report.py", "if not other.is_file() and role in ROLES[2:]:", "if False:"),
     ("mlpages/report.py", "return listed + text_changes(told)", "return listed"),
     ("mlpages/report.py", "return what\n    how, rest", "return what\n    return what\n    how, rest"),

@@ -12,7 +12,8 @@ OVERFLOW = """
     const style = getComputedStyle(one);
     if (style.display === 'inline' || one.closest('.scroll')) continue;
     if (box.right > innerWidth + 1) found.push(one.tagName + ' ' + one.className + ' to ' + Math.round(box.right));
-    if (one.scrollWidth > one.clientWidth + 1 && one.clientWidth) found.push(one.tagName + ' ' + one.className + ' is too narrow');
+    if (one.scrollWidth > one.clientWidth + 1 && one.clientWidth)
+      found.push(one.tagName + ' ' + one.className + ' is too narrow');
   }
   return found.slice(0, 5);
 })()
@@ -41,7 +42,8 @@ CONTRAST = """
   function behind(one) {
     if (one.tagName === 'text') {
       const shape = one.previousElementSibling;
-      if (shape && shape.tagName === 'rect' && one.parentElement.childElementCount === 2) return rgba(getComputedStyle(shape).fill);
+      if (shape && shape.tagName === 'rect' && one.parentElement.childElementCount === 2)
+        return rgba(getComputedStyle(shape).fill);
       one = one.closest('svg').parentElement;
     }
     for (; one; one = one.parentElement) {
@@ -55,10 +57,12 @@ CONTRAST = """
   let count = 0;
   while (walk.nextNode()) {
     const one = walk.currentNode.parentElement;
-    if (!walk.currentNode.data.trim() || !one.checkVisibility() || ['STYLE', 'SCRIPT', 'title', 'TITLE'].includes(one.tagName)) continue;
+    if (!walk.currentNode.data.trim() || !one.checkVisibility()) continue;
+    if (['STYLE', 'SCRIPT', 'title', 'TITLE'].includes(one.tagName)) continue;
     count++;
     const style = getComputedStyle(one);
-    const [a, b] = [light(rgba(one.tagName === 'text' ? style.fill : style.color)), light(behind(one))].sort((x, y) => y - x);
+    const ink = light(rgba(one.tagName === 'text' ? style.fill : style.color));
+    const [a, b] = [ink, light(behind(one))].sort((x, y) => y - x);
     const ratio = (a + 0.05) / (b + 0.05);
     if (ratio < 4.5) faint.push(ratio.toFixed(2) + ' ' + walk.currentNode.data.slice(0, 30));
   }
@@ -115,7 +119,8 @@ CUT = """
   for (const one of document.querySelectorAll('.rows td:not(.long) bdi')) {
     if (!one.checkVisibility()) continue;
     const lines = new Set([...one.getClientRects()].map(box => box.top)).size;
-    if (lines > one.textContent.split(/[^\\p{L}\\p{N}]+/u).length) found.push(one.textContent.slice(0, 20) + ' is broken');
+    if (lines > one.textContent.split(/[^\\p{L}\\p{N}]+/u).length)
+      found.push(one.textContent.slice(0, 20) + ' is broken');
   }
   for (const one of document.querySelectorAll('svg text'))
     if (one.checkVisibility() && one.getBoundingClientRect().height < 10)

@@ -134,7 +134,8 @@ PLAY_SHOWN = (
     ),
     (
         "each class has its colour",
-        "new Set([...document.querySelectorAll('#e5 .cell[data-label=S] td')].map(one => getComputedStyle(one).backgroundColor)).size === 2",
+        "new Set([...document.querySelectorAll('#e5 .cell[data-label=S] td')]"
+        ".map(one => getComputedStyle(one).backgroundColor)).size === 2",
     ),
     (
         "the release is an arrow with its value",
@@ -150,11 +151,13 @@ PLAY_SHOWN = (
     ),
     (
         "a cover story is struck through in the higher column",
-        "document.querySelectorAll('#e5 .cell[data-label=S] tr.cover').length === 1 && document.querySelectorAll('#e5 .cell[data-label=U] tr.cover').length === 0",
+        "document.querySelectorAll('#e5 .cell[data-label=S] tr.cover').length === 1 && "
+        "document.querySelectorAll('#e5 .cell[data-label=U] tr.cover').length === 0",
     ),
     (
         "that there are no rows is said",
-        "document.querySelector('#e1 .sight[data-relation=CREW] .cell[data-label=U] .none').textContent.includes('no rows')",
+        "document.querySelector('#e1 .sight[data-relation=CREW] .cell[data-label=U] .none')"
+        ".textContent.includes('no rows')",
     ),
 )
 
@@ -247,11 +250,13 @@ def audit_page(folder: Path) -> Page:
         (
             (
                 "the numbers of a user",
-                "[...[...document.querySelectorAll('tr')].find(one => one.textContent.startsWith('tom')).cells].slice(2).map(one => one.textContent).join() === '1,1,2'",
+                "[...[...document.querySelectorAll('tr')].find(one => one.textContent.startsWith('tom')).cells]"
+                ".slice(2).map(one => one.textContent).join() === '1,1,2'",
             ),
             (
                 "a number leads to its lines",
-                "(location.hash = '#user-tom-released', getComputedStyle(document.querySelector('#user-tom-released')).display === 'block')",
+                "(location.hash = '#user-tom-released', "
+                "getComputedStyle(document.querySelector('#user-tom-released')).display === 'block')",
             ),
             (
                 "these are the lines",
@@ -260,16 +265,20 @@ def audit_page(folder: Path) -> Page:
             ("others are hidden", "getComputedStyle(document.querySelector('#user-tom-denied')).display === 'none'"),
             (
                 "days are plotted",
-                "document.querySelectorAll('svg.days rect').length === 3 && !!document.getElementById('day-2026-11-30-called')",
+                "document.querySelectorAll('svg.days rect').length === 3 && "
+                "!!document.getElementById('day-2026-11-30-called')",
             ),
             (
                 "each number has its lines",
-                "[...document.querySelectorAll('td a')].every(one => document.querySelectorAll(`[id=\"${one.hash.slice(1)}\"] pre`).length === Number(one.textContent))",
+                "[...document.querySelectorAll('td a')].every(one => "
+                "document.querySelectorAll(`[id=\"${one.hash.slice(1)}\"] pre`).length === Number(one.textContent))",
             ),
             (
                 "the first and the last day are at the edges",
-                "[...document.querySelectorAll('figcaption span')].map(one => one.textContent).join() === '2026-11-28,2026-11-30' && "
-                "(bars => bars[0].getAttribute('x') === '0.00' && Number(bars[2].getAttribute('x')) + Number(bars[2].getAttribute('width')) === 900)"
+                "[...document.querySelectorAll('figcaption span')].map(one => one.textContent).join()"
+                " === '2026-11-28,2026-11-30' && "
+                "(bars => bars[0].getAttribute('x') === '0.00' && "
+                "Number(bars[2].getAttribute('x')) + Number(bars[2].getAttribute('width')) === 900)"
                 "([...document.querySelectorAll('svg.days rect')])",
             ),
             (
@@ -278,7 +287,9 @@ def audit_page(folder: Path) -> Page:
             ),
             (
                 "every entry is counted",
-                "['user', 'label', 'day'].every(one => [...document.getElementById(one).nextElementSibling.querySelectorAll('td a')].reduce((sum, a) => sum + Number(a.textContent), 0) === 5)",
+                "['user', 'label', 'day'].every(one => [...document.getElementById(one)"
+                ".nextElementSibling.querySelectorAll('td a')]"
+                ".reduce((sum, a) => sum + Number(a.textContent), 0) === 5)",
             ),
         ),
     )
@@ -306,7 +317,8 @@ def big(work: Path) -> list[Page]:
         f'attribute = [{{ name = "A", kind = "text", {interval} }}]\n', encoding="utf-8",
     )
     (folder / "big.script").write_text(
-        'L a open u0\nL a insert R key ("x") values ("y")\nLad b open u63\nLad b update R key ("x") class L from L set A = "z"\nLad b view R at La\n',
+        'L a open u0\nL a insert R key ("x") values ("y")\nLad b open u63\n'
+        'Lad b update R key ("x") class L from L set A = "z"\nLad b view R at La\n',
         encoding="utf-8",
     )
     return [

@@ -1,9 +1,10 @@
 """A folder that stands for a machine, on which the commands of a page are tried; and clients of its gateway.
 
-The account's home, /usr/local/bin and the like are folders of a temporary one. `sudo`, `ssh`, `useradd`, `install`, `visudo`, `systemctl`,
-`journalctl` and `nc` are played by a few lines of this module, which read the samples as these programs do. The account mldb and the people
-are numbers that the machine does not have; so root is wanted, and what belongs to one cannot be read by another. With `is_real` the commands
-run as they stand, each in its user's account, in a mount namespace whose /etc, /var/lib, /var/backups and /usr/local/bin go with it."""
+The account's home, /usr/local/bin and the like are folders of a temporary one. `sudo`, `ssh`, `useradd`, `install`,
+`visudo`, `systemctl`, `journalctl` and `nc` are played by a few lines of this module, which read the samples as these
+programs do. The account mldb and the people are numbers that the machine does not have; so root is wanted, and what
+belongs to one cannot be read by another. With `is_real` the commands run as they stand, each in its user's account, in
+a mount namespace whose /etc, /var/lib, /var/backups and /usr/local/bin go with it."""
 
 import os
 import re
@@ -90,17 +91,28 @@ if name == "systemctl":
         for key, _, what in unit:
             if key == "ExecReload":
                 command = shlex.split(what.replace("$MAINPID", str(pid)))
-                done = subprocess.run(command, cwd=home, stdout=open(f"{work}/log", "a"), env={"PATH": path}, preexec_fn=as_mldb)
+                log = open(f"{work}/log", "a")
+                done = subprocess.run(command, cwd=home, stdout=log, env={"PATH": path}, preexec_fn=as_mldb)
                 if done.returncode: sys.exit("Job for mlgate.service failed.")
         ends, until = len(re.findall("sessions are open", before)), time.monotonic() + 240
-        while len(re.findall("sessions are open", open(f"{work}/log").read())) == ends and time.monotonic() < until: time.sleep(0.05)
+        while time.monotonic() < until and len(re.findall("sessions are open", open(f"{work}/log").read())) == ends:
+            time.sleep(0.05)
     if words[0] in ("enable", "start"):
         os.makedirs(f"{work}/socket", exist_ok=True)
         os.chown(f"{work}/socket", mldb, mldb)
         command = [os.environ["PYTHON"], "-c", gate, repr(people), *shlex.split(value["ExecStart"])]
         null, log = open(os.devnull), open(f"{work}/log", "a")
         child = subprocess.Popen(
-            command, cwd=home, env={"PATH": path}, stdin=null, stdout=log, stderr=log, preexec_fn=as_mldb, umask=0o077, process_group=0)
+            command,
+            cwd=home,
+            env={"PATH": path},
+            stdin=null,
+            stdout=log,
+            stderr=log,
+            preexec_fn=as_mldb,
+            umask=0o077,
+            process_group=0,
+        )
         open(pid_file, "w").write(str(child.pid))
         while not os.path.exists(f"{work}/socket/sock") and child.poll() is None: time.sleep(0.02)
 '''
@@ -150,12 +162,14 @@ class Checks:
 
     def end(self):
         """The status, told."""
-        print(f"{self.count} checks: all is so" if not self.failures and self.count else f"{len(self.failures)} of {self.count} not so")
+        is_so = not self.failures and self.count
+        print(f"{self.count} checks: all is so" if is_so else f"{len(self.failures)} of {self.count} not so")
         return 1 if self.failures or not self.count else 0
 
 
 def isolate():
-    """Begins this program again in a mount namespace of its own, in which what the pages change is a copy, and people have accounts."""
+    """Begins this program again in a mount namespace of its own, in which what the pages change is a copy, and people
+    have accounts."""
     if os.environ.get("MLDB_APART") != "yes":
         os.execvpe("unshare", ["unshare", "-m", sys.executable, *sys.argv], os.environ | {"MLDB_APART": "yes"})
     for path in ("/etc", "/usr/local/bin", "/var/lib", "/var/backups"):
@@ -209,7 +223,14 @@ class Machine:
 
     def environment(self, user):
         own = "/usr/bin:" if self.is_real else f"{self.work}/played:{self.work}/bin:"
-        names = {"WORK": self.work, "CALLER": user, "PEOPLE": repr(PEOPLE), "MLDB_UID": str(MLDB_UID), "GATE": GATE, "PYTHON": PYTHON}
+        names = {
+            "WORK": self.work,
+            "CALLER": user,
+            "PEOPLE": repr(PEOPLE),
+            "MLDB_UID": str(MLDB_UID),
+            "GATE": GATE,
+            "PYTHON": PYTHON,
+        }
         return {"PATH": own + os.environ["PATH"], "LC_ALL": "C.UTF-8", **names}
 
     def start(self, user, command, **how):
@@ -217,7 +238,13 @@ class Machine:
         if self.is_real and user != "root":
             words = ["runuser", "-u", user, "--", *words]
         return subprocess.Popen(
-            words, cwd=f"{self.work}/desk", env=self.environment(user), process_group=0, text=True, stdout=subprocess.PIPE, **how
+            words,
+            cwd=f"{self.work}/desk",
+            env=self.environment(user),
+            process_group=0,
+            text=True,
+            stdout=subprocess.PIPE,
+            **how,
         )
 
     def home(self, name):
@@ -260,11 +287,14 @@ def keys(text, name):
 
 
 class Client:
-    """Somebody at the gateway, with the lines that he types; where `cut` is given, he stops in the middle of it and waits."""
+    """Somebody at the gateway, with the lines that he types; where `cut` is given, he stops in the middle of it and
+    waits."""
 
     def __init__(self, path, user, level, lines, cut=""):
         words = [sys.executable, "-c", CLIENT, path, level, str(PEOPLE.get(user, user)), cut]
-        self.process = subprocess.Popen(words, process_group=0, text=True, stdin=subprocess.PIPE, stdout=subprocess.PIPE)
+        self.process = subprocess.Popen(
+            words, process_group=0, text=True, stdin=subprocess.PIPE, stdout=subprocess.PIPE
+        )
         self.reader = threading.Thread(target=self.talk, args=(lines,))
         self.reader.start()
 

@@ -1,5 +1,6 @@
-"""Three machines with one log, on the loopback: each a gateway, mlstream and `mldb serve` beside a nats-server, as the samples of configurations
-have them. What stands between two servers may be stopped, so that neither hears of the other."""
+"""Three machines with one log, on the loopback: each a gateway, mlstream and `mldb serve` beside a nats-server, as the
+samples of configurations have them. What stands between two servers may be stopped, so that neither hears of the
+other."""
 
 import contextlib
 import hashlib
@@ -62,12 +63,13 @@ class Cluster:
     """Three servers and three machines, in a folder."""
 
     def __init__(self, checks, folder, stream, mldb, patience=240):
-        self.checks, self.expect, self.folder, self.stream, self.mldb, self.patience = checks, checks.expect, folder, stream, mldb, patience
+        self.checks, self.expect, self.patience = checks, checks.expect, patience
+        self.folder, self.stream, self.mldb = folder, stream, mldb
         os.chmod(folder, 0o755)
         ports = free_ports(12)
         self.ports, self.routes, self.begun = ports[:3], ports[3:6], [0] * 3
         self.servers, self.gates, self.mended, self.taken, self.is_healed = [None] * 3, [None] * 3, 0, [], False
-        self.ways = {pair: port for pair, port in zip([(a, b) for a in range(3) for b in range(3) if a != b], ports[6:])}
+        self.ways = dict(zip([(a, b) for a in range(3) for b in range(3) if a != b], ports[6:]))
         self.between = {(a, b): self.stand_between(a, b) for a, b in self.ways if a < b}
         for place, name in enumerate("abc"):
             os.makedirs(f"{folder}/{name}/copies")
@@ -81,9 +83,13 @@ class Cluster:
         """A certificate of an authority that the three have."""
         home, three = f"{self.folder}/{'abc'[place]}/this", f"{self.folder}/three"
         subject = ["-subj", "/CN=127.0.0.1", "-newkey", "rsa:2048", "-nodes", "-days", "2"]
-        for words in ([] if place else [["req", "-x509", *subject, "-keyout", f"{three}.key", "-out", f"{three}.pem"]]) + [
-            ["req", *subject, "-addext", "subjectAltName=IP:127.0.0.1", "-keyout", f"{home}.key", "-out", f"{home}.csr"],
-            ["x509", "-req", "-in", f"{home}.csr", "-CA", f"{three}.pem", "-CAkey", f"{three}.key", "-CAcreateserial", "-copy_extensions", "copy", "-out", f"{home}.pem"],
+        authority = ["req", "-x509", *subject, "-keyout", f"{three}.key", "-out", f"{three}.pem"]
+        asked = ["-addext", "subjectAltName=IP:127.0.0.1", "-keyout", f"{home}.key", "-out", f"{home}.csr"]
+        signed = ["-CA", f"{three}.pem", "-CAkey", f"{three}.key", "-CAcreateserial", "-copy_extensions", "copy"]
+        for words in [
+            *([] if place else [authority]),
+            ["req", *subject, *asked],
+            ["x509", "-req", "-in", f"{home}.csr", *signed, "-out", f"{home}.pem"],
         ]:
             subprocess.run(["openssl", *words], check=True, stderr=subprocess.DEVNULL)
 
@@ -104,7 +110,8 @@ class Cluster:
         routes = ", ".join(f"nats://127.0.0.1:{port}" for pair, port in self.ways.items() if pair[0] == place)
         for old, new in [
             (r"(?m)^listen: .*", f"listen: 127.0.0.1:{self.ports[place]}"),
-            (r"store_dir: \S+", f'store_dir: "{self.folder}/{name}/stream",'), (r"listen: 0\.0\.0\.0:\d+", f"listen: 127.0.0.1:{self.routes[place]}"),
+            (r"store_dir: \S+", f'store_dir: "{self.folder}/{name}/stream",'),
+            (r"listen: 0\.0\.0\.0:\d+", f"listen: 127.0.0.1:{self.routes[place]}"),
             # By another way than those between the servers nobody is reached.
             (r"routes: \[.*\]", f'routes: [{routes}]\n  advertise: "127.0.0.1:1"'),
             (r"/etc/nats/this", f"{self.folder}/{name}/this"), (r"/etc/nats/three", f"{self.folder}/three"),
@@ -118,8 +125,13 @@ class Cluster:
     def start_server(self, place):
         name = "abc"[place]
         log = open(f"{self.folder}/{name}/server.log", "ab")
-        self.servers[place] = subprocess.Popen(["nats-server", "-c", f"{self.folder}/{name}/{name}.conf"], stdout=log, stderr=log, process_group=0,
-                                               env=os.environ | {"MLDB_STREAM_TOKEN": "secret"})
+        self.servers[place] = subprocess.Popen(
+            ["nats-server", "-c", f"{self.folder}/{name}/{name}.conf"],
+            stdout=log,
+            stderr=log,
+            process_group=0,
+            env=os.environ | {"MLDB_STREAM_TOKEN": "secret"},
+        )
 
     def start(self, place, store="fleet.db"):
         """A gateway with what stands behind it, as the sample of a unit has it."""
@@ -128,14 +140,23 @@ class Cluster:
             os.remove(f"{home}/sock")
         with open(f"{ROOT}/samples/running/cluster/machine.conf", encoding="utf-8") as file:
             words = re.findall(r"ExecStart=(\S+ .*)", file.read())[-1].split()
-        here = {"/run/mldb/sock": f"{home}/sock", "/usr/local/bin/mlstream": self.stream, "a": name, "127.0.0.1:4222": f"127.0.0.1:{self.ports[place]}",
-                "/usr/local/bin/mldb": self.mldb, "fleet.db": store, "/var/lib/mldb/users": f"{home}/users"}
+        here = {
+            "/run/mldb/sock": f"{home}/sock",
+            "/usr/local/bin/mlstream": self.stream,
+            "a": name,
+            "127.0.0.1:4222": f"127.0.0.1:{self.ports[place]}",
+            "/usr/local/bin/mldb": self.mldb,
+            "fleet.db": store,
+            "/var/lib/mldb/users": f"{home}/users",
+        }
         words = [here.get(word, word) for word in words]
         assert set(here.values()) <= set(words), words
         open(f"{home}/users", "a", encoding="utf-8").close()
         os.environ["MLDB_STREAM_TOKEN"] = "secret"
         self.begun[place] = self.log(place).count(THERE)
-        self.gates[place] = open_gate(f"{ROOT}/samples/running/mlgate", words[1:], home, f"{home}/sock", open(f"{home}/log", "ab"))
+        self.gates[place] = open_gate(
+            f"{ROOT}/samples/running/mlgate", words[1:], home, f"{home}/sock", open(f"{home}/log", "ab")
+        )
 
     def are_there(self, *places):
         return all(self.log(place).count(THERE) > self.begun[place] for place in places)
@@ -155,9 +176,11 @@ class Cluster:
         self.checks.count += 1
 
     def mend(self):
-        """What a unit does: a gateway that ended is started again. And what an administrator does: a server's copy that is another goes."""
+        """What a unit does: a gateway that ended is started again. And what an administrator does: a server's copy that
+        is another goes."""
         for place, name in enumerate("abc"):
-            told = sum(f"the copy of the server {name} is not what others have read" in self.log(other) for other in range(3))
+            words = f"the copy of the server {name} is not what others have read"
+            told = sum(words in self.log(other) for other in range(3))
             if told and place not in self.taken and self.is_healed:
                 self.taken.append(place)
                 self.servers[place].kill()
@@ -189,10 +212,14 @@ class Cluster:
 
     def view(self, place):
         """What a machine's closed store has at each label, its audit list too."""
-        given = "".join(f"{label} {user} open {user}\n{label} {user} dump SOD\n{label} {user} dump CREW\n{label} {user} audit\n"
-                        for label, user in (("U", "ann"), ("S", "bob"), ("H", "hal")))
+        given = "".join(
+            f"{label} {user} open {user}\n{label} {user} dump SOD\n{label} {user} dump CREW\n{label} {user} audit\n"
+            for label, user in (("U", "ann"), ("S", "bob"), ("H", "hal"))
+        )
         words = [self.mldb, "serve", "--store", "fleet.db", "policy.toml", "schemes.toml"]
-        return subprocess.run(words, input=given, cwd=f"{self.folder}/{'abc'[place]}", capture_output=True, text=True, check=False).stdout
+        return subprocess.run(
+            words, input=given, cwd=f"{self.folder}/{'abc'[place]}", capture_output=True, text=True, check=False
+        ).stdout
 
     def lines(self, wanted=None):
         """All lines of the stream; with a digest those that give it, since a server's copy may differ."""
@@ -205,7 +232,8 @@ class Cluster:
                     if number is not None:
                         found.append(data)
                         chain = hashlib.sha256(chain.encode() + data).hexdigest()[:32]
-                    if len(found) >= last or number is None and not data or number is not None and wanted == (number, chain):
+                    is_there = number is not None and wanted == (number, chain)
+                    if len(found) >= last or number is None and not data or is_there:
                         break
             except OSError:
                 pass

@@ -1,5 +1,6 @@
-"""What mlstream says to its own nats-server: some words of the protocol, with the standard library. A stream of JetStream is a log that several
-servers keep; a line of it has a number, and is acknowledged when most of them have it. It is read from whichever server's copy JetStream takes."""
+"""What mlstream says to its own nats-server: some words of the protocol, with the standard library. A stream of
+JetStream is a log that several servers keep; a line of it has a number, and is acknowledged when most of them have it.
+It is read from whichever server's copy JetStream takes."""
 
 import collections
 import json
@@ -68,7 +69,8 @@ class Server:
         if headers is None:
             head = f"PUB {subject} {reply} {len(data)}\r\n".encode()
         else:
-            told = b"NATS/1.0\r\n" + b"".join(f"{name}: {value}\r\n".encode() for name, value in headers.items()) + b"\r\n"
+            fields = "".join(f"{name}: {value}\r\n" for name, value in headers.items())
+            told = f"NATS/1.0\r\n{fields}\r\n".encode()
             head, data = f"HPUB {subject} {reply} {len(told)} {len(told) + len(data)}\r\n".encode(), told + data
         self.socket.sendall(head + data + b"\r\n")
 
@@ -99,11 +101,15 @@ class Server:
         return found
 
     def follow(self, first):
-        """The lines from a number on, each with its number; None where there is none for a second. It ends where a server has gone. Which server's
-        copy is read is the server's choice: its name comes first, with no number."""
+        """The lines from a number on, each with its number; None where there is none for a second. It ends where a
+        server has gone. Which server's copy is read is the server's choice: its name comes first, with no number."""
         box = self.subscribe()
         config = {
-            "deliver_subject": box, "deliver_policy": "by_start_sequence", "opt_start_seq": first, "ack_policy": "none", "replay_policy": "instant",
+            "deliver_subject": box,
+            "deliver_policy": "by_start_sequence",
+            "opt_start_seq": first,
+            "ack_policy": "none",
+            "replay_policy": "instant",
             "idle_heartbeat": 1_000_000_000,
         }
         data = json.dumps({"stream_name": STREAM, "config": config}).encode()
@@ -147,7 +153,8 @@ class Log:
         self.server = None
 
     def tries(self, work, seconds):
-        """What some work gives, tried again for some seconds. A server that has just begun may not know the stream yet."""
+        """What some work gives, tried again for some seconds. A server that has just begun may not know the stream
+        yet."""
         until, was_sent, why, gone = time.monotonic() + seconds, False, "the server is not there", None
         while time.monotonic() < until:
             before = was_sent
@@ -171,7 +178,8 @@ class Log:
         raise (Unknown if was_sent else Unavailable)(why)
 
     def put(self, data, name, seconds):
-        """The number of a line that is kept by most servers, and whether it was so before. A line that is said again with its name is kept once."""
+        """The number of a line that is kept by most servers, and whether it was so before. A line that is said again
+        with its name is kept once."""
         answer = self.tries(lambda server: server.ask(SUBJECT, data, {"Nats-Msg-Id": name}), seconds)
         return answer["seq"], answer.get("duplicate", False)
 
@@ -182,7 +190,19 @@ class Log:
     def make(self, seconds):
         """The stream, if it is not there."""
         config = {
-            "name": STREAM, "subjects": [SUBJECT], "retention": "limits", "storage": "file", "num_replicas": self.replicas, "discard": "new",
-            "duplicate_window": 120_000_000_000, "max_msgs": -1, "max_bytes": -1, "max_age": 0, "deny_delete": True, "deny_purge": True,
+            "name": STREAM,
+            "subjects": [SUBJECT],
+            "retention": "limits",
+            "storage": "file",
+            "num_replicas": self.replicas,
+            "discard": "new",
+            "duplicate_window": 120_000_000_000,
+            "max_msgs": -1,
+            "max_bytes": -1,
+            "max_age": 0,
+            "deny_delete": True,
+            "deny_purge": True,
         }
-        return self.tries(lambda server: server.ask(f"$JS.API.STREAM.CREATE.{STREAM}", json.dumps(config).encode()), seconds)
+        return self.tries(
+            lambda server: server.ask(f"$JS.API.STREAM.CREATE.{STREAM}", json.dumps(config).encode()), seconds
+        )

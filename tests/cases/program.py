@@ -159,15 +159,20 @@ class Terminal:
         modes[6][termios.VMIN], modes[6][termios.VTIME] = 0, 10
         termios.tcsetattr(self.theirs, termios.TCSANOW, modes)
 
-    def type(self, typed: bytes, child: subprocess.Popen[bytes]) -> None:
-        """Types these bytes, as far as somebody reads them."""
+    def type(self, typed: bytes | memoryview) -> memoryview:
+        """Types as much of these bytes as fits there, and gives back the rest."""
         os.set_blocking(self.ours, False)
         left = memoryview(typed)
-        while left and child.poll() is None:
-            try:
+        with contextlib.suppress(BlockingIOError):
+            while left:
                 left = left[os.write(self.ours, left):]
-            except BlockingIOError:
-                time.sleep(0.001)
+        return left
+
+    def type_rest(self, left: memoryview, child: subprocess.Popen[bytes]) -> None:
+        """Types what is left, as far as somebody reads it."""
+        while left and child.poll() is None:
+            left = self.type(left)
+            time.sleep(0.001)
         child.wait()
         os.close(self.ours)
 
@@ -186,13 +191,15 @@ def talk(words: list[str], folder: Path, typed: bytes, terminals: Collection[int
     """One run of a program in a folder: what it writes where these bytes are typed."""
     typing, told = (Terminal() if stream in terminals else None for stream in (0, 2))
     ends = [terminal.theirs if terminal else subprocess.PIPE for terminal in (typing, told)]
+    # Before anybody reads: a machine that is busy for a second is no end.
+    left = typing.type(typed) if typing else b""
     child = subprocess.Popen(words, cwd=folder, stdin=ends[0], stdout=subprocess.PIPE, stderr=ends[1])
     for terminal in (typing, told):
         if terminal:
             os.close(terminal.theirs)
     with ThreadPoolExecutor(2) as others:
         if typing:
-            others.submit(typing.type, typed, child)
+            others.submit(typing.type_rest, left, child)
         read = others.submit(told.read) if told else None
         try:
             out, err = child.communicate(None if typing else typed, SECONDS)

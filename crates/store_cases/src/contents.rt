@@ -1,26 +1,22 @@
 //! What bases hold, as texts.
+use crate::disks::Copies;
 use crate::narrow::Narrow;
 use crate::runs::{End, Task, do_task};
 use crate::site::Site;
+use crate::stores::{Done, Job, Outcome, Work, do_job};
 use case_tables::{Told, text_of};
 use mls_updates::ListBase;
 use std::alloc::Global;
 
 /// The reply to the first event of the probe, which asks for all that there is.
-const MARK: &str = "U U/probe opened ann\n";
+static MARK: &str = "U U/probe opened ann\n";
 
-/// What the probe was answered.
-pub fn probed(alloc: Global, replies: &[u8]) -> Option<String> {
-    let (_, content) = text_of(replies).split_once(MARK)?;
-    String::from_str(alloc, content).ok()
-}
-
-/// Two texts, one behind the other.
-pub fn both(alloc: Global, first: &str, second: &str) -> Option<String> {
-    let mut text = Told::new(alloc);
-    text.push(first);
-    text.push(second);
-    text.finish().ok()
+/// Adds what the probe was answered.
+fn push_probed(replies: &[u8], out: &mut Told) {
+    match text_of(replies).split_once(MARK) {
+        Some((_, content)) => out.push(content),
+        None => out.fail(),
+    }
 }
 
 /// What a base over lists answers to a script, if all is well.
@@ -34,52 +30,27 @@ fn answered(alloc: Global, site: &Site<'_>, script: &str) -> Option<Narrow> {
     }
 }
 
-/// What a base over lists holds after a script.
-pub fn content_of(alloc: Global, site: &Site<'_>, script: &str, probe: &str) -> Option<String> {
-    let text = both(alloc, script, probe)?;
-    let out = answered(alloc, site, &text)?;
-    probed(alloc, &out.bytes)
+/// Adds what a base over lists holds after a script, which the probe ends.
+pub fn push_lists(alloc: Global, site: &Site<'_>, script: &str, out: &mut Told) {
+    match answered(alloc, site, script) {
+        Some(replies) => push_probed(&replies.bytes, out),
+        None => out.fail(),
+    }
 }
 
-/// What it holds after a script, and what is left of that where the audit list is turned: no entry.
-pub fn turned_of(alloc: Global, site: &Site<'_>, script: &str, probe: &str) -> Option<Vec<String>> {
-    let content = content_of(alloc, site, script, probe)?;
-    let mut left = Told::new(alloc);
-    for line in content.lines() {
-        if !line.contains(" entry ") {
-            left.push_line(line);
-        }
+fn push_done(done: &Done, out: &mut Told) {
+    match done.outcome {
+        Outcome::Ended(End::Whole) => push_probed(&done.replies, out),
+        Outcome::Refused(fault) => out.push(fault.word()),
+        _ => out.fail(),
     }
-    let mut contents = Vec::new(alloc);
-    contents.push(content).ok()?;
-    contents.push(left.finish().ok()?).ok()?;
-    Some(contents)
 }
 
-/// What a base over lists holds before a script, and after each of its lines.
-pub fn contents_of(
-    alloc: Global,
-    site: &Site<'_>,
-    lines: &[&str],
-    probe: &str,
-) -> Option<Vec<String>> {
-    let mut script = Told::new(alloc);
-    let mut contents = Vec::new(alloc);
-    contents.push(content_of(alloc, site, "", probe)?).ok()?;
-    for line in lines {
-        script.push_line(line);
-        contents
-            .push(content_of(alloc, site, &script.text, probe)?)
-            .ok()?;
+/// Adds what the store in files holds under a site, or why it is refused.
+pub fn push_held(alloc: Global, site: &Site<'_>, probe: &str, copies: &Copies, out: &mut Told) {
+    let job = Job::left(Work::Do(site, Task::Run(probe)));
+    match do_job(alloc, job, copies) {
+        Some(done) => push_done(&done, out),
+        None => out.fail(),
     }
-    Some(contents)
-}
-
-/// What a base over lists holds before a script and after it.
-pub fn ends_of(alloc: Global, site: &Site<'_>, script: &str, probe: &str) -> Option<Vec<String>> {
-    let mut contents = Vec::new(alloc);
-    for script in ["", script] {
-        contents.push(content_of(alloc, site, script, probe)?).ok()?;
-    }
-    Some(contents)
 }

@@ -1,4 +1,5 @@
 //! How many stops leave what.
+use crate::stops::Plan;
 use case_tables::Told;
 use std::alloc::{AllocError, Global};
 
@@ -12,10 +13,10 @@ pub struct Place {
 }
 
 /// Whether the content in this place is what is found.
-fn holds(contents: &[String], place: usize, found: &Option<String>) -> bool {
-    match (contents.get(place), found) {
-        (Some(content), Some(found)) => content.as_str() == found.as_str(),
-        _ => false,
+fn holds(contents: &[String], place: usize, found: &Told) -> bool {
+    match contents.get(place) {
+        Some(content) => found.is_whole && content.as_str() == found.text.as_str(),
+        None => false,
     }
 }
 
@@ -34,7 +35,7 @@ impl Left {
     };
 
     /// Notes what is found after a stop, and answers whether it is one of the two.
-    fn note(&mut self, contents: &[String], place: Place, found: &Option<String>) -> bool {
+    fn note(&mut self, contents: &[String], place: Place, found: &Told) -> bool {
         if !place.done && holds(contents, place.number.saturating_sub(1), found) {
             self.before = self.before.saturating_add(1);
             return true;
@@ -110,6 +111,16 @@ impl Count {
         out.push_line(name);
     }
 
+    /// Notes what is found after a stop, and answers whether it may be left.
+    fn note(&mut self, contents: &[String], place: Place, found: &Found) -> bool {
+        self.stops = self.stops.saturating_add(1);
+        self.cause = both_causes(self.cause, place.cause);
+        self.done = self.done.saturating_add(usize::from(place.done));
+        let synced = self.synced.note(contents, place, &found.synced);
+        let written = self.written.note(contents, place, &found.written);
+        synced && written
+    }
+
     fn plus(&self, other: &Count) -> Count {
         Count {
             stops: self.stops.saturating_add(other.stops),
@@ -121,18 +132,18 @@ impl Count {
     }
 }
 
-/// What is found after a stop, if anything is: where only what was synced is left, and where all that was written is.
+/// What is found after a stop: where only what was synced is left, and where all that was written is.
 #[derive(Drop)]
 pub struct Found {
-    pub synced: Option<String>,
-    pub written: Option<String>,
+    pub synced: Told,
+    pub written: Told,
 }
 
-/// What the stops of a series leave, by their places.
+/// What the stops of a series leave, by their places, and a line for each that is wrong.
 #[derive(Drop)]
 pub struct Counts {
     places: Vec<Count>,
-    wrong: Vec<u64>,
+    wrong: Told,
     is_whole: bool,
 }
 
@@ -143,32 +154,27 @@ impl Counts {
         counts.resize(places, Count::NONE)?;
         Ok(Counts {
             places: counts,
-            wrong: Vec::new(alloc),
+            wrong: Told::new(alloc),
             is_whole: false,
         })
     }
 
     /// Notes what is found after the stop after so many calls.
-    pub fn note(
-        &mut self,
-        contents: &[String],
-        place: Place,
-        found: &Found,
-        calls: u64,
-    ) -> Result<(), AllocError> {
-        let Some(count) = self.places.get_mut(place.number) else {
-            self.wrong.push(calls)?;
-            return Ok(());
+    pub fn note(&mut self, contents: &[String], place: Place, found: &Found, calls: u64) {
+        let is_right = match self.places.get_mut(place.number) {
+            Some(count) => count.note(contents, place, found),
+            None => false,
         };
-        count.stops = count.stops.saturating_add(1);
-        count.cause = both_causes(count.cause, place.cause);
-        count.done = count.done.saturating_add(usize::from(place.done));
-        let synced = count.synced.note(contents, place, &found.synced);
-        let written = count.written.note(contents, place, &found.written);
-        if !synced || !written {
-            self.wrong.push(calls)?;
+        if !is_right {
+            self.wrong.push("  wrong after ");
+            self.wrong.push_number(calls.cast_signed());
+            self.wrong.push_line(" calls");
         }
-        Ok(())
+    }
+
+    /// Notes that a stop was not tried.
+    pub fn fail(&mut self) {
+        self.wrong.fail();
     }
 
     /// Notes what is found where nothing stopped: the last content, if all is well.
@@ -187,20 +193,19 @@ impl Counts {
     }
 
     /// Tells them, with the names of the places.
-    pub fn tell(&self, names: &[&str], out: &mut Told) {
-        for (count, name) in self.places.iter().zip(names) {
+    pub fn tell(&self, plan: &Plan<'_>, out: &mut Told) {
+        for (place, count) in self.places.iter().enumerate() {
             if count.stops > 0 {
-                count.tell(name, out);
+                count.tell(plan.name(place), out);
             }
         }
         self.total().tell("in all", out);
         if !self.is_whole {
             out.push_line("  not whole where nothing stops");
         }
-        for calls in &self.wrong {
-            out.push("  wrong after ");
-            out.push_number(calls.cast_signed());
-            out.push_line(" calls");
+        out.push(&self.wrong.text);
+        if !self.wrong.is_whole {
+            out.fail();
         }
     }
 }

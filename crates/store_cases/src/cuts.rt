@@ -4,7 +4,6 @@ use crate::stops::{Plan, content_in};
 use crate::stores::{Job, Work, do_job};
 use case_tables::Told;
 use std::alloc::{AllocError, Global};
-use std::io;
 
 /// The log is cut after so many bytes, and after twice as many, and so on.
 const STEP: usize = 500;
@@ -16,72 +15,67 @@ fn cut(alloc: Global, copies: &Copies, length: usize) -> Result<Copies, AllocErr
     Ok(Copies { log, db })
 }
 
-/// The first place of a content, or the place behind all.
-fn place_of(contents: &[String], found: &Option<String>) -> usize {
-    let Some(found) = found else {
-        return contents.len();
-    };
-    for (place, content) in contents.iter().enumerate() {
-        if content.as_str() == found.as_str() {
+/// The first place of what files hold, or the place behind all.
+fn place_of(alloc: Global, plan: &Plan<'_>, copies: &Copies) -> usize {
+    let found = content_in(alloc, plan, copies);
+    for (place, content) in plan.contents.iter().enumerate() {
+        if found.is_whole && content.as_str() == found.text.as_str() {
             return place;
         }
     }
-    contents.len()
+    plan.contents.len()
 }
 
-/// The place of what a part of the log leaves.
-fn place_in(
+/// Counts what a part of the log leaves.
+fn count_part(
     alloc: Global,
     plan: &Plan<'_>,
     copies: &Copies,
     length: usize,
-) -> Result<usize, AllocError> {
+    counts: &mut [usize],
+) -> Result<(), AllocError> {
     let part = cut(alloc, copies, length)?;
-    let found = content_in(alloc, plan, &part);
-    Ok(place_of(plan.contents, &found))
+    if let Some(count) = counts.get_mut(place_of(alloc, plan, &part)) {
+        *count = count.saturating_add(1);
+    }
+    Ok(())
 }
 
-/// How many of the parts of the log leave each of the contents, and how many none of them.
-fn counts_of(alloc: Global, plan: &Plan<'_>, copies: &Copies) -> Result<Vec<usize>, AllocError> {
-    let mut counts = Vec::new(alloc);
-    counts.resize(plan.contents.len().saturating_add(1), 0usize)?;
-    for part in 0..copies.log.len() / STEP {
-        let place = place_in(alloc, plan, copies, part.saturating_mul(STEP))?;
-        if let Some(count) = counts.get_mut(place) {
-            *count = count.saturating_add(1);
-        }
-    }
-    Ok(counts)
-}
-
-/// The name of the place of a content, or what is told of the place behind all.
-fn name_at<'a>(plan: &Plan<'a>, place: usize) -> &'a str {
-    if place >= plan.contents.len() {
-        return "wrong";
-    }
-    match plan.names.get(place) {
-        Some(name) => *name,
-        None => "",
-    }
-}
-
-/// Tells how many parts leave what is after an event.
+/// Tells how many parts leave what is after an event, and how many none of that.
 fn tell_counts(plan: &Plan<'_>, counts: &[usize], out: &mut Told) {
     for (place, count) in counts.iter().enumerate() {
         if *count > 0 {
             out.push("  ");
             out.push_count(*count);
             out.push(" parts: ");
-            out.push_line(name_at(plan, place));
+            let is_wrong = place >= plan.contents.len();
+            out.push_line(if is_wrong { "wrong" } else { plan.name(place) });
         }
     }
 }
 
-/// Tells what is found after a task whose store is not closed, where its log is cut short: how many of the parts leave what is after an event.
-pub fn tell_cuts(alloc: Global, plan: &Plan<'_>, out: &mut Told) -> io::Result<()> {
-    let job = Job::left(Work::Do(plan.site, plan.task));
-    let done = do_job(alloc, job, plan.start)?;
-    let counts = counts_of(alloc, plan, &done.written)?;
+fn tell_parts(
+    alloc: Global,
+    plan: &Plan<'_>,
+    copies: &Copies,
+    out: &mut Told,
+) -> Result<(), AllocError> {
+    let mut counts = Vec::new(alloc);
+    counts.resize(plan.contents.len().saturating_add(1), 0usize)?;
+    for part in 0..copies.log.len() / STEP {
+        count_part(alloc, plan, copies, part.saturating_mul(STEP), &mut counts)?;
+    }
     tell_counts(plan, &counts, out);
     Ok(())
+}
+
+/// Tells what is found after a task whose store is not closed, where its log is cut short: how many of the parts leave what is after an event.
+pub fn tell_cuts(alloc: Global, plan: &Plan<'_>, out: &mut Told) {
+    match do_job(alloc, Job::left(Work::Do(plan.site, plan.task)), plan.start) {
+        Some(done) => {
+            let told = tell_parts(alloc, plan, &done.written, out);
+            out.note(told);
+        }
+        None => out.fail(),
+    }
 }

@@ -1,32 +1,31 @@
 //! Disks in memory that stop.
 use sqlite::Files;
 use sqlite_disk::{Crash, Disk, Fuse, Memory};
-use std::alloc::{AllocError, Global};
-use std::io::{self, Error, ErrorKind};
+use std::alloc::Global;
 
 /// A disk that stops, and what is found of it afterwards.
 pub trait Medium: Crash + Drop {
     /// A disk that holds these bytes, all of them synced, and stops after so many calls.
-    fn holding(alloc: Global, bytes: &[u8], calls: u64) -> io::Result<Self>;
+    fn holding(alloc: Global, bytes: &[u8], calls: u64) -> Option<Self>;
 
     /// The bytes that were written.
     fn bytes(&self) -> &[u8];
 }
 
 /// A file in memory with these bytes, all of them synced.
-fn memory_of(alloc: Global, bytes: &[u8]) -> io::Result<Memory> {
+fn memory_of(alloc: Global, bytes: &[u8]) -> Option<Memory> {
     let mut memory = Memory::new(alloc);
     if !memory.may_be_used() {
-        return Err(Error::from(ErrorKind::InvalidData));
+        return None;
     }
-    memory.write_at(0, bytes)?;
-    memory.sync()?;
-    Ok(memory)
+    memory.write_at(0, bytes).ok()?;
+    memory.sync().ok()?;
+    Some(memory)
 }
 
 impl Medium for Fuse<Memory> {
-    fn holding(alloc: Global, bytes: &[u8], calls: u64) -> io::Result<Fuse<Memory>> {
-        Ok(Fuse::new(memory_of(alloc, bytes)?, calls))
+    fn holding(alloc: Global, bytes: &[u8], calls: u64) -> Option<Fuse<Memory>> {
+        Some(Fuse::new(memory_of(alloc, bytes)?, calls))
     }
 
     fn bytes(&self) -> &[u8] {
@@ -68,16 +67,16 @@ impl Copies {
     }
 
     /// What was written to files.
-    pub fn of<D: Medium>(alloc: Global, files: &Files<D>) -> Result<Copies, AllocError> {
-        let log = files.log.bytes().to_vec(alloc)?;
-        let db = files.db.bytes().to_vec(alloc)?;
-        Ok(Copies { log, db })
+    pub fn of<D: Medium>(alloc: Global, files: &Files<D>) -> Option<Copies> {
+        let log = files.log.bytes().to_vec(alloc).ok()?;
+        let db = files.db.bytes().to_vec(alloc).ok()?;
+        Some(Copies { log, db })
     }
 
     /// Files with these bytes, which stop after so many calls.
-    pub fn files<D: Medium>(&self, alloc: Global, calls: Calls) -> io::Result<Files<D>> {
+    pub fn files<D: Medium>(&self, alloc: Global, calls: Calls) -> Option<Files<D>> {
         let log = D::holding(alloc, &self.log, calls.log)?;
         let db = D::holding(alloc, &self.db, calls.db)?;
-        Ok(Files { log, db })
+        Some(Files { log, db })
     }
 }

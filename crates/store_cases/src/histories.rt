@@ -4,14 +4,12 @@ ghost use Rattle.std.specs.List.{AllByRecursion};
 ghost use Rattle.mls_runs.specs.History.{IsPrepared};
 
 use crate::runs::run_of;
-use crate::site::{Names, Site};
+use crate::site::{Bench, Site};
 use crate::stores::history;
-use crate::texts::Texts;
-use case_tables::{Case, Told, case_at, inner, text_of};
+use case_tables::{Case, Told, inner, text_of};
 use mls_lattice::LabelNo;
 use mls_runs::{HistoryFault, Run};
 use std::alloc::{AllocError, Global};
-use std::io;
 
 /// The event of a line for a history, without its mark, if the line is for it: of two with a bar between, that of the history.
 fn event_of<'a>(line: &'a str, history: &str) -> Option<&'a str> {
@@ -98,60 +96,62 @@ fn level_of(site: &Site<'_>, head: &str) -> Option<LabelNo>
     site.policy.label(name)
 }
 
-/// What a level is shown of a history over a new store, and how that ends.
-fn shown(
-    alloc: Global,
-    site: &Site<'_>,
-    level: LabelNo,
-    lines: &[&str],
-    number: &str,
-) -> io::Result<String>
+/// Tells what a level is shown of a history over a new store, and how that ends.
+fn tell_shown(alloc: Global, site: &Site<'_>, level: LabelNo, runs: Vec<Run>, out: &mut Told)
+    requires level { level < length site.now.policy.labels }
+    requires prepared { AllByRecursion (IsPrepared site.now.policy site.now.file.schemes) runs.items }
+{
+    match history(alloc, site, level, runs) {
+        Some((outcome, replies)) => {
+            tell_end(outcome, out);
+            out.push(text_of(&replies));
+        }
+        None => out.fail(),
+    }
+}
+
+/// What is told of the history of this number.
+fn shown(alloc: Global, site: &Site<'_>, level: LabelNo, lines: &[&str], number: &str) -> Told
     requires { level < length site.now.policy.labels }
 {
-    let Some(runs) = runs_of(alloc, site, lines, number) else {
-        return Ok(String::from_str(alloc, "no runs\n")?);
-    };
-    let (outcome, replies) = history(alloc, site, level, runs)?;
     let mut told = Told::new(alloc);
-    tell_end(outcome, &mut told);
-    told.push(text_of(&replies));
-    Ok(told.finish()?)
+    match runs_of(alloc, site, lines, number) {
+        Some(runs) => tell_shown(alloc, site, level, runs, &mut told),
+        None => told.push("no runs\n"),
+    }
+    told
 }
 
 /// Tells what a level is shown of two histories.
-fn tell_both(first: &str, second: &str, out: &mut Told) {
-    out.push_indented(first);
-    if first == second {
+fn tell_both(first: &Told, second: &Told, out: &mut Told) {
+    out.push_indented(&first.text);
+    if first.text.as_str() == second.text.as_str() {
         out.push_line("  the same");
     } else {
         out.push_line("  other");
-        out.push_indented(second);
+        out.push_indented(&second.text);
+    }
+    if !first.is_whole || !second.is_whole {
+        out.fail();
     }
 }
 
-/// Tells a case.
-fn tell_case(alloc: Global, site: &Site<'_>, case: &Case<'_>, out: &mut Told) -> io::Result<()> {
-    out.push_line(case.head);
-    let Some(level) = level_of(site, case.head) else {
-        out.push_line("  no level");
-        return Ok(());
-    };
-    let first = shown(alloc, site, level, case.body, "1")?;
-    let second = shown(alloc, site, level, case.body, "2")?;
-    tell_both(&first, &second, out);
-    Ok(())
-}
-
-/// Tells what levels are shown of two histories: a case is `LEVEL: title`, and the events of both below.
-pub fn tell_lines(alloc: Global, texts: &Texts, lines: &[&str], out: &mut Told) -> io::Result<()> {
-    let Some(site) = Site::of(alloc, texts, Names::of("policy.toml")) else {
-        out.push_line("no site");
-        return Ok(());
-    };
-    for at in 0..lines.len() {
-        if let Some(case) = case_at(&lines[at..]) {
-            tell_case(alloc, &site, &case, out)?;
+fn tell_under(alloc: Global, site: &Site<'_>, case: &Case<'_>, out: &mut Told) {
+    match level_of(site, case.head) {
+        Some(level) => {
+            let first = shown(alloc, site, level, case.body, "1");
+            let second = shown(alloc, site, level, case.body, "2");
+            tell_both(&first, &second, out);
         }
+        None => out.push_line("  no level"),
     }
-    Ok(())
+}
+
+/// Tells what a level is shown of two histories: a case is `LEVEL: title`, and the events of both below.
+pub fn tell(bench: &Bench<'_>, case: &Case<'_>, out: &mut Told) {
+    out.push_line(case.head);
+    match bench.site("policy.toml") {
+        Some(site) => tell_under(bench.alloc, site, case, out),
+        None => out.fail(),
+    }
 }

@@ -3,16 +3,15 @@ ghost use Rattle.std.specs.Prelude.{◌≡◌, ◌<◌, false, length};
 
 use crate::narrow::Narrow;
 use crate::runs::{End, Task, do_task, stop_of};
-use crate::site::{Names, Site};
+use crate::site::{Bench, Site};
 use crate::stores::{Job, Outcome, Work, do_job, made};
-use crate::texts::Texts;
-use case_tables::{Case, Told, case_at, joined, text_of};
+use case_tables::{Case, Told, joined, text_of};
 use mls_filterview::{Base, BaseFault, Fragment, abandon};
 use mls_lattice::LabelNo;
 use mls_scheme::RelNo;
 use mls_updates::ListBase;
 use std::alloc::Global;
-use std::io::{self, Write};
+use std::io::Write;
 
 /// Adds how many tuples and how many elements a label holds, if it holds any.
 fn tell_fragment(relation: &str, label: &str, fragment: &Fragment, out: &mut Told) {
@@ -102,34 +101,36 @@ fn labels_of(alloc: Global, site: &Site<'_>, script: &str, out: &mut Narrow) -> 
     }
 }
 
-/// Tells what each label holds after a script, of a store in files and of lists.
-fn tell_bases(alloc: Global, site: &Site<'_>, script: &str, told: &mut Told) -> io::Result<()> {
+/// Tells what each label holds of the store in files.
+fn tell_store(alloc: Global, site: &Site<'_>, script: &str, told: &mut Told) -> Option<()> {
     let files = made(alloc, site, script)?;
     let done = do_job(alloc, Job::closed(Work::Do(site, Task::Labels)), &files)?;
     tell_read("store", done.outcome, &done.replies, told);
+    Some(())
+}
+
+/// Tells what each label holds after a script, of a store in files and of lists.
+fn tell_bases(alloc: Global, site: &Site<'_>, script: &str, told: &mut Told) {
+    if tell_store(alloc, site, script, told).is_none() {
+        told.fail();
+    }
     let mut out = Narrow::new(alloc, u64::MAX);
     let end = labels_of(alloc, site, script, &mut out);
     tell_read("lists", Outcome::Ended(end), &out.bytes, told);
-    Ok(())
 }
 
-fn tell_case(alloc: Global, texts: &Texts, case: &Case<'_>, told: &mut Told) -> io::Result<()> {
-    told.push_line(case.head);
-    match Site::of(alloc, texts, Names::of(case.head)) {
-        Some(site) => tell_bases(alloc, &site, &joined(alloc, case.body)?, told),
-        None => {
-            told.push_line("  no site");
-            Ok(())
-        }
+fn tell_script(bench: &Bench<'_>, name: &str, script: &str, out: &mut Told) {
+    match bench.site(name) {
+        Some(site) => tell_bases(bench.alloc, site, script, out),
+        None => out.fail(),
     }
 }
 
-/// Tells what labels hold after scripts: a case is `POLICY` or `POLICY SCHEMES`, and its script below.
-pub fn tell_lines(alloc: Global, texts: &Texts, lines: &[&str], out: &mut Told) -> io::Result<()> {
-    for at in 0..lines.len() {
-        if let Some(case) = case_at(&lines[at..]) {
-            tell_case(alloc, texts, &case, out)?;
-        }
+/// Tells what labels hold after a script: a case is `POLICY` or `POLICY SCHEMES`, and its script below.
+pub fn tell(bench: &Bench<'_>, case: &Case<'_>, out: &mut Told) {
+    out.push_line(case.head);
+    match joined(bench.alloc, case.body) {
+        Ok(script) => tell_script(bench, case.head, &script, out),
+        Err(_) => out.fail(),
     }
-    Ok(())
 }

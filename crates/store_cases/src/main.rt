@@ -1,5 +1,5 @@
 //! Cases of stores in files: what is found in them after a stop, after damage, and when they are opened again. Adding a case is adding
-//! a line in `data/`, and its answer to `stdout`.
+//! a line in `data/`, and its answer to `stdout`. All of them speak of a few sites, which are read once and lent from then on.
 #![tactic(auto)]
 
 mod again;
@@ -10,25 +10,21 @@ mod damage;
 mod disks;
 mod histories;
 mod labels;
-mod migrations;
 mod narrow;
+mod plans;
 mod runs;
 mod site;
-mod stopping;
 mod stops;
 mod stores;
 mod table;
 mod texts;
 
-use crate::table::{TABLES, told};
+use crate::table::told;
 use crate::texts::Texts;
 use std::io::{self, Write};
 
 fn main(rt: HostRuntime) -> io::Result<()> {
     let texts = Texts::read(&rt)?;
-    for (file, table) in TABLES {
-        let told = told(rt.alloc(), &texts, file, table)?;
-        rt.stdout().write_all(told.as_bytes())?;
-    }
-    Ok(())
+    let told = told(rt.alloc(), &texts)?;
+    rt.stdout().write_all(told.as_bytes())
 }

@@ -35,14 +35,6 @@ pub enum Task<'a> {
     Labels,
 }
 
-/// The script of a task, which only a run has.
-fn script_of<'a>(task: Task<'a>) -> &'a str {
-    match task {
-        Task::Run(text) => text,
-        Task::Evaluate | Task::Turn | Task::Labels => "",
-    }
-}
-
 /// How that ends.
 #[derive(Clone, Copy)]
 pub enum End {
@@ -184,6 +176,34 @@ fn turn_over<B: Base>(alloc: Global, site: &Site<'_>, base: B, out: &mut Narrow)
     (end, base)
 }
 
+/// Runs a script over a base.
+fn run_script<B: Base>(
+    alloc: Global,
+    site: &Site<'_>,
+    text: &str,
+    base: B,
+    out: &mut Narrow,
+) -> (End, B)
+    requires { IsAtRest B.seen site.now.policy site.now.file.schemes base }
+    ensures { (B.seen result.1).state.begun ≡ false }
+{
+    match run_of(alloc, site, text) {
+        Some(run) => run_over(alloc, site, run, base, out),
+        None => (End::Failed, base),
+    }
+}
+
+/// Evaluates the first of the stored transactions over a base.
+fn evaluate_stored<B: Base>(alloc: Global, site: &Site<'_>, base: B) -> (End, B)
+    requires { IsAtRest B.seen site.now.policy site.now.file.schemes base }
+    ensures { (B.seen result.1).state.begun ≡ false }
+{
+    match run_of(alloc, site, "") {
+        Some(run) => evaluate_over(alloc, site, &run, base),
+        None => (End::Failed, base),
+    }
+}
+
 /// Does a task over a base.
 pub fn do_task<B: Base>(
     alloc: Global,
@@ -195,12 +215,9 @@ pub fn do_task<B: Base>(
     requires { IsAtRest B.seen site.now.policy site.now.file.schemes base }
     ensures { (B.seen result.1).state.begun ≡ false }
 {
-    let Some(run) = run_of(alloc, site, script_of(task)) else {
-        return (End::Failed, base);
-    };
     match task {
-        Task::Run(_) => run_over(alloc, site, run, base, out),
-        Task::Evaluate => evaluate_over(alloc, site, &run, base),
+        Task::Run(text) => run_script(alloc, site, text, base, out),
+        Task::Evaluate => evaluate_stored(alloc, site, base),
         Task::Turn => turn_over(alloc, site, base, out),
         Task::Labels => labels_over(alloc, site, base, out),
     }

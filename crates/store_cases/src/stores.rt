@@ -14,10 +14,9 @@ use mls_fragments::{OpenFault, SqlBase, connected};
 use mls_lattice::LabelNo;
 use mls_machine::{Audience, Form};
 use mls_runs::{HistoryFault, Run, run_history};
-use sqlite::{Alter, Connection, Error, ErrorCode, Files, Options};
+use sqlite::{Alter, Connection, Error, ErrorCode, FileStore, Files, Options};
 use sqlite_disk::{Fuse, Memory};
 use std::alloc::Global;
-use std::io;
 
 /// Room for the few pages of these stores, since each opening makes all of it; and the log is copied into the database file soon.
 fn options() -> Options {
@@ -39,8 +38,7 @@ pub enum Work<'a> {
 }
 
 /// Work over a store, what of it stops, and whether the store is closed where the work ends well: else its
-/// files are left as they are. It is data, so that one function alone names the type of a store, which is dear
-/// to prove.
+/// files are left as they are. It is data, so that one function alone works over the type of a store.
 #[derive(Clone, Copy)]
 pub struct Job<'a> {
     pub work: Work<'a>,
@@ -154,66 +152,78 @@ fn do_over<S: Alter + Drop>(
 }
 
 /// Executes statements over the store of a connection.
-fn execute<S: Alter>(conn: &mut Connection<S>, sql: &str) -> Outcome {
-    match conn.execute_batch(sql) {
-        Ok(()) => Outcome::Ended(End::Whole),
-        Err(_) => Outcome::Ended(End::Failed),
-    }
+fn execute_over<S: Alter + Drop>(sql: &str, conn: Connection<S>) -> (Outcome, Connection<S>) {
+    let mut conn = conn;
+    let end = match conn.execute_batch(sql) {
+        Ok(()) => End::Whole,
+        Err(_) => End::Failed,
+    };
+    (Outcome::Ended(end), conn)
+}
+
+/// A store after work: one that is to be closed, or one whose files are left as they are.
+enum Left<S: Alter + Drop> {
+    Open(Connection<S>),
+    Ended(S),
 }
 
 /// Does work over the store of a connection.
 fn work_over<S: Alter + Drop>(
     alloc: Global,
-    work: Work<'_>,
+    job: Job<'_>,
     conn: Connection<S>,
     out: &mut Narrow,
-) -> (Outcome, Connection<S>) {
-    match work {
-        Work::Execute(sql) => {
-            let mut conn = conn;
-            (execute(&mut conn, sql), conn)
-        }
+) -> (Outcome, Left<S>) {
+    let (outcome, conn) = match job.work {
+        Work::Execute(sql) => execute_over(sql, conn),
         Work::Do(site, task) => do_over(alloc, site, task, conn, out),
+    };
+    if job.closes && outcome.is_whole() {
+        return (outcome, Left::Open(conn));
+    }
+    (outcome, Left::Ended(conn.into_store()))
+}
+
+/// The files of a store after work, which is closed where it is open.
+fn files_of<D: Medium>(outcome: Outcome, left: Left<FileStore<D>>) -> (Outcome, Files<D>) {
+    match left {
+        Left::Open(conn) => match conn.close_files() {
+            Ok(files) => (outcome, files),
+            Err((error, store)) => (Outcome::Unclosed(fault_of(error)), store.close()),
+        },
+        Left::Ended(store) => (outcome, store.close()),
     }
 }
 
-/// Does work over the store in files.
+/// Does work over the store in files. It calls one function over the store's own type, which is dear to prove.
 fn work_in<D: Medium>(
     alloc: Global,
     job: Job<'_>,
     files: Files<D>,
     out: &mut Narrow,
 ) -> (Outcome, Files<D>) {
-    let conn = match connected(alloc, files, options()) {
-        Ok(conn) => conn,
-        Err((fault, files)) => return (Outcome::Unopened(fault), files),
-    };
-    let (outcome, conn) = work_over(alloc, job.work, conn, out);
-    if !job.closes || !outcome.is_whole() {
-        return (outcome, conn.into_store().close());
-    }
-    match conn.close_files() {
-        Ok(files) => (outcome, files),
-        Err((error, store)) => (Outcome::Unclosed(fault_of(error)), store.close()),
+    match connected(alloc, files, options()) {
+        Ok(conn) => {
+            let (outcome, left) = work_over(alloc, job, conn, out);
+            files_of(outcome, left)
+        }
+        Err((fault, files)) => (Outcome::Unopened(fault), files),
     }
 }
 
-/// The files after the machine went down.
-fn crashed<D: Medium>(files: Files<D>) -> Files<D> {
+/// What work leaves: the files as they were written, and as they are after the machine went down.
+fn done_of<D: Medium>(
+    alloc: Global,
+    outcome: Outcome,
+    out: Narrow,
+    files: Files<D>,
+) -> Option<Done> {
     let mut files = files;
+    let written = Copies::of(alloc, &files)?;
     files.log.crash();
     files.db.crash();
-    files
-}
-
-/// Does work over files with these bytes on such disks.
-fn do_job_on<D: Medium>(alloc: Global, job: Job<'_>, start: &Copies) -> io::Result<Done> {
-    let files = start.files::<D>(alloc, job.calls)?;
-    let mut out = Narrow::new(alloc, job.calls.replies);
-    let (outcome, files) = work_in(alloc, job, files, &mut out);
-    let written = Copies::of(alloc, &files)?;
-    let synced = Copies::of(alloc, &crashed(files))?;
-    Ok(Done {
+    let synced = Copies::of(alloc, &files)?;
+    Some(Done {
         outcome,
         replies: out.bytes,
         written,
@@ -221,16 +231,24 @@ fn do_job_on<D: Medium>(alloc: Global, job: Job<'_>, start: &Copies) -> io::Resu
     })
 }
 
+/// Does work over files with these bytes on such disks.
+fn do_job_on<D: Medium>(alloc: Global, job: Job<'_>, start: &Copies) -> Option<Done> {
+    let files = start.files::<D>(alloc, job.calls)?;
+    let mut out = Narrow::new(alloc, job.calls.replies);
+    let (outcome, files) = work_in(alloc, job, files, &mut out);
+    done_of(alloc, outcome, out, files)
+}
+
 /// Does work over files with these bytes.
-pub fn do_job(alloc: Global, job: Job<'_>, start: &Copies) -> io::Result<Done> {
+pub fn do_job(alloc: Global, job: Job<'_>, start: &Copies) -> Option<Done> {
     do_job_on::<Fuse<Memory>>(alloc, job, start)
 }
 
 /// The closed files of a new store, after a script.
-pub fn made(alloc: Global, site: &Site<'_>, script: &str) -> io::Result<Copies> {
+pub fn made(alloc: Global, site: &Site<'_>, script: &str) -> Option<Copies> {
     let work = Work::Do(site, Task::Run(script));
     let done = do_job(alloc, Job::closed(work), &Copies::none(alloc))?;
-    Ok(done.written)
+    Some(done.written)
 }
 
 /// What a level is shown of a history over a new store on such disks, and how that ends.
@@ -239,7 +257,7 @@ fn history_on<D: Medium>(
     site: &Site<'_>,
     level: LabelNo,
     runs: Vec<Run>,
-) -> io::Result<(Result<(), HistoryFault>, Vec<u8>)>
+) -> Option<(Result<(), HistoryFault>, Vec<u8>)>
     requires level { level < length site.now.policy.labels }
     requires prepared { AllByRecursion (IsPrepared site.now.policy site.now.file.schemes) runs.items }
 {
@@ -260,7 +278,7 @@ fn history_on<D: Medium>(
         audience,
         &mut out,
     );
-    Ok((outcome, out.bytes))
+    Some((outcome, out.bytes))
 }
 
 /// What a level is shown of a history over a new store, and how that ends.
@@ -269,7 +287,7 @@ pub fn history(
     site: &Site<'_>,
     level: LabelNo,
     runs: Vec<Run>,
-) -> io::Result<(Result<(), HistoryFault>, Vec<u8>)>
+) -> Option<(Result<(), HistoryFault>, Vec<u8>)>
     requires level { level < length site.now.policy.labels }
     requires prepared { AllByRecursion (IsPrepared site.now.policy site.now.file.schemes) runs.items }
 {

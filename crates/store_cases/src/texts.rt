@@ -2,7 +2,7 @@
 use std::rt::Files;
 use std::{fs, io};
 
-const NAMES: [&str; 24] = [
+static NAMES: [&str; 24] = [
     "again.txt",
     "certificates.txt",
     "damage.script",
@@ -39,7 +39,7 @@ impl Texts {
     /// Reads the files.
     pub fn read<R: Files + AllocGlobal>(rt: &R) -> io::Result<Texts> {
         let mut texts = Vec::new(rt.alloc());
-        for name in NAMES {
+        for &name in &NAMES {
             texts.push(fs::read_to_string(rt, name)?)?;
         }
         Ok(Texts { texts })

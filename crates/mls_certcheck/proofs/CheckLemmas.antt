@@ -6,6 +6,7 @@ use Rattle.mls_lattice.specs.Policy.{Name, Policy, labels_of}
 use Rattle.mls_translang.specs.declared.tx.Parameter.{Parameter}
 use Rattle.mls_translang.specs.Tx.{Tx}
 use Rattle.mls_certcheck.specs.Secure.{Secure}
+use Rattle.mls_certcheck.specs.Sharp.{Sharp}
 use Rattle.mls_certcheck.specs.declared.cert.Certificate.{Certificate}
 use Rattle.mls_certcheck.specs.Lines.{by, within_ends}
 use Rattle.mls_certcheck.specs.Rules.{Claim, Rules, claim}
@@ -18,7 +19,7 @@ use Rattle.mls_certcheck.specs.declared.refusal.Refusal.{Refusal}
 use Rattle.mls_certcheck.specs.declared.refusal.Rule.{Rule}
 use Rattle.mls_certcheck.proofs.RulesLemmas.{rules_from_first, first_from_rules}
 use Rattle.mls_certcheck.specs.Visited.{verdict_err, verdict_ok}
-use Rattle.mls_certcheck.proofs.LawLemmas.{secure_rules}
+use Rattle.mls_certcheck.proofs.LawLemmas.{secure_rules, sharp_rules}
 
 -- Ok exactly where the rules hold
 pub says_rules : (c : Claim) (r : Result (Unit {0}) Refusal) → Says r (First c) → r ≡ Ok tt ↔ Rules c
@@ -29,6 +30,11 @@ says_rules c (Err e) h = (λ k. absurd cc, λ rules. absurd (let holds = first_f
 pub says_secure : (policy : Policy) → AreDistinct (labels_of policy) → (tx : Tx) (cert : Certificate) (r : Result (Unit {0}) Refusal) → Says r (First (claim policy tx cert)) → IfOk r (λ _. Secure policy tx)
 says_secure policy distinct tx cert (Ok u) h = secure_rules policy distinct tx cert (rules_from_first (claim policy tx cert) h)
 says_secure policy distinct tx cert (Err e) h = tt
+
+-- and tells by releases alone of what may not be read
+pub says_sharp : (policy : Policy) → AreDistinct (labels_of policy) → (tx : Tx) (cert : Certificate) (r : Result (Unit {0}) Refusal) → Says r (First (claim policy tx cert)) → IfOk r (λ _. Sharp policy tx cert)
+says_sharp policy distinct tx cert (Ok u) h = sharp_rules policy distinct tx cert (rules_from_first (claim policy tx cert) h)
+says_sharp policy distinct tx cert (Err e) h = tt
 
 pub ruleset verdict_more = (verdict_err, verdict_ok)
 

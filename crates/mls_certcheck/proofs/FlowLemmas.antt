@@ -6,7 +6,8 @@ use Rattle.std.proofs.lemmas.List.Elements.{filter-append}
 use Rattle.mls_lattice.specs.Lattice.{Pair, Dominates, ◌⊑◌, join}
 use Rattle.mls_lattice.specs.Labels.{Labels, label_of, below, AreDistinct}
 use Rattle.mls_lattice.specs.Policy.{Policy, labels_of}
-use Rattle.mls_lattice.proofs.LatticeLemmas.{Dominates-trans, join-right}
+use Rattle.mls_lattice.proofs.EachLemmas.{all_if}
+use Rattle.mls_lattice.proofs.LatticeLemmas.{Dominates-trans, Dominates-⊑, join-right}
 use Rattle.mls_scheme.specs.declared.value.Value.{Value}
 use Rattle.mls_scheme.specs.declared.value.Value.TheVariants.{Int}
 use Rattle.mls_scheme.specs.declared.tuple.Tuple.{Tuple}
@@ -26,13 +27,15 @@ use Rattle.mls_translang.specs.Tx.{Tx}
 use Rattle.mls_translang.specs.Expressions.{is_true, same, value_in, holds_in}
 use Rattle.mls_certcheck.specs.Meaning.{Item, Variables, Progress, set_var, set_outcome, write_in, do_write, environment, perform, for_each, run_block}
 use Rattle.mls_certcheck.specs.Secure.{AreStored, seen_items, Split}
+use Rattle.mls_certcheck.specs.Sharp.{TellsAt}
+use Rattle.std.specs.List.{AllByRecursion}
 use Rattle.mls_certcheck.proofs.KeepingLemmas.{Extends, cond_kept, for_each_kept, perform_stored, block_stored, block_extends}
 use Rattle.mls_certcheck.specs.declared.cert.Certificate.{Certificate}
-use Rattle.mls_certcheck.specs.Points.{Plain, directs, last, points}
+use Rattle.mls_certcheck.specs.Points.{Plain, Point, directs, last, points}
 use Rattle.mls_certcheck.specs.Lines.{target}
-use Rattle.mls_certcheck.specs.Rules.{Claim, claim, hi, pc, after, param_label}
-use Rattle.mls_certcheck.proofs.LineLemmas.{lab, Keeps, Obeys, assigned, write_operands, release_value, release_target, emit_value, branch_body, branch_one, branch_other, loop_body, loop_begin, loop_turn}
-use Rattle.mls_certcheck.proofs.PointLemmas.{unseen_above, seen_under, below-⊑, BlockObeys, HasNoMore}
+use Rattle.mls_certcheck.specs.Rules.{Claim, claim, pc, after, param_label}
+use Rattle.mls_certcheck.proofs.LineLemmas.{lab, over_names, Keeps, Obeys, assigned, write_operands, release_target, emit_value, branch_body, branch_one, branch_other, loop_body, loop_begin, loop_turn}
+use Rattle.mls_certcheck.proofs.PointLemmas.{unseen_above, seen_under, below-⊑, HasNoMore}
 use Rattle.mls_certcheck.proofs.QuietLemmas.{Agrees, Quiet, agrees_on, quiet_then, quiet_both, quiet_keeps, keeps_seen, seen_not, rest_seen, quiet_write, quiet_block}
 use Rattle.mls_certcheck.proofs.ScopeLemmas.{EnvironmentsAgree, eval_same, value_same, write_same}
 
@@ -54,19 +57,19 @@ seen_more ls c s t h = ap (seen_items ls c) h.is ∙ filter-append (λ i. below 
 
 -- ---- two runs
 
--- either the releases split, which c does not dominate the ceiling for, or they agree
-abbrev pub Related : Claim → ℕ → ℕ → Progress → Progress → Type 0
-Related k c n s t = ((hi k ⊑ label_of k.labels c ≡ false) × Split (seen_items k.labels c s.released) (seen_items k.labels c t.released)) ⊎ Agrees k c n s t
+-- either the releases split, for which there is an excuse, or they agree
+abbrev pub Related : Type 0 → Claim → ℕ → ℕ → Progress → Progress → Type 0
+Related X k c n s t = (X × Split (seen_items k.labels c s.released) (seen_items k.labels c t.released)) ⊎ Agrees k c n s t
 
 -- where variables keep what they hold
-related_keeps : (k : Claim) (c m n : ℕ) (s t : Progress) → HasNoMore k → Keeps k m n → Related k c m s t → Related k c n s t
-related_keeps k c m n s t none h (inl r) = inl r
-related_keeps k c m n s t none h (inr a) = inr (agrees_on (keeps_seen k c m n none h) a)
+related_keeps : (X : Type 0) (k : Claim) (c m n : ℕ) (s t : Progress) → HasNoMore k → Keeps k m n → Related X k c m s t → Related X k c n s t
+related_keeps X k c m n s t none h (inl r) = inl r
+related_keeps X k c m n s t none h (inr a) = inr (agrees_on (keeps_seen k c m n none h) a)
 
 -- what goes on from runs that agree goes on from related ones
-related_on : (k : Claim) (c m n : ℕ) (s t s' t' : Progress) → Extends s s' → Extends t t' → (Agrees k c m s t → Related k c n s' t') → Related k c m s t → Related k c n s' t'
-related_on k c m n s t s' t' e f g (inr a) = g a
-related_on k c m n s t s' t' e f g (inl h) = inl (
+related_on : (X : Type 0) (k : Claim) (c m n : ℕ) (s t s' t' : Progress) → Extends s s' → Extends t t' → (Agrees k c m s t → Related X k c n s' t') → Related X k c m s t → Related X k c n s' t'
+related_on X k c m n s t s' t' e f g (inr a) = g a
+related_on X k c m n s t s' t' e f g (inl h) = inl (
   h.0,
   subst (λ xs. Split xs (seen_items k.labels c t'.released)) (sym (seen_more k.labels c s s' e))
       (subst (λ ys. Split (seen_items k.labels c s.released ++ seen_items k.labels c e.more) ys) (sym (seen_more k.labels c t t' f))
@@ -87,7 +90,7 @@ outcome_same : (k : Claim) (c n : ℕ) (outcome : Option ℕ) (o r : Outcome) (p
 outcome_same k c n None o r p q h e i l = h i (λ f. absurd cc) l
 outcome_same k c n (Some x) o r p q h e i l = set_same k c n x _ _ p q (λ j other. h j (λ f. other (let same : x ≡ j = cc in sym same))) (λ _. ap (λ o. Some (Int (pos (code_of o)))) e) i l
 
-module _ (policy : Policy) (distinct : AreDistinct (labels_of policy)) (tx : Tx) (cert : Certificate) (none : HasNoMore (claim policy tx cert)) (schemes : Schemes) (args brgs : List (Option Value)) (c : ℕ) where
+module _ (policy : Policy) (distinct : AreDistinct (labels_of policy)) (tx : Tx) (cert : Certificate) (none : HasNoMore (claim policy tx cert)) (schemes : Schemes) (args brgs : List (Option Value)) (c : ℕ) (X : Type 0) where
   abbrev k : Claim
   k = claim policy tx cert
 
@@ -150,7 +153,8 @@ module _ (policy : Policy) (distinct : AreDistinct (labels_of policy)) (tx : Tx)
 
   module _ (n a b : ℕ) (loops : List ℕ) (rs qs : List Tuple) (e : Expr) (to into : ℕ) (s t : Progress)
       (h : Obeys (claim policy tx cert) (record { number = n; around = a; before = b; rows = loops; shape = Plain (Release e to into) }))
-      (envs : EnvironmentsAgree (claim policy tx cert) c b loops (environment args rs s) (environment brgs qs t)) (g : Agrees (claim policy tx cert) c b s t) where
+      (envs : EnvironmentsAgree (claim policy tx cert) c b loops (environment args rs s) (environment brgs qs t)) (g : Agrees (claim policy tx cert) c b s t)
+      (excuse : TellsAt (claim policy tx cert) c (record { number = n; around = a; before = b; rows = loops; shape = Plain (Release e to into) }) → X) where
     abbrev v : Option Value
     v = value_in (environment args rs s) e
 
@@ -166,7 +170,7 @@ module _ (policy : Policy) (distinct : AreDistinct (labels_of policy)) (tx : Tx)
     others : (i : ℕ) → (i ≡ into → ⊥) → after k n i ⊑ level ≡ true → s.vars i ≡ t.vars i
     others i other l = rest_same n a b loops (Release e to into) s t h g i (λ f. other (let same : into ≡ i = cc in sym same)) l
 
-    equal : v ≡ w → Related k c n first second
+    equal : v ≡ w → Related X k c n first second
     equal eq = inr (record {
       tables = g.tables;
       values = set_same k c n into v w s.vars t.vars others (λ l. eq);
@@ -183,7 +187,7 @@ module _ (policy : Policy) (distinct : AreDistinct (labels_of policy)) (tx : Tx)
         (subst (λ ys. Split (seen_items ls c s.released ++ (to, v) ∷ []) ys) (ap (λ xs. xs ++ (to, w) ∷ []) g.released ∙ sym (shown t.released w seen))
         (split_here (seen_items ls c s.released) (to, v) (to, w) refl (λ eq. true≢false (sym (same_value-refl v) ∙ ap (same v) eq ∙ ne))))
 
-    related_release : Related k c n first second
+    related_release : Related X k c n first second
     related_release =
         elim (cases_Bool (label_of ls to ⊑ level)) [
           | inr out ↦ inr (record {
@@ -192,11 +196,11 @@ module _ (policy : Policy) (distinct : AreDistinct (labels_of policy)) (tx : Tx)
             emitted = g.emitted;
             released = seen_not ls c s.released (to, v) out ∙ g.released ∙ sym (seen_not ls c t.released (to, w) out);
           })
-          | inl seen ↦ elim (cases_Bool (hi k ⊑ level)) [
-            | inl under ↦ equal (value_same k c b loops (environment args rs s) (environment brgs qs t) envs e (seen_under level (lab k b loops e) (hi k) (release_value k n a b loops e to into h) under))
+          | inl seen ↦ elim (cases_Bool (lab k b loops e ⊑ level)) [
+            | inl under ↦ equal (value_same k c b loops (environment args rs s) (environment brgs qs t) envs e under)
             | inr above ↦ elim (cases_Bool (same v w)) [
               | inl eq ↦ equal (same_value-true v w eq)
-              | inr ne ↦ inl (above, apart seen ne)
+              | inr ne ↦ inl (excuse (below-⊑ ls to c true seen, λ names. true≢false (sym (Dominates-⊑ (lab k b loops e) level (over_names k b loops e level names)) ∙ above)), apart seen ne)
             ]
           ]
         ]
@@ -204,10 +208,10 @@ module _ (policy : Policy) (distinct : AreDistinct (labels_of policy)) (tx : Tx)
   -- ---- statements
 
   related_stmt : (n a b : ℕ) (loops : List ℕ) (rs qs : List Tuple) (stmt : Stmt) (s t : Progress) → Obeys k (record { number = n; around = a; before = b; rows = loops; shape = Plain stmt })
-      → EnvironmentsAgree k c b loops (environment args rs s) (environment brgs qs t) → AreStored ls schemes s.db → AreStored ls schemes t.db → Agrees k c b s t
-      → Related k c n (perform ls schemes args rs stmt s) (perform ls schemes brgs qs stmt t)
+      → (TellsAt k c (record { number = n; around = a; before = b; rows = loops; shape = Plain stmt }) → X) → EnvironmentsAgree k c b loops (environment args rs s) (environment brgs qs t) → AreStored ls schemes s.db → AreStored ls schemes t.db → Agrees k c b s t
+      → Related X k c n (perform ls schemes args rs stmt s) (perform ls schemes brgs qs stmt t)
   unfolding perform
-  related_stmt n a b loops rs qs (Assign x e) s t h envs p q g = inr (record {
+  related_stmt n a b loops rs qs (Assign x e) s t h excuse envs p q g = inr (record {
     tables = g.tables;
     values = set_same k c n x (value_in (environment args rs s) e) (value_in (environment brgs qs t) e) s.vars t.vars (λ i other. rest_same n a b loops (Assign x e) s t h g i (λ f. other (let same : x ≡ i = cc in sym same)))
         (λ l. value_same k c b loops (environment args rs s) (environment brgs qs t) envs e
@@ -215,14 +219,14 @@ module _ (policy : Policy) (distinct : AreDistinct (labels_of policy)) (tx : Tx)
     emitted = g.emitted;
     released = g.released;
   })
-  related_stmt n a b loops rs qs (Write_at relation w writing outcome) s t h envs p q g =
+  related_stmt n a b loops rs qs (Write_at relation w writing outcome) s t h excuse envs p q g =
       elim (cases_Bool (label_of ls w ⊑ level)) [
         | inl seen ↦ inr (seen_write n a b loops relation w writing (write_in (environment args rs s) writing) (write_in (environment brgs qs t) writing) outcome s t h (write_same k c b loops (environment args rs s) (environment brgs qs t) envs (label_of ls w) seen writing (write_operands k n a b loops relation w writing outcome h)) seen g)
         | inr out ↦ inr (quiet_both (quiet_write policy distinct tx cert none schemes args c n a b loops relation w writing (write_in (environment args rs s) writing) outcome s h out p)
             (quiet_write policy distinct tx cert none schemes brgs c n a b loops relation w writing (write_in (environment brgs qs t) writing) outcome t h out q) g)
       ]
-  related_stmt n a b loops rs qs (Release e to into) s t h envs p q g = related_release n a b loops rs qs e to into s t h envs g
-  related_stmt n a b loops rs qs (Emit e label) s t h envs p q g =
+  related_stmt n a b loops rs qs (Release e to into) s t h excuse envs p q g = related_release n a b loops rs qs e to into s t h envs g excuse
+  related_stmt n a b loops rs qs (Emit e label) s t h excuse envs p q g =
       inr (record {
         tables = g.tables;
         values = λ i l. rest_same n a b loops (Emit e label) s t h g i (λ f. absurd cc) l;
@@ -239,11 +243,11 @@ module _ (policy : Policy) (distinct : AreDistinct (labels_of policy)) (tx : Tx)
   related_each : (f g : Tuple → Progress → Progress)
       → ((row : Tuple) (s : Progress) → AreStored ls schemes s.db → AreStored ls schemes (f row s).db) → ((row : Tuple) (s : Progress) → AreStored ls schemes s.db → AreStored ls schemes (g row s).db)
       → ((row : Tuple) (s : Progress) → Extends s (f row s)) → ((row : Tuple) (s : Progress) → Extends s (g row s))
-      → (n : ℕ) → ((row : Tuple) (s t : Progress) → AreStored ls schemes s.db → AreStored ls schemes t.db → Agrees k c n s t → Related k c n (f row s) (g row t))
-      → (rows : List Tuple) (s t : Progress) → AreStored ls schemes s.db → AreStored ls schemes t.db → Related k c n s t → Related k c n (for_each f rows s) (for_each g rows t)
+      → (n : ℕ) → ((row : Tuple) (s t : Progress) → AreStored ls schemes s.db → AreStored ls schemes t.db → Agrees k c n s t → Related X k c n (f row s) (g row t))
+      → (rows : List Tuple) (s t : Progress) → AreStored ls schemes s.db → AreStored ls schemes t.db → Related X k c n s t → Related X k c n (for_each f rows s) (for_each g rows t)
   related_each f g fs gs fe ge n step [] s t p q r = r
   related_each f g fs gs fe ge n step (row ∷ rest) s t p q r =
-      related_each f g fs gs fe ge n step rest (f row s) (g row t) (fs row s p) (gs row t q) (related_on k c n n s t (f row s) (g row t) (fe row s) (ge row t) (step row s t p q) r)
+      related_each f g fs gs fe ge n step rest (f row s) (g row t) (fs row s p) (gs row t q) (related_on X k c n n s t (f row s) (g row t) (fe row s) (ge row t) (step row s t p q) r)
 
   abbrev run_1 : Block → List Tuple → Progress → Progress
   run_1 block rs s = run_block ls schemes args block rs s
@@ -251,56 +255,63 @@ module _ (policy : Policy) (distinct : AreDistinct (labels_of policy)) (tx : Tx)
   abbrev run_2 : Block → List Tuple → Progress → Progress
   run_2 block rs s = run_block ls schemes brgs block rs s
 
-  pub related_block : (scope : Scope) (block : Block) (n a b : ℕ) (loops : List ℕ) → BlockObeys k n a b loops block → BlockFits policy schemes tx.hi scope block → (rs qs : List Tuple) → Around loops rs qs
-      → (s t : Progress) → AreStored ls schemes s.db → AreStored ls schemes t.db → Agrees k c b s t → Related k c (last b n block) (run_1 block rs s) (run_2 block qs t)
+  -- a point obeys, and what is told there is an excuse
+  abbrev pub Excused : Point → Type 0
+  Excused p = Obeys k p × (TellsAt k c p → X)
+
+  obeyed : (ps : List Point) → AllByRecursion Excused ps → AllByRecursion (Obeys k) ps
+  obeyed = all_if Excused (Obeys k) (λ p h. h.0)
+
+  pub related_block : (scope : Scope) (block : Block) (n a b : ℕ) (loops : List ℕ) → AllByRecursion Excused (points n a b loops block) → BlockFits policy schemes tx.hi scope block → (rs qs : List Tuple) → Around loops rs qs
+      → (s t : Progress) → AreStored ls schemes s.db → AreStored ls schemes t.db → Agrees k c b s t → Related X k c (last b n block) (run_1 block rs s) (run_2 block qs t)
   unfolding run_block
   related_block scope End n a b loops h f rs qs ar s t p q g = inr g
   related_block scope (Do stmt rest) n a b loops h f rs qs ar s t p q g =
       let s' = perform ls schemes args rs stmt s in
       let t' = perform ls schemes brgs qs stmt t in
-      related_on k c n _ s' t' _ _ (block_extends ls schemes args rest rs s') (block_extends ls schemes brgs rest qs t')
+      related_on X k c n _ s' t' _ _ (block_extends ls schemes args rest rs s') (block_extends ls schemes brgs rest qs t')
       (related_block scope rest (n + 1) a n loops h.1 f.1 rs qs ar s' t' (perform_stored policy schemes tx.hi distinct args scope rs stmt s f.0 p) (perform_stored policy schemes tx.hi distinct brgs scope qs stmt t f.0 q))
-      (related_stmt n a b loops rs qs stmt s t h.0 (environments b loops rs qs s t ar g) p q g)
+      (related_stmt n a b loops rs qs stmt s t h.0.0 h.0.1 (environments b loops rs qs s t ar g) p q g)
   related_block scope (If guard one other rest) n a b loops h f rs qs ar s t p q g =
       let l = lab k b loops guard in
       let m : Pair = join (pc k n) l in
-      let later = every_back (Obeys k) _ (points (n + 1) n b loops one) _ h.1 refl in
-      let obeys_1 = every_front (Obeys k) _ (points (n + 1) n b loops one) _ h.1 refl in
-      let obeys_2 = every_front (Obeys k) _ (points (n + 1 + statements one) n b loops other) _ later refl in
-      let obeys_3 = every_back (Obeys k) _ (points (n + 1 + statements one) n b loops other) _ later refl in
-      let above_1 = every_front (λ j. Dominates (pc k j) m) _ (directs (n + 1) one) _ (branch_body k n a b loops guard one other h.0) refl in
-      let above_2 = every_back (λ j. Dominates (pc k j) m) _ (directs (n + 1) one) _ (branch_body k n a b loops guard one other h.0) refl in
+      let later = every_back Excused _ (points (n + 1) n b loops one) _ h.1 refl in
+      let obeys_1 = every_front Excused _ (points (n + 1) n b loops one) _ h.1 refl in
+      let obeys_2 = every_front Excused _ (points (n + 1 + statements one) n b loops other) _ later refl in
+      let obeys_3 = every_back Excused _ (points (n + 1 + statements one) n b loops other) _ later refl in
+      let above_1 = every_front (λ j. Dominates (pc k j) m) _ (directs (n + 1) one) _ (branch_body k n a b loops guard one other h.0.0) refl in
+      let above_2 = every_back (λ j. Dominates (pc k j) m) _ (directs (n + 1) one) _ (branch_body k n a b loops guard one other h.0.0) refl in
       let v = holds_in (environment args rs s) guard in
       let w = holds_in (environment brgs qs t) guard in
       let s' = cond v (run_1 one rs s) (run_1 other rs s) in
       let t' = cond w (run_2 one qs t) (run_2 other qs t) in
       let p' = cond_kept (λ u. AreStored ls schemes u.db) v _ _ (block_stored policy schemes tx.hi distinct args scope one f.1 rs s p) (block_stored policy schemes tx.hi distinct args scope other f.2 rs s p) in
       let q' = cond_kept (λ u. AreStored ls schemes u.db) w _ _ (block_stored policy schemes tx.hi distinct brgs scope one f.1 qs t q) (block_stored policy schemes tx.hi distinct brgs scope other f.2 qs t q) in
-      let middle : Related k c n s' t' = elim (cases_Bool (l ⊑ level)) [
+      let middle : Related X k c n s' t' = elim (cases_Bool (l ⊑ level)) [
         | inl seen ↦
             let e : v ≡ w = ap is_true (eval_same k c b loops (environment args rs s) (environment brgs qs t) (environments b loops rs qs s t ar g) guard seen) in
-            subst (λ x. Related k c n s' (cond x (run_2 one qs t) (run_2 other qs t))) e
-            (elim v as (λ x. Related k c n (cond x (run_1 one rs s) (run_1 other rs s)) (cond x (run_2 one qs t) (run_2 other qs t))) [
-              | true ↦ related_keeps k c (last b (n + 1) one) n _ _ none (branch_one k n a b loops guard one other h.0) (related_block scope one (n + 1) n b loops obeys_1 f.1 rs qs ar s t p q g)
-              | false ↦ related_keeps k c (last b (n + 1 + statements one) other) n _ _ none (branch_other k n a b loops guard one other h.0) (related_block scope other (n + 1 + statements one) n b loops obeys_2 f.2 rs qs ar s t p q g)
+            subst (λ x. Related X k c n s' (cond x (run_2 one qs t) (run_2 other qs t))) e
+            (elim v as (λ x. Related X k c n (cond x (run_1 one rs s) (run_1 other rs s)) (cond x (run_2 one qs t) (run_2 other qs t))) [
+              | true ↦ related_keeps X k c (last b (n + 1) one) n _ _ none (branch_one k n a b loops guard one other h.0.0) (related_block scope one (n + 1) n b loops obeys_1 f.1 rs qs ar s t p q g)
+              | false ↦ related_keeps X k c (last b (n + 1 + statements one) other) n _ _ none (branch_other k n a b loops guard one other h.0.0) (related_block scope other (n + 1 + statements one) n b loops obeys_2 f.2 rs qs ar s t p q g)
             ])
         | inr out ↦
             let inner : m ⊑ level ≡ false = unseen_above level l m (join-right (pc k n) l) out in
             inr (quiet_both
             (cond_kept (Quiet k c b n s) v _ _
-            (quiet_then (quiet_block policy distinct tx cert none schemes args c scope one (n + 1) n b loops m obeys_1 above_1 f.1 inner rs s p) (quiet_keeps k c (last b (n + 1) one) n _ none (branch_one k n a b loops guard one other h.0)))
-            (quiet_then (quiet_block policy distinct tx cert none schemes args c scope other (n + 1 + statements one) n b loops m obeys_2 above_2 f.2 inner rs s p) (quiet_keeps k c (last b (n + 1 + statements one) other) n _ none (branch_other k n a b loops guard one other h.0))))
+            (quiet_then (quiet_block policy distinct tx cert none schemes args c scope one (n + 1) n b loops m (obeyed (points (n + 1) n b loops one) obeys_1) above_1 f.1 inner rs s p) (quiet_keeps k c (last b (n + 1) one) n _ none (branch_one k n a b loops guard one other h.0.0)))
+            (quiet_then (quiet_block policy distinct tx cert none schemes args c scope other (n + 1 + statements one) n b loops m (obeyed (points (n + 1 + statements one) n b loops other) obeys_2) above_2 f.2 inner rs s p) (quiet_keeps k c (last b (n + 1 + statements one) other) n _ none (branch_other k n a b loops guard one other h.0.0))))
             (cond_kept (Quiet k c b n t) w _ _
-            (quiet_then (quiet_block policy distinct tx cert none schemes brgs c scope one (n + 1) n b loops m obeys_1 above_1 f.1 inner qs t q) (quiet_keeps k c (last b (n + 1) one) n _ none (branch_one k n a b loops guard one other h.0)))
-            (quiet_then (quiet_block policy distinct tx cert none schemes brgs c scope other (n + 1 + statements one) n b loops m obeys_2 above_2 f.2 inner qs t q) (quiet_keeps k c (last b (n + 1 + statements one) other) n _ none (branch_other k n a b loops guard one other h.0))))
+            (quiet_then (quiet_block policy distinct tx cert none schemes brgs c scope one (n + 1) n b loops m (obeyed (points (n + 1) n b loops one) obeys_1) above_1 f.1 inner qs t q) (quiet_keeps k c (last b (n + 1) one) n _ none (branch_one k n a b loops guard one other h.0.0)))
+            (quiet_then (quiet_block policy distinct tx cert none schemes brgs c scope other (n + 1 + statements one) n b loops m (obeyed (points (n + 1 + statements one) n b loops other) obeys_2) above_2 f.2 inner qs t q) (quiet_keeps k c (last b (n + 1 + statements one) other) n _ none (branch_other k n a b loops guard one other h.0.0))))
             g)
       ] in
-      related_on k c n _ s' t' _ _ (block_extends ls schemes args rest rs s') (block_extends ls schemes brgs rest qs t')
+      related_on X k c n _ s' t' _ _ (block_extends ls schemes args rest rs s') (block_extends ls schemes brgs rest qs t')
       (related_block scope rest (n + (1 + statements one + statements other)) a n loops obeys_3 f.3 rs qs ar s' t' p' q') middle
   related_block scope (For name relation label body rest) n a b loops h f rs qs ar s t p q g =
       let m : Pair = join (pc k n) (label_of ls label) in
-      let obeys_1 = every_front (Obeys k) _ (points (n + 1) n n (label ∷ loops) body) _ h.1 refl in
-      let obeys_2 = every_back (Obeys k) _ (points (n + 1) n n (label ∷ loops) body) _ h.1 refl in
+      let obeys_1 = every_front Excused _ (points (n + 1) n n (label ∷ loops) body) _ h.1 refl in
+      let obeys_2 = every_back Excused _ (points (n + 1) n n (label ∷ loops) body) _ h.1 refl in
       let rows_1 = rows ls label (s.db relation) in
       let rows_2 = rows ls label (t.db relation) in
       let inside = in_loop scope name relation in
@@ -312,23 +323,23 @@ module _ (policy : Policy) (distinct : AreDistinct (labels_of policy)) (tx : Tx)
       let t' = for_each f2 rows_2 t in
       let p' = for_each_kept (λ u. AreStored ls schemes u.db) f1 k1 rows_1 s p in
       let q' = for_each_kept (λ u. AreStored ls schemes u.db) f2 k2 rows_2 t q in
-      let middle : Related k c n s' t' = elim (cases_Bool (label_of ls label ⊑ level)) [
+      let middle : Related X k c n s' t' = elim (cases_Bool (label_of ls label ⊑ level)) [
         | inl seen ↦
             let e : rows_1 ≡ rows_2 = rows_under ls c label (s.db relation) (t.db relation) (g.tables relation) (below-⊑ ls label c true seen) in
-            subst (λ xs. Related k c n s' (for_each f2 xs t)) e
+            subst (λ xs. Related X k c n s' (for_each f2 xs t)) e
             (related_each f1 f2 k1 k2 (λ row u. block_extends ls schemes args body (row ∷ rs) u) (λ row u. block_extends ls schemes brgs body (row ∷ qs) u)
-            n (λ row u v x y z. related_keeps k c (last n (n + 1) body) n _ _ none (loop_turn k n a b loops label body h.0)
+            n (λ row u v x y z. related_keeps X k c (last n (n + 1) body) n _ _ none (loop_turn k n a b loops label body h.0.0)
             (related_block inside body (n + 1) n n (label ∷ loops) obeys_1 f.2 (row ∷ rs) (row ∷ qs) (push_row loops label row rs qs ar) u v x y z))
-            rows_1 s t p q (related_keeps k c b n s t none (loop_begin k n a b loops label body h.0) (inr g)))
+            rows_1 s t p q (related_keeps X k c b n s t none (loop_begin k n a b loops label body h.0.0) (inr g)))
         | inr out ↦
             let inner : m ⊑ level ≡ false = unseen_above level (label_of ls label) m (join-right (pc k n) (label_of ls label)) out in
             let x = for_each_kept (λ u. Quiet k c b n s u × AreStored ls schemes u.db) f1
-            (λ row u z. (quiet_then z.0 (quiet_then (quiet_block policy distinct tx cert none schemes args c inside body (n + 1) n n (label ∷ loops) m obeys_1 (loop_body k n a b loops label body h.0) f.2 inner (row ∷ rs) u z.1) (quiet_keeps k c (last n (n + 1) body) n _ none (loop_turn k n a b loops label body h.0))), k1 row u z.1))
-            rows_1 s (quiet_keeps k c b n s none (loop_begin k n a b loops label body h.0), p) in
+            (λ row u z. (quiet_then z.0 (quiet_then (quiet_block policy distinct tx cert none schemes args c inside body (n + 1) n n (label ∷ loops) m (obeyed (points (n + 1) n n (label ∷ loops) body) obeys_1) (loop_body k n a b loops label body h.0.0) f.2 inner (row ∷ rs) u z.1) (quiet_keeps k c (last n (n + 1) body) n _ none (loop_turn k n a b loops label body h.0.0))), k1 row u z.1))
+            rows_1 s (quiet_keeps k c b n s none (loop_begin k n a b loops label body h.0.0), p) in
             let y = for_each_kept (λ u. Quiet k c b n t u × AreStored ls schemes u.db) f2
-            (λ row u z. (quiet_then z.0 (quiet_then (quiet_block policy distinct tx cert none schemes brgs c inside body (n + 1) n n (label ∷ loops) m obeys_1 (loop_body k n a b loops label body h.0) f.2 inner (row ∷ qs) u z.1) (quiet_keeps k c (last n (n + 1) body) n _ none (loop_turn k n a b loops label body h.0))), k2 row u z.1))
-            rows_2 t (quiet_keeps k c b n t none (loop_begin k n a b loops label body h.0), q) in
+            (λ row u z. (quiet_then z.0 (quiet_then (quiet_block policy distinct tx cert none schemes brgs c inside body (n + 1) n n (label ∷ loops) m (obeyed (points (n + 1) n n (label ∷ loops) body) obeys_1) (loop_body k n a b loops label body h.0.0) f.2 inner (row ∷ qs) u z.1) (quiet_keeps k c (last n (n + 1) body) n _ none (loop_turn k n a b loops label body h.0.0))), k2 row u z.1))
+            rows_2 t (quiet_keeps k c b n t none (loop_begin k n a b loops label body h.0.0), q) in
             inr (quiet_both x.0 y.0 g)
       ] in
-      related_on k c n _ s' t' _ _ (block_extends ls schemes args rest rs s') (block_extends ls schemes brgs rest qs t')
+      related_on X k c n _ s' t' _ _ (block_extends ls schemes args rest rs s') (block_extends ls schemes brgs rest qs t')
       (related_block scope rest (n + (1 + statements body)) a n loops obeys_2 f.3 rs qs ar s' t' p' q') middle

@@ -27,7 +27,7 @@ module _ (c : Claim) where
   lab b rows (No e) = lab b rows e
   lab b rows (Op op left right) = join (lab b rows left) (lab b rows right)
 
-  over_names : (b : ℕ) (rows : List ℕ) (e : Expr) (p : Pair) → IsAbove c p (names b rows e) → Dominates p (lab b rows e)
+  pub over_names : (b : ℕ) (rows : List ℕ) (e : Expr) (p : Pair) → IsAbove c p (names b rows e) → Dominates p (lab b rows e)
   over_names b rows (Known v) p h = above_bottom p
   over_names b rows Null p h = above_bottom p
   over_names b rows (No e) p h = over_names b rows e p h
@@ -87,6 +87,9 @@ module _ (c : Claim) where
     module _ (e : Expr) (to into : ℕ) (h : ObeysAt (Plain (Release e to into))) where
       pub release_context : Dominates (label_of c.labels to) (pc c n)
       release_context = h.1.1.0.0
+
+      pub release_names : IsAbove c (hi c) (names b rows e)
+      release_names = h.1.1.1.0
 
       pub release_value : Dominates (hi c) (lab b rows e)
       release_value = over_names b rows e (hi c) h.1.1.1.0

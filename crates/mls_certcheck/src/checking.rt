@@ -3,6 +3,7 @@ ghost use Rattle.std.specs.Prelude.{◌≡◌, ◌↔◌, Ok, IfOk, length, nat_
 ghost use Rattle.std.specs.List.{list_all};
 ghost use Rattle.mls_translang.specs.Tree.{statements};
 ghost use Rattle.mls_certcheck.specs.Secure.{Secure};
+ghost use Rattle.mls_certcheck.specs.Sharp.{Sharp};
 ghost use Rattle.mls_certcheck.specs.Lines.{body_lines, tx_lines, within_ends};
 ghost use Rattle.mls_certcheck.specs.Rules.{Rules, claim, var_rows};
 ghost use Rattle.mls_certcheck.specs.Checks.{First, count_verdict, counts, holds, verdict};
@@ -107,6 +108,8 @@ pub fn check(policy: &Policy, tx: &Tx, cert: &Certificate) -> Result<(), Refusal
     ensures first { Says result (First (claim policy.now tx.now cert.now)) }
     // So the transaction tells no level more than it may see, but for what it releases to it.
     ensures secure { IfOk result (λ _. Secure policy.now tx.now) }
+    // And by a release only of what the level may not read.
+    ensures sharp { IfOk result (λ _. Sharp policy.now tx.now cert.now) }
 {
     policy.use_invariant();
     let checker = Checker { policy, tx, cert };

@@ -37,7 +37,7 @@ pub use checking::check;
 pub use fault::{CertCause, CertFault};
 pub use flow::{Flow, Line, Slot, Source};
 pub use keeping::is_target;
-pub use laws::{flat_certificates_lift, rules_make_secure};
+pub use laws::{flat_certificates_lift, rules_make_secure, rules_make_sharp};
 pub use lent::{Here, LentFlow, More, Numbered, Targets};
 pub use loops::Loops;
 pub use meaning::{

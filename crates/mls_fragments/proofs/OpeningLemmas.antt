@@ -1,5 +1,6 @@
 -- What an open of files finds, and what an opening leaves of a connection.
 use Rattle.std.proofs.Common.{◌≡◌, inl, inr, ◌∙◌, ap, refl, sym, subst, IsTrue, ◌≢◌, Option, Some, None, Result, Ok, Err, IfOk, IfErr, IfSome, IsErrAnd}
+use Rattle.std.proofs.lemmas.List.Sorted.{IsPermutation-trans, IsPermutation-sym}
 use Rattle.sqlite.specs.Files.{AreFoundIn}
 use Rattle.sqlite.specs.Recovery.{Image}
 use Rattle.sqlite.specs.State.{State, Opens, IsLive, HasCleanDisk}
@@ -13,7 +14,7 @@ use Rattle.mls_tables.specs.declared.adopting.AdoptFault.{AdoptFault}
 use Rattle.mls_tables.specs.declared.adopting.AdoptFault.TheVariants as adopt
 use Rattle.mls_tables.specs.declared.adopting.AllRows.{AllRows}
 use Rattle.mls_tables.specs.Adopting.{Blames, HasDescription, HasReadRows, IsAdopted, AreAll, IsDescribed}
-use Rattle.mls_tables.specs.Rows.{tables_of}
+use Rattle.mls_tables.specs.Rows.{Tables, tables_of}
 use Rattle.mls_tables.specs.declared.rows.MetaRow.{MetaRow}
 use Rattle.sqlite.specs.Effect.{Database}
 use Rattle.mls_tables.specs.Store.{HasEnded}
@@ -21,9 +22,13 @@ use Rattle.mls_fragments.specs.declared.open_fault.OpenFault.{OpenFault}
 use Rattle.mls_fragments.specs.declared.open_fault.OpenFault.TheVariants.{OtherPolicy, BadRows}
 use Rattle.mls_rows.specs.declared.reading.BadRow.{BadRow}
 use Rattle.mls_rows.specs.Finding.{IsMemory}
+use Rattle.mls_rows.specs.declared.place.Where.{Where}
+use Rattle.mls_rows.specs.Condemning.{node_cmp, cell_cmp, entry_cmp, Condemns}
+use Rattle.mls_rows.proofs.SortedLemmas.{one_sorted}
+use Rattle.mls_rows.proofs.RowOrderLemmas.{node_total, node_exact, cell_total, cell_exact, entry_total, entry_exact}
 use Rattle.mls_fragments.specs.Creating.{IsBlankImage}
 use Rattle.mls_fragments.specs.OpenFault.{adopting_fault, finding_fault}
-use Rattle.mls_fragments.specs.Opening.{HoldsSound, IsFoundIn, IsRefused, IsStoreOrMemory, IsUnopened, IsUntaken, IsBad, not_described, not_sound, not_sound_before, AreBad, of_these, of_older}
+use Rattle.mls_fragments.specs.Opening.{HoldsSound, IsFoundIn, IsRefused, IsStoreOrMemory, IsUnopened, IsUntaken, IsBad, not_described, not_sound, not_sound_before, AreBad, of_these, of_older, AreSorted, CondemnsRow}
 
 -- a connection that has just been opened shows what was found
 pub found_now : (start : Image) (s : State) → Opens s → IsLive s → ¬ IsBlankImage start → FindsIn start s → IsFoundIn start s.now
@@ -113,10 +118,28 @@ pub not_found : {A : Type 0} (r : Result A (Failed BadRow)) → IsErrAnd r (λ e
 not_found (Ok a) stopped memory = stopped
 not_found (Err e) stopped memory = stopped memory
 
-pub some_weaker : {A E P Q : Type 0} (r : Result (Option A) E) → (P → Q) → IfOk r (λ o. IfSome o (λ _. P)) → IfOk r (λ o. IfSome o (λ _. Q))
+pub some_weaker : {A E : Type 0} {P Q : A → Type 0} (r : Result (Option A) E) → ((a : A) → P a → Q a) → IfOk r (λ o. IfSome o P) → IfOk r (λ o. IfSome o Q)
 some_weaker (Ok None) f h = tt
-some_weaker (Ok (Some a)) f h = f h
+some_weaker (Ok (Some a)) f h = f a h
 some_weaker (Err e) f h = tt
+
+-- what is said of an error that is no want of memory
+pub at_error : {A P : Type 0} (r : Result A (Failed BadRow)) → IsErrAnd r (λ e. ¬ IsMemory e) → IfErr r (λ e. ¬ IsMemory e → P) → P
+at_error (Ok a) stopped says = absurd stopped
+at_error (Err e) stopped says = says stopped
+
+-- the same rows in order, read again, are condemned alike
+pub condemned_again : (policy : Policy) (file : SchemesFile) (m : MetaRow) (t : Tables) (one other : AllRows) (at : Where) → AreAll t one → AreAll t other → AreSorted one → AreSorted other
+    → CondemnsRow policy file m one at → CondemnsRow policy file m other at
+condemned_again policy file m t one other at all again sorted also c =
+    let nodes = one_sorted node_cmp node_total node_exact one.nodes.items other.nodes.items sorted.nodes also.nodes (IsPermutation-trans _ _ _ (IsPermutation-sym _ _ all.0) again.0) in
+    let cells = one_sorted cell_cmp cell_total cell_exact one.cells.items other.cells.items sorted.cells also.cells (IsPermutation-trans _ _ _ (IsPermutation-sym _ _ all.1.0) again.1.0) in
+    let entries = one_sorted entry_cmp entry_total entry_exact one.entries.items other.entries.items sorted.entries also.entries (IsPermutation-trans _ _ _ (IsPermutation-sym _ _ all.1.1) again.1.1) in (
+      c.0,
+      c.1,
+      subst (λ ns. Condemns c.0 ns other.cells.items other.entries.items at) nodes
+          (subst (λ cs. Condemns c.0 one.nodes.items cs other.entries.items at) cells (subst (λ es. Condemns c.0 one.nodes.items one.cells.items es at) entries c.2)),
+    )
 
 -- rows that hold no sound content are those of a store that is bad
 pub bad_rows : (policy : Policy) (file : SchemesFile) (m : MetaRow) (db : Database) (rows : AllRows) → IsDescribed m db → AreAll (tables_of db.trees) rows → AreBad policy file m rows → IsBad policy file db

@@ -1,5 +1,5 @@
 -- Stores that are opened, and that are not.
-use Rattle.std.specs.Prelude.{◌≡◌, ◌≢◌, ◌⊎◌, ℕ, false, List, [], ◌∷◌, IsTrue}
+use Rattle.std.specs.Prelude.{◌≡◌, ◌≢◌, ◌⊎◌, ℕ, false, List, [], ◌∷◌, length, IsTrue, IsSorted}
 use Rattle.sqlite.specs.Effect.{Database, IsDatabase}
 use Rattle.sqlite.specs.State.{State, HasCleanDisk, KeepsCommit}
 use Rattle.sqlite.specs.Files.{HoldsDatabase, AreFoundIn, IsEmpty, file_state}
@@ -26,6 +26,8 @@ use Rattle.mls_fragments.specs.declared.open_fault.OpenFault.TheVariants.{Store,
 use Rattle.mls_fragments.specs.Based.{BaseState, state_of}
 use Rattle.mls_fragments.specs.Creating.{IsBlankImage}
 use Rattle.mls_rows.specs.Holding.{Holds}
+use Rattle.mls_rows.specs.declared.place.Where.{Where}
+use Rattle.mls_rows.specs.Condemning.{node_cmp, cell_cmp, entry_cmp, Condemns}
 use Rattle.mls_fragments.specs.Migrating.{HasTexts, IsExtended, IsOther, IsSoundBefore, IsWidenedContent}
 
 -- ---- why a store is refused
@@ -55,6 +57,24 @@ pub data AreBad (policy : Policy) (file : SchemesFile) (m : MetaRow) (rows : All
   of_older : (labels : ℕ) (counts : List ℕ) → IsExtended policy file m labels counts
       → ((t : Tables) → AreAll t rows → (c : Content) → Holds t c → ¬ IsSoundBefore policy file.schemes labels counts c)
       → AreBad policy file m rows
+
+-- the store knows so many labels, which are the first of the policy
+abbrev pub KnowsLabels : Policy → SchemesFile → MetaRow → ℕ → Type 0
+KnowsLabels policy file m labels =
+    (HasTexts policy file m × (labels ≡ length policy.labels))
+    ⊎ ((counts : List ℕ) × IsExtended policy file m labels counts)
+
+-- every table's rows are in order
+pub record AreSorted (rows : AllRows) : Type 0 where
+  pub nodes : IsSorted node_cmp rows.nodes.items
+  pub cells : IsSorted cell_cmp rows.cells.items
+  pub entries : IsSorted entry_cmp rows.entries.items
+
+-- the row that is condemned is bad, for a store that knows so many labels
+abbrev pub CondemnsRow : Policy → SchemesFile → MetaRow → AllRows → Where → Type 0
+CondemnsRow policy file m rows at =
+    (labels : ℕ) × KnowsLabels policy file m labels
+    × Condemns labels rows.nodes.items rows.cells.items rows.entries.items at
 
 abbrev pub IsStoreOrMemory : OpenFault → Type 0
 IsStoreOrMemory e = (e ≡ Store) ⊎ (e ≡ Memory)

@@ -1,6 +1,6 @@
 //! Stores of older policies and schemes, whose content is widened. That is a transaction of its own, before the
 //! base is made: a base has no state between two schemes.
-ghost use Rattle.std.specs.Prelude.{◌≡◌, ◌≤◌, ℕ, List, map, length, string_bytes, None, IfOk, IfErr, IfSome};
+ghost use Rattle.std.specs.Prelude.{◌≡◌, ◌≤◌, ℕ, List, map, length, string_bytes, None, IfOk, IfErr, IfSome, IsSorted};
 ghost use Rattle.std.specs.List.{AllZip};
 ghost use Rattle.sqlite.specs.Held.{state};
 ghost use Rattle.mls_lattice.specs.Canon as lattice;
@@ -11,6 +11,7 @@ ghost use Rattle.mls_filterview.specs.Content.{Content};
 ghost use Rattle.mls_tables.specs.Adopting.{AreAll};
 ghost use Rattle.mls_tables.specs.Rows.{Tables};
 ghost use Rattle.mls_rows.specs.Finding.{IsMemory};
+ghost use Rattle.mls_rows.specs.Condemning.{entry_cmp, Condemns};
 ghost use Rattle.mls_rows.specs.Holding.{Holds};
 ghost use Rattle.mls_fragments.specs.Migrating.{IsLineage, IsOther, IsBefore, wide_tables, IsSoundBefore, HasWidened};
 
@@ -136,6 +137,8 @@ pub(crate) fn find_widened(
     ensures only { (t : Tables) → AreAll t rows → (c : Content) → Holds t c
         → IsSoundBefore design.now.policy.now design.now.file.now.schemes older.now.labels older.now.counts.items c
         → IfErr result IsMemory }
+    ensures condemned { IsSorted entry_cmp rows.entries.items → IfErr result (λ e. ¬ IsMemory e
+        → Condemns older.now.labels rows.nodes.items rows.cells.items rows.entries.items at.new) }
 {
     let schemes = &design.file.schemes;
     let before = schemes.before(alloc, &older.counts)?;

@@ -6,7 +6,7 @@ ghost use Rattle.mls_tables.specs.Adopting.{AreAll, IsDescribed};
 ghost use Rattle.mls_tables.specs.Rows.{is_meta_row, tables_of};
 ghost use Rattle.mls_tables.specs.Statements.{AreRows};
 ghost use Rattle.mls_rows.specs.Finding.{IsMemory};
-ghost use Rattle.mls_fragments.specs.Opening.{AreBad, IsBad, IsRefused};
+ghost use Rattle.mls_fragments.specs.Opening.{AreBad, IsBad, IsRefused, AreSorted, CondemnsRow};
 
 use crate::design::Design;
 use crate::migrating::{Lineage, find_widened, lineage_of};
@@ -27,6 +27,7 @@ fn sorted_rows<S: Alter>(conn: &mut Connection<S>, alloc: Global) -> Result<AllR
         → OnOk result ((state S.Store conn.new).now ≡ (state S.Store conn.old).now) }
     ensures all { HasCleanDisk (state S.Store conn.new)
         → IfOk result (AreAll (tables_of (state S.Store conn.old).now.trees)) }
+    ensures sorted { IfOk result AreSorted }
 {
     let mut rows = read_store(conn, alloc)?;
     rows.nodes.sort()?;
@@ -37,7 +38,7 @@ fn sorted_rows<S: Alter>(conn: &mut Connection<S>, alloc: Global) -> Result<AllR
 
 /// The place where rows are judged, if they are found bad there.
 fn stopped(found: &Result<Found, RowFault>, at: Where) -> Result<Option<Where>, AllocError>
-    ensures { IfOk result (λ o. IfSome o (λ _. IsErrAnd found.now (λ e. ¬ IsMemory e))) }
+    ensures { IfOk result (λ o. IfSome o (λ w. (w ≡ at) × IsErrAnd found.now (λ e. ¬ IsMemory e))) }
 {
     match found {
         Ok(_) => Ok(None),
@@ -53,7 +54,10 @@ fn stop_of(
     described: &MetaRow,
     rows: AllRows,
 ) -> Result<Option<Where>, AllocError>
-    ensures { IfOk result (λ o. IfSome o (λ _. AreBad design.now.policy.now design.now.file.now described.now rows)) }
+    ensures bad { IfOk result (λ o. IfSome o
+        (λ _. AreBad design.now.policy.now design.now.file.now described.now rows)) }
+    ensures condemned { AreSorted rows
+        → IfOk result (λ o. IfSome o (CondemnsRow design.now.policy.now design.now.file.now described.now rows)) }
 {
     let mut at = Where::start();
     let texts = texts_of(alloc, design)?;
@@ -72,7 +76,8 @@ fn stop_of(
 }
 
 /// Where the opening of a store stops that has this description, and every row, among which the place counts; none where it
-/// does not stop at rows. The store stays as it is. Where it stops, the rows are those of a store that is bad.
+/// does not stop at rows. The store stays as it is. Where it stops, the rows are those of a store that is bad, and a row
+/// that is judged alone is bad itself.
 pub fn bad_row<S: Alter>(
     conn: &mut Connection<S>,
     alloc: Global,
@@ -85,6 +90,8 @@ pub fn bad_row<S: Alter>(
     ensures bad { HasCleanDisk (state S.Store conn.new) → IsDescribed described.now (state S.Store conn.old).now
         → IfOk result (λ o. IfSome o (λ it. AreAll (tables_of (state S.Store conn.old).now.trees) it.1
         × IsBad design.now.policy.now design.now.file.now (state S.Store conn.old).now)) }
+    ensures condemned { HasCleanDisk (state S.Store conn.new) → IfOk result (λ o. IfSome o
+        (λ it. AreSorted it.1 × CondemnsRow design.now.policy.now design.now.file.now described.now it.1 it.0)) }
 {
     let rows = sorted_rows(conn, alloc)?;
     match stop_of(alloc, design, described, rows)? {

@@ -1,4 +1,5 @@
 pub mod BitLemmas
+pub mod CondemningLemmas
 pub mod ByteLemmas
 pub mod CallLemmas
 pub mod DroppingLemmas

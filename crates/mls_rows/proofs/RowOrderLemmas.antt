@@ -1,9 +1,8 @@
 -- The orders of rows, field by field, are total, and only equal rows tie.
-use Rattle.std.proofs.Common.{◌≡◌, ℕ, zero, suc, ◌+◌, ◌<◌, pos, true, false, List, [], ◌∷◌, map, length, get_or, Greater, Ordering, IsPermutation, sym, ap, subst, arith, IsSorted, nat_cmp, int_cmp, is_lt}
+use Rattle.std.proofs.Common.{◌≡◌, ℕ, zero, suc, ◌+◌, ◌<◌, pos, true, false, List, [], ◌∷◌, map, length, get_or, Greater, IsPermutation, sym, ap, subst, arith, IsSorted, int_cmp, is_lt}
 use Rattle.std.specs.List.{AllByRecursion}
-use Rattle.std.specs.Ordering.{ordering_then, on, then_cmp}
+use Rattle.std.specs.Ordering.{ordering_then}
 use Rattle.std.specs.Cmp.{IsTotalOrder, int_cmp_is}
-use Rattle.std.specs.Cmp.Lexicographic.{slice_cmp}
 use Rattle.std.specs.FinMap.{IsAntisymmetric, slice_cmp-IsAntisymmetric, nat_cmp-IsAntisymmetric, int_cmp-IsAntisymmetric}
 use Rattle.std.proofs.lemmas.Cmp.{on_total, then_total, nat_cmp_total, int_cmp_total, nat_list_cmp_total}
 use Rattle.std.proofs.lemmas.Int.{ints}
@@ -15,17 +14,12 @@ use Rattle.mls_tables.specs.declared.rows.AuditRow.{AuditRow}
 use Rattle.mls_tables.specs.Rows.{numbered, are_numbered}
 use Rattle.mls_tables.proofs.NumberedLemmas.{spelled}
 use Rattle.mls_rows.proofs.SortedLemmas.{one_sorted}
-
-abbrev bytes_cmp : List ℕ → List ℕ → Ordering
-bytes_cmp = slice_cmp nat_cmp
+pub use Rattle.mls_rows.specs.Condemning.{bytes_cmp, node_cmp, cell_cmp, entry_cmp}
 
 bytes_exact : IsAntisymmetric bytes_cmp
 bytes_exact = slice_cmp-IsAntisymmetric nat_cmp-IsAntisymmetric
 
 -- ---- nodes
-
-abbrev pub node_cmp : NodeRow → NodeRow → Ordering
-node_cmp = then_cmp (on (λ r. r.rel) nat_cmp) (then_cmp (on (λ r. r.ent) bytes_cmp) (then_cmp (on (λ r. r.kclass) nat_cmp) (then_cmp (on (λ r. r.label) nat_cmp) (on (λ r. r.pattern) bytes_cmp))))
 
 pub node_total : IsTotalOrder node_cmp
 node_total = then_total (on_total (λ (r : NodeRow). r.rel) nat_cmp_total)
@@ -46,9 +40,6 @@ node_exact a b h =
     λ i. record { rel = rel i; ent = ent i; kclass = kclass i; label = label i; pattern = pattern i }
 
 -- ---- cells
-
-abbrev pub cell_cmp : CellRow → CellRow → Ordering
-cell_cmp = then_cmp (on (λ r. r.rel) nat_cmp) (then_cmp (on (λ r. r.ent) bytes_cmp) (then_cmp (on (λ r. r.kclass) nat_cmp) (then_cmp (on (λ r. r.label) nat_cmp) (then_cmp (on (λ r. r.attr) nat_cmp) (on (λ r. r.value) bytes_cmp)))))
 
 pub cell_total : IsTotalOrder cell_cmp
 cell_total = then_total (on_total (λ (r : CellRow). r.rel) nat_cmp_total)
@@ -72,9 +63,6 @@ cell_exact a b h =
     λ i. record { rel = rel i; ent = ent i; kclass = kclass i; label = label i; attr = attr i; value = value i }
 
 -- ---- entries of the audit list
-
-abbrev pub entry_cmp : AuditRow → AuditRow → Ordering
-entry_cmp = then_cmp (on (λ r. r.number) int_cmp) (on (λ r. r.bytes) bytes_cmp)
 
 pub entry_total : IsTotalOrder entry_cmp
 entry_total = then_total (on_total (λ (r : AuditRow). r.number) int_cmp_total) (on_total (λ r. r.bytes) nat_list_cmp_total)

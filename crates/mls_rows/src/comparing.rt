@@ -1,9 +1,10 @@
 //! The rows that tables have, compared with those of a store.
-ghost use Rattle.std.specs.Prelude.{◌≡◌, ◌≤◌, ◌++◌, length, map, flat_map, IsTrue, IfOk, OnOk, IsPermutation};
+ghost use Rattle.std.specs.Prelude.{◌≡◌, ◌≤◌, ◌++◌, false, length, map, flat_map, IsTrue, IfOk, OnOk, IsPermutation};
 ghost use Rattle.std.specs.List.{AllByRecursion};
 ghost use Rattle.mls_filterview.specs.Fragment.{node_of, cells_of};
 ghost use Rattle.mls_rows.specs.Finding.{IsSpelledEntry, AreAlike, node_rows, cell_rows};
 ghost use Rattle.mls_rows.specs.Holding.{node_row, cell_row};
+ghost use Rattle.mls_rows.specs.Condemning.{IsOfTuples};
 
 use crate::place::{Step, Where};
 use crate::writing::{row_of_cell, row_of_node};
@@ -82,6 +83,7 @@ fn have_same_nodes(
 ) -> Result<bool, AllocError>
     ensures same { IfOk result (λ b. IsTrue b → IsPermutation left.items right.items) }
     ensures only { AreAlike (λ r. r.rel) left.items right.items → IfOk result IsTrue }
+    ensures condemned { IfOk result (λ b. b ≡ false → IsOfTuples at.new.step) }
 {
     left.sort()?;
     right.sort()?;
@@ -100,6 +102,7 @@ fn have_same_cells(
 ) -> Result<bool, AllocError>
     ensures same { IfOk result (λ b. IsTrue b → IsPermutation left.items right.items) }
     ensures only { AreAlike (λ r. r.rel) left.items right.items → IfOk result IsTrue }
+    ensures condemned { IfOk result (λ b. b ≡ false → IsOfTuples at.new.step) }
 {
     left.sort()?;
     right.sort()?;
@@ -125,6 +128,7 @@ pub(crate) fn have_rows(
         × IsPermutation (cell_rows 0 (map (λ t. t.entries) tables.now)) cells.items) }
     ensures only { AreAlike (λ r. r.rel) (node_rows 0 (map (λ t. t.entries) tables.now)) nodes.items
         → AreAlike (λ r. r.rel) (cell_rows 0 (map (λ t. t.entries) tables.now)) cells.items → IfOk result IsTrue }
+    ensures condemned { IfOk result (λ b. b ≡ false → IsOfTuples at.new.step) }
 {
     if !have_same_nodes(node_rows(alloc, tables)?, nodes, at)? {
         return Ok(false);

@@ -1,16 +1,18 @@
 //! What the rows of a store hold: the tuples of each relation, put together and asked for the stored form, and the entries.
 ghost use Rattle.std.specs.Prelude.{◌≡◌, ◌↔◌, ◌≤◌, ℕ, List, length, map, nat_lt, IsTrue, IfOk, IfErr, OnOk};
-ghost use Rattle.std.specs.Prelude.{IsPermutation};
+ghost use Rattle.std.specs.Prelude.{IsPermutation, IsSorted, false, pos};
 ghost use Rattle.std.specs.List.{AllByRecursion, list_all};
 ghost use Rattle.mls_lattice.specs.Policy.{labels_of};
 ghost use Rattle.mls_scheme.specs.Scheme.{AreUnder};
 ghost use Rattle.mls_audit.specs.Spelling.{IsEntryOf};
 ghost use Rattle.mls_filterview.specs.Content.{Content};
 ghost use Rattle.mls_tables.specs.Adopting.{AreAll};
-ghost use Rattle.mls_tables.specs.Rows.{Tables, numbered};
+ghost use Rattle.mls_tables.specs.Rows.{Tables, numbered, are_numbered};
 ghost use Rattle.mls_rows.specs.Finding.{IsMemory, IsNodeRow, IsCellRow, IsAssembled, AreAssembled, AreTables};
 ghost use Rattle.mls_rows.specs.Finding.{is_within, IsSoundWithin, HasFound};
 ghost use Rattle.mls_rows.specs.Holding.{Holds};
+ghost use Rattle.mls_rows.specs.Condemning.{Condemns, CondemnsClasses, CondemnsEntry, CondemnsNumber, CondemnsReading};
+ghost use Rattle.mls_rows.specs.Condemning.{CondemnsList, IsOfTuples, entry_cmp};
 
 use crate::comparing::have_rows;
 use crate::place::{Step, Where};
@@ -34,6 +36,7 @@ fn assembled(
 ) -> Result<TupleMap, RowFault>
     ensures assembled { IfOk result (λ rows. IsAssembled relation nodes.now cells.now rows.entries) }
     ensures only { AllByRecursion IsNodeRow nodes.now → AllByRecursion IsCellRow cells.now → IfErr result IsMemory }
+    ensures condemned { IfErr result (λ e. ¬ IsMemory e → CondemnsReading nodes.now cells.now at.new) }
 {
     let nodes = nodes_of_relation(alloc, relation, nodes, at)?;
     let values = values_of(alloc, cells_of_relation(alloc, relation, cells, at)?)?;
@@ -52,6 +55,7 @@ pub fn tables_of(
     ensures count { IfOk result (λ tables. length tables.items ≡ count) }
     ensures assembled { IfOk result (λ tables. AreAssembled nodes.now cells.now (map (λ t. t.entries) tables.items)) }
     ensures only { AllByRecursion IsNodeRow nodes.now → AllByRecursion IsCellRow cells.now → IfErr result IsMemory }
+    ensures condemned { IfErr result (λ e. ¬ IsMemory e → CondemnsReading nodes.now cells.now at.new) }
 {
     let mut tables = Vec::new(alloc);
     for relation in 0..count {
@@ -71,8 +75,9 @@ fn are_content(
     requires under { AreUnder (length policy.now.labels) schemes.now }
     requires few { length tables.now ≤ 256 }
     requires within { length tables.now ≤ length schemes.now }
-    ensures { IfOk result (λ b. IsTrue b
+    ensures are { IfOk result (λ b. IsTrue b
         ↔ AreTables (labels_of policy.now) schemes.now (map (λ t. t.entries) tables.now)) }
+    ensures condemned { IfOk result (λ b. b ≡ false → IsOfTuples at.new.step) }
 {
     for (relation, table) in tables.iter().enumerate() {
         let relation = RelNo::new(relation as u8);
@@ -107,6 +112,8 @@ fn check_entries(
 ) -> Result<(), RowFault>
     ensures found { OnOk result (AllByRecursion (λ r. IsEntryOf labels r.bytes) rows.now) }
     ensures only { AllByRecursion (λ r. IsEntryOf labels r.bytes) rows.now → IfErr result IsMemory }
+    ensures condemned { IfErr result (λ e. ¬ IsMemory e
+        → (at.new.step ≡ Step.Entry) × CondemnsEntry labels rows.now at.new.row) }
 {
     at.begin(Step::Entry);
     for row in rows {
@@ -117,7 +124,9 @@ fn check_entries(
 }
 
 /// Goes to the first row that has not the next number.
-fn pass_numbered(rows: &[AuditRow], at: &mut Where) {
+fn pass_numbered(rows: &[AuditRow], at: &mut Where)
+    ensures { are_numbered (pos 1) rows.now ≡ false → (at.new.step ≡ Step.Number) × CondemnsNumber rows.now at.new.row }
+{
     at.begin(Step::Number);
     let mut last: i64 = 0;
     for row in rows {
@@ -140,6 +149,8 @@ pub fn entries_of(
     ensures entries { IfOk result (AllByRecursion (IsEntryOf labels)) }
     ensures only { (list : List (List ℕ)) → IsPermutation (numbered 1 list) rows.items
         → AllByRecursion (IsEntryOf labels) list → IfErr result IsMemory }
+    ensures condemned { IsSorted entry_cmp rows.items
+        → IfErr result (λ e. ¬ IsMemory e → CondemnsList labels rows.items at.new) }
 {
     rows.sort()?;
     if !are_numbered(&rows) {
@@ -171,7 +182,8 @@ fn is_within(labels: usize, node: &NodeRow) -> bool
 
 /// Whether the classes of all tuples are.
 fn are_within(labels: usize, nodes: &[NodeRow], at: &mut Where) -> bool
-    ensures { result ≡ list_all (is_within labels) nodes.now }
+    ensures all { result ≡ list_all (is_within labels) nodes.now }
+    ensures condemned { result ≡ false → (at.new.step ≡ Step.Classes) × CondemnsClasses labels nodes.now at.new.row }
 {
     at.begin(Step::Classes);
     for node in nodes {
@@ -195,7 +207,7 @@ pub struct Found {
 }
 
 /// What rows hold, where that is content of the stored form whose classes are among the first labels, and entries of such
-/// labels. Where it is not, the judging stands at a row of it.
+/// labels. Where it is not, the judging stands at a row of it, which is bad where it is judged alone.
 pub fn find(
     alloc: Global,
     policy: &Policy,
@@ -208,6 +220,8 @@ pub fn find(
     ensures found { IfOk result (HasFound policy.now schemes.now labels rows) }
     ensures only { (t : Tables) → AreAll t rows → (c : Content) → Holds t c
         → IsSoundWithin policy.now schemes.now labels c → IfErr result IsMemory }
+    ensures condemned { IsSorted entry_cmp rows.entries.items → IfErr result (λ e. ¬ IsMemory e
+        → Condemns labels rows.nodes.items rows.cells.items rows.entries.items at.new) }
 {
     let AllRows {
         nodes,

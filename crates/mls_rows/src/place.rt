@@ -1,4 +1,5 @@
 //! Where the judging of a store's rows stands.
+ghost use Rattle.std.specs.Prelude.{◌≡◌, ◌⊎◌, ◌+◌, ◌^◌, ◌-◌, ◌<◌};
 
 use mls_scheme::RelNo;
 
@@ -45,13 +46,19 @@ impl Where {
     }
 
     /// At the first row of a step.
-    pub(crate) fn begin(&mut self, step: Step) {
+    pub(crate) fn begin(&mut self, step: Step)
+        ensures step { self.new.step ≡ step }
+        ensures row { self.new.row ≡ 0 }
+    {
         self.step = step;
         self.row = 0;
     }
 
     /// At the next row.
-    pub(crate) fn pass(&mut self) {
+    pub(crate) fn pass(&mut self)
+        ensures step { self.new.step ≡ self.old.step }
+        ensures row { self.old.row < 2 ^ 64 - 1 → self.new.row ≡ self.old.row + 1 }
+    {
         self.row = self.row.saturating_add(1);
     }
 
@@ -62,7 +69,9 @@ impl Where {
         missing: Step,
         rows: &[T],
         wanted: &[T],
-    ) {
+    )
+        ensures { (self.new.step ≡ loose) ⊎ (self.new.step ≡ missing) }
+    {
         self.begin(if rows.len() < wanted.len() {
             missing
         } else {

@@ -12,6 +12,7 @@ ghost use Rattle.mls_tables.specs.Rows.{numbered, has_bit};
 ghost use Rattle.mls_tables.specs.Store.{IsClean, IsStoreFault};
 ghost use Rattle.mls_rows.specs.Calls.{IsRowRead};
 ghost use Rattle.mls_rows.specs.Finding.{IsMemory, IsNodeRow, IsCellRow, AreReadable};
+ghost use Rattle.mls_rows.specs.Condemning.{CondemnsNode, CondemnsCell};
 ghost use Rattle.mls_rows.specs.Holding.{Holds, node_row, cell_row, value_bytes, IsSpelledNode, IsSpelledCell};
 
 use crate::place::{Step, Where};
@@ -115,6 +116,8 @@ pub(crate) fn nodes_of_relation(
     ensures shown { IfOk result (λ nodes. map (node_row relation) nodes ≡ filter (λ r. nat_eq r.rel relation) rows.now) }
     ensures spelled { IfOk result (AllByRecursion IsSpelledNode) }
     ensures only { AllByRecursion IsNodeRow rows.now → IfErr result IsMemory }
+    ensures condemned { IfErr result (λ e. ¬ IsMemory e
+        → (at.new.step ≡ Step.Node) × CondemnsNode rows.now at.new.row) }
 {
     at.begin(Step::Node);
     let mut nodes = Vec::new(alloc);
@@ -165,6 +168,8 @@ pub(crate) fn cells_of_relation(
     ensures shown { IfOk result (λ cells. map (cell_row relation) cells ≡ filter (λ r. nat_eq r.rel relation) rows.now) }
     ensures spelled { IfOk result (AllByRecursion IsSpelledCell) }
     ensures only { AllByRecursion IsCellRow rows.now → IfErr result IsMemory }
+    ensures condemned { IfErr result (λ e. ¬ IsMemory e
+        → (at.new.step ≡ Step.Cell) × CondemnsCell rows.now at.new.row) }
 {
     at.begin(Step::Cell);
     let mut cells = Vec::new(alloc);

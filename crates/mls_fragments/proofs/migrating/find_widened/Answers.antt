@@ -102,3 +102,8 @@ returns-clause-widened c =
       count = (let few = f.valid.few in omega (arith, listed, counted, few, length-map c.in_ok-widened_tables.field-0.items (λ t. t.entries)));
       last = search rules;
     }
+
+pub returns-in_err-tables-clause-condemned : goal.returns-in_err-tables-clause-condemned
+returns-in_err-tables-clause-condemned c sorted =
+    let bad = c.in_err-tables.ensures.condemned sorted in
+    search rules

@@ -8,8 +8,8 @@ use Rattle.mls_rows.specs.Changes.{table_in}
 use Rattle.mls_rows.proofs.FindingLemmas.{up_to, table_at}
 use Rattle.mls_rows.proofs.finding.are_content.Goals as goal
 
-pub returns-then-not-branch : goal.returns-then-not-branch
-returns-then-not-branch c = (
+pub returns-then-not-branch-clause-are : goal.returns-then-not-branch-clause-are
+returns-then-not-branch-clause-are c = (
   λ no. absurd (true≢false (sym no)),
   λ all.
       let here = all c.loop-relation.relation (let l = c.loop-relation-test.true in omega (arith, l, length-map c.args.tables.now (λ t. t.entries))) in
@@ -25,5 +25,5 @@ loop-relation-preserved c =
     (sym (table_at (λ t. t.entries) c.args.tables.now c.loop-relation.relation c.index-tables-relation.result c.loop-relation-test.true c.index-tables-relation.is))
     (c.in_ok-is_content.ensures.0 c.if-not-branch.false))
 
-pub returns : goal.returns
-returns c = (λ yes relation l. c.loop-relation.invariant relation (let past = c.loop-relation-test.false in omega (arith, l, past, length-map c.args.tables.now (λ t. t.entries))), λ all. refl)
+pub returns-clause-are : goal.returns-clause-are
+returns-clause-are c = (λ yes relation l. c.loop-relation.invariant relation (let past = c.loop-relation-test.false in omega (arith, l, past, length-map c.args.tables.now (λ t. t.entries))), λ all. refl)

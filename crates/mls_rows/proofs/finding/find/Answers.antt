@@ -5,7 +5,9 @@ use Rattle.std.specs.List.Sorted.{IsStrictlySortedBy}
 use Rattle.std.specs.Map.{keys_of}
 use Rattle.std.specs.List.{AllByRecursion, list_all}
 use Rattle.mls_lattice.specs.Policy.{labels_of}
-use Rattle.mls_rows.specs.Finding.{is_within, IsNodeRow, IsCellRow, AreAlike, AreAssembled, AreTables, IsSpelledEntry, node_rows, cell_rows}
+use Rattle.mls_rows.specs.Finding.{IsMemory, is_within, IsNodeRow, IsCellRow, AreAlike, AreAssembled, AreTables, IsSpelledEntry, node_rows, cell_rows}
+use Rattle.mls_rows.specs.Condemning.{Condemns, CondemnsClasses, CondemnsReading}
+use Rattle.mls_rows.proofs.CondemningLemmas.{at_classes, at_reading, at_list, at_tuples}
 use Rattle.mls_rows.proofs.ByteLemmas.{content_bytes, few_labels}
 use Rattle.mls_rows.proofs.FindingLemmas.{are_content, finds, tables_each, tables_spelled}
 use Rattle.mls_scheme.specs.Table.{place_cmp}
@@ -29,7 +31,7 @@ returns-clause-found c =
     let tables = map (λ t. t.entries) c.in_ok-tables.tables.items in
     let content = found tables c.in_ok-entries.entries in
     let same = c.in_ok-have_rows.ensures.same c.if-not-branch-2.false in
-    let are : AreTables ls schemes tables = subst (λ ts. AreTables ls schemes (map (λ t. t.entries) ts)) c.deref-4.ensures.value (c.in_ok-are_content.ensures.0 c.if-not-branch.false) in
+    let are : AreTables ls schemes tables = subst (λ ts. AreTables ls schemes (map (λ t. t.entries) ts)) c.deref-4.ensures.value (c.in_ok-are_content.ensures.are.0 c.if-not-branch.false) in
     let held : (t : Tables) → AreAll t c.args.rows → Holds t content = λ t all.
     finds ls schemes c.args.rows tables c.in_ok-entries.entries
     (subst₂ (λ nodes cells. AreAssembled nodes cells tables) c.deref-2.ensures.value c.deref-3.ensures.value c.in_ok-tables.ensures.assembled)
@@ -46,7 +48,7 @@ returns-clause-found c =
             let t : Tables = record { nodes = c.args.rows.nodes.items; cells = c.args.rows.cells.items; audit = c.args.rows.entries.items; meta = [] } in
             let all : AreAll t c.args.rows = (IsPermutation-refl t.nodes, (IsPermutation-refl t.cells, IsPermutation-refl t.audit)) in
             classes_within c.args.labels t c.args.rows all content (held t all)
-            (subst (λ ns. list_all (is_within c.args.labels) ns ≡ true) c.deref.ensures.value (sym c.are_within.ensures ∙ c.if-not-are_within.false)) relation;
+            (subst (λ ns. list_all (is_within c.args.labels) ns ≡ true) c.deref.ensures.value (sym c.are_within.ensures.all ∙ c.if-not-are_within.false)) relation;
         entries = c.in_ok-entries.ensures.entries;
       };
       classes = content_bytes ls schemes content (few_labels c.args.policy.now c.use_invariant.ensures.few_labels) all_content;
@@ -61,7 +63,7 @@ returns-clause-found c =
 pub returns-then-not-are_within-clause-only : goal.returns-then-not-are_within-clause-only
 returns-then-not-are_within-clause-only c t all content holds sound =
     absurd (true≢false (sym (subst (λ ns. list_all (is_within c.args.labels) ns ≡ true) (sym c.deref.ensures.value) (rows_within c.args.labels t c.args.rows all content holds sound.classes))
-    ∙ sym c.are_within.ensures ∙ c.if-not-are_within.true))
+    ∙ sym c.are_within.ensures.all ∙ c.if-not-are_within.true))
 
 -- ---- rows that hold sound content are refused only for want of memory
 
@@ -80,7 +82,7 @@ returns-then-not-branch-clause-only c t all content holds sound =
     let made = subst₂ (λ nodes cells. AreAssembled nodes cells tables) c.deref-2.ensures.value c.deref-3.ensures.value c.in_ok-tables.ensures.assembled in
     let count = length-map c.in_ok-tables.tables.items (λ t. t.entries) ∙ c.in_ok-tables.ensures.count ∙ c.count.ensures in
     let are = tables_are (labels_of c.args.policy.now) (few_labels c.args.policy.now c.use_invariant.ensures.few_labels) c.args.schemes.now t c.args.rows all content holds sound.content tables count made in
-    absurd (true≢false (sym (c.in_ok-are_content.ensures.1 (subst (λ ts. AreTables (labels_of c.args.policy.now) c.args.schemes.now (map (λ t. t.entries) ts)) (sym c.deref-4.ensures.value) are)) ∙ c.if-not-branch.true))
+    absurd (true≢false (sym (c.in_ok-are_content.ensures.are.1 (subst (λ ts. AreTables (labels_of c.args.policy.now) c.args.schemes.now (map (λ t. t.entries) ts)) (sym c.deref-4.ensures.value) are)) ∙ c.if-not-branch.true))
 
 pub returns-then-not-branch-2-clause-only : goal.returns-then-not-branch-2-clause-only
 returns-then-not-branch-2-clause-only c t all content holds sound =
@@ -97,4 +99,35 @@ returns-then-not-branch-2-clause-only c t all content holds sound =
 pub returns-in_err-entries-clause-only : goal.returns-in_err-entries-clause-only
 returns-in_err-entries-clause-only c t all content holds sound =
     let memory = c.in_err-entries.ensures.only content.audit (IsPermutation-trans _ _ _ holds.audit all.1.1) sound.entries in
+    search rules
+
+-- ---- which row is condemned
+
+pub returns-then-not-are_within-clause-condemned : goal.returns-then-not-are_within-clause-condemned
+returns-then-not-are_within-clause-condemned c sorted other =
+    let at = c.are_within.new.at in
+    let bad = c.are_within.ensures.condemned c.if-not-are_within.true in
+    at_classes c.args.labels c.args.rows.nodes.items c.args.rows.cells.items c.args.rows.entries.items at (bad.0, subst (λ ns. CondemnsClasses c.args.labels ns at.row) c.deref.ensures.value bad.1)
+
+pub returns-in_err-tables-clause-condemned : goal.returns-in_err-tables-clause-condemned
+returns-in_err-tables-clause-condemned c sorted =
+    let at = c.tables_of.new.at in
+    let bad : (¬ IsMemory c.in_err-tables.field-0.0) → Condemns c.args.labels c.args.rows.nodes.items c.args.rows.cells.items c.args.rows.entries.items at = λ other.
+    at_reading c.args.labels c.args.rows.nodes.items c.args.rows.cells.items c.args.rows.entries.items at
+    (subst₂ (λ ns cs. CondemnsReading ns cs at) c.deref-2.ensures.value c.deref-3.ensures.value (c.in_err-tables.ensures.condemned other)) in
+    search rules
+
+pub returns-then-not-branch-clause-condemned : goal.returns-then-not-branch-clause-condemned
+returns-then-not-branch-clause-condemned c sorted other =
+    at_tuples c.args.labels c.args.rows.nodes.items c.args.rows.cells.items c.args.rows.entries.items c.are_content.new.at (c.in_ok-are_content.ensures.condemned c.if-not-branch.true)
+
+pub returns-then-not-branch-2-clause-condemned : goal.returns-then-not-branch-2-clause-condemned
+returns-then-not-branch-2-clause-condemned c sorted other =
+    at_tuples c.args.labels c.args.rows.nodes.items c.args.rows.cells.items c.args.rows.entries.items c.have_rows.new.at (c.in_ok-have_rows.ensures.condemned c.if-not-branch-2.true)
+
+pub returns-in_err-entries-clause-condemned : goal.returns-in_err-entries-clause-condemned
+returns-in_err-entries-clause-condemned c sorted =
+    let at = c.entries_of.new.at in
+    let bad : (¬ IsMemory c.in_err-entries.field-0.0) → Condemns c.args.labels c.args.rows.nodes.items c.args.rows.cells.items c.args.rows.entries.items at = λ other.
+    at_list c.args.labels c.args.rows.nodes.items c.args.rows.cells.items c.args.rows.entries.items at (c.in_err-entries.ensures.condemned sorted other) in
     search rules

@@ -36,4 +36,5 @@ BeginsCase (line ∷ lines) = IsTrue (begins_case line.now)
 
 -- the case that the first of some lines begins
 abbrev pub IsCase : List (Bor (List ℕ)) → Bor (List ℕ) → List (Bor (List ℕ)) → Type 0
-IsCase lines head body = (below : List (Bor (List ℕ))) × (lines ≡ head ∷ below) × (body ≡ take_while (λ line. is_inner line.now) below)
+IsCase lines head body = (below : List (Bor (List ℕ))) × (lines ≡ head ∷ below)
+    × (body ≡ take_while (λ line. is_inner line.now) below)

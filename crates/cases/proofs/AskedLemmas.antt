@@ -24,9 +24,12 @@ pub not_alone : (m n : ℕ) → m ≢ n → IsAmong m (n ∷ []) → ⊥
 not_alone m n off (inl e) = off e
 not_alone m n off (inr h) = h
 
--- a base that has read a label where a call of it has failed, and had not before: what reads nothing up fails only below its level
-pub fails_below : {B A : Type 0} {seen : B → Seen} {a b : B} (ls : Labels) (level label : ℕ) (result : Result A BaseFault)
-    → NoReadUp seen ls level a b → IsCall seen a b result → (0 < (seen b).failures → (seen b).asked label) → ((seen a).asked label → ⊥)
+-- a base that has read a label where a call of it has failed, and had not before: what reads nothing up fails only
+-- below its level
+pub fails_below : {B A : Type 0} {seen : B → Seen} {a b : B} (ls : Labels) (level label : ℕ)
+    (result : Result A BaseFault)
+    → NoReadUp seen ls level a b → IsCall seen a b result → (0 < (seen b).failures → (seen b).asked label)
+    → ((seen a).asked label → ⊥)
     → IfErr result (λ fault. fault ≡ Store → below ls label level ≡ true)
 fails_below ls level label result access call noted fresh =
     IfErr-weaker result _ _ (λ fault left is. elim (cases_Bool (below ls label level)) [

@@ -11,7 +11,11 @@ use Rattle.mls_scheme.specs.Value.{fits_kind}
 use Rattle.mls_certcheck.specs.MeaningLaws.{ArgsFit}
 use Rattle.mls_audit.proofs.SoundLemmas.{no_tuples}
 
-pub none_stored : (ls : Labels) (schemes : Schemes) (s : State) → s ≡ record { now = no_content; kept = no_content; begun = false } → AreContent ls schemes s.now.db
+pub none_stored : (ls : Labels) (schemes : Schemes) (s : State) → s ≡ record {
+  now = no_content;
+  kept = no_content;
+  begun = false;
+} → AreContent ls schemes s.now.db
 none_stored ls schemes s is = subst (λ (x : State). AreContent ls schemes x.now.db) (sym is) (no_tuples ls schemes)
 
 -- a transaction without parameters takes no arguments
@@ -23,7 +27,8 @@ none_fit tx none = by_params tx.params none
     by_params (p ∷ ps) e = let none : suc (length ps) ≡ 0 = e in absurd (omega (arith, none))
 
 -- what holds of all of a list holds of its last item
-pub last_holds : {A : Type 0} (P : A → Type 0) (xs front : List A) (o : Option A) → xs ≡ front ++ option_to_list o → AllByRecursion P xs → IfSome o P
+pub last_holds : {A : Type 0} (P : A → Type 0) (xs front : List A) (o : Option A) → xs ≡ front ++ option_to_list o
+    → AllByRecursion P xs → IfSome o P
 last_holds P xs front None is h = tt
 last_holds {A = A} P xs front (Some x) is h = behind front (subst (AllByRecursion P) is h)
   where

@@ -212,7 +212,8 @@ fn tell_visible(alloc: Global, policy: &Policy, level: &str, body: &[&str], out:
     }
 }
 
-/// Tells what bytes spell: a line is `entry` or `prefixes`, and the bytes; or `names`, and how long they are. `visible`, and a label, has
+/// Tells what bytes spell: a line is `entry` or `prefixes`, and the bytes; or `names`, and how long they are.
+/// `visible`, and a label, has
 /// lines of bytes below.
 pub fn tell(alloc: Global, policy: &Policy, case: &Case<'_>, out: &mut Told) {
     let (kind, rest) = case.head.split_once(' ').unwrap_or((case.head, ""));

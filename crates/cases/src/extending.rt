@@ -72,7 +72,8 @@ fn tell_old(alloc: Global, sample: &Sample<'_>, case: &Case<'_>, old: &[u8], out
     }
 }
 
-/// Tells of an old text in one line, after `policy` or `schemes`, whether it is extended, and what of the new one is old.
+/// Tells of an old text in one line, after `policy` or `schemes`, whether it is extended, and what of the new one is
+/// old.
 pub fn tell(alloc: Global, sample: &Sample<'_>, case: &Case<'_>, out: &mut Told) {
     let line = case.head.split_once(' ').map_or("", |parts| parts.1);
     match unfolded(alloc, line) {

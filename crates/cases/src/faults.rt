@@ -1,5 +1,7 @@
-//! What runs leave where a call of the base, or a write, fails: the replies before the fault are whole, and content and audit list are those
-//! before or after its event; and what single steps leave where a call fails: content, audit list and sessions are those before it, and the
+//! What runs leave where a call of the base, or a write, fails: the replies before the fault are whole, and content and
+//! audit list are those
+//! before or after its event; and what single steps leave where a call fails: content, audit list and sessions are
+//! those before it, and the
 //! event is answered where it is tried again. `data/` has the scripts, `stdout` what they have to leave.
 ghost use Rattle.std.specs.List.{AllByRecursion};
 ghost use Rattle.mls_translang.specs.Event.{EventFits};

@@ -1,4 +1,5 @@
-//! Views over a base that fails where it reads what one label holds: a view reads only what labels hold that its own dominates.
+//! Views over a base that fails where it reads what one label holds: a view reads only what labels hold that its own
+//! dominates.
 ghost use Rattle.std.specs.Prelude.{◌≡◌, ◌<◌, true, length, IfErr};
 ghost use Rattle.std.specs.List.{AllByRecursion};
 ghost use Rattle.mls_lattice.specs.Labels.{below};
@@ -19,7 +20,8 @@ struct Row {
     elements: Items<Element>,
 }
 
-/// Tuples at their places, in a store that fails at one label. It takes no change, and nothing is said of what it holds.
+/// Tuples at their places, in a store that fails at one label. It takes no change, and nothing is said of what it
+/// holds.
 #[derive(Drop)]
 struct Broken {
     alloc: Global,

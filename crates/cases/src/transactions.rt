@@ -1,4 +1,5 @@
-//! Cases of transactions: their texts, what they are printed as, their certificates, their least labels, and what they do.
+//! Cases of transactions: their texts, what they are printed as, their certificates, their least labels, and what they
+//! do.
 pub mod checks;
 pub mod evaluations;
 mod labels;

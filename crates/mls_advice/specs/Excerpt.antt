@@ -6,9 +6,11 @@ use Rattle.std.specs.Char.{is_control}
 use Rattle.mls_tokens.specs.Writing.{hex_digit}
 use Rattle.mls_tokens.specs.Screen.{hex_escape}
 
--- a character that is invisible or turns a line round: U+061C, U+200B to U+200F, U+202A to U+202E, U+2060 to U+2069, U+FEFF
+-- a character that is invisible or turns a line round: U+061C, U+200B to U+200F, U+202A to U+202E, U+2060 to U+2069,
+-- U+FEFF
 abbrev pub is_unseen : ℕ → Bool
-is_unseen c = c == 1564 || nat_le 8203 c && nat_le c 8207 || nat_le 8234 c && nat_le c 8238 || nat_le 8288 c && nat_le c 8297 || c == 65279
+is_unseen c = c == 1564 || nat_le 8203 c && nat_le c 8207 || nat_le 8234 c && nat_le c 8238 || nat_le 8288 c
+    && nat_le c 8297 || c == 65279
 
 abbrev pub two_digits : ℕ → List ℕ
 two_digits n = hex_digit (n / 16) ∷ hex_digit (n % 16) ∷ []

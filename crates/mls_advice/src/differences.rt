@@ -16,7 +16,8 @@ fn line_to(text: &mut String, line: Option<&str>) -> Told {
     text.push_str("`.\n")
 }
 
-/// Appends the first line in which a text of a store differs from that of the files. What they say is given in the plural.
+/// Appends the first line in which a text of a store differs from that of the files. What they say is given in the
+/// plural.
 pub fn difference_to(text: &mut String, what: &str, kept: &str, present: &str) -> Told {
     let same = kept
         .lines()

@@ -208,7 +208,8 @@ fn nearest_to(alloc: Global, text: &mut String, value: &Value, names: &[Str]) ->
 
 // ---- all of it
 
-/// A file that is refused: of schemes, where a policy is given. The number of its fault, and the steps to where reading stopped.
+/// A file that is refused: of schemes, where a policy is given. The number of its fault, and the steps to where reading
+/// stopped.
 #[derive(Clone, Copy)]
 struct RefusedField<'a> {
     alloc: Global,
@@ -309,7 +310,8 @@ fn low_to(text: &mut String, table: Option<&Table>) -> Told {
     Ok(())
 }
 
-/// What is told of a policy, or of schemes under a policy, that are refused with the number of a fault, where reading stopped at the end of
+/// What is told of a policy, or of schemes under a policy, that are refused with the number of a fault, where reading
+/// stopped at the end of
 /// some steps: where that is, what stands there, what is wanted, and what to do.
 pub fn refused_lines<'a>(
     alloc: Global,

@@ -193,7 +193,8 @@ fn pointed(
     Ok(text)
 }
 
-/// What is shown of the line with which bytes begin, behind so many columns. Where a text between quotes stands at the column, and
+/// What is shown of the line with which bytes begin, behind so many columns. Where a text between quotes stands at the
+/// column, and
 /// goes wrong by the rules of scripts, the caret stands where it does.
 fn shown_line(
     alloc: Global,
@@ -217,7 +218,8 @@ fn shown_line(
     pointed(alloc, before, skipped, bytes)
 }
 
-/// A place in a file: the path, the line and the column, what stands in that line, and, where there is a column, a caret below it. Columns
+/// A place in a file: the path, the line and the column, what stands in that line, and, where there is a column, a
+/// caret below it. Columns
 /// count bytes from 1. Texts between quotes go by the rules of scripts, or not.
 pub fn excerpt(
     alloc: Global,

@@ -87,7 +87,8 @@ pub(crate) fn beginning_form(word: &[u8], is_inside: bool) -> &'static str {
     }
 }
 
-/// The form of the command in a line of a script, by the word behind its label and its session; where that is no verb, a line that
+/// The form of the command in a line of a script, by the word behind its label and its session; where that is no verb,
+/// a line that
 /// names them all. Lines count from 1.
 pub fn form_at(line: usize, bytes: &[u8]) -> &'static str {
     let text = behind_word(behind_word(behind_blanks(first_line(from_line(bytes, line)))));

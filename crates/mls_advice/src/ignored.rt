@@ -78,7 +78,8 @@ impl Search<'_> {
     }
 }
 
-/// A line for each field of a document that nobody reads, whose tables have these names. Where they are relations, also of their parts.
+/// A line for each field of a document that nobody reads, whose tables have these names. Where they are relations, also
+/// of their parts.
 fn ignored(search: Search, tables: &[&str], bytes: &[u8]) -> Result<String, AllocError> {
     let mut text = String::new(search.alloc);
     let document = match toml::table_from_slice(search.alloc, bytes) {
@@ -98,7 +99,8 @@ fn ignored(search: Search, tables: &[&str], bytes: &[u8]) -> Result<String, Allo
     Ok(text)
 }
 
-/// A line for each field of a policy that nobody reads, with the nearest key that is read; no text where there is none, and of bytes
+/// A line for each field of a policy that nobody reads, with the nearest key that is read; no text where there is none,
+/// and of bytes
 /// that are no document.
 pub fn ignored_in_policy(alloc: Global, path: &str, bytes: &[u8]) -> Result<String, AllocError> {
     let keys: &[Known] = &POLICY;

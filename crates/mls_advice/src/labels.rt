@@ -198,8 +198,10 @@ impl<'a> Labels<'a> {
 
     // ---- rows
 
-    /// Labels from the top down, in rows, so that under each, in its columns, stands nothing but what it dominates. Of two parts of
-    /// them that are incomparable, one stands beside the other; of two, one of which dominates the other, over it. Where they fall into
+    /// Labels from the top down, in rows, so that under each, in its columns, stands nothing but what it dominates. Of
+    /// two parts of
+    /// them that are incomparable, one stands beside the other; of two, one of which dominates the other, over it.
+    /// Where they fall into
     /// no such parts, no rows show their order.
     fn block_of(&self, labels: &[LabelNo]) -> Result<Option<Block>, AllocError> {
         if labels.len() < 2 {
@@ -285,7 +287,8 @@ fn drawing_to(text: &mut String, block: &Block) -> Told {
     Ok(())
 }
 
-/// Appends the labels of a policy, in rows that show their order, if such rows are there and not too wide, and each with those that it
+/// Appends the labels of a policy, in rows that show their order, if such rows are there and not too wide, and each
+/// with those that it
 /// covers.
 pub(crate) fn labels_to(text: &mut String, alloc: Global, policy: &Policy) -> Told {
     let labels = Labels { alloc, policy };

@@ -1,4 +1,5 @@
-//! What is told to people of a place in a file, of the fields of a policy and schemes, of what these say, and of rows of a store.
+//! What is told to people of a place in a file, of the fields of a policy and schemes, of what these say, and of rows
+//! of a store.
 #![tactic(auto)]
 
 mod advice;

@@ -59,7 +59,8 @@ pub fn declared_names(
 
 // ---- the nearest one
 
-/// The nearest of some names, whatever the case of letters, the first where several are as near. A near name differs in a third of the
+/// The nearest of some names, whatever the case of letters, the first where several are as near. A near name differs in
+/// a third of the
 /// length of the given one at most, or in 1; two neighbours that are swapped are one difference.
 pub(crate) fn nearest<'a>(
     alloc: Global,

@@ -1,4 +1,5 @@
-//! Texts as a screen is given them: no control character, none that is invisible or turns a line round, and no byte that
+//! Texts as a screen is given them: no control character, none that is invisible or turns a line round, and no byte
+//! that
 //! is no UTF-8.
 ghost use Rattle.std.specs.Prelude.{◌≡◌, ◌++◌, ◌<◌, string_bytes, OnOk};
 ghost use Rattle.mls_tokens.specs.Screen.{hex_escape};

@@ -36,10 +36,12 @@ name_takes (n ∷ after) x fits e =
     let g = guard_ok (nat_lt (length after) n) Short (utf8_at (take n after) >>= (λ s. Ok (s, drop n after))) x e in
     let u = bind_ok (utf8_at (take n after)) (λ s. Ok (s, drop n after)) x g.1 in
     let v = pass_ok (is_utf8 (take n after)) BadText (Ok (take n after)) u.0 u.1 in
-    let same : (take n after, drop n after) ≡ x = ap (λ (s : List ℕ). (s, drop n after)) (ok_is (take n after) u.0 v.1) ∙ ok_is (u.0, drop n after) x u.2 in
+    let same : (take n after, drop n after) ≡ x = ap (λ (s : List ℕ). (s, drop n after)) (ok_is (take n after) u.0 v.1)
+    ∙ ok_is (u.0, drop n after) x u.2 in
     let long : n ≤ length after = ltb-false _ _ g.0 in
     let len : length (take n after) ≡ n = omega (arith, length-take n after) in
-    let parts : n ∷ after ≡ length (take n after) ∷ (take n after ++ drop n after) = rw len (ap (λ (bs : List ℕ). n ∷ bs) (sym (take-append-drop n after))) in
+    let parts : n ∷ after ≡ length (take n after) ∷ (take n after ++ drop n after) =
+    rw len (ap (λ (bs : List ℕ). n ∷ bs) (sym (take-append-drop n after))) in
     subst (λ (p : List ℕ × List ℕ). TakesName (n ∷ after) p.0 p.1) same (record {
       takes = record { parts = parts; rest_fits = λ i. rw get_or-drop (fits (suc (n + i))) };
       utf8 = IsUtf8-from_is_utf8 (take n after) v.0;
@@ -49,14 +51,17 @@ name_takes (n ∷ after) x fits e =
 name_again : (name rest : List ℕ) → IsUtf8 name → name_at (name_spelling name ++ rest) ≡ Ok (name, rest)
 unfolding name_at
 name_again name rest utf8 =
-    let long : nat_lt (length (name ++ rest)) (length name) ≡ false = le-ltb _ _ (omega (arith, length-append name rest)) in
+    let long : nat_lt (length (name ++ rest)) (length name) ≡ false =
+    le-ltb _ _ (omega (arith, length-append name rest)) in
     rw (long, take_at name rest (length name) refl, drop_at name rest (length name) refl, utf8_at-ok name utf8) refl
 
 -- ---- bytes
 
-byte_takes : (bytes : List ℕ) (x : ℕ × List ℕ) → IsBytes bytes → byte_at bytes ≡ Ok x → Takes bytes (x.0 ∷ []) x.1 × (x.0 < 256)
+byte_takes : (bytes : List ℕ) (x : ℕ × List ℕ) → IsBytes bytes → byte_at bytes ≡ Ok x → Takes bytes (x.0 ∷ []) x.1
+    × (x.0 < 256)
 byte_takes [] x fits e = absurd cc
-byte_takes (n ∷ rest) x fits e = subst (λ (p : ℕ × List ℕ). Takes (n ∷ rest) (p.0 ∷ []) p.1 × (p.0 < 256)) (ok_is (n, rest) x e) (record { parts = refl; rest_fits = λ i. fits (suc i) }, fits 0)
+byte_takes (n ∷ rest) x fits e = subst (λ (p : ℕ × List ℕ). Takes (n ∷ rest) (p.0 ∷ []) p.1 × (p.0 < 256))
+    (ok_is (n, rest) x e) (record { parts = refl; rest_fits = λ i. fits (suc i) }, fits 0)
 
 -- ---- values and null
 
@@ -65,17 +70,21 @@ record TakesNullable (bytes : List ℕ) (value : Option Value) (rest : List ℕ)
   whole : IfSome value values.IsValue
   short : IfSome value values.IsShort
 
-nullable_takes : (bytes : List ℕ) (x : Option Value × List ℕ) → IsBytes bytes → nullable_at bytes ≡ Ok x → TakesNullable bytes x.0 x.1
+nullable_takes : (bytes : List ℕ) (x : Option Value × List ℕ) → IsBytes bytes → nullable_at bytes ≡ Ok x
+    → TakesNullable bytes x.0 x.1
 unfolding nullable_at
 nullable_takes [] x fits e = absurd cc
 nullable_takes (zero ∷ rest) x fits e =
-    subst (λ (p : Option Value × List ℕ). TakesNullable (0 ∷ rest) p.0 p.1) (ok_is (None, rest) x e) (record { takes = record { parts = refl; rest_fits = λ i. fits (suc i) }; whole = tt; short = tt })
+    subst (λ (p : Option Value × List ℕ). TakesNullable (0 ∷ rest) p.0 p.1) (ok_is (None, rest) x e)
+    (record { takes = record { parts = refl; rest_fits = λ i. fits (suc i) }; whole = tt; short = tt })
 nullable_takes (suc tag ∷ rest) x fits e =
     let b = bind_ok (value_at (suc tag ∷ rest)) (λ v. Ok (Some v.0, v.1)) x e in
     let t = value_takes (suc tag ∷ rest) b.0.0 b.0.1 fits b.1 in
-    subst (λ (p : Option Value × List ℕ). TakesNullable (suc tag ∷ rest) p.0 p.1) (ok_is (Some b.0.0, b.0.1) x b.2) (record { takes = t.0; whole = t.1.0; short = t.1.1 })
+    subst (λ (p : Option Value × List ℕ). TakesNullable (suc tag ∷ rest) p.0 p.1) (ok_is (Some b.0.0, b.0.1) x b.2)
+    (record { takes = t.0; whole = t.1.0; short = t.1.1 })
 
-nullable_again : (value : Option Value) (rest : List ℕ) → IfSome value values.IsValue → IfSome value values.IsShort → nullable_at (nullable_spelling value ++ rest) ≡ Ok (value, rest)
+nullable_again : (value : Option Value) (rest : List ℕ) → IfSome value values.IsValue → IfSome value values.IsShort
+    → nullable_at (nullable_spelling value ++ rest) ≡ Ok (value, rest)
 unfolding nullable_at
 nullable_again None rest whole short = refl
 nullable_again (Some (Int n)) rest whole short = rw (value_again (Int n) rest (whole, short)) refl
@@ -101,21 +110,25 @@ head_takes (label ∷ after) x fits e =
     let user = name_takes after u.0 (λ i. fits (suc i)) u.1 in
     let session = name_takes u.0.1 s.0 user.takes.rest_fits s.1 in
     subst (λ (p : Head × List ℕ). TakesHead (label ∷ after) p.0 p.1) (ok_is _ _ s.2) (record {
-      takes = Takes-more label after _ _ (Takes-then after (name_spelling u.0.0) u.0.1 (name_spelling s.0.0) s.0.1 user.takes session.takes);
+      takes = Takes-more label after _ _ (Takes-then after (name_spelling u.0.0) u.0.1
+          (name_spelling s.0.0) s.0.1 user.takes session.takes);
       whole = (fits 0, user.utf8, session.utf8);
       user = user.short;
       session = session.short;
     })
 
-head_again : (h : Head) (rest : List ℕ) → IsUtf8 h.user → IsUtf8 h.session → head_at (h.label ∷ (names h ++ rest)) ≡ Ok (h, rest)
+head_again : (h : Head) (rest : List ℕ) → IsUtf8 h.user → IsUtf8 h.session → head_at (h.label ∷ (names h ++ rest))
+    ≡ Ok (h, rest)
 unfolding head_at
 head_again h rest user session =
     ap (λ (bs : List ℕ). head_at (h.label ∷ bs)) (append_assoc (name_spelling h.user) (name_spelling h.session) rest)
     ∙ rw (name_again h.user (name_spelling h.session ++ rest) user, name_again h.session rest session) refl
 
 -- a tag before, and what the entry tells behind
-takes_all : (tag : ℕ) (bytes : List ℕ) (h : Head) (after text rest : List ℕ) → TakesHead bytes h after → Takes after text rest → Takes (tag ∷ bytes) (head_spelling tag h.label h.user h.session ++ text) rest
-takes_all tag bytes h after text rest t more = Takes-more tag bytes _ rest (Takes-then bytes (h.label ∷ names h) after text rest t.takes more)
+takes_all : (tag : ℕ) (bytes : List ℕ) (h : Head) (after text rest : List ℕ) → TakesHead bytes h after
+    → Takes after text rest → Takes (tag ∷ bytes) (head_spelling tag h.label h.user h.session ++ text) rest
+takes_all tag bytes h after text rest t more = Takes-more tag bytes _ rest
+    (Takes-then bytes (h.label ∷ names h) after text rest t.takes more)
 
 -- ---- entries
 
@@ -123,7 +136,8 @@ record TakesEntry (bytes : List ℕ) (e : Entry) (rest : List ℕ) : Type 0 wher
   takes : Takes bytes (entry_spelling e) rest
   fits : HasSpelling e
 
-called_takes : (bytes : List ℕ) (x : Entry × List ℕ) → IsBytes bytes → called_at bytes ≡ Ok x → TakesEntry (1 ∷ bytes) x.0 x.1
+called_takes : (bytes : List ℕ) (x : Entry × List ℕ) → IsBytes bytes → called_at bytes ≡ Ok x
+    → TakesEntry (1 ∷ bytes) x.0 x.1
 unfolding called_at
 called_takes bytes x fits e =
     let h = bind_ok (head_at bytes) _ x e in
@@ -135,7 +149,8 @@ called_takes bytes x fits e =
       fits = ((head.whole, name.utf8), (head.user, head.session, name.short));
     })
 
-denied_takes : (bytes : List ℕ) (x : Entry × List ℕ) → IsBytes bytes → denied_at bytes ≡ Ok x → TakesEntry (2 ∷ bytes) x.0 x.1
+denied_takes : (bytes : List ℕ) (x : Entry × List ℕ) → IsBytes bytes → denied_at bytes ≡ Ok x
+    → TakesEntry (2 ∷ bytes) x.0 x.1
 unfolding denied_at
 denied_takes bytes x fits e =
     let h = bind_ok (head_at bytes) _ x e in
@@ -147,7 +162,8 @@ denied_takes bytes x fits e =
       fits = ((head.whole, code.1), (head.user, head.session));
     })
 
-released_takes : (bytes : List ℕ) (x : Entry × List ℕ) → IsBytes bytes → released_at bytes ≡ Ok x → TakesEntry (3 ∷ bytes) x.0 x.1
+released_takes : (bytes : List ℕ) (x : Entry × List ℕ) → IsBytes bytes → released_at bytes ≡ Ok x
+    → TakesEntry (3 ∷ bytes) x.0 x.1
 unfolding released_at
 released_takes bytes x fits e =
     let h = bind_ok (head_at bytes) _ x e in
@@ -167,7 +183,9 @@ front_takes (suc (suc (suc zero)) ∷ bytes) x fits e = released_takes bytes x (
 front_takes _ x fits e = absurd cc
 
 -- the head that is read again, before what follows it
-again : {A : Type 0} (h : Head) (text rest : List ℕ) (next : Head × List ℕ → Result A KeyFault) → IsHead h.label h.user h.session → (head_at (h.label ∷ ((names h ++ text) ++ rest)) >>= next) ≡ next (h, text ++ rest)
+again : {A : Type 0} (h : Head) (text rest : List ℕ) (next : Head × List ℕ → Result A KeyFault)
+    → IsHead h.label h.user h.session → (head_at (h.label ∷ ((names h ++ text) ++ rest)) >>= next)
+    ≡ next (h, text ++ rest)
 again h text rest next whole =
     ap (λ (bs : List ℕ). head_at (h.label ∷ bs) >>= next) (append_assoc (names h) text rest)
     ∙ rw (head_again h (text ++ rest) whole.1 whole.2) refl
@@ -175,30 +193,39 @@ again h text rest next whole =
 front_again : (e : Entry) (rest : List ℕ) → HasSpelling e → front_at (entry_spelling e ++ rest) ≡ Ok (e, rest)
 unfolding front_at called_at denied_at released_at
 front_again (Called label user session transaction) rest fits =
-    again (record { label = label; user = user; session = session }) (name_spelling transaction) rest _ fits.0.0 ∙ rw (name_again transaction rest fits.0.1) refl
+    again (record { label = label; user = user; session = session }) (name_spelling transaction) rest _ fits.0.0
+    ∙ rw (name_again transaction rest fits.0.1) refl
 front_again (Denied label user session code) rest fits =
     again (record { label = label; user = user; session = session }) (code ∷ []) rest _ fits.0.0
 front_again (Released label user session value) rest fits =
-    again (record { label = label; user = user; session = session }) (nullable_spelling value) rest _ fits.0.0 ∙ rw (nullable_again value rest fits.0.1 fits.1.2) refl
+    again (record { label = label; user = user; session = session }) (nullable_spelling value) rest _ fits.0.0
+    ∙ rw (nullable_again value rest fits.0.1 fits.1.2) refl
 
 -- ---- all of the bytes
 
-entry_found : (bytes : List ℕ) (e : Entry) → IsBytes bytes → entry_at bytes ≡ Ok e → HasSpelling e × (bytes ≡ entry_spelling e)
+entry_found : (bytes : List ℕ) (e : Entry) → IsBytes bytes → entry_at bytes ≡ Ok e → HasSpelling e
+    × (bytes ≡ entry_spelling e)
 unfolding entry_at
 entry_found bytes e fits read =
     let f = bind_ok (front_at bytes) _ e read in
     let c = pass_ok (length f.0.1 == 0) Trailing (Ok f.0.0) e f.2 in
     let none : f.0.1 ≡ [] = nil_from_length f.0.1 (eqb-true _ 0 c.0) in
     let t = front_takes bytes f.0 fits f.1 in
-    subst (λ (d : Entry). HasSpelling d × (bytes ≡ entry_spelling d)) (ok_is f.0.0 e c.1) (t.fits, t.takes.parts ∙ ap (λ (r : List ℕ). entry_spelling f.0.0 ++ r) none ∙ append-nil (entry_spelling f.0.0))
+    subst (λ (d : Entry). HasSpelling d × (bytes ≡ entry_spelling d)) (ok_is f.0.0 e c.1) (
+      t.fits,
+      t.takes.parts
+          ∙ ap (λ (r : List ℕ). entry_spelling f.0.0 ++ r) none ∙ append-nil (entry_spelling f.0.0),
+    )
 
 pub entry_again : (e : Entry) → HasSpelling e → entry_at (entry_spelling e) ≡ Ok e
 unfolding entry_at
 entry_again e fits =
-    ap (λ (bs : List ℕ). front_at bs >>= (λ front. cond (length front.1 == 0) (Ok front.0) (Err Trailing))) (sym (append-nil (entry_spelling e)))
+    ap (λ (bs : List ℕ). front_at bs >>= (λ front. cond (length front.1 == 0) (Ok front.0) (Err Trailing)))
+    (sym (append-nil (entry_spelling e)))
     ∙ rw (front_again e [] fits) refl
 
-pub is_found : (bytes : List ℕ) (r : Result Entry KeyFault) → IsBytes bytes → GivesKey (λ e. e) r (entry_at bytes) → IfOk r (λ e. HasSpelling e × (bytes ≡ entry_spelling e))
+pub is_found : (bytes : List ℕ) (r : Result Entry KeyFault) → IsBytes bytes → GivesKey (λ e. e) r (entry_at bytes)
+    → IfOk r (λ e. HasSpelling e × (bytes ≡ entry_spelling e))
 is_found bytes (Ok e) fits given = entry_found bytes e fits given
 is_found bytes (Err d) fits given = tt
 

@@ -1,4 +1,5 @@
--- The definitions of entries: `Entry` says which a level sees, `Spelling` how they are kept as bytes, `Sound` what content is sound.
+-- The definitions of entries: `Entry` says which a level sees, `Spelling` how they are kept as bytes, `Sound` what
+-- content is sound.
 pub mod Entry
 pub mod Spelling
 pub mod Reading

@@ -60,15 +60,20 @@ bytes_above (b ∷ bs) = (glyph_above (b / 16), (glyph_above (b % 16), bytes_abo
 label_above : (l : Label) → IsLabel l → Above 32 (label_text l)
 label_above l is =
     let digits = digits_above (decimal l.rank) (decimal_is_IsNumeral l.rank (omega (arith, is.0))).0.1 in
-    Above-append 32 (decimal l.rank ++ codes ":") (flat_map byte_text (to_be_bytes w32 l.cats)) (Above-append 32 (decimal l.rank) (codes ":") digits (omega arith, tt)) (bytes_above (to_be_bytes w32 l.cats))
+    Above-append 32 (decimal l.rank ++ codes ":") (flat_map byte_text (to_be_bytes w32 l.cats))
+    (Above-append 32 (decimal l.rank) (codes ":") digits (omega arith, tt)) (bytes_above (to_be_bytes w32 l.cats))
 
 pub labels_above : (ls : List Label) → AllByRecursion IsLabel ls → Above 10 (flat_map spaced_label ls)
 labels_above [] is = tt
-labels_above (l ∷ ls) is = Above-append 10 (spaced_label l) (flat_map spaced_label ls) (omega arith, Above-lower 10 32 (label_text l) (omega arith) (label_above l is.0)) (labels_above ls is.1)
+labels_above (l ∷ ls) is = Above-append 10 (spaced_label l) (flat_map spaced_label ls) (
+  omega arith,
+  Above-lower 10 32 (label_text l) (omega arith) (label_above l is.0),
+) (labels_above ls is.1)
 
 -- ---- labels
 
-shown : (text : List ℕ) → 0 < length text → are_digits text ≡ true → (length text ≡ 1) ⊎ (48 < slice_index text 0) → is_decimal text ≡ true
+shown : (text : List ℕ) → 0 < length text → are_digits text ≡ true → (length text ≡ 1) ⊎ (48 < slice_index text 0)
+    → is_decimal text ≡ true
 unfolding is_decimal
 shown text some digits (inl one) = rw (digits, one) refl
 shown text some digits (inr more) =
@@ -106,16 +111,24 @@ digit_again line d small = at (cases_lt d 10)
 
 byte_again : (line b : ℕ) → b < 256 → byte_in line (digit_char (b / 16)) (digit_char (b % 16)) ≡ Ok b
 unfolding byte_in
-byte_again line b small = rw (digit_again line (b / 16) (omega arith), digit_again line (b % 16) (omega arith)) (ap (λ (n : ℕ). done n) (omega arith))
+byte_again line b small = rw (digit_again line (b / 16) (omega arith), digit_again line (b % 16) (omega arith))
+    (ap (λ (n : ℕ). done n) (omega arith))
 
-bytes_again : (line a b c d : ℕ) → a < 256 → b < 256 → c < 256 → d < 256 → bytes_in line (flat_map byte_text (a ∷ b ∷ c ∷ d ∷ [])) ≡ Ok (a ∷ b ∷ c ∷ d ∷ [])
+bytes_again : (line a b c d : ℕ) → a < 256 → b < 256 → c < 256 → d < 256
+    → bytes_in line (flat_map byte_text (a ∷ b ∷ c ∷ d ∷ [])) ≡ Ok (a ∷ b ∷ c ∷ d ∷ [])
 unfolding bytes_in
-bytes_again line a b c d a' b' c' d' = rw (byte_again line a a', byte_again line b b', byte_again line c c', byte_again line d d') refl
+bytes_again line a b c d a' b' c' d' = rw (
+  byte_again line a a',
+  byte_again line b b',
+  byte_again line c c',
+  byte_again line d d',
+) refl
 
 cats_again : (line c : ℕ) → c < 2 ^ 32 → cats_in line (flat_map byte_text (to_be_bytes w32 c)) ≡ Ok c
 unfolding cats_in
 cats_again line c fits =
-    ap (λ (r : Result (List ℕ) CertFault). r >>= (λ bs. Ok (from_be_bytes w32 bs))) (bytes_again line _ _ _ _ (omega arith) (omega arith) (omega arith) (omega arith))
+    ap (λ (r : Result (List ℕ) CertFault). r >>= (λ bs. Ok (from_be_bytes w32 bs))) (bytes_again line _ _ _ _
+    (omega arith) (omega arith) (omega arith) (omega arith))
     ∙ ap (λ (n : ℕ). done n) (from_be_bytes-to_be_bytes_4 c fits)
 
 -- what stands before, at and after the end of a list
@@ -133,7 +146,8 @@ back_of (x ∷ xs) b ys =
     let next : suc (length xs) + 1 ≡ suc (length xs + 1) = omega arith in
     ap (λ (n : ℕ). drop n (x ∷ (xs ++ b ∷ ys))) next ∙ back_of xs b ys
 
-label_parts : (line : ℕ) (d h : List ℕ) → length h ≡ 8 → label_in line (d ++ 58 ∷ h) ≡ (rank_in line d >>= λ r. cats_in line h >>= λ c. Ok (record { rank = r; cats = c }))
+label_parts : (line : ℕ) (d h : List ℕ) → length h ≡ 8 → label_in line (d ++ 58 ∷ h)
+    ≡ (rank_in line d >>= λ r. cats_in line h >>= λ c. Ok (record { rank = r; cats = c }))
 unfolding label_in
 label_parts line d h eight =
     let n : length (d ++ 58 ∷ h) ≡ length d + 9 = omega (arith, length-append d (58 ∷ h), eight) in
@@ -149,20 +163,25 @@ label_again line l is =
 
 -- ---- lines
 
-labels_again : (line : ℕ) (front ls : List Label) → AllByRecursion IsLabel ls → labels_in line front (map label_text ls) ≡ Ok (front ++ ls)
+labels_again : (line : ℕ) (front ls : List Label) → AllByRecursion IsLabel ls → labels_in line front (map label_text ls)
+    ≡ Ok (front ++ ls)
 labels_again line front [] is = ap (λ (xs : List Label). done xs) (sym (append-nil front))
 labels_again line front (l ∷ ls) is =
-    ap (λ (r : Result Label CertFault). r >>= (λ x. labels_in line (front ++ x ∷ []) (map label_text ls))) (label_again line l is.0)
+    ap (λ (r : Result Label CertFault). r >>= (λ x. labels_in line (front ++ x ∷ []) (map label_text ls)))
+    (label_again line l is.0)
     ∙ labels_again line (front ++ l ∷ []) ls is.1
     ∙ ap (λ (xs : List Label). done xs) (append_assoc front (l ∷ []) ls)
 
-words_again : (word : List ℕ) (ls : List Label) → Above 32 word → AllByRecursion IsLabel ls → pieces 32 (word ++ flat_map spaced_label ls) ≡ word ∷ map label_text ls
-words_again word [] above is = ap (pieces 32) (append-nil word) ∙ slice_split_none (λ b. b == 32) word (no_mark 32 word above)
+words_again : (word : List ℕ) (ls : List Label) → Above 32 word → AllByRecursion IsLabel ls
+    → pieces 32 (word ++ flat_map spaced_label ls) ≡ word ∷ map label_text ls
+words_again word [] above is = ap (pieces 32) (append-nil word) ∙ slice_split_none (λ b. b == 32) word
+    (no_mark 32 word above)
 words_again word (l ∷ ls) above is =
     slice_split_at (λ b. b == 32) word 32 (label_text l ++ flat_map spaced_label ls) (no_mark 32 word above) refl
     ∙ ap (λ (ps : List (List ℕ)). word ∷ ps) (words_again (label_text l) ls (label_above l is.0) is.1)
 
-pub words_read : (word : List ℕ) (line : ℕ) (ls : List Label) → Above 32 word → AreLabels ls → line_in word line (word ++ flat_map spaced_label ls) ≡ Ok ls
+pub words_read : (word : List ℕ) (line : ℕ) (ls : List Label) → Above 32 word → AreLabels ls
+    → line_in word line (word ++ flat_map spaced_label ls) ≡ Ok ls
 unfolding worded_in
 words_read word line ls above is =
     ap (worded_in word line) (words_again word ls above is)

@@ -29,7 +29,9 @@ some_digits text h =
     at (b ∷ bs) h = omega arith
 
 -- what `parse` answers to them
-pub number_parsed : {E : Type 0} (line : ℕ) (text : List ℕ) (r : Result ℕ E) → is_decimal text ≡ true → ParsesUnsigned 8 10 text r → MatchResult r (λ n. number_in line text ≡ Ok n) (λ _. number_in line text ≡ refused line BadLabel)
+pub number_parsed : {E : Type 0} (line : ℕ) (text : List ℕ) (r : Result ℕ E) → is_decimal text ≡ true
+    → ParsesUnsigned 8 10 text r → MatchResult r (λ n. number_in line text ≡ Ok n) (λ _. number_in line text
+    ≡ refused line BadLabel)
 unfolding number_in
 number_parsed {E} line text (Ok n) is parsed =
     let h = parse_digits own {E = E} 8 text (Ok n) parsed (some_digits text is).1 in

@@ -35,7 +35,8 @@ record CertificateFound (v : Version) (lines : List (List ℕ)) (i : ℕ) (c : C
   is : IsCertificate c
   text : left_at lines i ≡ certificate_text c ++ left_at lines (i + lines_of c)
 
-certificate_found : (v : Version) (lines : List (List ℕ)) (i : ℕ) (c : Certificate) → certificate_at v lines i ≡ Ok c → CertificateFound v lines i c
+certificate_found : (v : Version) (lines : List (List ℕ)) (i : ℕ) (c : Certificate) → certificate_at v lines i ≡ Ok c
+    → CertificateFound v lines i c
 unfolding certificate_at
 certificate_found First lines i c e =
     let b = bind_ok (cert_at lines i) _ c e in
@@ -46,7 +47,9 @@ certificate_found Second lines i c e =
     let f = cert2_found_at lines i b.0 b.1 in
     subst (CertificateFound Second lines i) (ok_is (Two b.0) c b.2) (record { version = refl; is = f.0; text = f.1 })
 
-certificate_again : (lines : List (List ℕ)) (i : ℕ) (c : Certificate) (rest : List ℕ) → IsCertificate c → Stands lines i (certificate_text c ++ rest) → (certificate_at (version_of c) lines i ≡ Ok c) × Stands lines (i + lines_of c) rest
+certificate_again : (lines : List (List ℕ)) (i : ℕ) (c : Certificate) (rest : List ℕ) → IsCertificate c
+    → Stands lines i (certificate_text c ++ rest) → (certificate_at (version_of c) lines i ≡ Ok c)
+    × Stands lines (i + lines_of c) rest
 unfolding certificate_at
 certificate_again lines i (One c) rest is stands = let a = cert_again_at lines i c rest is stands in (rw a.0 refl, a.1)
 certificate_again lines i (Two c) rest is stands = let a = cert2_again_at lines i c rest is stands in (rw a.0 refl, a.1)
@@ -65,7 +68,8 @@ record BlockFound (front : List Block) (lines : List (List ℕ)) (i : ℕ) (b : 
   cert : IsCertificate b.1
   text : left_at lines i ≡ block_text b ++ left_at lines (i + 1 + lines_of b.1)
 
-block_found : (front : List Block) (lines : List (List ℕ)) (i : ℕ) (b : Block) → block_at front lines i ≡ Ok b → BlockFound front lines i b
+block_found : (front : List Block) (lines : List (List ℕ)) (i : ℕ) (b : Block) → block_at front lines i ≡ Ok b
+    → BlockFound front lines i b
 unfolding block_at
 block_found front lines i b e =
     let t = bind_ok (text_at lines i) _ b e in
@@ -73,13 +77,15 @@ block_found front lines i b e =
     let c = bind_ok (certificate_at h.0.0 lines (i + 1)) _ b h.2 in
     let hf = head_found front (i + 1) t.0 h.0.0 h.0.1 h.1 in
     let cf = certificate_found h.0.0 lines (i + 1) c.0 c.1 in
-    let first : t.0 ≡ head_text (h.0.1, c.0) = hf.spelled ∙ ap (λ (v : Version). headed v h.0.1) cf.version ∙ head_is h.0.1 c.0 in
+    let first : t.0 ≡ head_text (h.0.1, c.0) = hf.spelled ∙ ap (λ (v : Version). headed v h.0.1) cf.version
+    ∙ head_is h.0.1 c.0 in
     subst (BlockFound front lines i) (ok_is (h.0.1, c.0) b c.2)
     (record {
       name = hf.is;
       new = hf.new;
       cert = cf.is;
-      text = text_found lines i t.0 t.1 ∙ (λ j. first j ++ 10 ∷ cf.text j) ∙ sym (block_line (h.0.1, c.0) (left_at lines (i + 1 + lines_of c.0)));
+      text = text_found lines i t.0 t.1 ∙ (λ j. first j ++ 10 ∷ cf.text j)
+          ∙ sym (block_line (h.0.1, c.0) (left_at lines (i + 1 + lines_of c.0)));
     })
 
 name_byte_above : (b : ℕ) → is_name_byte b ≡ true → 10 < b
@@ -90,15 +96,62 @@ bytes_above [] h = tt
 bytes_above (b ∷ bs) h = let p = and_parts _ _ h in (name_byte_above b p.0, bytes_above bs p.1)
 
 head_above : (v : Version) (n : List ℕ) → is_name n ≡ true → Above 10 (headed v n)
-head_above First n is = Above-append 10 (codes "certificate 1 ") n (omega arith, (omega arith, (omega arith, (omega arith, (omega arith, (omega arith, (omega arith, (omega arith, (omega arith, (omega arith, (omega arith, (omega arith, (omega arith, (omega arith, tt)))))))))))))) (bytes_above n (name_bytes n is))
-head_above Second n is = Above-append 10 (codes "certificate 2 ") n (omega arith, (omega arith, (omega arith, (omega arith, (omega arith, (omega arith, (omega arith, (omega arith, (omega arith, (omega arith, (omega arith, (omega arith, (omega arith, (omega arith, tt)))))))))))))) (bytes_above n (name_bytes n is))
+head_above First n is = Above-append 10 (codes "certificate 1 ") n (
+  omega arith,
+  (
+    omega arith,
+    (
+      omega arith,
+      (
+        omega arith,
+        (
+          omega arith,
+          (
+            omega arith,
+            (
+              omega arith,
+              (omega arith, (omega arith, (omega arith, (omega arith, (omega arith, (omega arith, (omega arith, tt))))))),
+            ),
+          ),
+        ),
+      ),
+    ),
+  ),
+)
+    (bytes_above n (name_bytes n is))
+head_above Second n is = Above-append 10 (codes "certificate 2 ") n (
+  omega arith,
+  (
+    omega arith,
+    (
+      omega arith,
+      (
+        omega arith,
+        (
+          omega arith,
+          (
+            omega arith,
+            (
+              omega arith,
+              (omega arith, (omega arith, (omega arith, (omega arith, (omega arith, (omega arith, (omega arith, tt))))))),
+            ),
+          ),
+        ),
+      ),
+    ),
+  ),
+)
+    (bytes_above n (name_bytes n is))
 
-block_again : (front : List Block) (lines : List (List ℕ)) (i : ℕ) (b : Block) (rest : List ℕ) → is_name b.0 ≡ true → IsCertificate b.1 → IsNew front b.0 → Stands lines i (block_text b ++ rest) → (block_at front lines i ≡ Ok b) × Stands lines (i + 1 + lines_of b.1) rest
+block_again : (front : List Block) (lines : List (List ℕ)) (i : ℕ) (b : Block) (rest : List ℕ) → is_name b.0 ≡ true
+    → IsCertificate b.1 → IsNew front b.0 → Stands lines i (block_text b ++ rest) → (block_at front lines i ≡ Ok b)
+    × Stands lines (i + 1 + lines_of b.1) rest
 unfolding block_at
 block_again front lines i b rest is cert new stands =
     let v = version_of b.1 in
     let first : Stands lines i (headed v b.0 ++ 10 ∷ (certificate_text b.1 ++ rest)) =
-    stands ∙ ap (pieces 10) (block_line b rest ∙ ap (λ (x : List ℕ). x ++ 10 ∷ (certificate_text b.1 ++ rest)) (sym (head_is b.0 b.1))) in
+    stands ∙ ap (pieces 10) (block_line b rest ∙ ap (λ (x : List ℕ). x ++ 10 ∷ (certificate_text b.1 ++ rest))
+    (sym (head_is b.0 b.1))) in
     let t = text_again lines i (headed v b.0) (certificate_text b.1 ++ rest) (head_above v b.0 is) first in
     let c = certificate_again lines (i + 1) b.1 rest cert t.1 in
     (rw (t.0, head_again front (i + 1) v b.0 is new, c.0) refl, c.1)
@@ -108,25 +161,31 @@ block_again front lines i b rest is cert new stands =
 abbrev names_of : List Block → List (List ℕ)
 names_of bs = map (λ b. b.0) bs
 
-turned : (front : List Block) (n : List ℕ) → list_any (λ b. bytes_eq b.0 n) front ≡ false → list_any (bytes_eq n) (names_of front) ≡ false
+turned : (front : List Block) (n : List ℕ) → list_any (λ b. bytes_eq b.0 n) front ≡ false
+    → list_any (bytes_eq n) (names_of front) ≡ false
 turned [] n h = refl
 turned (b ∷ front) n h =
     let p = or_parts (bytes_eq b.0 n) (list_any (λ c. bytes_eq c.0 n) front) h in
     rw (nat_list_eq_equiv.symm n b.0 ∙ p.0) (turned front n p.1)
 
 -- one more
-apart_more : (front : List Block) (b : Block) → list_any (λ x. bytes_eq x.0 b.0) front ≡ false → IsDistinct bytes_eq (names_of front) → IsDistinct bytes_eq (names_of (front ++ b ∷ []))
-apart_more front b new apart = rw (map_push (λ (x : Block). x.0) front b) (IsDistinct-push nat_list_eq_equiv (names_of front) b.0 apart (turned front b.0 new))
+apart_more : (front : List Block) (b : Block) → list_any (λ x. bytes_eq x.0 b.0) front ≡ false
+    → IsDistinct bytes_eq (names_of front) → IsDistinct bytes_eq (names_of (front ++ b ∷ []))
+apart_more front b new apart = rw (map_push (λ (x : Block). x.0) front b) (IsDistinct-push nat_list_eq_equiv
+    (names_of front) b.0 apart (turned front b.0 new))
 
-differs : (n : List ℕ) (front : List Block) (b : Block) (more : List Block) → AllByRecursion (λ m. bytes_eq n m ≡ false) (names_of (front ++ b ∷ more)) → bytes_eq n b.0 ≡ false
+differs : (n : List ℕ) (front : List Block) (b : Block) (more : List Block) → AllByRecursion (λ m. bytes_eq n m ≡ false)
+    (names_of (front ++ b ∷ more)) → bytes_eq n b.0 ≡ false
 differs n [] b more h = h.0
 differs n (x ∷ front) b more h = differs n front b more h.1
 
 -- none of those before has it
-fresh_again : (front : List Block) (b : Block) (more : List Block) → IsDistinct bytes_eq (names_of (front ++ b ∷ more)) → list_any (λ x. bytes_eq x.0 b.0) front ≡ false
+fresh_again : (front : List Block) (b : Block) (more : List Block) → IsDistinct bytes_eq (names_of (front ++ b ∷ more))
+    → list_any (λ x. bytes_eq x.0 b.0) front ≡ false
 fresh_again [] b more h = refl
 fresh_again (x ∷ front) b more h =
-    rw (differs x.0 front b more (IsDistinct-head bytes_eq x.0 (names_of (front ++ b ∷ more)) h)) (fresh_again front b more (IsDistinct-tail bytes_eq x.0 (names_of (front ++ b ∷ more)) h))
+    rw (differs x.0 front b more (IsDistinct-head bytes_eq x.0 (names_of (front ++ b ∷ more)) h))
+    (fresh_again front b more (IsDistinct-tail bytes_eq x.0 (names_of (front ++ b ∷ more)) h))
 
 -- ---- what is read is a file
 
@@ -138,7 +197,8 @@ record BlocksFound (front bs : List Block) (lines : List (List ℕ)) (i : ℕ) :
   apart : IsDistinct bytes_eq (names_of front) → IsDistinct bytes_eq (names_of bs)
   text : left_at lines i ≡ file_text more
 
-none_found : (front bs : List Block) (lines : List (List ℕ)) (i : ℕ) → bs ≡ front → left_at lines i ≡ [] → BlocksFound front bs lines i
+none_found : (front bs : List Block) (lines : List (List ℕ)) (i : ℕ) → bs ≡ front → left_at lines i ≡ []
+    → BlocksFound front bs lines i
 none_found front bs lines i same over = record {
   more = [];
   whole = same ∙ sym (append-nil front);
@@ -148,7 +208,8 @@ none_found front bs lines i same over = record {
   text = over;
 }
 
-some_found : (front bs : List Block) (lines : List (List ℕ)) (i : ℕ) (b : Block) → BlockFound front lines i b → BlocksFound (front ++ b ∷ []) bs lines (i + 1 + lines_of b.1) → BlocksFound front bs lines i
+some_found : (front bs : List Block) (lines : List (List ℕ)) (i : ℕ) (b : Block) → BlockFound front lines i b
+    → BlocksFound (front ++ b ∷ []) bs lines (i + 1 + lines_of b.1) → BlocksFound front bs lines i
 some_found front bs lines i b f r = record {
   more = b ∷ r.more;
   whole = r.whole ∙ append_assoc front (b ∷ []) r.more;
@@ -171,18 +232,24 @@ chosen : {A : Type 0} (b : Bool) (x y z : A) → cond b x y ≡ z → ((b ≡ tr
 chosen true x y z e = inl (refl, e)
 chosen false x y z e = inr (refl, e)
 
-blocks_found : (n : ℕ) (front : List Block) (lines : List (List ℕ)) (i : ℕ) (bs : List Block) → length lines ≤ n + i → blocks_at n front lines i ≡ Ok bs → BlocksFound front bs lines i
+blocks_found : (n : ℕ) (front : List Block) (lines : List (List ℕ)) (i : ℕ) (bs : List Block) → length lines ≤ n + i
+    → blocks_at n front lines i ≡ Ok bs → BlocksFound front bs lines i
 unfolding blocks_at
-blocks_found zero front lines i bs enough e = none_found front bs lines i (sym (ok_is front bs e)) (none_left lines i (omega (arith, enough)))
+blocks_found zero front lines i bs enough e = none_found front bs lines i (sym (ok_is front bs e))
+    (none_left lines i (omega (arith, enough)))
 blocks_found (suc n) front lines i bs enough e =
-    at (λ b h. blocks_found n (front ++ b ∷ []) lines (i + 1 + lines_of b.1) bs (omega (arith, enough)) h) (chosen (is_past_end (drop i lines)) (Ok front) _ (Ok bs) e)
+    at (λ b h. blocks_found n (front ++ b ∷ []) lines (i + 1 + lines_of b.1) bs (omega (arith, enough)) h)
+    (chosen (is_past_end (drop i lines)) (Ok front) _ (Ok bs) e)
   where
     Rest : Block → Result (List Block) CertFault
     Rest b = blocks_at n (front ++ b ∷ []) lines (i + 1 + lines_of b.1)
 
-    at : ((b : Block) → Rest b ≡ Ok bs → BlocksFound (front ++ b ∷ []) bs lines (i + 1 + lines_of b.1)) → ((is_past_end (drop i lines) ≡ true) × (done front ≡ Ok bs)) ⊎ ((is_past_end (drop i lines) ≡ false) × ((block_at front lines i >>= Rest) ≡ Ok bs)) → BlocksFound front bs lines i
+    at : ((b : Block) → Rest b ≡ Ok bs → BlocksFound (front ++ b ∷ []) bs lines (i + 1 + lines_of b.1))
+        → ((is_past_end (drop i lines) ≡ true) × (done front ≡ Ok bs)) ⊎ ((is_past_end (drop i lines) ≡ false)
+        × ((block_at front lines i >>= Rest) ≡ Ok bs)) → BlocksFound front bs lines i
     at next (inl p) = none_found front bs lines i (sym (ok_is front bs p.1)) (over_found (drop i lines) p.0)
-    at next (inr p) = let b = bind_ok (block_at front lines i) Rest bs p.1 in some_found front bs lines i b.0 (block_found front lines i b.0 b.1) (next b.0 b.2)
+    at next (inr p) = let b = bind_ok (block_at front lines i) Rest bs p.1 in some_found front bs lines i b.0
+        (block_found front lines i b.0 b.1) (next b.0 b.2)
 
 none_apart : IsDistinct bytes_eq []
 unfolding IsDistinct
@@ -203,23 +270,31 @@ file_found bytes bs e =
 -- ---- a file is read again
 
 -- a block is no end
-more_left : (lines : List (List ℕ)) (i : ℕ) (x : List ℕ) → text_at lines i ≡ Ok x → (is_past_end (drop i lines) ≡ false) × (i + 1 < length lines)
+more_left : (lines : List (List ℕ)) (i : ℕ) (x : List ℕ) → text_at lines i ≡ Ok x → (is_past_end (drop i lines) ≡ false)
+    × (i + 1 < length lines)
 unfolding whole_in
 more_left lines i x e = at (drop i lines) (length-drop i lines) e
   where
-    at : (ls : List (List ℕ)) → length ls ≡ length lines - i → whole_in (i + 1) ls ≡ Ok x → (is_past_end ls ≡ false) × (i + 1 < length lines)
+    at : (ls : List (List ℕ)) → length ls ≡ length lines - i → whole_in (i + 1) ls ≡ Ok x → (is_past_end ls ≡ false)
+        × (i + 1 < length lines)
     at [] l e = absurd cc
     at (t ∷ []) l e = absurd cc
     at (t ∷ u ∷ rest) l e = (refl, omega (arith, l))
 
-block_left : (front : List Block) (lines : List (List ℕ)) (i : ℕ) (b : Block) → block_at front lines i ≡ Ok b → (is_past_end (drop i lines) ≡ false) × (i + 1 < length lines)
+block_left : (front : List Block) (lines : List (List ℕ)) (i : ℕ) (b : Block) → block_at front lines i ≡ Ok b
+    → (is_past_end (drop i lines) ≡ false) × (i + 1 < length lines)
 unfolding block_at
 block_left front lines i b e = let t = bind_ok (text_at lines i) _ b e in more_left lines i t.0 t.1
 
-blocks_again : (n : ℕ) (front more : List Block) (lines : List (List ℕ)) (i : ℕ) → length lines ≤ n + i → AllByRecursion (λ b. is_name b.0 ≡ true) more → AllByRecursion (λ b. IsCertificate b.1) more → IsDistinct bytes_eq (names_of (front ++ more)) → Stands lines i (file_text more) → blocks_at n front lines i ≡ Ok (front ++ more)
+blocks_again : (n : ℕ) (front more : List Block) (lines : List (List ℕ)) (i : ℕ) → length lines ≤ n + i
+    → AllByRecursion (λ b. is_name b.0 ≡ true) more → AllByRecursion (λ b. IsCertificate b.1) more
+    → IsDistinct bytes_eq (names_of (front ++ more)) → Stands lines i (file_text more) → blocks_at n front lines i
+    ≡ Ok (front ++ more)
 unfolding blocks_at
-blocks_again zero front [] lines i enough is certs apart stands = ap (λ (bs : List Block). done bs) (sym (append-nil front))
-blocks_again (suc n) front [] lines i enough is certs apart stands = rw (over_again lines i stands) (ap (λ (bs : List Block). done bs) (sym (append-nil front)))
+blocks_again zero front [] lines i enough is certs apart stands = ap (λ (bs : List Block). done bs)
+    (sym (append-nil front))
+blocks_again (suc n) front [] lines i enough is certs apart stands = rw (over_again lines i stands)
+    (ap (λ (bs : List Block). done bs) (sym (append-nil front)))
 blocks_again zero front (b ∷ more) lines i enough is certs apart stands =
     let a = block_again front lines i b (file_text more) is.0 certs.0 (fresh_again front b more apart) stands in
     let l = block_left front lines i b a.0 in
@@ -228,18 +303,21 @@ blocks_again (suc n) front (b ∷ more) lines i enough is certs apart stands =
     let moved : front ++ b ∷ more ≡ (front ++ b ∷ []) ++ more = sym (append_assoc front (b ∷ []) more) in
     let a = block_again front lines i b (file_text more) is.0 certs.0 (fresh_again front b more apart) stands in
     let l = block_left front lines i b a.0 in
-    let rest = blocks_again n (front ++ b ∷ []) more lines (i + 1 + lines_of b.1) (omega (arith, enough)) is.1 certs.1 (subst (λ (bs : List Block). IsDistinct bytes_eq (names_of bs)) moved apart) a.1 in
+    let rest = blocks_again n (front ++ b ∷ []) more lines (i + 1 + lines_of b.1) (omega (arith, enough)) is.1 certs.1
+    (subst (λ (bs : List Block). IsDistinct bytes_eq (names_of bs)) moved apart) a.1 in
     rw (l.0, a.0) (rest ∙ ap (λ (bs : List Block). done bs) (sym moved))
 
 pub file_again : (bs : List Block) → IsFile bs → file_in (file_text bs) ≡ Ok bs
-file_again bs is = let lines = pieces 10 (file_text bs) in blocks_again (length lines) [] bs lines 0 (omega arith) is.names is.certs is.distinct refl
+file_again bs is = let lines = pieces 10 (file_text bs) in blocks_again (length lines) [] bs lines 0
+    (omega arith) is.names is.certs is.distinct refl
 
 one_apart : (name : List ℕ) → IsDistinct bytes_eq (name ∷ [])
 unfolding IsDistinct
 one_apart name = (tt, tt)
 
 -- the text of one is read as that one
-pub block_read : (text : List ℕ) (b : Block) → text ≡ block_text b → is_name b.0 ≡ true → IsCertificate b.1 → file_in text ≡ Ok (b ∷ [])
+pub block_read : (text : List ℕ) (b : Block) → text ≡ block_text b → is_name b.0 ≡ true → IsCertificate b.1
+    → file_in text ≡ Ok (b ∷ [])
 block_read text b same is cert =
     ap file_in (same ∙ sym (append-nil (block_text b)))
     ∙ file_again (b ∷ []) (record { names = (is, tt); distinct = one_apart b.0; certs = (cert, tt) })

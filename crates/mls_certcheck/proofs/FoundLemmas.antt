@@ -27,7 +27,8 @@ lead false false h e = absurd cc
 
 alone : (text : List ℕ) → is_decimal text ≡ true → get_or text 0 0 ≡ 48 → length text ≡ 1
 unfolding is_decimal
-alone text is zero_first = eqb-true _ 1 (lead (length text == 1) (slice_index text 0 == 48) (and_parts _ _ is).1 (eq-eqb _ _ zero_first))
+alone text is zero_first = eqb-true _ 1 (lead (length text == 1) (slice_index text 0 == 48) (and_parts _ _ is).1
+    (eq-eqb _ _ zero_first))
 
 rank_found : (line : ℕ) (text : List ℕ) (n : ℕ) → rank_in line text ≡ Ok n → (n < 256) × (text ≡ decimal n)
 unfolding rank_in number_in
@@ -45,7 +46,8 @@ digit_found : (line b d : ℕ) → digit_in line b ≡ Ok d → (d < 16) × (b �
 unfolding digit_in
 digit_found line b d e = at (is_ascii_digit b) refl e
   where
-    letter : (t : Bool) → (nat_le 97 b && nat_le b 102) ≡ t → cond t (Ok (b - 87)) (refused line BadLabel) ≡ Ok d → (d < 16) × (b ≡ digit_char d)
+    letter : (t : Bool) → (nat_le 97 b && nat_le b 102) ≡ t → cond t (Ok (b - 87)) (refused line BadLabel) ≡ Ok d
+        → (d < 16) × (b ≡ digit_char d)
     letter true is e =
         let low : 97 ≤ b = grind (arith, nat_tests) in
         let high : b ≤ 102 = grind (arith, nat_tests) in
@@ -54,7 +56,8 @@ digit_found line b d e = at (is_ascii_digit b) refl e
         (omega arith, rw more (omega arith))
     letter false is e = absurd cc
 
-    at : (t : Bool) → is_ascii_digit b ≡ t → cond t (Ok (b - 48)) (cond (nat_le 97 b && nat_le b 102) (Ok (b - 87)) (refused line BadLabel)) ≡ Ok d → (d < 16) × (b ≡ digit_char d)
+    at : (t : Bool) → is_ascii_digit b ≡ t → cond t (Ok (b - 48)) (cond (nat_le 97 b && nat_le b 102) (Ok (b - 87))
+        (refused line BadLabel)) ≡ Ok d → (d < 16) × (b ≡ digit_char d)
     at true is e =
         let low : 48 ≤ b = grind (arith, nat_tests) in
         let high : b ≤ 57 = grind (arith, nat_tests) in
@@ -114,14 +117,21 @@ bytes_found line _ bs l e = absurd (omega arith)
 below_32 : (bs : List ℕ) → length bs ≡ 4 → ((i : ℕ) → get_or bs i 0 < 256) → from_be_bytes w32 bs < 2 ^ 32
 below_32 bs four small = omega (arith, small 0, small 1, small 2, small 3)
 
-cats_found : (line : ℕ) (text : List ℕ) (c : ℕ) → cats_in line text ≡ Ok c → (c < 2 ^ 32) × (text ≡ flat_map byte_text (to_be_bytes w32 c))
+cats_found : (line : ℕ) (text : List ℕ) (c : ℕ) → cats_in line text ≡ Ok c → (c < 2 ^ 32)
+    × (text ≡ flat_map byte_text (to_be_bytes w32 c))
 unfolding cats_in
 cats_found line text c e =
     let p = pass_ok (length text == 8) _ (bytes_in line text >>= λ bs. Ok (from_be_bytes w32 bs)) c e in
     let b = bind_ok (bytes_in line text) _ c p.1 in
     let f = bytes_found line text b.0 (eqb-true _ 8 p.0) b.1 in
-    let spelled : to_be_bytes w32 (from_be_bytes w32 b.0) ≡ b.0 = be_bytes_4 b.0 (from_be_bytes w32 b.0) f.four f.small refl in
-    subst (λ (n : ℕ). (n < 2 ^ 32) × (text ≡ flat_map byte_text (to_be_bytes w32 n))) (ok_is (from_be_bytes w32 b.0) c b.2) (below_32 b.0 f.four f.small, f.spelled ∙ ap (flat_map byte_text) (sym spelled))
+    let spelled : to_be_bytes w32 (from_be_bytes w32 b.0) ≡ b.0 =
+    be_bytes_4 b.0 (from_be_bytes w32 b.0) f.four f.small refl in
+    subst (λ (n : ℕ). (n < 2 ^ 32) × (text ≡ flat_map byte_text (to_be_bytes w32 n)))
+    (ok_is (from_be_bytes w32 b.0) c b.2) (
+      below_32 b.0 f.four f.small,
+      f.spelled ∙ ap (flat_map byte_text)
+          (sym spelled),
+    )
 
 -- ---- labels
 
@@ -130,7 +140,8 @@ at_place k [] l = absurd (omega arith)
 at_place zero (x ∷ xs) l = refl
 at_place (suc k) (x ∷ xs) l =
     let next : suc (k + 1) ≡ suc k + 1 = omega arith in
-    ap (λ (ys : List ℕ). x ∷ ys) (at_place k xs (omega arith)) ∙ ap (λ (n : ℕ). x ∷ (take k xs ++ slice_index xs k ∷ drop n (x ∷ xs))) next
+    ap (λ (ys : List ℕ). x ∷ ys) (at_place k xs (omega arith)) ∙ ap (λ (n : ℕ). x ∷ (take k xs ++ slice_index xs k
+    ∷ drop n (x ∷ xs))) next
 
 label_found : (line : ℕ) (text : List ℕ) (l : Label) → label_in line text ≡ Ok l → IsLabel l × (text ≡ label_text l)
 unfolding label_in
@@ -145,8 +156,11 @@ label_found line text l e =
     let long : 9 ≤ length text = ltb-false _ _ g.0 in
     let colon : slice_index text (length text - 9) ≡ 58 = eqb-true _ 58 p.0 in
     let parts = at_place (length text - 9) text (omega (arith, long)) in
-    subst (λ (m : Label). IsLabel m × (text ≡ label_text m)) (ok_is (record { rank = r.0; cats = c.0 }) l c.2)
-    ((rank.0, cats.0), parts ∙ (λ i. rank.1 i ++ colon i ∷ cats.1 i) ∙ sym (append_assoc (decimal r.0) (codes ":") (flat_map byte_text (to_be_bytes w32 c.0))))
+    subst (λ (m : Label). IsLabel m × (text ≡ label_text m)) (ok_is (record { rank = r.0; cats = c.0 }) l c.2) (
+      (rank.0, cats.0),
+      parts ∙ (λ i. rank.1 i ++ colon i ∷ cats.1 i) ∙ sym (append_assoc (decimal r.0) (codes ":")
+          (flat_map byte_text (to_be_bytes w32 c.0))),
+    )
 
 -- ---- lines
 
@@ -156,8 +170,15 @@ record LabelsFound (front ls : List Label) (words : List (List ℕ)) : Type 0 wh
   fits : AllByRecursion IsLabel more
   text : words ≡ map label_text more
 
-labels_found : (line : ℕ) (words : List (List ℕ)) (front ls : List Label) → labels_in line front words ≡ Ok ls → LabelsFound front ls words
-labels_found line [] front ls e = record { more = []; whole = sym (ok_is front ls e) ∙ sym (append-nil front); fits = tt; text = refl }
+labels_found : (line : ℕ) (words : List (List ℕ)) (front ls : List Label) → labels_in line front words ≡ Ok ls
+    → LabelsFound front ls words
+labels_found line [] front ls e = record {
+  more = [];
+  whole = sym (ok_is front ls e) ∙ sym (append-nil front);
+  fits =
+      tt;
+  text = refl;
+}
 labels_found line (word ∷ words) front ls e =
     let l = bind_ok (label_in line word) _ ls e in
     let f = label_found line word l.0 l.1 in
@@ -169,18 +190,25 @@ labels_found line (word ∷ words) front ls e =
       text = λ i. f.1 i ∷ rest.text i;
     }
 
-joined : (word : List ℕ) (ls : List Label) → join_with_byte 32 (word ∷ map label_text ls) ≡ word ++ flat_map spaced_label ls
+joined : (word : List ℕ) (ls : List Label) → join_with_byte 32 (word ∷ map label_text ls) ≡ word
+    ++ flat_map spaced_label ls
 joined word [] = sym (append-nil word)
 joined word (l ∷ ls) = ap (λ (bs : List ℕ). word ++ (32 ∷ bs)) (joined (label_text l) ls)
 
-worded_found : (word : List ℕ) (line : ℕ) (words : List (List ℕ)) (ls : List Label) → worded_in word line words ≡ Ok ls → AllByRecursion IsLabel ls × (join_with_byte 32 words ≡ word ++ flat_map spaced_label ls)
+worded_found : (word : List ℕ) (line : ℕ) (words : List (List ℕ)) (ls : List Label) → worded_in word line words ≡ Ok ls
+    → AllByRecursion IsLabel ls × (join_with_byte 32 words ≡ word ++ flat_map spaced_label ls)
 unfolding worded_in
 worded_found word line [] ls e = absurd cc
 worded_found word line (first ∷ words) ls e =
     let p = pass_ok (bytes_eq first word) _ (labels_in line [] words) ls e in
     let f = labels_found line words [] ls p.1 in
-    let same : first ≡ word = (bytes_decides first word).0 p.0 in
-    (subst (AllByRecursion IsLabel) (sym f.whole) f.fits, (λ i. join_with_byte 32 (same i ∷ f.text i)) ∙ joined word f.more ∙ ap (λ (ms : List Label). word ++ flat_map spaced_label ms) (sym f.whole))
+    let same : first ≡ word = (bytes_decides first word).0 p.0 in (
+      subst (AllByRecursion IsLabel) (sym f.whole) f.fits,
+      (λ i. join_with_byte 32 (same i ∷ f.text i))
+          ∙ joined word f.more ∙ ap (λ (ms : List Label). word ++ flat_map spaced_label ms) (sym f.whole),
+    )
 
-pub line_found : (word : List ℕ) (line : ℕ) (text : List ℕ) (ls : List Label) → line_in word line text ≡ Ok ls → AllByRecursion IsLabel ls × (text ≡ word ++ flat_map spaced_label ls)
-line_found word line text ls e = let f = worded_found word line (pieces 32 text) ls e in (f.0, sym (join_with_byte-slice_split 32 text) ∙ f.1)
+pub line_found : (word : List ℕ) (line : ℕ) (text : List ℕ) (ls : List Label) → line_in word line text ≡ Ok ls
+    → AllByRecursion IsLabel ls × (text ≡ word ++ flat_map spaced_label ls)
+line_found word line text ls e = let f = worded_found word line (pieces 32 text) ls e
+    in (f.0, sym (join_with_byte-slice_split 32 text) ∙ f.1)

@@ -26,7 +26,8 @@ pub record HeadFound (front : List Block) (v : Version) (name text : List ℕ) :
   pub new : IsNew front name
   pub spelled : text ≡ headed v name
 
-fresh_found : (front : List Block) (line : ℕ) (name n : List ℕ) → fresh_in front line name ≡ Ok n → IsNew front n × (name ≡ n)
+fresh_found : (front : List Block) (line : ℕ) (name n : List ℕ) → fresh_in front line name ≡ Ok n → IsNew front n
+    × (name ≡ n)
 unfolding fresh_in
 fresh_found front line name n e =
     let g = guard_ok (list_any (λ b. bytes_eq b.0 name) front) _ (Ok name) n e in
@@ -44,7 +45,8 @@ version_found : (line : ℕ) (text : List ℕ) (v : Version) → version_in line
 unfolding version_in
 version_found line text v e = first (bytes_eq text (codes "1")) refl e
   where
-    first : (b : Bool) → bytes_eq text (codes "1") ≡ b → cond b (Ok First) (cond (bytes_eq text (codes "2")) (Ok Second) (refused line BadVersion)) ≡ Ok v → text ≡ version_text v
+    first : (b : Bool) → bytes_eq text (codes "1") ≡ b → cond b (Ok First) (cond (bytes_eq text (codes "2")) (Ok Second)
+        (refused line BadVersion)) ≡ Ok v → text ≡ version_text v
     first true is e = (bytes_decides text (codes "1")).0 is ∙ ap version_text (ok_is First v e)
     first false is e =
         let p = pass_ok (bytes_eq text (codes "2")) _ (Ok Second) v e in
@@ -56,7 +58,8 @@ record PartsFound (front : List Block) (v : Version) (n version name : List ℕ)
   digit : version ≡ version_text v
   named : name ≡ n
 
-versioned_found : (front : List Block) (line : ℕ) (version name : List ℕ) (v : Version) (n : List ℕ) → versioned_in front line version name ≡ Ok (v, n) → PartsFound front v n version name
+versioned_found : (front : List Block) (line : ℕ) (version name : List ℕ) (v : Version) (n : List ℕ)
+    → versioned_in front line version name ≡ Ok (v, n) → PartsFound front v n version name
 unfolding versioned_in
 versioned_found front line version name v n e =
     let b = bind_ok (proper_in line name) _ (v, n) e in
@@ -83,27 +86,45 @@ record NamedFound (front : List Block) (v : Version) (n text : List ℕ) : Type 
   new : IsNew front n
   spelled : text ≡ version_text v ++ 32 ∷ n
 
-named_found : (front : List Block) (line : ℕ) (text : List ℕ) (v : Version) (n : List ℕ) → named_in front line text ≡ Ok (v, n) → NamedFound front v n text
+named_found : (front : List Block) (line : ℕ) (text : List ℕ) (v : Version) (n : List ℕ) → named_in front line text
+    ≡ Ok (v, n) → NamedFound front v n text
 unfolding named_in
 named_found front line text v n e =
     let some = guard_ok (prefix_len is_ascii_digit text == 0) _ _ (v, n) e in
     let more = guard_ok (prefix_len is_ascii_digit text == length text) _ _ (v, n) some.1 in
     let space = pass_ok (slice_index text (prefix_len is_ascii_digit text) == 32) _ _ (v, n) more.1 in
-    let f = versioned_found front line (take (prefix_len is_ascii_digit text) text) (drop (prefix_len is_ascii_digit text + 1) text) v n space.1 in
+    let f = versioned_found front line (take (prefix_len is_ascii_digit text) text)
+    (drop (prefix_len is_ascii_digit text + 1) text) v n space.1 in
     let differ = eqb-false (prefix_len is_ascii_digit text) (length text) more.0 in
-    let within : prefix_len is_ascii_digit text < length text = omega (arith, prefix_len-le-length is_ascii_digit text, differ) in
+    let within : prefix_len is_ascii_digit text < length text = omega (
+      arith,
+      prefix_len-le-length is_ascii_digit text,
+      differ,
+    ) in
     let blank : slice_index text (prefix_len is_ascii_digit text) ≡ 32 = eqb-true _ 32 space.0 in
-    record { is = f.is; new = f.new; spelled = at_place (prefix_len is_ascii_digit text) text within ∙ (λ i. f.digit i ++ blank i ∷ f.named i) }
+    record {
+      is = f.is;
+      new = f.new;
+      spelled = at_place (prefix_len is_ascii_digit text) text within
+          ∙ (λ i. f.digit i ++ blank i ∷ f.named i);
+    }
 
-pub head_found : (front : List Block) (line : ℕ) (text : List ℕ) (v : Version) (n : List ℕ) → head_in front line text ≡ Ok (v, n) → HeadFound front v n text
+pub head_found : (front : List Block) (line : ℕ) (text : List ℕ) (v : Version) (n : List ℕ) → head_in front line text
+    ≡ Ok (v, n) → HeadFound front v n text
 unfolding head_in
 head_found front line text v n e =
     let p = pass_ok (bytes_eq (take 12 text) (codes "certificate ")) _ (named_in front line (drop 12 text)) (v, n) e in
     let f = named_found front line (drop 12 text) v n p.1 in
     let word : take 12 text ≡ codes "certificate " = (bytes_decides (take 12 text) (codes "certificate ")).0 p.0 in
-    record { is = f.is; new = f.new; spelled = sym (take-append-drop 12 text) ∙ (λ i. word i ++ f.spelled i) ∙ spaced v n }
+    record {
+      is = f.is;
+      new = f.new;
+      spelled = sym (take-append-drop 12 text) ∙ (λ i. word i ++ f.spelled i)
+          ∙ spaced v n;
+    }
 
-pub head_again : (front : List Block) (line : ℕ) (v : Version) (n : List ℕ) → is_name n ≡ true → IsNew front n → head_in front line (headed v n) ≡ Ok (v, n)
+pub head_again : (front : List Block) (line : ℕ) (v : Version) (n : List ℕ) → is_name n ≡ true → IsNew front n
+    → head_in front line (headed v n) ≡ Ok (v, n)
 unfolding head_in named_in versioned_in version_in proper_in fresh_in
 head_again front line First n is new =
     let more : (1 == length (codes "1 " ++ n)) ≡ false = ne_eqb _ _ (λ e. omega arith) in

@@ -29,7 +29,8 @@ use Rattle.mls_lattice.proofs.EachLemmas.{all_append, all_if, all_zip, each_flat
 use Rattle.mls_certcheck.proofs.LabelLemmas.{above_bottom}
 
 -- rows that are all one
-same_row : (row : List Label) (rows : List (List Label)) (n : ℕ) → AllByRecursion (λ r. r ≡ row) rows → n < length rows → slice_index_or rows n [] ≡ row
+same_row : (row : List Label) (rows : List (List Label)) (n : ℕ) → AllByRecursion (λ r. r ≡ row) rows → n < length rows
+    → slice_index_or rows n [] ≡ row
 same_row row [] n h lt = absurd (omega (arith, lt))
 same_row row (r ∷ rows) zero h lt = h.0
 same_row row (r ∷ rows) (suc n) h lt = same_row row rows n h.1 (omega (arith, lt))
@@ -80,38 +81,59 @@ module _ (count : ℕ) where
     stmt_bounds : (b : ℕ) (rows : List ℕ) (stmt : Stmt) → AllByRecursion BoundsOf (stmt_lines n b rows stmt)
     stmt_bounds b rows (Assign x e) = ((is, tt), tt)
     stmt_bounds b rows (Write_at relation w writing outcome) =
-        all_append BoundsOf (write n b rows w writing outcome) (order n w writing) (tt, (tt, by_each n _ (outcome_flows n w outcome) (outcome_bounds w outcome))) (order_bounds w writing)
+        all_append BoundsOf (write n b rows w writing outcome) (order n w writing) (
+          tt,
+          (tt, by_each n _ (outcome_flows n w outcome) (outcome_bounds w outcome)),
+        ) (order_bounds w writing)
     stmt_bounds b rows (Release e to into) = (tt, (tt, ((is, tt), tt)))
     stmt_bounds b rows (Emit e label) = (tt, (tt, tt))
 
     own_bounds : (b : ℕ) (rows : List ℕ) (shape : Shape) → AllByRecursion BoundsOf (own_lines n b rows shape)
-    own_bounds b rows (Plain stmt) = all_append BoundsOf (stmt_lines n b rows stmt) (rest n b stmt) (stmt_bounds b rows stmt) (is, tt)
-    own_bounds b rows (Branching guard inner ends) = (statements_after inner, by_each n _ (map (λ m. Kept m n None) ends) (ends_bound ends))
-    own_bounds b rows (Looping label inner ends) = (tt, (statements_after inner, by_each n _ (map (λ m. Kept m n None) ends) (ends_bound ends)))
+    own_bounds b rows (Plain stmt) = all_append BoundsOf (stmt_lines n b rows stmt) (rest n b stmt)
+        (stmt_bounds b rows stmt) (is, tt)
+    own_bounds b rows (Branching guard inner ends) = (
+      statements_after inner,
+      by_each n _ (map (λ m. Kept m n None) ends) (ends_bound ends),
+    )
+    own_bounds b rows (Looping label inner ends) =
+        (tt, (statements_after inner, by_each n _ (map (λ m. Kept m n None) ends) (ends_bound ends)))
 
   abbrev IsNumbered : Point → Type 0
   IsNumbered p = IsNumber count p.number
 
-  are_numbered : (block : Block) (n a b : ℕ) (rows : List ℕ) → 1 ≤ n → n + statements block ≤ count + 1 → AllByRecursion IsNumbered (points n a b rows block)
+  are_numbered : (block : Block) (n a b : ℕ) (rows : List ℕ) → 1 ≤ n → n + statements block ≤ count + 1
+      → AllByRecursion IsNumbered (points n a b rows block)
   are_numbered End n a b rows least most = tt
-  are_numbered (Do stmt rest) n a b rows least most = (record { least = least; most = omega (arith, most) }, are_numbered rest (n + 1) a n rows (omega (arith, least)) (omega (arith, most)))
+  are_numbered (Do stmt rest) n a b rows least most = (
+    record { least = least; most = omega (arith, most) },
+    are_numbered rest (n + 1) a n rows (omega (arith, least)) (omega (arith, most)),
+  )
   are_numbered (If guard one other rest) n a b rows least most = (
     record { least = least; most = omega (arith, most) },
-    all_append IsNumbered (points (n + 1) n b rows one) _ (are_numbered one (n + 1) n b rows (omega (arith, least)) (omega (arith, most)))
-        (all_append IsNumbered (points (n + 1 + statements one) n b rows other) _ (are_numbered other (n + 1 + statements one) n b rows (omega (arith, least)) (omega (arith, most)))
-        (are_numbered rest (n + (1 + statements one + statements other)) a n rows (omega (arith, least)) (omega (arith, most)))),
+    all_append IsNumbered (points (n + 1) n b rows one) _ (are_numbered one (n + 1) n b rows (omega (arith, least))
+        (omega (arith, most)))
+        (all_append IsNumbered (points (n + 1 + statements one) n b rows other) _
+        (are_numbered other (n + 1 + statements one) n b rows (omega (arith, least)) (omega (arith, most)))
+        (are_numbered rest (n + (1 + statements one + statements other)) a n rows (omega (arith, least))
+        (omega (arith, most)))),
   )
   are_numbered (For row relation label body rest) n a b rows least most = (
     record { least = least; most = omega (arith, most) },
-    all_append IsNumbered (points (n + 1) n n (label ∷ rows) body) _ (are_numbered body (n + 1) n n (label ∷ rows) (omega (arith, least)) (omega (arith, most)))
+    all_append IsNumbered (points (n + 1) n n (label ∷ rows) body) _ (are_numbered body (n + 1) n n (label ∷ rows)
+        (omega (arith, least)) (omega (arith, most)))
         (are_numbered rest (n + (1 + statements body)) a n rows (omega (arith, least)) (omega (arith, most))),
   )
 
   lines_bound : (tx : Tx) → statements tx.body ≡ count → AllByRecursion BoundsOf (lines tx)
   lines_bound tx all =
-      all_append BoundsOf (tx_lines tx) (flat_map (lines_at (length tx.vars)) (all_points tx))
-      (tt, by_each 0 _ (flat_map (λ p. within_ends p.1.label) tx.params) (each_flat (Bounds count) (λ p. within_ends p.1.label) tx.params (ends tx.params)))
-      (each_flat BoundsOf (lines_at (length tx.vars)) (all_points tx) (all_if IsNumbered (λ p. AllByRecursion BoundsOf (lines_at (length tx.vars) p)) (λ p is. (tt, ((tt, tt), own_bounds p.number is p.before p.rows p.shape)))
+      all_append BoundsOf (tx_lines tx) (flat_map (lines_at (length tx.vars)) (all_points tx)) (
+        tt,
+        by_each 0 _ (flat_map (λ p. within_ends p.1.label) tx.params) (each_flat (Bounds count)
+            (λ p. within_ends p.1.label) tx.params (ends tx.params)),
+      )
+      (each_flat BoundsOf (lines_at (length tx.vars)) (all_points tx)
+      (all_if IsNumbered (λ p. AllByRecursion BoundsOf (lines_at (length tx.vars) p))
+      (λ p is. (tt, ((tt, tt), own_bounds p.number is p.before p.rows p.shape)))
       (all_points tx) (are_numbered tx.body 1 0 0 [] (omega arith) (omega (arith, all)))))
     where
       ends : (ps : List (Name × Given)) → AllByRecursion (λ p. AllByRecursion (Bounds count) (within_ends p.1.label)) ps
@@ -129,7 +151,8 @@ module _ (policy : Policy) (tx : Tx) (one : Cert) (two : Cert2) (lift : IsLift o
 
   after_same : (n x : ℕ) → IsNumber (length two.rows) n → after j n x ≡ after k n x
   after_same zero x h = absurd (omega (arith, h.least))
-  after_same (suc n) x h = ap (λ row. slice_index_or (map pair_of row) x bottom) (same_row one.var_labels two.rows n lift.rows (omega (arith, h.most)))
+  after_same (suc n) x h = ap (λ row. slice_index_or (map pair_of row) x bottom)
+      (same_row one.var_labels two.rows n lift.rows (omega (arith, h.most)))
 
   after_under : (n x : ℕ) → Dominates (after k n x) (after j n x)
   after_under zero x = above_bottom (after k zero x)
@@ -137,11 +160,15 @@ module _ (policy : Policy) (tx : Tx) (one : Cert) (two : Cert2) (lift : IsLift o
       elim (cases_Bool (nat_lt n (length two.rows))) [
         | inl t ↦
             (let within = ltb-true n (length two.rows) t in
-            let is : IsNumber (length two.rows) (suc n) = record { least = omega arith; most = omega (arith, within) } in
-            subst (λ p. Dominates (after k (suc n) x) p) (sym (after_same (suc n) x is)) (Dominates-refl (after k (suc n) x)))
+            let is : IsNumber (length two.rows) (suc n) = record { least = omega arith; most = omega (arith, within) }
+            in
+            subst (λ p. Dominates (after k (suc n) x) p) (sym (after_same (suc n) x is))
+            (Dominates-refl (after k (suc n) x)))
         | inr f ↦
-            (let past : slice_index_or two.rows n [] ≡ [] = get_or_past two.rows n [] (ltb-false n (length two.rows) f) in
-            subst (λ row. Dominates (after k (suc n) x) (slice_index_or (map pair_of row) x bottom)) (sym past) (above_bottom (after k (suc n) x)))
+            (let past : slice_index_or two.rows n [] ≡ [] = get_or_past two.rows n [] (ltb-false n (length two.rows) f)
+            in
+            subst (λ row. Dominates (after k (suc n) x) (slice_index_or (map pair_of row) x bottom)) (sym past)
+            (above_bottom (after k (suc n) x)))
       ]
 
   pc_same : (n : ℕ) → pc j n ≡ pc k n
@@ -160,12 +187,16 @@ module _ (policy : Policy) (tx : Tx) (one : Cert) (two : Cert2) (lift : IsLift o
 
   over_lifts : (p q : Pair) (ss : List Source) → q ≡ p → IsAbove k p ss → IsAbove j q ss
   over_lifts p q ss e h =
-      subst (λ r. IsAbove j r ss) (sym e) (all_if (λ s. Dominates p (source_label k s)) (λ s. Dominates p (source_label j s)) (λ s d. Dominates-trans p (source_label k s) (source_label j s) d (source_under s)) ss h)
+      subst (λ r. IsAbove j r ss) (sym e) (all_if (λ s. Dominates p (source_label k s))
+      (λ s. Dominates p (source_label j s)) (λ s d. Dominates-trans p (source_label k s) (source_label j s) d
+      (source_under s)) ss h)
 
   flow_lifts : (f : Flow) → Bounds (length two.rows) f → IsObeyed k f → IsObeyed j f
   flow_lifts (Into ts ss) is h =
-      all_zip (IsAfter (length two.rows)) (λ t. IsAbove k (slot_label k t) ss) (λ t. IsAbove j (slot_label j t) ss) (λ t at g. over_lifts (slot_label k t) (slot_label j t) ss (slot_same t at) g) ts is h
-  flow_lifts (Kept m n but) is h = λ x lt other. subst (λ p. Dominates p (after j m x)) (sym (after_same n x is)) (Dominates-trans _ _ _ (h x lt other) (after_under m x))
+      all_zip (IsAfter (length two.rows)) (λ t. IsAbove k (slot_label k t) ss) (λ t. IsAbove j (slot_label j t) ss)
+      (λ t at g. over_lifts (slot_label k t) (slot_label j t) ss (slot_same t at) g) ts is h
+  flow_lifts (Kept m n but) is h = λ x lt other. subst (λ p. Dominates p (after j m x)) (sym (after_same n x is))
+      (Dominates-trans _ _ _ (h x lt other) (after_under m x))
   flow_lifts (Within limit ss) is h = over_lifts (label_of k.labels limit) (label_of k.labels limit) ss refl h
   flow_lifts (Under ss) is h = over_lifts (hi k) (hi k) ss refl h
 
@@ -176,7 +207,10 @@ lift_rules policy tx one two lift rules =
     let pcs : length two.pc_labels ≡ statements tx.body = ap length lift.pcs ∙ rules.stmt_count in
     let rows : length two.rows ≡ statements tx.body = lift.count ∙ pcs in
     record {
-      var_count = all_if (λ row. row ≡ one.var_labels) (λ row. length row ≡ length tx.vars) (λ row e. ap length e ∙ rules.var_count.0) two.rows lift.rows;
+      var_count = all_if (λ row. row ≡ one.var_labels) (λ row. length row ≡ length tx.vars) (λ row e. ap length e
+          ∙ rules.var_count.0) two.rows lift.rows;
       stmt_count = (rows, pcs);
-      lines = all_zip (BoundsOf (length two.rows)) (λ l. IsObeyed k l.flow) (λ l. IsObeyed j l.flow) (λ l. flow_lifts policy tx one two lift l.flow) (lines tx) (lines_bound (length two.rows) tx (sym rows)) rules.lines;
+      lines = all_zip (BoundsOf (length two.rows)) (λ l. IsObeyed k l.flow) (λ l. IsObeyed j l.flow)
+          (λ l. flow_lifts policy tx one two lift l.flow) (lines tx) (lines_bound (length two.rows) tx
+          (sym rows)) rules.lines;
     }

@@ -27,7 +27,8 @@ module _ (c : Claim) where
   lab b rows (No e) = lab b rows e
   lab b rows (Op op left right) = join (lab b rows left) (lab b rows right)
 
-  pub over_names : (b : ℕ) (rows : List ℕ) (e : Expr) (p : Pair) → IsAbove c p (names b rows e) → Dominates p (lab b rows e)
+  pub over_names : (b : ℕ) (rows : List ℕ) (e : Expr) (p : Pair) → IsAbove c p (names b rows e)
+      → Dominates p (lab b rows e)
   over_names b rows (Known v) p h = above_bottom p
   over_names b rows Null p h = above_bottom p
   over_names b rows (No e) p h = over_names b rows e p h
@@ -49,7 +50,8 @@ module _ (c : Claim) where
   Obeys p = AllByRecursion (λ l. IsObeyed c l.flow) (lines_at (length c.tx.vars) p)
 
   -- a pair that is under the labels of statements inside
-  body_over : (sources : List Source) (l : Pair) → ((p : Pair) → IsAbove c p sources → Dominates p l) → (inner : List ℕ) → IsObeyed c (Into (map (λ m. Statement m) inner) sources) → AllByRecursion (λ m. Dominates (pc c m) l) inner
+  body_over : (sources : List Source) (l : Pair) → ((p : Pair) → IsAbove c p sources → Dominates p l) → (inner : List ℕ)
+      → IsObeyed c (Into (map (λ m. Statement m) inner) sources) → AllByRecursion (λ m. Dominates (pc c m) l) inner
   body_over sources l f [] h = tt
   body_over sources l f (m ∷ ms) h = (f (pc c m) h.0, body_over sources l f ms h.1)
 
@@ -58,7 +60,8 @@ module _ (c : Claim) where
     ObeysAt shape = Obeys (record { number = n; around = a; before = b; rows = rows; shape = shape })
 
     -- that the statement runs, and an expression
-    both_over : (e : Expr) (p : Pair) → IsAbove c p (Held (Statement n) ∷ names b rows e) → Dominates p (join (pc c n) (lab b rows e))
+    both_over : (e : Expr) (p : Pair) → IsAbove c p (Held (Statement n) ∷ names b rows e)
+        → Dominates p (join (pc c n) (lab b rows e))
     both_over e p h = join-least (pc c n) (lab b rows e) p h.0 (over_names b rows e p h.1)
 
     pub runs_in : (shape : Shape) → ObeysAt shape → Dominates (pc c n) (pc c a)
@@ -67,20 +70,25 @@ module _ (c : Claim) where
     pub rests : (stmt : Stmt) → ObeysAt (Plain stmt) → IsObeyed c (Kept b n (target stmt))
     rests stmt h = (all_back (λ l. IsObeyed c l.flow) (stmt_lines n b rows stmt) (rest n b stmt) h.1.1).0
 
-    pub assigned : (x : ℕ) (e : Expr) → ObeysAt (Plain (Assign x e)) → Dominates (after c n x) (join (pc c n) (lab b rows e))
+    pub assigned : (x : ℕ) (e : Expr) → ObeysAt (Plain (Assign x e))
+        → Dominates (after c n x) (join (pc c n) (lab b rows e))
     assigned x e h = both_over e (after c n x) h.1.1.0.0
 
     module _ (relation w : ℕ) (writing : Writing) where
-      pub write_context : (outcome : Option ℕ) → ObeysAt (Plain (Write_at relation w writing outcome)) → Dominates (label_of c.labels w) (pc c n)
+      pub write_context : (outcome : Option ℕ) → ObeysAt (Plain (Write_at relation w writing outcome))
+          → Dominates (label_of c.labels w) (pc c n)
       write_context outcome h = h.1.1.0.0
 
-      pub write_operands : (outcome : Option ℕ) → ObeysAt (Plain (Write_at relation w writing outcome)) → AllByRecursion (λ e. Dominates (label_of c.labels w) (lab b rows e)) (operands writing)
+      pub write_operands : (outcome : Option ℕ) → ObeysAt (Plain (Write_at relation w writing outcome))
+          → AllByRecursion (λ e. Dominates (label_of c.labels w) (lab b rows e)) (operands writing)
       write_operands outcome h =
           let l = label_of c.labels w in
-          all_if (λ e. IsAbove c l (names b rows e)) (λ e. Dominates l (lab b rows e)) (λ e. over_names b rows e l) (operands writing)
+          all_if (λ e. IsAbove c l (names b rows e)) (λ e. Dominates l (lab b rows e)) (λ e. over_names b rows e l)
+          (operands writing)
           (flat_each (λ s. Dominates l (source_label c s)) (names b rows) (operands writing) h.1.1.0.1)
 
-      pub write_into : (outcome : Option ℕ) → ObeysAt (Plain (Write_at relation w writing outcome)) → IfSome outcome (λ x. Dominates (after c n x) (label_of c.labels w))
+      pub write_into : (outcome : Option ℕ) → ObeysAt (Plain (Write_at relation w writing outcome))
+          → IfSome outcome (λ x. Dominates (after c n x) (label_of c.labels w))
       write_into None h = tt
       write_into (Some x) h = h.1.1.1.1.0.0.0
 
@@ -105,8 +113,10 @@ module _ (c : Claim) where
       emit_value = over_names b rows e (label_of c.labels label) h.1.1.0.1
 
     module _ (guard : Expr) (one other : Block) (h : ObeysAt (branching n b guard one other)) where
-      pub branch_body : AllByRecursion (λ m. Dominates (pc c m) (join (pc c n) (lab b rows guard))) (directs (n + 1) one ++ directs (n + 1 + statements one) other)
-      branch_body = body_over (Held (Statement n) ∷ names b rows guard) (join (pc c n) (lab b rows guard)) (both_over guard) (directs (n + 1) one ++ directs (n + 1 + statements one) other) h.1.1.0
+      pub branch_body : AllByRecursion (λ m. Dominates (pc c m) (join (pc c n) (lab b rows guard))) (directs (n + 1) one
+          ++ directs (n + 1 + statements one) other)
+      branch_body = body_over (Held (Statement n) ∷ names b rows guard) (join (pc c n) (lab b rows guard))
+          (both_over guard) (directs (n + 1) one ++ directs (n + 1 + statements one) other) h.1.1.0
 
       pub branch_one : Keeps (last b (n + 1) one) n
       branch_one = keeps (last b (n + 1) one) n h.1.1.1.0
@@ -115,8 +125,10 @@ module _ (c : Claim) where
       branch_other = keeps (last b (n + 1 + statements one) other) n h.1.1.1.1.0
 
     module _ (label : ℕ) (body : Block) (h : ObeysAt (looping n b label body)) where
-      pub loop_body : AllByRecursion (λ m. Dominates (pc c m) (join (pc c n) (label_of c.labels label))) (directs (n + 1) body)
-      loop_body = body_over (Held (Statement n) ∷ Declared label ∷ []) (join (pc c n) (label_of c.labels label)) (λ p k. join-least (pc c n) (label_of c.labels label) p k.0 k.1.0) (directs (n + 1) body) h.1.1.1.0
+      pub loop_body : AllByRecursion (λ m. Dominates (pc c m) (join (pc c n) (label_of c.labels label)))
+          (directs (n + 1) body)
+      loop_body = body_over (Held (Statement n) ∷ Declared label ∷ []) (join (pc c n) (label_of c.labels label))
+          (λ p k. join-least (pc c n) (label_of c.labels label) p k.0 k.1.0) (directs (n + 1) body) h.1.1.1.0
 
       pub loop_begin : Keeps b n
       loop_begin = keeps b n h.1.1.1.1.0
@@ -127,4 +139,6 @@ module _ (c : Claim) where
   -- the rules hold at each statement
   pub rules_everywhere : Rules c → AllByRecursion Obeys (all_points c.tx)
   rules_everywhere r =
-      flat_each (λ l. IsObeyed c l.flow) (lines_at (length c.tx.vars)) (all_points c.tx) (all_back (λ l. IsObeyed c l.flow) (tx_lines c.tx) (flat_map (lines_at (length c.tx.vars)) (all_points c.tx)) r.lines)
+      flat_each (λ l. IsObeyed c l.flow) (lines_at (length c.tx.vars)) (all_points c.tx)
+      (all_back (λ l. IsObeyed c l.flow) (tx_lines c.tx) (flat_map (lines_at (length c.tx.vars))
+      (all_points c.tx)) r.lines)

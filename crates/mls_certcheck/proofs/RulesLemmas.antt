@@ -19,11 +19,13 @@ use Rattle.mls_certcheck.specs.declared.refusal.Refusal.{Refusal}
 use Rattle.mls_certcheck.specs.declared.refusal.Rule.{Rule}
 
 -- a test of each is the relation of each
-each_true : {A : Type 0} (p : A → Bool) (P : A → Type 0) → ((x : A) → p x ≡ true → P x) → (xs : List A) → list_all p xs ≡ true → AllByRecursion P xs
+each_true : {A : Type 0} (p : A → Bool) (P : A → Type 0) → ((x : A) → p x ≡ true → P x) → (xs : List A) → list_all p xs
+    ≡ true → AllByRecursion P xs
 each_true p P f [] h = tt
 each_true p P f (x ∷ xs) h = let q = and_parts _ _ h in (f x q.0, each_true p P f xs q.1)
 
-true_each : {A : Type 0} (p : A → Bool) (P : A → Type 0) → ((x : A) → P x → p x ≡ true) → (xs : List A) → AllByRecursion P xs → list_all p xs ≡ true
+true_each : {A : Type 0} (p : A → Bool) (P : A → Type 0) → ((x : A) → P x → p x ≡ true) → (xs : List A)
+    → AllByRecursion P xs → list_all p xs ≡ true
 true_each p P f [] h = refl
 true_each p P f (x ∷ xs) h = and_from _ _ (f x h.0) (true_each p P f xs h.1)
 
@@ -83,13 +85,16 @@ then_ok (Err e) s h = absurd cc
 
 module _ (c : Claim) where
   pub over_to : (p : Pair) (ss : List Source) → is_over c p ss ≡ true → IsAbove c p ss
-  over_to p ss h = each_true (λ s. source_label c s ⊑ p) (λ s. Dominates p (source_label c s)) (λ s. ⊑-Dominates (source_label c s) p) ss h
+  over_to p ss h = each_true (λ s. source_label c s ⊑ p) (λ s. Dominates p (source_label c s))
+      (λ s. ⊑-Dominates (source_label c s) p) ss h
 
   pub to_over : (p : Pair) (ss : List Source) → IsAbove c p ss → is_over c p ss ≡ true
-  to_over p ss h = true_each (λ s. source_label c s ⊑ p) (λ s. Dominates p (source_label c s)) (λ s. Dominates-⊑ (source_label c s) p) ss h
+  to_over p ss h = true_each (λ s. source_label c s ⊑ p) (λ s. Dominates p (source_label c s))
+      (λ s. Dominates-⊑ (source_label c s) p) ss h
 
   holds_to : (f : Flow) → holds c f ≡ true → IsObeyed c f
-  holds_to (Into ts ss) h = each_true (λ t. is_over c (slot_label c t) ss) (λ t. IsAbove c (slot_label c t) ss) (λ t. over_to (slot_label c t) ss) ts h
+  holds_to (Into ts ss) h = each_true (λ t. is_over c (slot_label c t) ss) (λ t. IsAbove c (slot_label c t) ss)
+      (λ t. over_to (slot_label c t) ss) ts h
   holds_to (Kept m n but) h = λ x lt other.
       elim (or_parts _ _ (below_true (length c.tx.vars) (λ x. is_target but x || after c m x ⊑ after c n x) h x lt)) [
         | inl is ↦ absurd (other (target_is but x is))
@@ -99,7 +104,8 @@ module _ (c : Claim) where
   holds_to (Under ss) h = over_to (hi c) ss h
 
   to_holds : (f : Flow) → IsObeyed c f → holds c f ≡ true
-  to_holds (Into ts ss) h = true_each (λ t. is_over c (slot_label c t) ss) (λ t. IsAbove c (slot_label c t) ss) (λ t. to_over (slot_label c t) ss) ts h
+  to_holds (Into ts ss) h = true_each (λ t. is_over c (slot_label c t) ss) (λ t. IsAbove c (slot_label c t) ss)
+      (λ t. to_over (slot_label c t) ss) ts h
   to_holds (Kept m n but) h = true_below (length c.tx.vars) (λ x. is_target but x || after c m x ⊑ after c n x)
       (λ x lt. elim (cases_Bool (is_target but x)) [
         | inl is ↦ or_left _ _ is
@@ -112,7 +118,8 @@ module _ (c : Claim) where
   lines_to [] h = tt
   lines_to (l ∷ ls) h =
       let more : verdict c ls ≡ Ok tt → AllByRecursion (λ l. IsObeyed c l.flow) ls = lines_to ls in
-      elim (holds c l.flow) as (λ b. holds c l.flow ≡ b → cond b (verdict c ls) (Err l.refusal) ≡ Ok tt → IsObeyed c l.flow × AllByRecursion (λ l. IsObeyed c l.flow) ls) [
+      elim (holds c l.flow) as (λ b. holds c l.flow ≡ b → cond b (verdict c ls) (Err l.refusal) ≡ Ok tt
+      → IsObeyed c l.flow × AllByRecursion (λ l. IsObeyed c l.flow) ls) [
         | true ↦ λ e k. (holds_to l.flow e, more k)
         | false ↦ λ e k. absurd cc
       ] refl h
@@ -125,9 +132,11 @@ module _ (c : Claim) where
   pub rules_from_first : First c ≡ Ok tt → Rules c
   rules_from_first h =
       let first = then_ok (count_verdict c) (verdict c (lines c.tx)) h in
-      let counted = then_ok (unless (list_all (λ row. nat_eq (length row) (length c.tx.vars)) (var_rows c.cert)) 0 _) _ first.0 in
+      let counted = then_ok (unless (list_all (λ row. nat_eq (length row) (length c.tx.vars))
+      (var_rows c.cert)) 0 _) _ first.0 in
       record {
-        var_count = each_true _ (λ row. length row ≡ length c.tx.vars) (λ row k. eqb-true _ _ k) (var_rows c.cert) (unless_ok _ _ _ counted.0);
+        var_count = each_true _ (λ row. length row ≡ length c.tx.vars) (λ row k. eqb-true _ _ k) (var_rows c.cert)
+            (unless_ok _ _ _ counted.0);
         stmt_count = counts_to _ c.cert (unless_ok _ _ _ counted.1);
         lines = lines_to (lines c.tx) first.1;
       }
@@ -135,5 +144,6 @@ module _ (c : Claim) where
   -- the rules hold: nothing is broken
   pub first_from_rules : Rules c → First c ≡ Ok tt
   first_from_rules r =
-      rw (true_each (λ row. nat_eq (length row) (length c.tx.vars)) (λ row. length row ≡ length c.tx.vars) (λ row k. eq-eqb _ _ k) (var_rows c.cert) r.var_count)
+      rw (true_each (λ row. nat_eq (length row) (length c.tx.vars)) (λ row. length row ≡ length c.tx.vars)
+      (λ row k. eq-eqb _ _ k) (var_rows c.cert) r.var_count)
       (rw (to_counts (statements c.tx.body) c.cert r.stmt_count) (to_lines (lines c.tx) r.lines))

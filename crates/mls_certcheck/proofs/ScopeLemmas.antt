@@ -17,8 +17,10 @@ use Rattle.mls_certcheck.proofs.PointLemmas.{seen_under}
 -- two environments agree at the names that c sees, after the statement m
 pub record EnvironmentsAgree (k : Claim) (c m : ℕ) (loops : List ℕ) (a b : Environment) : Type 0 where
   pub vars : (i : ℕ) → after k m i ⊑ label_of k.labels c ≡ true → a.vars i ≡ b.vars i
-  pub params : (i : ℕ) → param_label k i ⊑ label_of k.labels c ≡ true → slice_index_or a.args i None ≡ slice_index_or b.args i None
-  pub rows : (d : ℕ) → label_of k.labels (slice_index loops d) ⊑ label_of k.labels c ≡ true → slice_index_or a.rows d no_tuple ≡ slice_index_or b.rows d no_tuple
+  pub params : (i : ℕ) → param_label k i ⊑ label_of k.labels c ≡ true → slice_index_or a.args i None
+      ≡ slice_index_or b.args i None
+  pub rows : (d : ℕ) → label_of k.labels (slice_index loops d) ⊑ label_of k.labels c ≡ true
+      → slice_index_or a.rows d no_tuple ≡ slice_index_or b.rows d no_tuple
 
 module _ (k : Claim) (c m : ℕ) (loops : List ℕ) (a b : Environment) (agree : EnvironmentsAgree k c m loops a b) where
   abbrev level : Pair
@@ -33,8 +35,10 @@ module _ (k : Claim) (c m : ℕ) (loops : List ℕ) (a b : Environment) (agree :
   eval_same (Field d i) l = ap (λ r. Plain (cell_of r i)) (agree.rows d l)
   eval_same (No e) l = ap (λ d. Truth (not (is_true d))) (eval_same e l)
   eval_same (Op op e f) l =
-      let p = eval_same e (seen_under level (lab k m loops e) (join (lab k m loops e) (lab k m loops f)) (join-left (lab k m loops e) (lab k m loops f)) l) in
-      let q = eval_same f (seen_under level (lab k m loops f) (join (lab k m loops e) (lab k m loops f)) (join-right (lab k m loops e) (lab k m loops f)) l) in
+      let p = eval_same e (seen_under level (lab k m loops e) (join (lab k m loops e) (lab k m loops f))
+      (join-left (lab k m loops e) (lab k m loops f)) l) in
+      let q = eval_same f (seen_under level (lab k m loops f) (join (lab k m loops e) (lab k m loops f))
+      (join-right (lab k m loops e) (lab k m loops f)) l) in
       λ i. apply op (p i) (q i)
 
   pub value_same : (e : Expr) → lab k m loops e ⊑ level ≡ true → value_in a e ≡ value_in b e
@@ -58,8 +62,11 @@ module _ (k : Claim) (c m : ℕ) (loops : List ℕ) (a b : Environment) (agree :
     sets_same (s ∷ ss) h = λ i. (s.0, one_same s.1 h.0 i) ∷ sets_same ss h.1 i
 
     pub write_same : (writing : Writing) → AreUnder (operands writing) → write_in a writing ≡ write_in b writing
-    write_same (Insert key values) h = λ i. Insert (values_same key (every_front (λ e. Dominates w (lab k m loops e)) _ key values h refl) i) (values_same values (every_back (λ e. Dominates w (lab k m loops e)) _ key values h refl) i)
+    write_same (Insert key values) h = λ i. Insert
+        (values_same key (every_front (λ e. Dominates w (lab k m loops e)) _ key values h refl) i)
+        (values_same values (every_back (λ e. Dominates w (lab k m loops e)) _ key values h refl) i)
     write_same (Update key key_class from sets) h =
-        λ i. Update (values_same key (every_front (λ e. Dominates w (lab k m loops e)) _ key (map (λ s. s.1) sets) h refl) i) key_class from
+        λ i. Update (values_same key (every_front (λ e. Dominates w (lab k m loops e)) _ key
+        (map (λ s. s.1) sets) h refl) i) key_class from
         (sets_same sets (every_back (λ e. Dominates w (lab k m loops e)) _ key (map (λ s. s.1) sets) h refl) i)
     write_same (Delete key key_class) h = λ i. Delete (values_same key h i) key_class

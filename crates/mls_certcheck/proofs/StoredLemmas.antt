@@ -18,7 +18,8 @@ IsMadeUnder policy (Plain tx) = ⊤
 pub made_certified : (site : Site) → AllByRecursion (IsMadeUnder site.policy) site.stored → AreCertified site
 made_certified site = each site.stored
   where
-    each : (stored : List Stored) → AllByRecursion (IsMadeUnder site.policy) stored → AllByRecursion (IsCertifiedUnder site.policy) stored
+    each : (stored : List Stored) → AllByRecursion (IsMadeUnder site.policy) stored
+        → AllByRecursion (IsCertifiedUnder site.policy) stored
     each [] h = tt
     each (Certified k ∷ ss) h = (subst (λ p. Rules (claim p k.tx k.cert)) h.0 k.rules, each ss h.1)
     each (Plain tx ∷ ss) h = (tt, each ss h.1)

@@ -20,6 +20,7 @@ abbrev pub VarsFit : Scope → Variables → Type 0
 VarsFit scope vars = (i : ℕ) (k : Kind) → kind_of_var scope i ≡ Some k → fits_kind (vars i) k ≡ true
 
 -- each argument has the kind of its parameter, and the rows of the loops around are of their relations
-pub record AroundFits (schemes : Schemes) (scope : Scope) (args : List (Option Value)) (around : List Tuple) : Type 0 where
+pub record AroundFits (schemes : Schemes) (scope : Scope) (args : List (Option Value))
+    (around : List Tuple) : Type 0 where
   pub params : (i : ℕ) (k : Kind) → kind_of_param scope i ≡ Some k → fits_kind (slice_index_or args i None) k ≡ true
   pub rows : (d : ℕ) → RowKinds (scheme_of schemes (row_at scope d).relation) (slice_index_or around d no_tuple)

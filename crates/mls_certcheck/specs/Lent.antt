@@ -23,7 +23,8 @@ use Rattle.mls_certcheck.specs.declared.refusal.Rule.{Rule}
 abbrev pub slots_of : Targets → List Slot
 slots_of (One slot) = slot ∷ []
 slots_of (Inside one) = map (λ m. Statement m) (directs one.first one.block.now)
-slots_of (Either one other) = map (λ m. Statement m) (directs one.first one.block.now ++ directs other.first other.block.now)
+slots_of (Either one other) = map (λ m. Statement m) (directs one.first one.block.now
+    ++ directs other.first other.block.now)
 
 module _ (h : Here) where
   -- the names in expressions

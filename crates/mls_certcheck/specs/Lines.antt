@@ -66,15 +66,18 @@ context n around = by n rule.Context (Into (Statement n ∷ []) (Held (Statement
 abbrev pub assignment : ℕ → ℕ → List ℕ → ℕ → Expr → List Line
 assignment n b rows x e = by n rule.Assignment (Into (Variable n x ∷ []) (Held (Statement n) ∷ names b rows e) ∷ [])
 
--- branch (Denning and Denning): into its statements flows the guard; variables keep what they hold at the end of each block
+-- branch (Denning and Denning): into its statements flows the guard; variables keep what they hold at the end of each
+-- block
 abbrev pub branch : ℕ → ℕ → List ℕ → Expr → List ℕ → List ℕ → List Line
 branch n b rows guard inner ends =
     by n rule.Branch (into_each inner (Held (Statement n) ∷ names b rows guard) ∷ all_kept n ends)
 
--- loop (Denning and Denning): into its statements flows which rows there are; variables keep what they hold before and after each turn
+-- loop (Denning and Denning): into its statements flows which rows there are; variables keep what they hold before and
+-- after each turn
 abbrev pub row_loop : ℕ → ℕ → List ℕ → List ℕ → List Line
 row_loop n label inner ends =
-    by n rule.RowLoop (Under (Declared label ∷ []) ∷ into_each inner (Held (Statement n) ∷ Declared label ∷ []) ∷ all_kept n ends)
+    by n rule.RowLoop (Under (Declared label ∷ []) ∷ into_each inner (Held (Statement n) ∷ Declared label ∷ [])
+    ∷ all_kept n ends)
 
 -- what is seen at the label of a write flows into its outcome
 abbrev pub outcome_flows : ℕ → ℕ → Option ℕ → List Flow
@@ -84,22 +87,26 @@ outcome_flows n w (Some x) = Into (Variable n x ∷ []) (Declared w ∷ []) ∷ 
 -- write (own): into the relation flow the operands, and that the statement runs; out of it flows the outcome
 abbrev pub write : ℕ → ℕ → List ℕ → ℕ → Writing → Option ℕ → List Line
 write n b rows w writing outcome =
-    by n rule.Write (Within w (Held (Statement n) ∷ flat_map (names b rows) (operands writing)) ∷ Under (Declared w ∷ []) ∷ outcome_flows n w outcome)
+    by n rule.Write (Within w (Held (Statement n) ∷ flat_map (names b rows) (operands writing))
+    ∷ Under (Declared w ∷ []) ∷ outcome_flows n w outcome)
 
 -- order (own): a write finds its entity and its tuple among those at its label
 abbrev pub order : ℕ → ℕ → Writing → List Line
 order n w (Insert key values) = []
-order n w (Update key key_class from sets) = by n rule.Order (Within from (Declared key_class ∷ []) ∷ Within w (Declared from ∷ []) ∷ [])
+order n w (Update key key_class from sets) = by n rule.Order (Within from (Declared key_class ∷ [])
+    ∷ Within w (Declared from ∷ []) ∷ [])
 order n w (Delete key key_class) = by n rule.Order (Within w (Declared key_class ∷ []) ∷ [])
 
 -- release (own): it takes a value below the ceiling down to a label, but not that the statement runs
 abbrev pub release : ℕ → ℕ → List ℕ → Expr → ℕ → ℕ → List Line
 release n b rows e to into =
-    by n rule.Release (Within to (Held (Statement n) ∷ []) ∷ Under (names b rows e) ∷ Into (Variable n into ∷ []) (Declared to ∷ []) ∷ [])
+    by n rule.Release (Within to (Held (Statement n) ∷ []) ∷ Under (names b rows e) ∷ Into (Variable n into ∷ [])
+    (Declared to ∷ []) ∷ [])
 
 -- emission (own): out flow the value, and that the statement runs
 abbrev pub emit : ℕ → ℕ → List ℕ → Expr → ℕ → List Line
-emit n b rows e label = by n rule.Emit (Within label (Held (Statement n) ∷ names b rows e) ∷ Under (Declared label ∷ []) ∷ [])
+emit n b rows e label = by n rule.Emit (Within label (Held (Statement n) ∷ names b rows e) ∷ Under (Declared label ∷ [])
+    ∷ [])
 
 -- rest (own): a statement leaves each variable but its target as it was
 abbrev pub rest : ℕ → ℕ → Stmt → List Line

@@ -73,18 +73,23 @@ module _ (ls : Labels) (schemes : Schemes) (args : List (Option Value)) where
 
   unfoldable pub perform : List Tuple → Stmt → Progress → Progress
   perform around (Assign x e) s = record s { vars = set_var x (value_in (environment args around s) e) s.vars }
-  perform around (Write_at relation w writing outcome) s = do_write relation w (write_in (environment args around s) writing) outcome s
+  perform around (Write_at relation w writing outcome) s = do_write relation w
+      (write_in (environment args around s) writing) outcome s
   perform around (Release e to into) s =
       let v = value_in (environment args around s) e in
       record s { vars = set_var into v s.vars; released = s.released ++ (to, v) ∷ [] }
-  perform around (Emit e label) s = record s { emitted = s.emitted ++ (label, value_in (environment args around s) e) ∷ [] }
+  perform around (Emit e label) s = record s {
+    emitted = s.emitted ++ (label, value_in (environment args around s) e)
+        ∷ [];
+  }
 
   -- a loop goes over the rows of the view as it stands where the loop begins
   unfoldable pub run_block : Block → List Tuple → Progress → Progress
   run_block End around s = s
   run_block (Do stmt rest) around s = run_block rest around (perform around stmt s)
   run_block (If guard one other rest) around s =
-      run_block rest around (cond (holds_in (environment args around s) guard) (run_block one around s) (run_block other around s))
+      run_block rest around (cond (holds_in (environment args around s) guard) (run_block one around s)
+      (run_block other around s))
   run_block (For name relation label body rest) around s =
       run_block rest around (for_each (λ row t. run_block body (row ∷ around) t) (rows ls label (s.db relation)) s)
 

@@ -52,4 +52,5 @@ CallsGiveItems =
     (policy : Policy) → AreDistinct (labels_of policy) → (schemes : Schemes) (tx : Tx) → IsReadUnder policy schemes tx
     → (args : List (Option Value)) → ArgsFit tx args → (db : Database) → AreContent (labels_of policy) schemes db
     → AllByRecursion (IsItem policy) (run_tx (labels_of policy) schemes tx args db).emitted
-    × AllByRecursion (λ i. IsItem policy i × (below (labels_of policy) i.0 tx.hi ≡ true)) (run_tx (labels_of policy) schemes tx args db).released
+    × AllByRecursion (λ i. IsItem policy i × (below (labels_of policy) i.0 tx.hi ≡ true))
+    (run_tx (labels_of policy) schemes tx args db).released

@@ -49,7 +49,8 @@ rank_in line text = if is_decimal text then number_in line text else refused lin
 
 -- a hexadecimal digit, lower case
 unfoldable pub digit_in : ℕ → ℕ → Result ℕ CertFault
-digit_in line b = if is_ascii_digit b then Ok (b - 48) else (if nat_le 97 b && nat_le b 102 then Ok (b - 87) else refused line BadLabel)
+digit_in line b = if is_ascii_digit b then Ok (b - 48) else (if nat_le 97 b && nat_le b 102 then Ok
+    (b - 87) else refused line BadLabel)
 
 unfoldable pub byte_in : ℕ → ℕ → ℕ → Result ℕ CertFault
 byte_in line high low = do
@@ -76,7 +77,8 @@ label_in line text =
     if nat_lt (length text) 9 then refused line BadLabel
     else (
     if slice_index text (length text - 9) == 58
-    then (rank_in line (take (length text - 9) text) >>= λ r. cats_in line (drop (length text - 9 + 1) text) >>= λ c. Ok (record { rank = r; cats = c }))
+    then (rank_in line (take (length text - 9) text) >>= λ r. cats_in line (drop (length text - 9 + 1) text) >>=
+    λ c. Ok (record { rank = r; cats = c }))
     else refused line BadLabel
     )
 
@@ -173,7 +175,8 @@ unfoldable pub proper_in : ℕ → List ℕ → Result (List ℕ) CertFault
 proper_in line name = if is_name name then Ok name else refused line Line
 
 unfoldable pub version_in : ℕ → List ℕ → Result Version CertFault
-version_in line text = if bytes_eq text (codes "1") then Ok First else (if bytes_eq text (codes "2") then Ok Second else refused line BadVersion)
+version_in line text = if bytes_eq text (codes "1") then Ok First else
+    (if bytes_eq text (codes "2") then Ok Second else refused line BadVersion)
 
 -- the version, and a name
 unfoldable pub versioned_in : List Block → ℕ → List ℕ → List ℕ → Result (Version × List ℕ) CertFault
@@ -189,10 +192,12 @@ named_in front line text =
     let k = prefix_len is_ascii_digit text in
     if k == 0 then refused line Line
     else (if k == length text then refused line Line
-    else (if slice_index text k == 32 then versioned_in front line (take k text) (drop (k + 1) text) else refused line Line))
+    else (if slice_index text k == 32 then versioned_in front line (take k text)
+    (drop (k + 1) text) else refused line Line))
 
 unfoldable pub head_in : List Block → ℕ → List ℕ → Result (Version × List ℕ) CertFault
-head_in front line text = if bytes_eq (take 12 text) (codes "certificate ") then named_in front line (drop 12 text) else refused line Line
+head_in front line text = if bytes_eq (take 12 text) (codes "certificate ") then named_in front line
+    (drop 12 text) else refused line Line
 
 unfoldable pub block_at : List Block → List (List ℕ) → ℕ → Result Block CertFault
 block_at front lines i = do

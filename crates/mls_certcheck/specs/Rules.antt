@@ -1,4 +1,5 @@
--- The rules under which a certificate holds (after Denning and Denning 1977): information flows only to labels that dominate its own.
+-- The rules under which a certificate holds (after Denning and Denning 1977): information flows only to labels that
+-- dominate its own.
 use Rattle.std.specs.Prelude.{◌≡◌, ℕ, zero, suc, ◌<◌, List, [], ◌∷◌, length, map, Some, slice_index, slice_index_or}
 use Rattle.std.specs.List.{AllByRecursion}
 use Rattle.mls_lattice.specs.Lattice.{Pair, Dominates, bottom, pair_of}

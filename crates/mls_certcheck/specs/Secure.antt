@@ -35,7 +35,8 @@ param_labels tx = map (λ p. p.1.label) tx.params
 pub record SameArgs (ls : Labels) (c : ℕ) (labels : List ℕ) (args brgs : List (Option Value)) : Type 0 where
   pub count : length args ≡ length labels
   pub count' : length brgs ≡ length labels
-  pub each : (i : ℕ) → i < length labels → below ls (slice_index_or labels i 0) c ≡ true → slice_index_or args i None ≡ slice_index_or brgs i None
+  pub each : (i : ℕ) → i < length labels → below ls (slice_index_or labels i 0) c ≡ true → slice_index_or args i None
+      ≡ slice_index_or brgs i None
 
 -- ---- two runs, and one
 
@@ -64,11 +65,14 @@ ReleasesTell ls c tx s t = (below ls tx.hi c ≡ false) × Split (seen_items ls 
 -- to any level two runs look alike that began alike, but for values that are released to it; and a level that does not
 -- dominate that of the call sees nothing of it
 pub record Secure (policy : Policy) (tx : Tx) : Type 0 where
-  pub two_runs : (c : ℕ) (schemes : Schemes) (d e : Database) (args brgs : List (Option Value)) → IsReadUnder policy schemes tx
+  pub two_runs : (c : ℕ) (schemes : Schemes) (d e : Database) (args brgs : List (Option Value))
+      → IsReadUnder policy schemes tx
       → AreStored (labels_of policy) schemes d → AreStored (labels_of policy) schemes e
       → SameViews (labels_of policy) c d e → SameArgs (labels_of policy) c (param_labels tx) args brgs
-      → ReleasesTell (labels_of policy) c tx (run_tx (labels_of policy) schemes tx args d) (run_tx (labels_of policy) schemes tx brgs e)
-      ⊎ Alike (labels_of policy) c (run_tx (labels_of policy) schemes tx args d) (run_tx (labels_of policy) schemes tx brgs e)
+      → ReleasesTell (labels_of policy) c tx (run_tx (labels_of policy) schemes tx args d)
+      (run_tx (labels_of policy) schemes tx brgs e)
+      ⊎ Alike (labels_of policy) c (run_tx (labels_of policy) schemes tx args d)
+      (run_tx (labels_of policy) schemes tx brgs e)
   pub one_run : (c : ℕ) (schemes : Schemes) (d : Database) (args : List (Option Value)) → IsReadUnder policy schemes tx
       → AreStored (labels_of policy) schemes d → below (labels_of policy) tx.lo c ≡ false
       → IsSilent (labels_of policy) c d (run_tx (labels_of policy) schemes tx args d)

@@ -91,7 +91,8 @@ HasText (Two c) = HasEachRow c
 
 -- no two certificates have one text
 abbrev pub AreUnambiguous : Type 0
-AreUnambiguous = (c d : Certificate) → IsCertificate c → IsCertificate d → certificate_text c ≡ certificate_text d → c ≡ d
+AreUnambiguous = (c d : Certificate) → IsCertificate c → IsCertificate d → certificate_text c ≡ certificate_text d
+    → c ≡ d
 
 -- certificates, of transactions of different names
 pub record IsFile (blocks : List (List ℕ × Certificate)) : Type 0 where
@@ -101,4 +102,5 @@ pub record IsFile (blocks : List (List ℕ × Certificate)) : Type 0 where
 
 -- no two such lists have one text
 abbrev pub FilesAreUnambiguous : Type 0
-FilesAreUnambiguous = (bs cs : List (List ℕ × Certificate)) → IsFile bs → IsFile cs → file_text bs ≡ file_text cs → bs ≡ cs
+FilesAreUnambiguous = (bs cs : List (List ℕ × Certificate)) → IsFile bs → IsFile cs → file_text bs ≡ file_text cs
+    → bs ≡ cs

@@ -26,7 +26,8 @@ module _ (ls : Labels) (schemes : Schemes) (args : List (Option Value)) (Holds :
   ThroughoutBlock (If guard one other rest) around s =
       let taken = holds_in (environment args around s) guard in
       (taken ≡ true → ThroughoutBlock one around s) × (taken ≡ false → ThroughoutBlock other around s)
-      × ThroughoutBlock rest around (cond taken (run_block ls schemes args one around s) (run_block ls schemes args other around s))
+      × ThroughoutBlock rest around (cond taken (run_block ls schemes args one around s)
+      (run_block ls schemes args other around s))
   ThroughoutBlock (For name relation label body rest) around s =
       let turn = λ (row : Tuple) (t : Progress). run_block ls schemes args body (row ∷ around) t in
       EachTurn turn (λ row t. ThroughoutBlock body (row ∷ around) t) (rows ls label (s.db relation)) s

@@ -42,8 +42,10 @@ module _ (h : Here) where
   abbrev pub own_of : Block → List Line
   own_of End = []
   own_of (Do stmt rest) = own_lines h.number h.before (loops_of h.loops) (Plain stmt)
-  own_of (If guard one other rest) = own_lines h.number h.before (loops_of h.loops) (branching h.number h.before guard one other)
-  own_of (For row relation label body rest) = own_lines h.number h.before (loops_of h.loops) (looping h.number h.before label body)
+  own_of (If guard one other rest) = own_lines h.number h.before (loops_of h.loops)
+      (branching h.number h.before guard one other)
+  own_of (For row relation label body rest) = own_lines h.number h.before (loops_of h.loops)
+      (looping h.number h.before label body)
 
   abbrev pub here_lines : Block → List Line
   here_lines block = entry_lines ++ own_of block
@@ -53,7 +55,8 @@ module _ (h : Here) where
   inner_of (If guard one other rest) =
       walked_lines h.vars (h.number + 1) h.number h.before (loops_of h.loops) one
       ++ walked_lines h.vars (h.number + 1 + statements one) h.number h.before (loops_of h.loops) other
-  inner_of (For row relation label body rest) = walked_lines h.vars (h.number + 1) h.number h.number (label ∷ loops_of h.loops) body
+  inner_of (For row relation label body rest) = walked_lines h.vars (h.number + 1) h.number h.number
+      (label ∷ loops_of h.loops) body
   inner_of _ = []
 
   -- of all statements of a block that begins here

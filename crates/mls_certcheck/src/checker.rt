@@ -112,7 +112,8 @@ impl Checker<'_> {
     /// The join of the labels of the names in an expression: it flows just where each of them does.
     #[tactic(auto, using(crate::proofs::LabelLemmas::joins))]
     pub(crate) fn label(&self, here: &Here, expr: &Expr) -> Label
-        ensures { IsJoin (claim_of self.now) (names here.now.before (loops_of here.now.loops) expr.now) (pair_of result) }
+        ensures { IsJoin (claim_of self.now) (names here.now.before (loops_of here.now.loops) expr.now)
+            (pair_of result) }
     {
         match &expr.term {
             Term::Known(_) | Term::Null => lowest(),

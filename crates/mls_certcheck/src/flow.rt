@@ -3,7 +3,8 @@
 use crate::refusal::Refusal;
 use mls_lattice::{Items, LabelNo};
 
-/// What a certificate has a label for: a variable, by its place, after a statement, or a statement, by its number. Number 0 is the
+/// What a certificate has a label for: a variable, by its place, after a statement, or a statement, by its number.
+/// Number 0 is the
 /// transaction itself, whose label is the lower end, and after which its body begins.
 #[derive(Clone, Copy, PartialEq, Eq)]
 pub enum Slot {

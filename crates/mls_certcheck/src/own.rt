@@ -127,7 +127,8 @@ impl Here {
         write: &Write<Expr>,
         outcome: Option<u8>,
     ) -> Result<(), V::Stop>
-        ensures { V.visits visitor.old (write_lines self.now.number self.now.before (loops_of self.now.loops) at write.now
+        ensures { V.visits visitor.old (write_lines self.now.number self.now.before
+            (loops_of self.now.loops) at write.now
             outcome) result visitor.new }
     {
         let into = LentFlow::Within(at, self.runs(), More::Operands(write));

@@ -18,7 +18,8 @@ module _ (Ignores : List ℕ → Type 0) (ignored : List ℕ) (is : Ignores igno
   }
 
   pub explained_so : (policy : Policy) (schemes : Schemes) (txs : List Tx) (name : Option Name) (told : List ℕ)
-      → IsExplained policy schemes txs name (λ t. t ≡ ignored) text told end → IsExplained policy schemes txs name Ignores text told end
+      → IsExplained policy schemes txs name (λ t. t ≡ ignored) text told end
+      → IsExplained policy schemes txs name Ignores text told end
   explained_so policy schemes txs name told x = record {
     chosen = x.chosen;
     explained = x.explained;

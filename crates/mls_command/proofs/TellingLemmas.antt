@@ -8,7 +8,8 @@ use Rattle.mls_command.specs.Telling.{IsLocationTold}
 pub begins_more : (front text more : List ℕ) → Begins front text → Begins front (text ++ more)
 begins_more front text more b = (b.0 ++ more, ap (λ t. t ++ more) b.1 ∙ append_assoc front b.0 more)
 
-pub location_told_more : (source : Option (List ℕ)) (location : Option Location) (lines more : List ℕ) → IsLocationTold source location lines → IsLocationTold source location (lines ++ more)
+pub location_told_more : (source : Option (List ℕ)) (location : Option Location) (lines more : List ℕ)
+    → IsLocationTold source location lines → IsLocationTold source location (lines ++ more)
 location_told_more None location lines more is = tt
 location_told_more (Some path) None lines more is = tt
 location_told_more (Some path) (Some location) lines more (inl b) = inl (begins_more _ lines more b)
@@ -20,10 +21,12 @@ pub if_ok : {A E : Type 0} {P Q : A → Type 0} → ((v : A) → P v → Q v) �
 if_ok f (Ok v) p = f v p
 if_ok f (Err e) p = tt
 
-pub if_both : {A E : Type 0} {P Q R : A → Type 0} → ((v : A) → P v → Q v → R v) → (r : Result A E) → IfOk r P → IfOk r Q → IfOk r R
+pub if_both : {A E : Type 0} {P Q R : A → Type 0} → ((v : A) → P v → Q v → R v) → (r : Result A E) → IfOk r P → IfOk r Q
+    → IfOk r R
 if_both f (Ok v) p q = f v p q
 if_both f (Err e) p q = tt
 
-pub if_three : {A E : Type 0} {P Q R S : A → Type 0} → ((v : A) → P v → Q v → R v → S v) → (r : Result A E) → IfOk r P → IfOk r Q → IfOk r R → IfOk r S
+pub if_three : {A E : Type 0} {P Q R S : A → Type 0} → ((v : A) → P v → Q v → R v → S v) → (r : Result A E) → IfOk r P
+    → IfOk r Q → IfOk r R → IfOk r S
 if_three f (Ok v) p q r = f v p q r
 if_three f (Err e) p q r = tt

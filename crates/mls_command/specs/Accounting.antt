@@ -26,7 +26,8 @@ pub record IsRefusalTold (job : Job) (reason : Reason) (text told : List ℕ) (e
   pub end_is : end ≡ Refused
 
 module _ (h : Hosting) (job : Job) where
-  -- all inputs are accepted, and the session of a shell is opened, and what is told then; or that is denied; or an input
+  -- all inputs are accepted, and the session of a shell is opened, and what is told then; or that is denied; or an
+  -- input
   -- is refused
   pub data Accounts (text told : List ℕ) (end : Ending) : Type 0 where
     all_accepted : (inputs : Inputs) → AreInputs h job inputs
@@ -49,7 +50,8 @@ module _ (h : Hosting) (job : Job) where
 
   -- that an input is refused is printed; or nothing is, for want of memory
   abbrev pub TellsRefusal : List ℕ → List ℕ → Ending → Type 0
-  TellsRefusal text told end = (reason : Reason) × AreInputsRefused h job reason × IsRefusalTold job reason text told end
+  TellsRefusal text told end = (reason : Reason) × AreInputsRefused h job reason
+      × IsRefusalTold job reason text told end
 
   abbrev pub IsRefusalOf : Deed → Type 0
   IsRefusalOf d = IsPrinting TellsRefusal IsUnread d

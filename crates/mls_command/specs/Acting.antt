@@ -53,7 +53,8 @@ module _ (Ignores : List ℕ → Type 0) (inputs : Inputs) where
   Prints Check text told end =
       IsChecked inputs.setting.policy inputs.transactions inputs.certificates text told end
   Prints (Explain name) text told end =
-      IsExplained inputs.setting.policy inputs.setting.file.schemes inputs.transactions (named name) Ignores text told end
+      IsExplained inputs.setting.policy inputs.setting.file.schemes inputs.transactions
+      (named name) Ignores text told end
   Prints task text told end = ⊥
 
 module _ (h : Hosted) (job : Job) (inputs : Inputs) where
@@ -62,7 +63,8 @@ module _ (h : Hosted) (job : Job) (inputs : Inputs) where
   IsTaskRefused (Run at is_table) reason =
       IsNotBegun h.after inputs.setting.policy inputs.setting.file (named job.files.store) reason
   IsTaskRefused (Shell label user) reason = IsShellRefused h.after inputs.setting (named job.files.store) reason
-  IsTaskRefused Serve reason = IsNotBegun h.after inputs.setting.policy inputs.setting.file (named job.files.store) reason
+  IsTaskRefused Serve reason = IsNotBegun h.after inputs.setting.policy inputs.setting.file
+      (named job.files.store) reason
   IsTaskRefused (Explain name) reason = IsUnexplained inputs.transactions (named name) reason
   IsTaskRefused task reason = reason ≡ Memory
 
@@ -71,8 +73,10 @@ module _ (explaining : Explaining) (h : Hosted) (job : Job) (inputs : Inputs) wh
   abbrev pub IsRunOf : Task → Deed → Result Ending RunFault → Type 0
   IsRunOf (Run at is_table) d (Ok end) =
       (end ≡ Well) × d.told [] × IsScriptRun h inputs (named job.files.store) is_table d.wrote (Ok tt)
-  IsRunOf (Run at is_table) d (Err fault) = d.told [] × IsScriptRun h inputs (named job.files.store) is_table d.wrote (Err fault)
-  IsRunOf (Shell label user) d end = IsShellRun explaining h inputs (named job.files.store) label.now user.now d.wrote d.told end
+  IsRunOf (Run at is_table) d (Err fault) = d.told [] × IsScriptRun h inputs (named job.files.store) is_table d.wrote
+      (Err fault)
+  IsRunOf (Shell label user) d end = IsShellRun explaining h inputs
+      (named job.files.store) label.now user.now d.wrote d.told end
   IsRunOf Serve d end = d.told [] × IsDeskRun h inputs (named job.files.store) d.wrote end
   IsRunOf task d end = ⊥
 
@@ -80,7 +84,8 @@ module _ (explaining : Explaining) (h : Hosted) (job : Job) (inputs : Inputs) wh
   -- closed; what it was up to there, where it stopped; and nothing, where it was not begun.
   abbrev pub IsRunDeed : Task → Deed → Type 0
   IsRunDeed task d =
-      IsCaused h (named job.files.store) d.end × IsEnd (IsRunOf task d) (λ reason. IsTaskRefused h job inputs task reason × IsQuiet d) d.end
+      IsCaused h (named job.files.store) d.end × IsEnd (IsRunOf task d)
+      (λ reason. IsTaskRefused h job inputs task reason × IsQuiet d) d.end
 
   -- of a desk it is told without a number how it ended
   abbrev pub IsDeskDeed : Deed → Type 0
@@ -101,13 +106,15 @@ module _ (explaining : Explaining) (h : Hosted) (job : Job) (inputs : Inputs) wh
   IsTaskDeed (Shell label user) d = IsRunDeed (Shell label user) d
   IsTaskDeed Serve d = IsDeskDeed d
   IsTaskDeed (Turn at) d = IsTurnDeed d
-  IsTaskDeed task d = KeepsStores h × IsPrinting (Prints (h.before.ignores job.documents) inputs task) (IsTaskRefused h job inputs task) d
+  IsTaskDeed task d = KeepsStores h × IsPrinting (Prints (h.before.ignores job.documents) inputs task)
+      (IsTaskRefused h job inputs task) d
 
 module _ (h : Hosted) (job : Job) where
   -- an input is refused: nothing is written, and each store keeps what it kept
   abbrev pub IsGivenUpBefore : Deed → Type 0
   IsGivenUpBefore d =
-      (reason : Reason) × (d.end ≡ Err (Before reason)) × AreInputsRefused h.before job reason × KeepsStores h × IsQuiet d
+      (reason : Reason) × (d.end ≡ Err (Before reason)) × AreInputsRefused h.before job reason × KeepsStores h
+      × IsQuiet d
 
   -- a task that explains prints which one, and why
   abbrev pub IsRefusedDeed : Bool → Deed → Type 0

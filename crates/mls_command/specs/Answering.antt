@@ -15,7 +15,8 @@ use Rattle.mls_runs.specs.Explaining.{Explaining}
 
 -- A deed was done; where it was given up, the line of that was told behind all else, and, where somebody reads standard
 -- error at a terminal, more of it; and the status is that of its end.
-pub record IsFinished (is_watched : Bool) (Does : Deed → Type 0) (wrote told : List ℕ → Type 0) (status : ℕ) : Type 0 where
+pub record IsFinished (is_watched : Bool) (Does : Deed → Type 0) (wrote told : List ℕ → Type 0)
+    (status : ℕ) : Type 0 where
   pub end : Result Ending Stop
   pub more : List ℕ
   pub does : Does (record { wrote = wrote; told = λ text. told ((text ++ end_text end) ++ more); end = end })
@@ -23,7 +24,8 @@ pub record IsFinished (is_watched : Bool) (Does : Deed → Type 0) (wrote told :
   pub of_refusals : IfOk end (λ ending. more ≡ [])
   pub status_is : status ≡ end_status end
 
--- what is told before all else: nothing, but where the program is called without words and somebody reads standard error
+-- what is told before all else: nothing, but where the program is called without words and somebody reads standard
+-- error
 -- at a terminal
 pub record IsNoted (h : Hosting) (words : List Text) (Then : List ℕ → Type 0) : Type 0 where
   pub note : List ℕ
@@ -49,4 +51,5 @@ module _ (explaining : Explaining) (h : Hosted) where
 
   abbrev pub IsOutcomeOf : List Text → (wrote told : List ℕ → Type 0) → ℕ → Type 0
   IsOutcomeOf words wrote told status =
-      IsNoted h.before words (λ note. IsAnsweredAs (explained_of words) words wrote (λ text. told (note ++ text)) status)
+      IsNoted h.before words (λ note. IsAnsweredAs (explained_of words) words wrote
+      (λ text. told (note ++ text)) status)

@@ -7,7 +7,8 @@ use Rattle.mls_host.specs.Ending.{ending_if}
 abbrev pub is_some_text : List ℕ → Bool
 is_some_text text = not (nat_eq (length text) 0)
 
--- behind what is drawn stands what is said of the fields that nobody reads, if there are any, and these end it as refused
+-- behind what is drawn stands what is said of the fields that nobody reads, if there are any, and these end it as
+-- refused
 pub record IsPictured (Ignores : List ℕ → Type 0) (text : List ℕ) (end : Ending) : Type 0 where
   pub drawn : List ℕ
   pub ignored : List ℕ

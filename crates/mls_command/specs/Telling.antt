@@ -1,4 +1,5 @@
--- What is told of an input that is refused: the line that the command tells; the place of the fault; and more, for people.
+-- What is told of an input that is refused: the line that the command tells; the place of the fault; and more, for
+-- people.
 use Rattle.std.specs.Prelude.{◌≡◌, ◌⊎◌, ℕ, List, ◌++◌, Option, Some, None, option_map, ⊤}
 use Rattle.mls_host.specs.declared.words.Documents.{Documents}
 use Rattle.mls_host.specs.declared.words.Job.{Job}

@@ -48,7 +48,8 @@ fn objects_lines(alloc: Global, job: Job, inputs: &Inputs) -> Result<String, All
     unnamed_objects(known, &names)
 }
 
-/// What is told where all inputs are accepted, with the fields that nobody reads: of the session of a shell, where that would be denied;
+/// What is told where all inputs are accepted, with the fields that nobody reads: of the session of a shell, where that
+/// would be denied;
 /// else of the store, where the job names one.
 fn accepted_listing<H: Advises>(
     alloc: Global,
@@ -99,7 +100,8 @@ pub(crate) fn refused_listing<H: Host>(
 
 /// What is told of the inputs of a command.
 fn account<H: Advises>(alloc: Global, host: &H, job: Job) -> Result<Listing, Reason>
-    ensures told { IfOk result (λ l. Accounts (H.hosting host.now) job.entry l.text.items (string_bytes l.told) l.ending) }
+    ensures told { IfOk result (λ l. Accounts (H.hosting host.now) job.entry l.text.items
+        (string_bytes l.told) l.ending) }
     ensures unread { IfErr result (IsUnread (H.hosting host.now) job.entry) }
 {
     match inputs_of(alloc, host, job) {
@@ -116,7 +118,8 @@ fn print_account<H: Advises, W: Write, E: Write>(
     out: &mut W,
     err: &mut Errors<E>,
 ) -> Result<Ending, Stop>
-    ensures { IsAccountOf (H.hosting host.now) job.entry (deed W.contents out.old out.new E.contents err.old err.new result) }
+    ensures { IsAccountOf (H.hosting host.now) job.entry
+        (deed W.contents out.old out.new E.contents err.old err.new result) }
 {
     account(alloc, host, job)?.print(out, err)
 }

@@ -122,7 +122,8 @@ fn perform<H: Advises, W: Write, E: Write>(
     }
 }
 
-/// Does a job, and answers the exit status. A refusal is told, and, where somebody reads standard error at a terminal, explained.
+/// Does a job, and answers the exit status. A refusal is told, and, where somebody reads standard error at a terminal,
+/// explained.
 fn finish<H: Advises, W: Write, E: Write>(
     alloc: Global,
     job: Job,
@@ -198,9 +199,12 @@ fn tell_note<H: Host, E: Write>(words: &[&str], host: &H, err: &mut Errors<E>)
     }
 }
 
-/// Does what the words ask for, and answers the exit status: 0 all well, 1 a transaction has no certificate or none that holds, an input
-/// that is explained is refused or its store is not opened, or a shell's opening was denied or a line of it refused, or a line of a desk
-/// was not read, 2 an input or the command line was refused, 3 store, writing or memory. Files are read in the order policy, schemes, transactions, certificates, script,
+/// Does what the words ask for, and answers the exit status: 0 all well, 1 a transaction has no certificate or none
+/// that holds, an input
+/// that is explained is refused or its store is not opened, or a shell's opening was denied or a line of it refused, or
+/// a line of a desk
+/// was not read, 2 an input or the command line was refused, 3 store, writing or memory. Files are read in the order
+/// policy, schemes, transactions, certificates, script,
 /// store, and nothing runs before all were accepted.
 pub fn act<H: Advises, W: Write, E: Write>(
     alloc: Global,

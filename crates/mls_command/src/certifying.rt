@@ -18,7 +18,8 @@ use std::alloc::{AllocError, Global};
 pub(crate) enum Labels {
     /// Of version 1, or, where that has none, of version 2.
     Least(Certificate),
-    /// Neither version has any: the first rule that the least labels of version 2 break which meet the lower bounds, and the number of
+    /// Neither version has any: the first rule that the least labels of version 2 break which meet the lower bounds,
+    /// and the number of
     /// its statement.
     Missing { stmt: usize, rule: Rule },
 }

@@ -16,7 +16,8 @@ use mls_translang::Tx;
 use std::alloc::{AllocError, Global};
 
 /// A host whose files are looked through for fields that nobody reads, and whose shells explain what they refuse.
-/// Contracts see what it says of such fields, as they see what it gives: no contract of this program tells which these are.
+/// Contracts see what it says of such fields, as they see what it gives: no contract of this program tells which these
+/// are.
 pub trait Advises: Host {
     /// What explains that.
     type Advice: Explains;
@@ -67,7 +68,8 @@ pub(crate) fn picture_of<H: Advises>(
     pictured(alloc, setting, &ignored)
 }
 
-/// Transactions, or the one of a name, explained, and the fields of the files that nobody reads. `Name` where none has the name.
+/// Transactions, or the one of a name, explained, and the fields of the files that nobody reads. `Name` where none has
+/// the name.
 pub(crate) fn explanation_of<H: Advises>(
     alloc: Global,
     host: &H,
@@ -77,7 +79,8 @@ pub(crate) fn explanation_of<H: Advises>(
     documents: Option<Documents>,
 ) -> Result<Listing, Reason>
     requires { AllByRecursion (IsReadUnder setting.now.policy setting.now.file.schemes) txs.now }
-    ensures listing { IfOk result (λ l. IsExplained setting.now.policy setting.now.file.schemes txs.now (named name.entry)
+    ensures listing { IfOk result (λ l. IsExplained setting.now.policy setting.now.file.schemes txs.now
+        (named name.entry)
         ((H.hosting host.now).ignores documents.entry) l.text.items (string_bytes l.told) l.ending) }
     ensures refused { IfErr result (IsUnexplained txs.now (named name.entry)) }
 {

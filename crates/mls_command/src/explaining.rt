@@ -102,7 +102,8 @@ fn listing_of(alloc: Global, explained: &[Explained], ignored: &str) -> Result<L
     })
 }
 
-/// Transactions, or the one of a name, explained, and behind them what is said of fields that nobody reads. `Name` where none has the
+/// Transactions, or the one of a name, explained, and behind them what is said of fields that nobody reads. `Name`
+/// where none has the
 /// name.
 pub(crate) fn explained(
     alloc: Global,

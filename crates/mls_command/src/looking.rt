@@ -73,7 +73,8 @@ fn are_empty(files: &StoreFiles) -> bool
 
 /// Whether there is no store, and its task makes none.
 fn is_absent(task: Task, files: &StoreFiles) -> bool
-    ensures { result ≡ true → (makes_store task.entry ≡ false) × (files.now.log.items ≡ []) × (files.now.db.items ≡ []) }
+    ensures { result ≡ true → (makes_store task.entry ≡ false) × (files.now.log.items ≡ [])
+        × (files.now.db.items ≡ []) }
 {
     match task {
         Task::Turn { .. } => are_empty(files),
@@ -151,7 +152,8 @@ fn push_accepted(text: &mut Vec<u8>) -> Result<(), AllocError>
     text.extend_from_slice(ACCEPTED.as_bytes())
 }
 
-/// The line that tells that all inputs are accepted, with lines about rights, or why the store is not opened, with what is found of it.
+/// The line that tells that all inputs are accepted, with lines about rights, or why the store is not opened, with what
+/// is found of it.
 fn found_text(
     alloc: Global,
     store: Option<&str>,
@@ -187,7 +189,8 @@ fn found_ending(found: &Diagnosis, ignored: &str) -> Ending
     }
 }
 
-/// What is told where all inputs are accepted: of the store, where one is named, of rights, and of fields that nobody reads.
+/// What is told where all inputs are accepted: of the store, where one is named, of rights, and of fields that nobody
+/// reads.
 pub(crate) fn store_account<H: Host>(
     alloc: Global,
     host: &H,

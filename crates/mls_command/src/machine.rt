@@ -31,7 +31,8 @@ pub trait Opens<B: Base, L: Left, R: Refused> {
     // The bytes of the store's files before it is opened.
     ghost image: { Image };
 
-    /// The base over the store at a path, which is made where there is none. An `Err` hands over what is given back of it.
+    /// The base over the store at a path, which is made where there is none. An `Err` hands over what is given back of
+    /// it.
     fn open(
         &mut self,
         path: &str,
@@ -107,7 +108,8 @@ fn snapshot_of<R: Drop>(back: Option<R>) -> Option<Snapshot<R>>
     }
 }
 
-/// The machine itself, and, for contracts alone, what was given back of a store that was not opened, and the store that a run left, as a
+/// The machine itself, and, for contracts alone, what was given back of a store that was not opened, and the store that
+/// a run left, as a
 /// base and as what is left of it.
 #[derive(Drop)]
 pub struct Machine<'a, B: Base + Drop, L: Left + Drop, R: Refused + Drop, O: Drop> {

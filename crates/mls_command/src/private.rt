@@ -2,7 +2,8 @@
 use std::fs::OpenOptions;
 use std::os::unix::fs::OpenOptionsExt;
 
-/// Makes an empty file that its owner alone may read and write, where there is none at the path. A failure is told by what opens it.
+/// Makes an empty file that its owner alone may read and write, where there is none at the path. A failure is told by
+/// what opens it.
 pub fn make(rt: &HostRuntime, path: &str) {
     // No file: sqlite's name for a store in memory.
     if path == ":memory:" {

@@ -84,7 +84,8 @@ pub fn answer_in_any_files<F: Start, W: Write, E: Write>(
     answer_in_files::<FileFrom<F>, FilesOf<F>, W, E>(rt, words, stores, out, err)
 }
 
-/// Does what the words of a command line ask for, writes to standard output and standard error, and answers the exit status.
+/// Does what the words of a command line ask for, writes to standard output and standard error, and answers the exit
+/// status.
 pub fn run(rt: &HostRuntime, words: &[&str]) -> u8 {
     let (mut out, mut err) = (rt.stdout(), Errors::new(rt.stderr()));
     answer_in_any_files(rt, words, Unknown, &mut out, &mut err)

@@ -35,7 +35,8 @@ pub(crate) fn texts(alloc: Global, setting: &Setting) -> Result<Listing, AllocEr
     })
 }
 
-/// The labels, the users, their rights and the relations, as they are printed, and behind them the fields of their files that nobody
+/// The labels, the users, their rights and the relations, as they are printed, and behind them the fields of their
+/// files that nobody
 /// reads, which end the command with 1.
 pub(crate) fn pictured(
     alloc: Global,

@@ -43,16 +43,19 @@ pub record IsTaken (tails : List Tail) (l : ℕ × Step) (b : Tail) : Type 0 whe
   pub is : b ≡ longer tail l.1
 
 -- each step is left, and leads to none of the tails, or is taken
-pub record IsRound (tails : List Tail) (left : List (ℕ × Step)) (more : List Tail) (rest : List (ℕ × Step)) : Type 0 where
+pub record IsRound (tails : List Tail) (left : List (ℕ × Step)) (more : List Tail)
+    (rest : List (ℕ × Step)) : Type 0 where
   pub each : (l : ℕ × Step) → Contains left l → Contains rest l ⊎ ((b : Tail) × Contains more b × IsTaken tails l b)
-  pub stays : (l : ℕ × Step) → Contains rest l → Contains left l × ((a : Tail) → Contains tails a → IsAt l.0 l.1.target a → ⊥)
+  pub stays : (l : ℕ × Step) → Contains rest l → Contains left l × ((a : Tail) → Contains tails a
+      → IsAt l.0 l.1.target a → ⊥)
   pub taken : (b : Tail) → Contains more b → (l : ℕ × Step) × Contains left l × IsTaken tails l b
   pub count : length more + length rest ≡ length left
 
 -- where it was so of the steps so far, it is of these and one more
 abbrev pub IsRoundMore : List Tail → ℕ × Step → Search → Search → Type 0
 IsRoundMore tails l x y =
-    (seen : List (ℕ × Step)) → IsRound tails seen x.tails.items x.left.items → IsRound tails (seen ++ l ∷ []) y.tails.items y.left.items
+    (seen : List (ℕ × Step)) → IsRound tails seen x.tails.items x.left.items
+    → IsRound tails (seen ++ l ∷ []) y.tails.items y.left.items
 
 -- along what is left something of the source comes to a tail, over so many slots in all
 pub record IsAhead (tails : List Tail) (left : List (ℕ × Step)) (limit : ℕ) (s : Source) (n : ℕ) : Type 0 where
@@ -72,7 +75,9 @@ pub record IsBack (steps : List Step) (n : ℕ) (a : Tail) (o : Sink) : Type 0 w
   pub size : length a.slots ≡ n
 
 -- after so many rounds all chains are ahead
-pub record IsUnderway (p : Policy) (tx : Tx) (steps : List Step) (Ends : Sink → Type 0) (n : ℕ) (tails : List Tail) (left : List (ℕ × Step)) : Type 0 where
+pub record IsUnderway (p : Policy) (tx : Tx) (steps : List Step) (Ends : Sink → Type 0) (n : ℕ) (tails : List Tail)
+    (left : List (ℕ × Step)) : Type 0 where
   pub back : (a : Tail) → Contains tails a → (o : Sink) × Ends o × IsBack steps n a o
   pub own : (l : ℕ × Step) → Contains left l → Contains steps l.1
-  pub ahead : (c : Chain) (o : Sink) → Ends o → IsWay p tx steps o c → IsAhead tails left o.limit c.root (length c.slots)
+  pub ahead : (c : Chain) (o : Sink) → Ends o → IsWay p tx steps o c → IsAhead tails left o.limit c.root
+      (length c.slots)

@@ -1,4 +1,5 @@
--- What stands in the text that is told of a transaction: its canonical text, what came of its least labels, and then any advice.
+-- What stands in the text that is told of a transaction: its canonical text, what came of its least labels, and then
+-- any advice.
 use Rattle.std.specs.Prelude.{◌≡◌, ℕ, ◌+◌, ◌-◌, Bool, true, false, if◌then◌else◌, List, [], ◌∷◌, ◌++◌, length}
 use Rattle.std.specs.Prelude.{replicate, codes, slice_get, string_bytes, Option, None, Some, option_map, unwrap_or}
 use Rattle.std.specs.Prelude.{flat_map, decimal}
@@ -28,7 +29,8 @@ abbrev pub is_named : Bool → Pair → Pair → Bool
 is_named exact label declared = if exact then same_pair label declared else declared ⊑ label
 
 abbrev pub names_of : Bool → Policy → Label → List ℕ
-names_of exact p label = flat_map (λ l. if is_named exact (pair_of label) l.value then codes " " ++ l.name else []) p.labels
+names_of exact p label = flat_map (λ l. if is_named exact (pair_of label) l.value then codes " "
+    ++ l.name else []) p.labels
 
 abbrev pub words_for : List ℕ → List ℕ → List ℕ
 words_for [] [] = codes " lowest"
@@ -51,7 +53,8 @@ at_line p x = four (x.0 + 1) ++ (codes "  at" ++ words_of p x.1 ++ codes "\n")
 module _ (p : Policy) (vars : List (Name × Kind)) where
   -- of variables, in order
   abbrev pub variable_line : ℕ × Label → List ℕ
-  variable_line x = codes "      " ++ unwrap_or (option_map (λ v. v.0) (slice_get vars x.0)) [] ++ codes ":" ++ words_of p x.1 ++ codes "\n"
+  variable_line x = codes "      " ++ unwrap_or (option_map (λ v. v.0) (slice_get vars x.0)) [] ++ codes ":"
+      ++ words_of p x.1 ++ codes "\n"
 
   abbrev pub variable_lines : List Label → List ℕ
   variable_lines labels = flat_map variable_line (enumerate_from 0 labels)
@@ -64,7 +67,8 @@ module _ (p : Policy) (vars : List (Name × Kind)) where
   statement_lines rows labels = flat_map (statement_line rows) (enumerate_from 0 labels)
 
   abbrev pub label_lines : Certificate → List ℕ
-  label_lines (One cert) = codes "labels, version 1:\n" ++ (variable_lines cert.var_labels ++ statement_lines [] cert.pc_labels)
+  label_lines (One cert) = codes "labels, version 1:\n" ++ (variable_lines cert.var_labels
+      ++ statement_lines [] cert.pc_labels)
   label_lines (Two cert) = codes "labels, version 2:\n" ++ statement_lines cert.rows cert.pc_labels
 
 -- the name, the place and the rule of a refusal
@@ -88,9 +92,11 @@ shown (Some n) line = four n ++ codes "  " ++ line ++ codes "\n"
 
 abbrev pub IsListing : List (List ℕ) → List ℕ → Type 0
 IsListing ls text =
-    (parts : List (List ℕ)) × AllZip (λ line part. (n : Option ℕ) × (part ≡ shown n line)) ls parts × (text ≡ concat parts)
+    (parts : List (List ℕ)) × AllZip (λ line part. (n : Option ℕ) × (part ≡ shown n line)) ls parts
+    × (text ≡ concat parts)
 
-pub record TellsLabelling (p : Policy) (schemes : Schemes) (tx : Tx) (labelling : Labelling) (text : List ℕ) : Type 0 where
+pub record TellsLabelling (p : Policy) (schemes : Schemes) (tx : Tx) (labelling : Labelling)
+    (text : List ℕ) : Type 0 where
   pub listing : List ℕ
   pub lists : IsListing (lines (utf8_lossy (printed p schemes tx))) listing
   pub advice : List ℕ
@@ -98,4 +104,5 @@ pub record TellsLabelling (p : Policy) (schemes : Schemes) (tx : Tx) (labelling 
 
 -- what came of a transaction, and a text that tells it
 abbrev pub IsExplanation : Policy → Schemes → Tx → Explained → Type 0
-IsExplanation p schemes tx e = IsLabelling p tx e.labelling × TellsLabelling p schemes tx e.labelling (string_bytes e.text)
+IsExplanation p schemes tx e = IsLabelling p tx e.labelling × TellsLabelling p schemes tx e.labelling
+    (string_bytes e.text)

@@ -34,7 +34,8 @@ impl Chain {
 /// The search from where a rule is broken at a statement.
 fn search_of(alloc: Global, tx: &Tx, broken: Refusal) -> Result<Search, AllocError>
     ensures { IfOk result (λ s. (p : Policy)
-        → IsUnderway p tx.now (steps tx.now) (IsBroken tx.now.hi (body_lines tx.now) broken) 0 s.tails.items s.left.items) }
+        → IsUnderway p tx.now (steps tx.now) (IsBroken tx.now.hi
+        (body_lines tx.now) broken) 0 s.tails.items s.left.items) }
 {
     let lines = lines_of(alloc, tx)?;
     let steps = steps_of(alloc, &lines, tx.vars().len())?;

@@ -66,7 +66,8 @@ fn advice_of(fault: OpenFault) -> Option<&'static str>
     }
 }
 
-/// What is told of a store that is not opened, and what to do. One of others, or with bad rows, was opened before, so that only memory can
+/// What is told of a store that is not opened, and what to do. One of others, or with bad rows, was opened before, so
+/// that only memory can
 /// lack.
 fn lines_of(
     alloc: Global,
@@ -92,7 +93,8 @@ fn lines_of(
     Ok(escape(alloc, text.as_bytes())?)
 }
 
-/// What opening a store comes to whose log and database file have these bytes, under a policy and schemes. All is done over copies of
+/// What opening a store comes to whose log and database file have these bytes, under a policy and schemes. All is done
+/// over copies of
 /// them, one after another.
 pub fn diagnosis_of(
     alloc: Global,

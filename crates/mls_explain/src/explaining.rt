@@ -49,8 +49,10 @@ fn text_of(
     Ok(text)
 }
 
-/// What is told of a transaction that was read under a policy and schemes: its canonical text with the number of each statement, and its
-/// least labels, of version 1 where these pass, else of version 2; where neither pass, the first rule that those of version 2 break, why,
+/// What is told of a transaction that was read under a policy and schemes: its canonical text with the number of each
+/// statement, and its
+/// least labels, of version 1 where these pass, else of version 2; where neither pass, the first rule that those of
+/// version 2 break, why,
 /// by a shortest chain of flows, and how it is mended.
 pub fn explain(
     alloc: Global,

@@ -9,7 +9,8 @@ use mls_lattice::Policy;
 use mls_translang::Tx;
 use std::alloc::{AllocError, Global};
 
-/// The least labels, where they pass, or the first rule that those of version 2 break, the number of its statement, and how what must not
+/// The least labels, where they pass, or the first rule that those of version 2 break, the number of its statement, and
+/// how what must not
 /// flow there came, if it came by a chain of flows.
 #[derive(Drop)]
 pub enum Labelling {

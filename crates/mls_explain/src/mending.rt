@@ -75,7 +75,8 @@ impl Teller<'_> {
         Ok(outermost)
     }
 
-    /// Ends them with a release behind a loop or a branch. Where nothing is read, a number of turns stands for what comes out.
+    /// Ends them with a release behind a loop or a branch. Where nothing is read, a number of turns stands for what
+    /// comes out.
     fn behind_way_to(&self, text: &mut String, around: usize, out: &Sink, path: &Path) -> Told {
         let is_write = out.kind == SinkKind::Write;
         let how = if self.turns(path) && !is_write && self.names_at(out.number)?.is_empty() {

@@ -37,7 +37,8 @@ fn lines_of(alloc: Global, text: &str) -> Result<Vec<&str>, AllocError>
     text.lines().collect(alloc)
 }
 
-/// The lines of a text, the first of which have no statement, with the numbers of the others; the first line, and that of each statement.
+/// The lines of a text, the first of which have no statement, with the numbers of the others; the first line, and that
+/// of each statement.
 pub(crate) fn numbered(
     alloc: Global,
     heads: usize,

@@ -8,7 +8,8 @@ use mls_lattice::LabelNo;
 use mls_translang::Stmt;
 use std::alloc::AllocError;
 
-/// What a chain comes to: the label where it begins, what it ends in, what decides how often that runs, where it is a statement, and the
+/// What a chain comes to: the label where it begins, what it ends in, what decides how often that runs, where it is a
+/// statement, and the
 /// steps that are told.
 #[derive(Drop)]
 pub(crate) struct Path {

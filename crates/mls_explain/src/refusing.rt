@@ -255,7 +255,8 @@ impl Teller<'_> {
         }
     }
 
-    /// What each release tells to which label; or why a rule is broken, with the line of the statement, and how that is mended.
+    /// What each release tells to which label; or why a rule is broken, with the line of the statement, and how that is
+    /// mended.
     pub(crate) fn advice_of(&self, labelling: &Labelling) -> Result<String, AllocError> {
         let mut text = String::new(self.alloc);
         match labelling {

@@ -16,7 +16,8 @@ use mls_labeller::Labeller;
 use mls_lattice::{Items, LabelNo, declared, flows};
 use std::alloc::{AllocError, Global};
 
-/// Something of the root comes into these slots, one after another, and flows out to where this label has to dominate it.
+/// Something of the root comes into these slots, one after another, and flows out to where this label has to dominate
+/// it.
 #[derive(Drop)]
 pub(crate) struct Tail {
     pub limit: LabelNo,
@@ -120,7 +121,15 @@ pub(crate) struct Search {
 }
 
 impl Search {
-    ghost use Rattle.mls_explain.specs.Search.{tails_out, steps_out, tails_of, limited, IsRound, IsRoundMore, IsUnderway};
+    ghost use Rattle.mls_explain.specs.Search.{
+      tails_out,
+      steps_out,
+      tails_of,
+      limited,
+      IsRound,
+      IsRoundMore,
+      IsUnderway,
+    };
 
     fn empty(alloc: Global) -> Search
         ensures tails { result.tails.items ≡ [] }

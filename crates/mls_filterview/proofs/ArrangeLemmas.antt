@@ -8,7 +8,8 @@ module _ {A : Type 0} (E : A → A → Bool) where
   from_dedup_from k [] x (inl e) = inl e
   from_dedup_from k [] x (inr h) = absurd h
   from_dedup_from k (y ∷ ys) x h =
-      elim (E y k) as (λ b. IsAmong x (cond b (dedup_from E k ys) (k ∷ dedup_from E y ys)) → (x ≡ k) ⊎ IsAmong x (y ∷ ys)) [
+      elim (E y k) as (λ b. IsAmong x (cond b (dedup_from E k ys) (k ∷ dedup_from E y ys)) → (x ≡ k)
+      ⊎ IsAmong x (y ∷ ys)) [
         | true ↦ λ i. elim (from_dedup_from k ys x i) [ inl e ↦ inl e | inr j ↦ inr (inr j) ]
         | false ↦ λ i. elim i [ inl e ↦ inl e | inr j ↦ inr (from_dedup_from y ys x j) ]
       ] h
@@ -16,7 +17,8 @@ module _ {A : Type 0} (E : A → A → Bool) where
   first_kept : (k : A) (xs : List A) → IsAmong k (dedup_from E k xs)
   first_kept k [] = inl refl
   first_kept k (y ∷ ys) =
-      elim (E y k) as (λ b. IsAmong k (cond b (dedup_from E k ys) (k ∷ dedup_from E y ys))) [ true ↦ first_kept k ys | false ↦ inl refl ]
+      elim (E y k) as (λ b. IsAmong k (cond b (dedup_from E k ys)
+      (k ∷ dedup_from E y ys))) [ true ↦ first_kept k ys | false ↦ inl refl ]
 
   pub from_dedup : (xs : List A) (x : A) → IsAmong x (dedup E xs) → IsAmong x xs
   from_dedup [] x h = h
@@ -26,8 +28,17 @@ module _ {A : Type 0} (E : A → A → Bool) where
     kept_from : (k : A) (xs : List A) (x : A) → IsAmong x xs → (y : A) × IsAmong y (dedup_from E k xs) × (E x y ≡ true)
     kept_from k [] x h = absurd h
     kept_from k (z ∷ zs) x h =
-        elim (E z k) as (λ b. E z k ≡ b → (y : A) × IsAmong y (cond b (dedup_from E k zs) (k ∷ dedup_from E z zs)) × (E x y ≡ true)) [
-          | true ↦ λ t. elim h [ inl e ↦ (k, first_kept k zs, subst (λ w. E w k ≡ true) (sym e) t) | inr j ↦ kept_from k zs x j ]
+        elim (E z k) as (λ b. E z k ≡ b → (y : A) × IsAmong y (cond b (dedup_from E k zs) (k ∷ dedup_from E z zs))
+        × (E x y ≡ true)) [
+          | true ↦ λ t. elim h [
+            | inl e ↦ (
+              k,
+              first_kept k zs,
+              subst (λ w. E w k ≡ true)
+                  (sym e) t,
+            )
+            | inr j ↦ kept_from k zs x j
+          ]
           | false ↦ λ t.
               elim h [
                 | inl e ↦ (z, inr (first_kept z zs), subst (λ w. E w z ≡ true) (sym e) (same z))

@@ -45,9 +45,11 @@ pub declared-true : (n : ℕ) (es : List Element) → are_declared n es ≡ true
 declared-true n [] h = tt
 declared-true n (e ∷ es) h = let p = and_parts _ _ h in (ltb-true e.class n p.0, declared-true n es p.1)
 
-pub declared-from : (n : ℕ) (es : List Element) → ((i : ℕ) → i < length es → (at es i).class < n) → are_declared n es ≡ true
+pub declared-from : (n : ℕ) (es : List Element) → ((i : ℕ) → i < length es → (at es i).class < n) → are_declared n es
+    ≡ true
 declared-from n [] h = refl
-declared-from n (e ∷ es) h = and_from _ _ (lt-ltb e.class n (h 0 (omega arith))) (declared-from n es (λ i l. h (suc i) (omega arith)))
+declared-from n (e ∷ es) h = and_from _ _ (lt-ltb e.class n (h 0 (omega arith)))
+    (declared-from n es (λ i l. h (suc i) (omega arith)))
 
 -- what the test of a row says
 pub record IsPlaced (n : ℕ) (ls : Labels) (e : Entry) : Type 0 where
@@ -64,7 +66,8 @@ placed-true n ls e h =
 
 -- ---- the rows of a map
 
-module _ (ls : Labels) (distinct : AreDistinct ls) (scheme : Scheme) (es : List Entry) (sorted : IsStrictlySortedBy place_cmp (keys_of es)) where
+module _ (ls : Labels) (distinct : AreDistinct ls) (scheme : Scheme) (es : List Entry)
+    (sorted : IsStrictlySortedBy place_cmp (keys_of es)) where
   abbrev T : Table
   T = table_of es
 
@@ -101,7 +104,11 @@ module _ (ls : Labels) (distinct : AreDistinct ls) (scheme : Scheme) (es : List 
           count = AllZip-long _ scheme.others xs r.alone.fits.others;
           declared = occurs_bound (length ls) (tuple_at p xs) r.placed.declared;
           above_key = λ m o.
-              elim o [ inl e ↦ ap (below ls p.key_class) e ∙ below-refl ls p.key_class | inr e ↦ ap (below ls p.key_class) e.2 ∙ r.alone.above e.0 e.1 ];
+              elim o [
+                | inl e ↦ ap (below ls p.key_class) e ∙ below-refl ls p.key_class
+                | inr e ↦ ap
+                    (below ls p.key_class) e.2 ∙ r.alone.above e.0 e.1
+              ];
           null_at_key = r.alone.nulls;
           comparable = r.alone.comparable;
           greatest = λ m o. subst (λ c. below ls m c ≡ true) (sym r.placed.class) (top.greatest m o);
@@ -128,8 +135,11 @@ module _ (ls : Labels) (distinct : AreDistinct ls) (scheme : Scheme) (es : List 
     placed_at : is_placed (length ls) ls e ≡ true
     placed_at =
         and_from _ _
-        (and_from _ _ (lt-ltb e.0.key_class (length ls) (st.declared e.0.key_class (inl refl))) (declared-from (length ls) e.1 (λ k l. st.declared (at e.1 k).class (inr (k, l, refl)))))
-        (eq-eqb e.0.class (class_number ls (tuple_at e.0 e.1)) (sym (class_number-stored ls distinct (length scheme.others) T content.stored e.0.class (tuple_at e.0 e.1) here)))
+        (and_from _ _ (lt-ltb e.0.key_class (length ls) (st.declared e.0.key_class (inl refl)))
+        (declared-from (length ls) e.1 (λ k l. st.declared (at e.1 k).class (inr (k, l, refl)))))
+        (eq-eqb e.0.class (class_number ls (tuple_at e.0 e.1))
+        (sym (class_number-stored ls distinct (length scheme.others) T content.stored e.0.class
+        (tuple_at e.0 e.1) here)))
 
     right_alone : is_right_alone ls scheme (tuple_at e.0 e.1) ≡ true
     right_alone =
@@ -145,7 +155,8 @@ module _ (ls : Labels) (distinct : AreDistinct ls) (scheme : Scheme) (es : List 
     closed_at = each-classes (λ m. agrees_with_found ls m e.1 (found (with_class e.0 m))) (tuple_at e.0 e.1) (λ m o.
         let cl = st.closed m o in
         let count : length e.1 ≡ length cl.0 = st.count ∙ sym (content.stored (with_class e.0 m) cl.0 cl.1).count in
-        found-from ls m e.1 cl.0 (found (with_class e.0 m)) (found-get (with_class e.0 m) ∙ cl.1) (λ k l b. (subst (λ n. k < n) count l, cl.2 k l b)))
+        found-from ls m e.1 cl.0 (found (with_class e.0 m)) (found-get (with_class e.0 m) ∙ cl.1)
+        (λ k l b. (subst (λ n. k < n) count l, cl.2 k l b)))
 
     passes_at : passes e ≡ true
     passes_at = and_from _ _ (and_from _ _ placed_at right_alone) closed_at

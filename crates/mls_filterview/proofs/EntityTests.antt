@@ -20,6 +20,8 @@ entity_decides p q = (
 )
 
 -- what decides the same is the test
-pub entity_is : (p q : Place) (b : Bool) → (b ≡ true) ↔ ((p.key ≡ q.key) × (p.key_class ≡ q.key_class)) → b ≡ is_entity p q
+pub entity_is : (p q : Place) (b : Bool) → (b ≡ true) ↔ ((p.key ≡ q.key) × (p.key_class ≡ q.key_class))
+    → b ≡ is_entity p q
 entity_is p q true h = sym ((entity_decides p q).1 (h.0 refl))
-entity_is p q false h = sym (false_from_ne_true (is_entity p q) (λ t. true≢false (sym (h.1 ((entity_decides p q).0 t)))))
+entity_is p q false h = sym (false_from_ne_true (is_entity p q)
+    (λ t. true≢false (sym (h.1 ((entity_decides p q).0 t)))))

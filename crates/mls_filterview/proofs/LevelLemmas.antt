@@ -37,7 +37,8 @@ View-same ls c X Y h t = (
 
 module _ (ls : Labels) (distinct : AreDistinct ls) (n : ℕ) (T : Table) (stored : IsStored ls n T) where
   -- the class of a stored tuple is a class of what subsumes it
-  class_occurs : (p q : Place) (es vs : List Element) → get T p ≡ Some es → get T q ≡ Some vs → Subsumes (tuple_at q vs) (tuple_at p es) → Occurs q vs p.class
+  class_occurs : (p q : Place) (es vs : List Element) → get T p ≡ Some es → get T q ≡ Some vs
+      → Subsumes (tuple_at q vs) (tuple_at p es) → Occurs q vs p.class
   class_occurs p q es vs e f k = go (stored p es e).own
     where
       st : IsStoredTuple ls n T p es
@@ -58,8 +59,10 @@ module _ (ls : Labels) (distinct : AreDistinct ls) (n : ℕ) (T : Table) (stored
       let q = place_of m s in
       let st = stored q s.elements h in
       let o = class_occurs p q t.elements s.elements g h u in
-      let e : m ≡ k = below-antisym ls distinct m k (st.declared m st.own) ((stored p t.elements g).declared k (stored p t.elements g).own) b (st.greatest k o) in
-      same_tuple s t u.key u.key_class (same_Some s.elements t.elements (sym h ∙ (λ i. get T (record { key = u.key i; key_class = u.key_class i; class = e i })) ∙ g))
+      let e : m ≡ k = below-antisym ls distinct m k (st.declared m st.own) ((stored p t.elements g).declared k
+      (stored p t.elements g).own) b (st.greatest k o) in
+      same_tuple s t u.key u.key_class (same_Some s.elements t.elements
+      (sym h ∙ (λ i. get T (record { key = u.key i; key_class = u.key_class i; class = e i })) ∙ g))
 
   -- so it stands in the view at its class
   in_own_view : (m : ℕ) (t : Tuple) → Has T m t → View ls (IsIn T) m t
@@ -73,11 +76,13 @@ module _ (ls : Labels) (distinct : AreDistinct ls) (n : ℕ) (T : Table) (stored
   of_class m t v e d =
       let w = view_stored ls n T stored m t v in
       let st = stored (place_of w.0 t) t.elements w.1 in
-      let same : w.0 ≡ m = distinct w.0 m (st.declared w.0 st.own) d (sym (class_of_stored ls n T stored w.0 t w.1) ∙ e) in
+      let same : w.0 ≡ m = distinct w.0 m (st.declared w.0 st.own) d (sym (class_of_stored ls n T stored w.0 t w.1) ∙ e)
+      in
       subst (λ k. Has T k t) same w.1
 
   -- the stored tuples of a class m that c dominates are those of that class in the view at m of the view at c
-  pub stored-view : (c m : ℕ) (t : Tuple) → m < length ls → below ls m c ≡ true → Has T m t ↔ (View ls (View ls (IsIn T) c) m t × (tuple_class ls t ≡ label_of ls m))
+  pub stored-view : (c m : ℕ) (t : Tuple) → m < length ls → below ls m c ≡ true → Has T m t
+      ↔ (View ls (View ls (IsIn T) c) m t × (tuple_class ls t ≡ label_of ls m))
   stored-view c m t d b =
       let between = inter_instance_integrity ls n T stored c m b t in (
         (λ h. (between.0 (in_own_view m t h), class_of_stored ls n T stored m t h)),
@@ -85,20 +90,25 @@ module _ (ls : Labels) (distinct : AreDistinct ls) (n : ℕ) (T : Table) (stored
       )
 
 -- ---- two tables
-one_way : (ls : Labels) (distinct : AreDistinct ls) (n m : ℕ) (S T : Table) → IsStored ls n S → IsStored ls m T → (c : ℕ)
-    → SameTuples (View ls (IsIn S) c) (View ls (IsIn T) c) → (q : Place) (es : List Element) → below ls q.class c ≡ true → get S q ≡ Some es → get T q ≡ Some es
+one_way : (ls : Labels) (distinct : AreDistinct ls) (n m : ℕ) (S T : Table) → IsStored ls n S → IsStored ls m T
+    → (c : ℕ)
+    → SameTuples (View ls (IsIn S) c) (View ls (IsIn T) c) → (q : Place) (es : List Element) → below ls q.class c ≡ true
+    → get S q ≡ Some es → get T q ≡ Some es
 one_way ls distinct n m S T s t c h q es b e =
     let st = s q es e in
     let d = st.declared q.class st.own in
     let x = (stored-view ls distinct n S s c q.class (tuple_at q es) d b).0 e in
-    (stored-view ls distinct m T t c q.class (tuple_at q es) d b).1 ((View-same ls q.class (View ls (IsIn S) c) (View ls (IsIn T) c) h (tuple_at q es)).0 x.0, x.1)
+    (stored-view ls distinct m T t c q.class (tuple_at q es) d b).1
+    ((View-same ls q.class (View ls (IsIn S) c) (View ls (IsIn T) c) h (tuple_at q es)).0 x.0, x.1)
 
 -- equal views leave no hidden difference among the tuples of classes that c dominates
-pub low_from_views : (ls : Labels) (distinct : AreDistinct ls) (n m : ℕ) (S T : Table) → IsStored ls n S → IsStored ls m T → (c : ℕ)
+pub low_from_views : (ls : Labels) (distinct : AreDistinct ls) (n m : ℕ) (S T : Table) → IsStored ls n S
+    → IsStored ls m T → (c : ℕ)
     → SameTuples (View ls (IsIn S) c) (View ls (IsIn T) c) → low ls c S ≡ low ls c T
 low_from_views ls distinct n m S T s t c h = same_low ls c S T (λ q b. same q b (get S q) (get T q) refl refl)
   where
-    same : (q : Place) → below ls q.class c ≡ true → (o p : Option (List Element)) → get S q ≡ o → get T q ≡ p → get S q ≡ get T q
+    same : (q : Place) → below ls q.class c ≡ true → (o p : Option (List Element)) → get S q ≡ o → get T q ≡ p
+        → get S q ≡ get T q
     same q b None None d e = d ∙ sym e
     same q b None (Some es) d e = one_way ls distinct m n T S t s c (λ u. ((h u).1, (h u).0)) q es b e ∙ sym e
     same q b (Some es) p d e = d ∙ sym (one_way ls distinct n m S T s t c h q es b d)
@@ -111,4 +121,7 @@ views_from_low ls n m S T s t c h u = (
 )
 
 pub views_and_low_agree : ViewsAndLowAgree
-views_and_low_agree ls distinct n S T s t c = (low_from_views ls distinct n n S T s t c, views_from_low ls n n S T s t c)
+views_and_low_agree ls distinct n S T s t c = (
+  low_from_views ls distinct n n S T s t c,
+  views_from_low ls n n S T s t c,
+)

@@ -28,19 +28,22 @@ use Rattle.mls_filterview.proofs.AssemblyLemmas.{rows_low}
 
 -- ---- the entries of a map in order
 
-below_keys : (p : Place) (es : List Entry) → AllByRecursion (λ k. place_cmp p k ≡ Less) (keys_of es) → below_all place_cmp p es ≡ true
+below_keys : (p : Place) (es : List Entry) → AllByRecursion (λ k. place_cmp p k ≡ Less) (keys_of es)
+    → below_all place_cmp p es ≡ true
 below_keys p [] h = refl
 below_keys p (e ∷ es) h = and_from _ _ (ap is_lt h.0) (below_keys p es h.1)
 
 pub sorted_keys : (es : List Entry) → IsStrictlySortedBy place_cmp (keys_of es) → is_sorted place_cmp es ≡ true
 sorted_keys [] h = refl
-sorted_keys (e ∷ es) h = and_from _ _ (below_keys e.0 es (sorted_head place_cmp e.0 (keys_of es) h)) (sorted_keys es (sorted_tail place_cmp e.0 (keys_of es) h))
+sorted_keys (e ∷ es) h = and_from _ _ (below_keys e.0 es (sorted_head place_cmp e.0 (keys_of es) h))
+    (sorted_keys es (sorted_tail place_cmp e.0 (keys_of es) h))
 
 pub find-lookup : (q : Place) (es : List Entry) → find place_cmp q es ≡ lookup (is_at (place_cmp q)) es
 find-lookup q [] = refl
 find-lookup q (e ∷ es) = ap (λ o. cond (is_place q e.0) (Some e.1) o) (find-lookup q es)
 
-pub in_map : (es : List Entry) → IsStrictlySortedBy place_cmp (keys_of es) → (e : Entry) → IsAmong e es ↔ (lookup (is_at (place_cmp e.0)) es ≡ Some e.1)
+pub in_map : (es : List Entry) → IsStrictlySortedBy place_cmp (keys_of es) → (e : Entry) → IsAmong e es
+    ↔ (lookup (is_at (place_cmp e.0)) es ≡ Some e.1)
 in_map es s e = (
   (λ i. sym (find-lookup e.0 es) ∙ found_in es (so_from _ (sorted_keys es s)) e i),
   (λ h. among_found es e.0 e.1 (find-lookup e.0 es ∙ h)),
@@ -48,8 +51,11 @@ in_map es s e = (
 
 -- ---- the rows
 
-module _ (ls : Labels) (n : ℕ) (T : Table) (c : ℕ) (ns : List Node) (ds : List Cell) (held : CellPlace → Option (Option Value)) (es : List Entry) (stored : IsStored ls n T) (are : AreLow ls T c (length ls) ns ds) (values : AreValues ds held)
-    (s : IsStrictlySortedBy place_cmp (keys_of es)) (found : AreRows held ns (λ q. lookup (is_at (place_cmp q)) es)) where
+module _ (ls : Labels) (n : ℕ) (T : Table) (c : ℕ) (ns : List Node) (ds : List Cell) (held : CellPlace
+    → Option (Option Value)) (es : List Entry) (stored : IsStored ls n T) (are : AreLow ls T c (length ls) ns ds)
+    (values : AreValues ds held)
+    (s : IsStrictlySortedBy place_cmp (keys_of es))
+    (found : AreRows held ns (λ q. lookup (is_at (place_cmp q)) es)) where
   listed_low : es ≡ entries (low ls c T)
   listed_low =
       low-listed ls c T es (sorted_keys es s) (λ e.
@@ -65,8 +71,12 @@ module _ (ls : Labels) (n : ℕ) (T : Table) (c : ℕ) (ns : List Node) (ds : Li
   listed_by_reach = ap (λ xs. flat_map (of_class xs) (upward ls)) listed_low
 
 -- so they are just the tuples of the view, each once, in the order of places
-pub listed_view : (ls : Labels) → AreDistinct ls → (n : ℕ) (T : Table) → IsStored ls n T → (c : ℕ) (ts : List Tuple) → ts ≡ rows ls c T → (t : Tuple) → IsAmong t ts ↔ View ls (IsIn T) c t
-listed_view ls distinct n T stored c ts same t = subst (λ xs. IsAmong t xs ↔ View ls (IsIn T) c t) (sym same) ((rows_are_the_view ls distinct n T stored c).0 t)
+pub listed_view : (ls : Labels) → AreDistinct ls → (n : ℕ) (T : Table) → IsStored ls n T → (c : ℕ) (ts : List Tuple)
+    → ts ≡ rows ls c T → (t : Tuple) → IsAmong t ts ↔ View ls (IsIn T) c t
+listed_view ls distinct n T stored c ts same t = subst (λ xs. IsAmong t xs ↔ View ls (IsIn T) c t) (sym same)
+    ((rows_are_the_view ls distinct n T stored c).0 t)
 
-pub listed_order : (ls : Labels) → AreDistinct ls → (n : ℕ) (T : Table) → IsStored ls n T → (c : ℕ) (ts : List Tuple) → ts ≡ rows ls c T → AreInOrder T ts
-listed_order ls distinct n T stored c ts same = subst (AreInOrder T) (sym same) (rows_are_the_view ls distinct n T stored c).1
+pub listed_order : (ls : Labels) → AreDistinct ls → (n : ℕ) (T : Table) → IsStored ls n T → (c : ℕ) (ts : List Tuple)
+    → ts ≡ rows ls c T → AreInOrder T ts
+listed_order ls distinct n T stored c ts same = subst (AreInOrder T) (sym same)
+    (rows_are_the_view ls distinct n T stored c).1

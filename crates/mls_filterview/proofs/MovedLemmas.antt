@@ -9,7 +9,8 @@ use Rattle.mls_filterview.specs.Stored.{IsStoredTuple, Occurs, with_class}
 
 -- a stored tuple of T is one of S where the entity's tuples of its classes are found again
 pub moved : (ls : Labels) (n : ℕ) (T S : Table) (p : Place) (es : List Element) → IsStoredTuple ls n T p es
-    → ((m : ℕ) (fs : List Element) → Occurs p es m → get T (with_class p m) ≡ Some fs → get S (with_class p m) ≡ Some fs)
+    → ((m : ℕ) (fs : List Element) → Occurs p es m → get T (with_class p m) ≡ Some fs → get S (with_class p m)
+    ≡ Some fs)
     → IsStoredTuple ls n S p es
 moved ls n T S p es st again = record {
   count = st.count;

@@ -35,14 +35,16 @@ module _ (T : Table) (p : Place) where
 
   here_at : (e : Entry) → here e → IsAmong e (at_place p T)
   unfolding here
-  here_at e h = filter_among (λ (d : Entry). is_place d.0 p) (entries T) e (entries_among T e.0 e.1 (ap (get T) h.0 ∙ h.1)) (is_place-same e.0 p h.0)
+  here_at e h = filter_among (λ (d : Entry). is_place d.0 p) (entries T) e (entries_among T e.0 e.1 (ap (get T) h.0
+      ∙ h.1)) (is_place-same e.0 p h.0)
 
   in_order : is_sorted place_cmp (at_place p T) ≡ true
   in_order = sorted_filter (λ (d : Entry). is_place d.0 p) (entries T) (so_true _ (entries_sorted T))
 
   by_look : (o : Option (List Element)) → get T p ≡ o → at_place p T ≡ tuples p o
   unfolding here
-  by_look None none = same_lists (at_place p T) [] in_order refl (λ e. ((λ i. none-some e.1 (sym none ∙ (at_here e i).1)), (λ i. absurd i)))
+  by_look None none = same_lists (at_place p T) [] in_order refl
+      (λ e. ((λ i. none-some e.1 (sym none ∙ (at_here e i).1)), (λ i. absurd i)))
   by_look (Some es) found = same_lists (at_place p T) ((p, es) ∷ []) in_order refl (λ e. (
     (λ i. (let h = at_here e i in inl (λ j. (h.0 j, same_Some e.1 es (sym h.1 ∙ found) j)))),
     (λ i. elim i [ inl q ↦ here_at e (ap (λ d. d.0) q, found ∙ ap Some (sym (ap (λ d. d.1) q))) | inr r ↦ absurd r ]),
@@ -59,7 +61,8 @@ nil_permuted ys h = nil_from_length ys (length_permutation [] ys h)
 
 pub one_permuted : {X : Type 0} (x : X) (ys : List X) → IsPermutation (x ∷ []) ys → ys ≡ x ∷ []
 one_permuted x [] h = absurd (let n = length_permutation (x ∷ []) [] h in cc)
-one_permuted x (y ∷ []) h = ap (λ z. z ∷ []) (elim ((among_permutation (x ∷ []) (y ∷ []) h y).1 (inl refl)) [ inl q ↦ q | inr r ↦ absurd r ])
+one_permuted x (y ∷ []) h = ap (λ z. z ∷ []) (elim ((among_permutation (x ∷ []) (y ∷ []) h y).1
+    (inl refl)) [ inl q ↦ q | inr r ↦ absurd r ])
 one_permuted x (y ∷ z ∷ ys) h = absurd (let n = length_permutation (x ∷ []) (y ∷ z ∷ ys) h in cc)
 
 -- ---- the parts of the tuple at a place
@@ -82,8 +85,10 @@ these_cells p (Some es) = append-nil (cells_of (p, es))
 pub same_permuted : {X : Type 0} (xs ys : List X) → ys ≡ xs → IsPermutation xs ys
 same_permuted xs ys e = subst (IsPermutation xs) (sym e) (IsPermutation-refl xs)
 
-pub entity_part : (T : Table) (p : Place) (f : Fragment) → f.nodes ≡ node_there p (get T p) → f.cells ≡ cells_there p (get T p) → IsEntityPart T p f
+pub entity_part : (T : Table) (p : Place) (f : Fragment) → f.nodes ≡ node_there p (get T p)
+    → f.cells ≡ cells_there p (get T p) → IsEntityPart T p f
 entity_part T p f nodes cells = record {
   nodes = same_permuted _ f.nodes (nodes ∙ sym (these_nodes p (get T p)) ∙ ap (map node_of) (sym (at_place-get T p)));
-  cells = same_permuted _ f.cells (cells ∙ sym (these_cells p (get T p)) ∙ ap (flat_map cells_of) (sym (at_place-get T p)));
+  cells = same_permuted _ f.cells (cells ∙ sym (these_cells p (get T p)) ∙ ap (flat_map cells_of)
+      (sym (at_place-get T p)));
 }

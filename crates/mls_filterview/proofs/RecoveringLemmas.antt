@@ -37,13 +37,16 @@ module _ (es : List Entry) (sorted : IsStrictlySortedBy place_cmp (keys_of es)) 
 
 -- ---- rows put together from all nodes and all cells
 
-module _ (ls : Labels) (n : ℕ) (T : Table) (stored : IsStored ls n T) (ns : List Node) (ds : List Cell) (nodes : IsPermutation (map node_of (entries T)) ns) (cells : IsPermutation (flat_map cells_of (entries T)) ds)
+module _ (ls : Labels) (n : ℕ) (T : Table) (stored : IsStored ls n T) (ns : List Node) (ds : List Cell)
+    (nodes : IsPermutation (map node_of (entries T)) ns) (cells : IsPermutation (flat_map cells_of (entries T)) ds)
     (held : CellPlace → Option (Option Value)) (values : AreValues ds held) where
   -- so are the entries of a map of them, and its table
-  module _ (es : List Entry) (sorted : IsStrictlySortedBy place_cmp (keys_of es)) (rows : AreRows held ns (λ q. lookup (is_at (place_cmp q)) es)) where
+  module _ (es : List Entry) (sorted : IsStrictlySortedBy place_cmp (keys_of es))
+      (rows : AreRows held ns (λ q. lookup (is_at (place_cmp q)) es)) where
     pub entries_all : es ≡ entries T
     entries_all = entries_are T es (so_from _ (sorted_keys es sorted)) (λ e.
-        let r = rows_all ls n T stored ns ds (all_of T ns ds nodes cells) held values (λ q. lookup (is_at (place_cmp q)) es) rows e in
+        let r = rows_all ls n T stored ns ds (all_of T ns ds nodes cells) held values
+        (λ q. lookup (is_at (place_cmp q)) es) rows e in
         let m = in_map es sorted e in
         ((λ i. r.0 (m.0 i)), (λ h. m.1 (r.1 h))))
 

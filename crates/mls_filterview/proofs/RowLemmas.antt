@@ -18,20 +18,28 @@ use Rattle.mls_filterview.proofs.EntryLemmas.{Entry, among_entries, entries_amon
 
 -- ---- entries that no other one subsumes
 
-subsumed_back : (d e : Entry) → Subsumes (tuple_at d.0 d.1) (tuple_at e.0 e.1) → (subsumes_entry d e && not (subsumes_entry e d)) ≡ false → subsumes_entry e d ≡ true
-subsumed_back d e k f = true_from_ne_false (subsumes_entry e d) (λ z. true≢false (sym (and_from _ _ (subsumes_entry-from d e k) (not_from_false _ z)) ∙ f))
+subsumed_back : (d e : Entry) → Subsumes (tuple_at d.0 d.1) (tuple_at e.0 e.1)
+    → (subsumes_entry d e && not (subsumes_entry e d)) ≡ false → subsumes_entry e d ≡ true
+subsumed_back d e k f = true_from_ne_false (subsumes_entry e d)
+    (λ z. true≢false (sym (and_from _ _ (subsumes_entry-from d e k) (not_from_false _ z)) ∙ f))
 
 -- an entry whose tuple is that of each entry that subsumes it
-pub max_among : (es : List Entry) (e : Entry) → ((d : Entry) → IsAmong d es → Subsumes (tuple_at d.0 d.1) (tuple_at e.0 e.1) → tuple_at d.0 d.1 ≡ tuple_at e.0 e.1) → is_max_among es e ≡ true
-max_among es e h = not_from_false _ (all_none (λ d. subsumes_entry d e && not (subsumes_entry e d)) es (λ d i. false_from_ne_true _ (λ t.
+pub max_among : (es : List Entry) (e : Entry) → ((d : Entry) → IsAmong d es
+    → Subsumes (tuple_at d.0 d.1) (tuple_at e.0 e.1) → tuple_at d.0 d.1 ≡ tuple_at e.0 e.1) → is_max_among es e ≡ true
+max_among es e h = not_from_false _ (all_none (λ d. subsumes_entry d e && not (subsumes_entry e d)) es
+    (λ d i. false_from_ne_true _ (λ t.
     let p = and_parts _ _ t in
     let q = h d i (subsumes_entry-true d e p.0) in
-    true≢false (sym (subsumes_entry-from e d (subst (λ x. Subsumes x (tuple_at d.0 d.1)) q (Subsumes-refl (tuple_at d.0 d.1)))) ∙ not-true _ p.1))))
+    true≢false (sym (subsumes_entry-from e d (subst (λ x. Subsumes x (tuple_at d.0 d.1)) q
+    (Subsumes-refl (tuple_at d.0 d.1)))) ∙ not-true _ p.1))))
 
 -- and the tuple of such an entry is that of each entry that subsumes it
-pub among_max : (es : List Entry) (e : Entry) → is_max_among es e ≡ true → (d : Entry) → IsAmong d es → Subsumes (tuple_at d.0 d.1) (tuple_at e.0 e.1) → tuple_at d.0 d.1 ≡ tuple_at e.0 e.1
+pub among_max : (es : List Entry) (e : Entry) → is_max_among es e ≡ true → (d : Entry) → IsAmong d es
+    → Subsumes (tuple_at d.0 d.1) (tuple_at e.0 e.1) → tuple_at d.0 d.1 ≡ tuple_at e.0 e.1
 among_max es e m d i k =
-    Subsumes-antisym (tuple_at d.0 d.1) (tuple_at e.0 e.1) k (subsumes_entry-true e d (subsumed_back d e k (none_of (λ d. subsumes_entry d e && not (subsumes_entry e d)) es (not-true _ m) d i)))
+    Subsumes-antisym (tuple_at d.0 d.1) (tuple_at e.0 e.1) k
+    (subsumes_entry-true e d (subsumed_back d e k (none_of (λ d. subsumes_entry d e && not (subsumes_entry e d)) es
+    (not-true _ m) d i)))
 
 module _ (ls : Labels) (distinct : AreDistinct ls) (n : ℕ) (T : Table) (stored : IsStored ls n T) (c : ℕ) where
   abbrev L : Table
@@ -69,7 +77,8 @@ module _ (ls : Labels) (distinct : AreDistinct ls) (n : ℕ) (T : Table) (stored
         (filter_among (is_max_among (entries L)) (entries L) e (entries_among L e.0 e.1 m.0.1) (max-from e m.0.1 m))),
   )
 
-  pub rows-sorted : (es : List Entry) × (rows ls c T ≡ map (λ e. tuple_at e.0 e.1) es) × IsTrue (is_sorted place_cmp es) × AllByRecursion (λ e. get T e.0 ≡ Some e.1) es
+  pub rows-sorted : (es : List Entry) × (rows ls c T ≡ map (λ e. tuple_at e.0 e.1) es) × IsTrue (is_sorted place_cmp es)
+      × AllByRecursion (λ e. get T e.0 ≡ Some e.1) es
   unfolding rows
   rows-sorted = (
     on_top,
@@ -80,7 +89,8 @@ module _ (ls : Labels) (distinct : AreDistinct ls) (n : ℕ) (T : Table) (stored
   )
 
 -- the tuples of classes that c dominates, in order, are the entries of low
-pub low-listed : (ls : Labels) (c : ℕ) (T : Table) (es : List Entry) → is_sorted place_cmp es ≡ true → ((e : Entry) → IsAmong e es ↔ ((get T e.0 ≡ Some e.1) × (below ls e.0.class c ≡ true)))
+pub low-listed : (ls : Labels) (c : ℕ) (T : Table) (es : List Entry) → is_sorted place_cmp es ≡ true
+    → ((e : Entry) → IsAmong e es ↔ ((get T e.0 ≡ Some e.1) × (below ls e.0.class c ≡ true)))
     → es ≡ entries (low ls c T)
 low-listed ls c T es s h =
     entries_are (low ls c T) es (so_from _ s) (λ e. (
@@ -89,9 +99,13 @@ low-listed ls c T es s h =
     ))
 
 -- so the rows may be computed from them
-pub rows-listed : (ls : Labels) (c : ℕ) (T : Table) (es : List Entry) → es ≡ entries (low ls c T) → map (λ e. tuple_at e.0 e.1) (filter (is_max_among es) es) ≡ rows ls c T
+pub rows-listed : (ls : Labels) (c : ℕ) (T : Table) (es : List Entry) → es ≡ entries (low ls c T)
+    → map (λ e. tuple_at e.0 e.1) (filter (is_max_among es) es) ≡ rows ls c T
 unfolding rows
 rows-listed ls c T es same = ap (λ xs. map (λ (e : Entry). tuple_at e.0 e.1) (filter (is_max_among xs) xs)) same
 
 pub rows_are_the_view : RowsAreTheView
-rows_are_the_view ls distinct n T stored c = (λ t. rows-view ls distinct n T stored c t, rows-sorted ls distinct n T stored c)
+rows_are_the_view ls distinct n T stored c = (
+  λ t. rows-view ls distinct n T stored c t,
+  rows-sorted ls distinct n T stored c,
+)

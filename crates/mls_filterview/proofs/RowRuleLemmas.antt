@@ -27,9 +27,11 @@ module _ (ls : Labels) (scheme : Scheme) (t : Tuple) where
       let q = and_parts _ _ p.0 in
       let r = and_parts _ _ q.0 in record {
         above = all-each (λ e. below ls t.key_class e.class) null_element t.elements r.0;
-        nulls = λ k l. null-true (at t.elements k).value (at t.elements k).class t.key_class (all-each (λ e. is_some e.value || nat_eq e.class t.key_class) null_element t.elements r.1 k l);
+        nulls = λ k l. null-true (at t.elements k).value (at t.elements k).class t.key_class
+            (all-each (λ e. is_some e.value || nat_eq e.class t.key_class) null_element t.elements r.1 k l);
         fits = fits-true ls scheme t q.1;
-        comparable = λ a b o n. or_cases _ _ (classes-each (is_comparable ls a) t (classes-each (λ m. all_classes (is_comparable ls m) t) t p.1 a o) b n);
+        comparable = λ a b o n. or_cases _ _ (classes-each (is_comparable ls a) t
+            (classes-each (λ m. all_classes (is_comparable ls m) t) t p.1 a o) b n);
       }
 
   compared : (a b : ℕ) → (below ls a b ≡ true) ⊎ (below ls b a ≡ true) → is_comparable ls a b ≡ true
@@ -41,18 +43,23 @@ module _ (ls : Labels) (scheme : Scheme) (t : Tuple) where
       and_from _ _
       (and_from _ _
       (and_from _ _ (each-all (λ e. below ls t.key_class e.class) null_element t.elements a.above)
-      (each-all (λ e. is_some e.value || nat_eq e.class t.key_class) null_element t.elements (λ k l. null-from (at t.elements k).value (at t.elements k).class t.key_class (a.nulls k l))))
+      (each-all (λ e. is_some e.value || nat_eq e.class t.key_class) null_element t.elements
+      (λ k l. null-from (at t.elements k).value (at t.elements k).class t.key_class (a.nulls k l))))
       (fits-from ls scheme t a.fits))
-      (each-classes (λ m. all_classes (is_comparable ls m) t) t (λ m o. each-classes (is_comparable ls m) t (λ b n. compared m b (a.comparable m b o n))))
+      (each-classes (λ m. all_classes (is_comparable ls m) t) t (λ m o. each-classes (is_comparable ls m) t
+      (λ b n. compared m b (a.comparable m b o n))))
 
-pub found-true : (ls : Labels) (m : ℕ) (es : List Element) (o : Option (List Element)) → agrees_with_found ls m es o ≡ true → (fs : List Element) × (o ≡ Some fs) × HasBelow ls m es fs
+pub found-true : (ls : Labels) (m : ℕ) (es : List Element) (o : Option (List Element)) → agrees_with_found ls m es o
+    ≡ true → (fs : List Element) × (o ≡ Some fs) × HasBelow ls m es fs
 found-true ls m es None h = absurd (false≢true h)
 found-true ls m es (Some fs) h = (fs, refl, below-true ls m es fs h)
 
-pub found-from : (ls : Labels) (m : ℕ) (es fs : List Element) (o : Option (List Element)) → o ≡ Some fs → HasBelow ls m es fs → agrees_with_found ls m es o ≡ true
+pub found-from : (ls : Labels) (m : ℕ) (es fs : List Element) (o : Option (List Element)) → o ≡ Some fs
+    → HasBelow ls m es fs → agrees_with_found ls m es o ≡ true
 found-from ls m es fs o e h = ap (agrees_with_found ls m es) e ∙ below-from ls m es fs h
 
 -- a row that is placed and right alone is stored where it is closed
-pub row_told : (count : ℕ) (ls : Labels) (scheme : Scheme) (found : Place → Option (List Element)) (e : Place × List Element) → is_placed count ls e ≡ true → is_right_alone ls scheme (tuple_at e.0 e.1) ≡ true
+pub row_told : (count : ℕ) (ls : Labels) (scheme : Scheme) (found : Place → Option (List Element)) (e : Place
+    × List Element) → is_placed count ls e ≡ true → is_right_alone ls scheme (tuple_at e.0 e.1) ≡ true
     → is_closed ls found e ≡ is_stored_row count ls scheme found e
 row_told count ls scheme found e placed alone = sym (ap (λ b. b && is_closed ls found e) (and_from _ _ placed alone))

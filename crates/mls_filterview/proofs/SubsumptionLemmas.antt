@@ -31,20 +31,23 @@ Subsumes-trans s t u h k = record {
   key = h.key ∙ k.key;
   key_class = h.key_class ∙ k.key_class;
   count = h.count ∙ k.count;
-  each = λ i l. Covers-trans (at s.elements i) (at t.elements i) (at u.elements i) (h.each i (subst (λ n. i < n) (sym k.count) l)) (k.each i l);
+  each = λ i l. Covers-trans (at s.elements i) (at t.elements i) (at u.elements i)
+      (h.each i (subst (λ n. i < n) (sym k.count) l)) (k.each i l);
 }
 
 -- tuples with the same parts
 pub same_tuple : (s t : Tuple) → s.key ≡ t.key → s.key_class ≡ t.key_class → s.elements ≡ t.elements → s ≡ t
 same_tuple s t k c e = λ i. record { key = k i; key_class = c i; elements = e i }
 
-pub same_elements : (as' bs : List Element) → length as' ≡ length bs → ((i : ℕ) → i < length as' → at as' i ≡ at bs i) → as' ≡ bs
+pub same_elements : (as' bs : List Element) → length as' ≡ length bs → ((i : ℕ) → i < length as' → at as' i ≡ at bs i)
+    → as' ≡ bs
 same_elements as' bs n h = ext_get_or null_element as' bs n h
 
 pub Subsumes-antisym : (s t : Tuple) → Subsumes s t → Subsumes t s → s ≡ t
 Subsumes-antisym s t h k =
     same_tuple s t h.key h.key_class
-    (same_elements s.elements t.elements h.count (λ i l. Covers-antisym (at s.elements i) (at t.elements i) (h.each i (subst (λ n. i < n) h.count l)) (k.each i l)))
+    (same_elements s.elements t.elements h.count (λ i l. Covers-antisym (at s.elements i) (at t.elements i)
+    (h.each i (subst (λ n. i < n) h.count l)) (k.each i l)))
 
 -- each element of the first list covers that of the second
 abbrev pub EachCovers : List Element → List Element → Type 0
@@ -75,7 +78,8 @@ same_element-true e f h =
 
 pub same_element-from : (e f : Element) → e ≡ f → same_element e f ≡ true
 same_element-from e f h =
-    ap (λ (x : Element). same_element e x) (sym h) ∙ and_from _ _ (same_value-refl e.value) (eq-eqb e.class e.class refl)
+    ap (λ (x : Element). same_element e x) (sym h) ∙ and_from _ _ (same_value-refl e.value)
+    (eq-eqb e.class e.class refl)
 
 pub covers-true : (a b : Element) → covers a b ≡ true → Covers a b
 covers-true a b h =
@@ -105,16 +109,19 @@ pub all_cover-from : (as' bs : List Element) → length as' ≡ length bs → Ea
 all_cover-from [] [] n h = refl
 all_cover-from [] (b ∷ bs) n h = absurd (omega arith)
 all_cover-from (a ∷ as') [] n h = absurd (omega arith)
-all_cover-from (a ∷ as') (b ∷ bs) n h = and_from _ _ (covers-from a b (h 0 (omega arith))) (all_cover-from as' bs (omega arith) (λ i l. h (suc i) (omega arith)))
+all_cover-from (a ∷ as') (b ∷ bs) n h = and_from _ _ (covers-from a b (h 0 (omega arith)))
+    (all_cover-from as' bs (omega arith) (λ i l. h (suc i) (omega arith)))
 
-pub subsumes_entry-true : (d e : Place × List Element) → subsumes_entry d e ≡ true → Subsumes (tuple_at d.0 d.1) (tuple_at e.0 e.1)
+pub subsumes_entry-true : (d e : Place × List Element) → subsumes_entry d e ≡ true
+    → Subsumes (tuple_at d.0 d.1) (tuple_at e.0 e.1)
 subsumes_entry-true d e h =
     let p = and_parts _ _ h in
     let q = (entity_decides d.0 e.0).0 p.0 in
     let r = all_cover-true d.1 e.1 p.1 in
     record { key = q.0; key_class = q.1; count = r.0; each = r.1 }
 
-pub subsumes_entry-from : (d e : Place × List Element) → Subsumes (tuple_at d.0 d.1) (tuple_at e.0 e.1) → subsumes_entry d e ≡ true
+pub subsumes_entry-from : (d e : Place × List Element) → Subsumes (tuple_at d.0 d.1) (tuple_at e.0 e.1)
+    → subsumes_entry d e ≡ true
 subsumes_entry-from d e h =
     and_from _ _ ((entity_decides d.0 e.0).1 (h.key, h.key_class))
     (all_cover-from d.1 e.1 h.count h.each)

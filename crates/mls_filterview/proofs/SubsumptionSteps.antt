@@ -25,7 +25,8 @@ pub all_cover-uneven : (as' bs : List Element) → (length as' ≡ length bs →
 all_cover-uneven [] [] h = absurd (h refl)
 all_cover-uneven [] (b ∷ bs) h = refl
 all_cover-uneven (a ∷ as') [] h = refl
-all_cover-uneven (a ∷ as') (b ∷ bs) h = and_right (covers a b) (all_cover as' bs) (all_cover-uneven as' bs (λ e. h (omega arith)))
+all_cover-uneven (a ∷ as') (b ∷ bs) h = and_right (covers a b) (all_cover as' bs)
+    (all_cover-uneven as' bs (λ e. h (omega arith)))
 
 pub ruleset uneven = (all_cover-uneven)
 

@@ -29,7 +29,10 @@ nulls-cons e es = refl
 null_at : (a b : Element) → Covers a b → (null_count a ≤ null_count b) × (null_count b ≤ null_count a → a ≡ b)
 unfolding null_count
 null_at a b (inl e) = (subst (λ x. null_count a ≤ null_count x) e (omega arith), λ _. e)
-null_at a b (inr k) = (subst (λ x. cond x 0 1 ≤ null_count b) (sym k.0) (omega arith), λ l. absurd (one_zero (null_count b) (null_count a) l (ap (λ x. cond x 0 1) k.0) (ap (λ x. cond x 0 1) k.1)))
+null_at a b (inr k) = (
+  subst (λ x. cond x 0 1 ≤ null_count b) (sym k.0) (omega arith),
+  λ l. absurd (one_zero (null_count b) (null_count a) l (ap (λ x. cond x 0 1) k.0) (ap (λ x. cond x 0 1) k.1)),
+)
   where
     one_zero : (x y : ℕ) → x ≤ y → y ≡ 0 → x ≡ 1 → ⊥
     one_zero x y l p q = omega arith
@@ -37,7 +40,8 @@ null_at a b (inr k) = (subst (λ x. cond x 0 1 ≤ null_count b) (sym k.0) (omeg
 fewer_step : (a b m n : ℕ) → a ≤ b → m ≤ n → (a + m ≤ b + n) × (b + n ≤ a + m → (b ≤ a) × (n ≤ m))
 fewer_step a b m n h k = (omega arith, λ l. (omega arith, omega arith))
 
-fewer : (as' bs : List Element) → length as' ≡ length bs → EachCovers as' bs → (nulls as' ≤ nulls bs) × (nulls bs ≤ nulls as' → as' ≡ bs)
+fewer : (as' bs : List Element) → length as' ≡ length bs → EachCovers as' bs → (nulls as' ≤ nulls bs)
+    × (nulls bs ≤ nulls as' → as' ≡ bs)
 fewer [] [] n h = (omega arith, λ _. refl)
 fewer [] (b ∷ bs) n h = absurd (omega arith)
 fewer (a ∷ as') [] n h = absurd (omega arith)
@@ -54,13 +58,16 @@ module _ (L : Table) (t : Tuple) where
   record Fewest (ps : List Place) (q : Place) (es : List Element) : Type 0 where
     pub found : get L q ≡ Some es
     pub subsumes : Subsumes (tuple_at q es) t
-    pub least : (r : Place) (us : List Element) → list_any (is_place r) ps ≡ true → get L r ≡ Some us → Subsumes (tuple_at r us) t → nulls es ≤ nulls us
+    pub least : (r : Place) (us : List Element) → list_any (is_place r) ps ≡ true → get L r ≡ Some us
+        → Subsumes (tuple_at r us) t → nulls es ≤ nulls us
 
-  fewest : (q : Place) (es : List Element) → get L q ≡ Some es → Subsumes (tuple_at q es) t → (ps : List Place) → (r : Place) × (us : List Element) × Fewest ps r us
+  fewest : (q : Place) (es : List Element) → get L q ≡ Some es → Subsumes (tuple_at q es) t → (ps : List Place)
+      → (r : Place) × (us : List Element) × Fewest ps r us
   fewest q es e s [] = (q, es, record { found = e; subsumes = s; least = λ r us h. absurd (false≢true h) })
   fewest q es e s (p ∷ ps) = next (fewest q es e s ps) (get L p) refl
     where
-      next : (r : Place) × (us : List Element) × Fewest ps r us → (o : Option (List Element)) → get L p ≡ o → (r : Place) × (us : List Element) × Fewest (p ∷ ps) r us
+      next : (r : Place) × (us : List Element) × Fewest ps r us → (o : Option (List Element)) → get L p ≡ o
+          → (r : Place) × (us : List Element) × Fewest (p ∷ ps) r us
       next (r, us, f) None none = (
         r,
         us,
@@ -80,7 +87,8 @@ module _ (L : Table) (t : Tuple) where
           at_p : (v : Place) (ws : List Element) → is_place v p ≡ true → get L v ≡ Some ws → ws ≡ vs
           at_p v ws a g = same_Some ws vs (sym g ∙ ap (get L) (is_place-true v p a) ∙ some)
 
-          pick : Subsumes (tuple_at p vs) t → ((nulls vs < nulls us) ⊎ (nulls us ≤ nulls vs)) → (r : Place) × (us : List Element) × Fewest (p ∷ ps) r us
+          pick : Subsumes (tuple_at p vs) t → ((nulls vs < nulls us) ⊎ (nulls us ≤ nulls vs)) → (r : Place)
+              × (us : List Element) × Fewest (p ∷ ps) r us
           pick k (inl l) = (
             p,
             vs,
@@ -106,8 +114,11 @@ module _ (L : Table) (t : Tuple) where
             },
           )
 
-          choose : ((subsumes_entry (p, vs) (place_of 0 t, t.elements) ≡ true) ⊎ (subsumes_entry (p, vs) (place_of 0 t, t.elements) ≡ false)) → (r : Place) × (us : List Element) × Fewest (p ∷ ps) r us
-          choose (inl h) = pick (subsumes_entry-true (p, vs) (place_of 0 t, t.elements) h) (cases_lt (nulls vs) (nulls us))
+          choose : ((subsumes_entry (p, vs) (place_of 0 t, t.elements) ≡ true)
+              ⊎ (subsumes_entry (p, vs) (place_of 0 t, t.elements) ≡ false)) → (r : Place) × (us : List Element)
+              × Fewest (p ∷ ps) r us
+          choose (inl h) = pick (subsumes_entry-true (p, vs) (place_of 0 t, t.elements) h)
+              (cases_lt (nulls vs) (nulls us))
           choose (inr n) = (
             r,
             us,
@@ -116,7 +127,9 @@ module _ (L : Table) (t : Tuple) where
               subsumes = f.subsumes;
               least = λ v ws h g j. elim (or_cases _ _ h) [
                 | inl a ↦ absurd (true≢false (sym (subsumes_entry-from (p, vs) (place_of 0 t, t.elements)
-                    (subst (λ (x : Tuple). Subsumes x t) (same_tuple (tuple_at v ws) (tuple_at p vs) (ap (λ x. x.key) (is_place-true v p a)) (ap (λ x. x.key_class) (is_place-true v p a)) (at_p v ws a g)) j)) ∙ n))
+                    (subst (λ (x : Tuple). Subsumes x t) (same_tuple (tuple_at v ws) (tuple_at p vs)
+                    (ap (λ x. x.key) (is_place-true v p a)) (ap (λ x. x.key_class) (is_place-true v p a))
+                    (at_p v ws a g)) j)) ∙ n))
                 | inr a ↦ f.least v ws a g j
               ];
             },
@@ -124,7 +137,8 @@ module _ (L : Table) (t : Tuple) where
 
 -- some tuple on top of a table subsumes each of its tuples
 pub top : (L : Table) (p : Place) (es : List Element) → get L p ≡ Some es
-    → (q : Place) × (us : List Element) × (get L q ≡ Some us) × Subsumes (tuple_at q us) (tuple_at p es) × ((u : Tuple) → IsIn L u → Subsumes u (tuple_at q us) → u ≡ tuple_at q us)
+    → (q : Place) × (us : List Element) × (get L q ≡ Some us) × Subsumes (tuple_at q us) (tuple_at p es)
+    × ((u : Tuple) → IsIn L u → Subsumes u (tuple_at q us) → u ≡ tuple_at q us)
 top L p es e =
     let f = fewest L (tuple_at p es) p es e (Subsumes-refl (tuple_at p es)) (keys L) in (
       f.0,
@@ -133,6 +147,7 @@ top L p es e =
       f.2.subsumes,
       λ u i k.
           let pu : Place = place_of i.0 u in
-          let l = f.2.least pu u.elements (sym (contains_key-keys L pu) ∙ ap is_some i.1) i.1 (Subsumes-trans u (tuple_at f.0 f.1) (tuple_at p es) k f.2.subsumes) in
+          let l = f.2.least pu u.elements (sym (contains_key-keys L pu) ∙ ap is_some i.1) i.1
+          (Subsumes-trans u (tuple_at f.0 f.1) (tuple_at p es) k f.2.subsumes) in
           same_tuple u (tuple_at f.0 f.1) k.key k.key_class ((fewer u.elements f.1 k.count k.each).1 l),
     )

@@ -27,7 +27,8 @@ length-widened n m es = length-append es (nulls n m) ∙ ap (λ k. length es + k
 pub at_first : (n m : ℕ) (es : List Element) (i : ℕ) → i < length es → at (es ++ nulls n m) i ≡ at es i
 at_first n m es i l = get_or_append_left es (nulls n m) null_element i l
 
-pub at_null : (n m : ℕ) (es : List Element) (i : ℕ) → length es ≤ i → i < length (es ++ nulls n m) → at (es ++ nulls n m) i ≡ null_of m
+pub at_null : (n m : ℕ) (es : List Element) (i : ℕ) → length es ≤ i → i < length (es ++ nulls n m)
+    → at (es ++ nulls n m) i ≡ null_of m
 at_null n m es i from to =
     let j : ℕ = i - length es in
     let same : i ≡ length es + j = omega arith in
@@ -38,12 +39,14 @@ pub widened-injective : (n : ℕ) (s t : Tuple) → widened n s ≡ widened n t 
 widened-injective n s t e =
     let k : s.key_class ≡ t.key_class = ap (λ (x : Tuple). x.key_class) e in
     same_tuple s t (ap (λ (x : Tuple). x.key) e) k
-    (append_cancel_right s.elements t.elements (nulls n t.key_class) (ap (λ m. s.elements ++ nulls n m) (sym k) ∙ ap (λ (x : Tuple). x.elements) e))
+    (append_cancel_right s.elements t.elements (nulls n t.key_class) (ap (λ m. s.elements ++ nulls n m) (sym k)
+    ∙ ap (λ (x : Tuple). x.elements) e))
 
 -- ---- filtering
 
 null_hidden : (ls : Labels) (c m : ℕ) → hide ls c m (null_of m) ≡ null_of m
-null_hidden ls c m = elim (below ls m c) as (λ b. cond b (null_of m) (null_of m) ≡ null_of m) [ true ↦ refl | false ↦ refl ]
+null_hidden ls c m = elim (below ls m c) as (λ b. cond b (null_of m) (null_of m)
+    ≡ null_of m) [ true ↦ refl | false ↦ refl ]
 
 nulls_hidden : (ls : Labels) (c m n : ℕ) → map (hide ls c m) (nulls n m) ≡ nulls n m
 nulls_hidden ls c m zero = refl
@@ -52,7 +55,8 @@ nulls_hidden ls c m (suc n) = λ i. null_hidden ls c m i ∷ nulls_hidden ls c m
 filtered-widened : (ls : Labels) (c n : ℕ) (t : Tuple) → filtered ls c (widened n t) ≡ widened n (filtered ls c t)
 filtered-widened ls c n t =
     same_tuple (filtered ls c (widened n t)) (widened n (filtered ls c t)) refl refl
-    (map-append (hide ls c t.key_class) t.elements (nulls n t.key_class) ∙ ap (λ es. map (hide ls c t.key_class) t.elements ++ es) (nulls_hidden ls c t.key_class n))
+    (map-append (hide ls c t.key_class) t.elements (nulls n t.key_class)
+    ∙ ap (λ es. map (hide ls c t.key_class) t.elements ++ es) (nulls_hidden ls c t.key_class n))
 
 -- ---- subsumption
 
@@ -60,18 +64,22 @@ Subsumes-widened : (n : ℕ) (s t : Tuple) → Subsumes s t → Subsumes (widene
 Subsumes-widened n s t h = record { key = h.key; key_class = h.key_class; count = count; each = each }
   where
     count : length (s.elements ++ nulls n s.key_class) ≡ length (t.elements ++ nulls n t.key_class)
-    count = length-widened n s.key_class s.elements ∙ ap (λ k. k + n) h.count ∙ sym (length-widened n t.key_class t.elements)
+    count = length-widened n s.key_class s.elements ∙ ap (λ k. k + n) h.count
+        ∙ sym (length-widened n t.key_class t.elements)
 
-    each : (i : ℕ) → i < length (t.elements ++ nulls n t.key_class) → Covers (at (s.elements ++ nulls n s.key_class) i) (at (t.elements ++ nulls n t.key_class) i)
+    each : (i : ℕ) → i < length (t.elements ++ nulls n t.key_class) → Covers (at (s.elements ++ nulls n s.key_class) i)
+        (at (t.elements ++ nulls n t.key_class) i)
     each i l =
         elim (cases_lt i (length t.elements)) [
           | inl a ↦
               (let a' : i < length s.elements = subst (λ k. i < k) (sym h.count) a in
-              subst (λ x. Covers x (at (t.elements ++ nulls n t.key_class) i)) (sym (at_first n s.key_class s.elements i a'))
+              subst (λ x. Covers x (at (t.elements ++ nulls n t.key_class) i))
+              (sym (at_first n s.key_class s.elements i a'))
               (subst (λ x. Covers (at s.elements i) x) (sym (at_first n t.key_class t.elements i a)) (h.each i a)))
           | inr b ↦
               inl
-              (at_null n s.key_class s.elements i (subst (λ k. k ≤ i) (sym h.count) b) (subst (λ k. i < k) (sym count) l)
+              (at_null n s.key_class s.elements i (subst (λ k. k ≤ i) (sym h.count) b)
+              (subst (λ k. i < k) (sym count) l)
               ∙ ap null_of h.key_class ∙ sym (at_null n t.key_class t.elements i b l))
         ]
 
@@ -84,18 +92,24 @@ Subsumes-narrowed n s t h = record { key = h.key; key_class = h.key_class; count
     each : (i : ℕ) → i < length t.elements → Covers (at s.elements i) (at t.elements i)
     each i a =
         let a' : i < length s.elements = subst (λ k. i < k) (sym count) a in
-        let l : i < length (t.elements ++ nulls n t.key_class) = omega (arith, length-widened n t.key_class t.elements) in
+        let l : i < length (t.elements ++ nulls n t.key_class) = omega (arith, length-widened n t.key_class t.elements)
+        in
         subst (λ x. Covers x (at t.elements i)) (at_first n s.key_class s.elements i a')
-        (subst (λ x. Covers (at (s.elements ++ nulls n s.key_class) i) x) (at_first n t.key_class t.elements i a) (h.each i l))
+        (subst (λ x. Covers (at (s.elements ++ nulls n s.key_class) i) x) (at_first n t.key_class t.elements i a)
+        (h.each i l))
 
 -- ---- views
 
-filter-widened : (ls : Labels) (n : ℕ) (X : Tuple → Type 0) (c : ℕ) → SameTuples (Filter ls (Widen n X) c) (Widen n (Filter ls X c))
+filter-widened : (ls : Labels) (n : ℕ) (X : Tuple → Type 0) (c : ℕ) → SameTuples (Filter ls (Widen n X) c)
+    (Widen n (Filter ls X c))
 filter-widened ls n X c t = (
   (λ f.
       let u = f.1.0 in
-      let same = f.1.2 in
-      (filtered ls c u, (u, f.1.1, subst (λ (x : Tuple). below ls x.key_class c ≡ true) same f.2, refl), f.3 ∙ ap (filtered ls c) same ∙ filtered-widened ls c n u)),
+      let same = f.1.2 in (
+        filtered ls c u,
+        (u, f.1.1, subst (λ (x : Tuple). below ls x.key_class c ≡ true) same f.2, refl),
+        f.3 ∙ ap (filtered ls c) same ∙ filtered-widened ls c n u,
+      )),
   (λ w.
       let u = w.1.0 in
       (widened n u, (u, w.1.1, refl), w.1.2, w.2 ∙ ap (widened n) w.1.3 ∙ sym (filtered-widened ls c n u))),
@@ -105,8 +119,15 @@ max-widened : (n : ℕ) (Y : Tuple → Type 0) (t : Tuple) → IsMax (Widen n Y)
 max-widened n Y t = (
   (λ m.
       let u = m.0.0 in
-      let e : t ≡ widened n u = m.0.2 in
-      (u, (m.0.1, λ s y k. widened-injective n s u (m.1 (widened n s) (s, y, refl) (subst (Subsumes (widened n s)) (sym e) (Subsumes-widened n s u k)) ∙ e)), e)),
+      let e : t ≡ widened n u = m.0.2 in (
+        u,
+        (
+          m.0.1,
+          λ s y k. widened-injective n s u (m.1 (widened n s) (s, y, refl) (subst (Subsumes (widened n s))
+              (sym e) (Subsumes-widened n s u k)) ∙ e),
+        ),
+        e,
+      )),
   (λ w.
       let u = w.0 in
       let e : t ≡ widened n u = w.2 in (
@@ -114,16 +135,22 @@ max-widened n Y t = (
         λ s y k.
             let v = y.0 in
             let q : s ≡ widened n v = y.2 in
-            q ∙ ap (widened n) (w.1.1 v y.1 (Subsumes-narrowed n v u (subst (λ x. Subsumes x (widened n u)) q (subst (Subsumes s) e k)))) ∙ sym e,
+            q ∙ ap (widened n) (w.1.1 v y.1 (Subsumes-narrowed n v u (subst (λ x. Subsumes x (widened n u)) q
+            (subst (Subsumes s) e k)))) ∙ sym e,
       )),
 )
 
 -- it holds of any tuples
-pub View-Widen : (ls : Labels) (n : ℕ) (X : Tuple → Type 0) (c : ℕ) → SameTuples (View ls (Widen n X) c) (Widen n (View ls X c))
+pub View-Widen : (ls : Labels) (n : ℕ) (X : Tuple → Type 0) (c : ℕ) → SameTuples (View ls (Widen n X) c)
+    (Widen n (View ls X c))
 View-Widen ls n X c t = (
-  (λ v. (max-widened n (Filter ls X c) t).0 (max_of_same (Filter ls (Widen n X) c) (Widen n (Filter ls X c)) (filter-widened ls n X c) t v)),
+  (λ v. (max-widened n (Filter ls X c) t).0 (max_of_same (Filter ls (Widen n X) c) (Widen n (Filter ls X c))
+      (filter-widened ls n X c) t v)),
   (λ w.
-      max_of_same (Widen n (Filter ls X c)) (Filter ls (Widen n X) c) (λ u. ((filter-widened ls n X c u).1, (filter-widened ls n X c u).0)) t
+      max_of_same (Widen n (Filter ls X c)) (Filter ls (Widen n X) c) (λ u. (
+        (filter-widened ls n X c u).1,
+        (filter-widened ls n X c u).0,
+      )) t
       ((max-widened n (Filter ls X c) t).1 w)),
 )
 
@@ -137,11 +164,14 @@ module _ (n : ℕ) (T W : Table) (wide : IsWidened n T W) where
   widened_at p es h = wide p ∙ ap (option_map (λ xs. xs ++ nulls n p.key_class)) h
 
   -- where the widened table has elements, the table had their first ones
-  pub was_at : (p : Place) (ws : List Element) → get W p ≡ Some ws → (es : List Element) × (get T p ≡ Some es) × (ws ≡ es ++ nulls n p.key_class)
+  pub was_at : (p : Place) (ws : List Element) → get W p ≡ Some ws → (es : List Element) × (get T p ≡ Some es)
+      × (ws ≡ es ++ nulls n p.key_class)
   was_at p ws h = cases (get T p) refl
     where
-      cases : (o : Option (List Element)) → get T p ≡ o → (es : List Element) × (get T p ≡ Some es) × (ws ≡ es ++ nulls n p.key_class)
-      cases None e = absurd (none-some ws (sym (ap (option_map (λ xs. xs ++ nulls n p.key_class)) e) ∙ sym (wide p) ∙ h))
+      cases : (o : Option (List Element)) → get T p ≡ o → (es : List Element) × (get T p ≡ Some es)
+          × (ws ≡ es ++ nulls n p.key_class)
+      cases None e = absurd (none-some ws (sym (ap (option_map (λ xs. xs ++ nulls n p.key_class)) e) ∙ sym (wide p)
+          ∙ h))
       cases (Some es) e = (es, e, same_Some ws (es ++ nulls n p.key_class) (sym h ∙ widened_at p es e))
 
   in_widened : SameTuples (IsIn W) (Widen n (IsIn T))

@@ -13,7 +13,8 @@ use Rattle.mls_filterview.proofs.EntryLemmas.{Entry}
 use Rattle.mls_filterview.proofs.MapLemmas.{table_changed}
 
 -- the table of widened rows
-pub table_widened : (n : ℕ) (es ws : List Entry) → IsStrictlySortedBy place_cmp (keys_of es) → ws ≡ map (widened_entry n) es → IsWidened n (table_of es) (table_of ws)
+pub table_widened : (n : ℕ) (es ws : List Entry) → IsStrictlySortedBy place_cmp (keys_of es)
+    → ws ≡ map (widened_entry n) es → IsWidened n (table_of es) (table_of ws)
 table_widened n es ws s h = λ p.
     let f : Place → List Element → List Element = λ q xs. xs ++ nulls n q.key_class in
     ap (λ W. get W p) (table_changed f es ws s h) ∙ get_change f (table_of es) p

@@ -29,13 +29,16 @@ place_of_cell c = (record { key = c.key; key_class = c.key_class; class = c.labe
 
 -- the values of cells, found by their places and attributes
 pub record AreValues (cells : List Cell) (held : CellPlace → Option (Option Value)) : Type 0 where
-  pub sound : (s : CellPlace) (v : Option Value) → held s ≡ Some v → (c : Cell) × IsAmong c cells × (place_of_cell c ≡ s) × (c.value ≡ v)
+  pub sound : (s : CellPlace) (v : Option Value) → held s ≡ Some v → (c : Cell) × IsAmong c cells
+      × (place_of_cell c ≡ s) × (c.value ≡ v)
   pub complete : (c : Cell) → IsAmong c cells → (v : Option Value) × (held (place_of_cell c) ≡ Some v)
 
--- the elements of a pattern, numbered from k: at each attribute the entity's value of that class, null where there is none
+-- the elements of a pattern, numbered from k: at each attribute the entity's value of that class, null where there is
+-- none
 abbrev pub elements_from : (CellPlace → Option (Option Value)) → Place → ℕ → List ℕ → List Element
 elements_from held p k [] = []
-elements_from held p k (m ∷ ms) = record { value = unwrap_or (held (with_class p m, k)) None; class = m } ∷ elements_from held p (suc k) ms
+elements_from held p k (m ∷ ms) = record { value = unwrap_or (held (with_class p m, k)) None; class = m }
+    ∷ elements_from held p (suc k) ms
 
 abbrev pub elements_of : (CellPlace → Option (Option Value)) → Node → List Element
 elements_of held n = elements_from held (place_of_node n) 0 n.pattern
@@ -44,17 +47,21 @@ elements_of held n = elements_from held (place_of_node n) 0 n.pattern
 abbrev pub value_in : ℕ → List Cell → Option Value
 value_in i cells = option_and_then (λ c. c.value) (find (λ c. nat_eq c.attr i) cells)
 
--- the values of an entity of which one tuple is new: those of its class are among its cells, and all others in the tuples found
+-- the values of an entity of which one tuple is new: those of its class are among its cells, and all others in the
+-- tuples found
 abbrev pub value_held : (Place → Option (List Element)) → ℕ → List Cell → CellPlace → Option (Option Value)
-value_held found class cells s = Some (if nat_eq s.0.class class then value_in s.1 cells else (at (unwrap_or (found s.0) []) s.1).value)
+value_held found class cells s = Some (if nat_eq s.0.class class then value_in s.1 cells else
+    (at (unwrap_or (found s.0) []) s.1).value)
 
 -- the elements of that tuple
 abbrev pub made_of : (Place → Option (List Element)) → Node → List Cell → List Element
 made_of found n cells = elements_of (value_held found n.label cells) n
 
 -- the tuples of nodes, found by their places
-pub record AreRows (held : CellPlace → Option (Option Value)) (nodes : List Node) (found : Place → Option (List Element)) : Type 0 where
-  pub sound : (p : Place) (es : List Element) → found p ≡ Some es → (n : Node) × IsAmong n nodes × (place_of_node n ≡ p) × (elements_of held n ≡ es)
+pub record AreRows (held : CellPlace → Option (Option Value)) (nodes : List Node) (found : Place
+    → Option (List Element)) : Type 0 where
+  pub sound : (p : Place) (es : List Element) → found p ≡ Some es → (n : Node) × IsAmong n nodes × (place_of_node n ≡ p)
+      × (elements_of held n ≡ es)
   pub complete : (n : Node) → IsAmong n nodes → (es : List Element) × (found (place_of_node n) ≡ Some es)
 
 -- the table of the entries of a map

@@ -31,7 +31,8 @@ IsServed e = (e ≡ NotBegun → ⊥) × (e ≡ Begun → ⊥)
 
 -- of a base: whether its store is clean, how many calls of the store have failed, and what it holds
 module _ {Self : Type 0} (seen : Self → Seen) where
-  -- what a fault leaves: the store failed where Store came, and was not asked where the call was refused; Store and Memory
+  -- what a fault leaves: the store failed where Store came, and was not asked where the call was refused; Store and
+  -- Memory
   -- end a change
   pub record IsFault (e : BaseFault) (old new : Self) : Type 0 where
     pub store : e ≡ Store → (seen old).failures < (seen new).failures
@@ -108,7 +109,8 @@ module _ {Self : Type 0} (seen : Self → Seen) where
   abbrev pub NoReadUp : Labels → ℕ → Self → Self → Type 0
   NoReadUp ls c = Avoids (λ m. below ls m c ≡ false) anywhere
 
-  -- and the star property: what is read is below hi, and what is changed dominates lo. For a subject at w both are w; one that is
+  -- and the star property: what is read is below hi, and what is changed dominates lo. For a subject at w both are w;
+  -- one that is
   -- trusted may have a higher hi (Bell and LaPadula 1976)
   abbrev pub NoWriteDown : Labels → (hi lo : ℕ) → Self → Self → Type 0
   NoWriteDown ls hi lo = Avoids (λ m. below ls m hi ≡ false) (λ m. below ls lo m ≡ false)

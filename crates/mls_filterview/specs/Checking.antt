@@ -46,7 +46,8 @@ all_zip p (x ∷ xs) [] = false
 all_zip p (x ∷ xs) (y ∷ ys) = p x y && all_zip p xs ys
 
 abbrev pub fits_scheme : Labels → Scheme → Tuple → Bool
-fits_scheme ls scheme t = all_zip (fits_value ls t.key_class) scheme.keys t.key && all_zip (fits_element ls) scheme.others t.elements
+fits_scheme ls scheme t = all_zip (fits_value ls t.key_class) scheme.keys t.key
+    && all_zip (fits_element ls) scheme.others t.elements
 
 -- ---- tuples of one entity
 
@@ -74,7 +75,8 @@ agrees_with_first ls t m [] = true
 agrees_with_first ls t m (s ∷ ss) = if is_of_class ls t m s then has_below ls m t.elements s.elements else agrees_with_first ls t m ss
 
 abbrev pub is_determined : Labels → List Tuple → ℕ → Bool
-is_determined ls ts i = not (list_any (has_same_class ls (row_at ts i)) (take i ts)) && all_classes (λ m. agrees_with_first ls (row_at ts i) m ts) (row_at ts i)
+is_determined ls ts i = not (list_any (has_same_class ls (row_at ts i)) (take i ts)) && all_classes
+    (λ m. agrees_with_first ls (row_at ts i) m ts) (row_at ts i)
 
 -- ---- closure
 
@@ -105,7 +107,8 @@ are_declared count = list_all (λ e. nat_lt e.class count)
 
 -- the classes of a tuple are numbers of labels, of which there are count, and it stands at the number of its class
 abbrev pub is_placed : ℕ → Labels → Place × List Element → Bool
-is_placed count ls e = nat_lt e.0.key_class count && are_declared count e.1 && nat_eq e.0.class (class_number ls (tuple_at e.0 e.1))
+is_placed count ls e = nat_lt e.0.key_class count && are_declared count e.1 && nat_eq e.0.class
+    (class_number ls (tuple_at e.0 e.1))
 
 -- a tuple keeps the rules that speak of no other tuple
 abbrev pub is_right_alone : Labels → Scheme → Tuple → Bool
@@ -121,4 +124,5 @@ abbrev pub is_closed : Labels → (Place → Option (List Element)) → Place ×
 is_closed ls found e = all_classes (λ m. agrees_with_found ls m e.1 (found (with_class e.0 m))) (tuple_at e.0 e.1)
 
 abbrev pub is_stored_row : ℕ → Labels → Scheme → (Place → Option (List Element)) → Place × List Element → Bool
-is_stored_row count ls scheme found e = is_placed count ls e && is_right_alone ls scheme (tuple_at e.0 e.1) && is_closed ls found e
+is_stored_row count ls scheme found e = is_placed count ls e && is_right_alone ls scheme (tuple_at e.0 e.1)
+    && is_closed ls found e

@@ -22,7 +22,8 @@ pub record State : Type 0 where
   pub kept : Content
   pub begun : Bool
 
--- what contracts see of a base: its state, how many calls of its store have failed, that the store gives back what was written
+-- what contracts see of a base: its state, how many calls of its store have failed, that the store gives back what was
+-- written
 -- to it, the labels whose fragments were read, and those at which a tuple or an element was added, set or dropped
 pub record Seen : Type 1 where
   pub state : State

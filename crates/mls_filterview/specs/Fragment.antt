@@ -45,7 +45,8 @@ cell_at p i e = record { key = p.key; key_class = p.key_class; attr = i; label =
 -- the elements of a tuple's own class, numbered from k
 abbrev pub cells_from : ℕ → Place → List Element → List Cell
 cells_from k p [] = []
-cells_from k p (e ∷ es) = if nat_eq e.class p.class then cell_at p k e ∷ cells_from (suc k) p es else cells_from (suc k) p es
+cells_from k p (e ∷ es) = if nat_eq e.class p.class then cell_at p k e ∷ cells_from (suc k) p es else cells_from
+    (suc k) p es
 
 abbrev pub cells_of : Place × List Element → List Cell
 cells_of e = cells_from 0 e.0 e.1
@@ -70,12 +71,14 @@ IsEntityPart T p = ArePartsOf (at_place p T)
 abbrev pub place_of_node : Node → Place
 place_of_node n = record { key = n.key; key_class = n.key_class; class = n.label }
 
--- the node and the cells of its label are those of a tuple with the elements es, whose other elements the entity's tuples
+-- the node and the cells of its label are those of a tuple with the elements es, whose other elements the entity's
+-- tuples
 -- of their classes have
 pub record IsMadeOf (T : Table) (n : Node) (cells : List Cell) (es : List Element) : Type 0 where
   pub pattern : n.pattern ≡ classes es
   pub own : cells ≡ cells_from 0 (place_of_node n) es
-  pub others : (i : ℕ) → i < length es → (at es i).class ≢ n.label → (fs : List Element) × (get T (with_class (place_of_node n) (at es i).class) ≡ Some fs) × (at fs i ≡ at es i) × (i < length fs)
+  pub others : (i : ℕ) → i < length es → (at es i).class ≢ n.label → (fs : List Element)
+      × (get T (with_class (place_of_node n) (at es i).class) ≡ Some fs) × (at fs i ≡ at es i) × (i < length fs)
 
 -- an element of the node's tuple, of its class, whose value has a spelling
 pub record IsCellOf (n : Node) (c : Cell) : Type 0 where
@@ -91,7 +94,8 @@ pub record IsCellOf (n : Node) (c : Cell) : Type 0 where
 abbrev pub set_from : ℕ → ℕ → Option Value → ℕ → List Element → List Element
 set_from attr label v k [] = []
 set_from attr label v k (e ∷ es) =
-    (if nat_eq k attr && nat_eq e.class label then record { value = v; class = label } else e) ∷ set_from attr label v (suc k) es
+    (if nat_eq k attr && nat_eq e.class label then record { value = v; class = label } else e) ∷ set_from attr label v
+    (suc k) es
 
 -- so in each tuple of the entity of p that has the cell
 abbrev pub set_in : Place → ℕ → Option Value → Place → List Element → List Element
@@ -100,7 +104,8 @@ set_in p attr v q es = if is_entity p q then set_from attr p.class v 0 es else e
 -- the entity of p has a cell of its class at attr
 abbrev pub HasCell : Table → Place → ℕ → Type 0
 HasCell T p attr =
-    (q : Place) × (es : List Element) × (is_entity p q ≡ true) × (get T q ≡ Some es) × (attr < length es) × ((at es attr).class ≡ p.class)
+    (q : Place) × (es : List Element) × (is_entity p q ≡ true) × (get T q ≡ Some es) × (attr < length es)
+    × ((at es attr).class ≡ p.class)
 
 -- no other tuple of the entity has an element of the class of p
 abbrev pub IsAlone : Table → Place → Type 0

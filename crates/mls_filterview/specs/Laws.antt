@@ -17,12 +17,14 @@ StoredHasIntegrity = (ls : Labels) (n : ℕ) (T : Table) → IsStored ls n T →
 
 -- the view at c is what is not subsumed among the tuples of classes that c dominates
 abbrev pub ViewIsMaxOfLow : Type 0
-ViewIsMaxOfLow = (ls : Labels) (n : ℕ) (T : Table) → IsStored ls n T → (c : ℕ) (t : Tuple) → View ls (IsIn T) c t ↔ IsMax (IsIn (low ls c T)) t
+ViewIsMaxOfLow = (ls : Labels) (n : ℕ) (T : Table) → IsStored ls n T → (c : ℕ) (t : Tuple) → View ls (IsIn T) c t
+    ↔ IsMax (IsIn (low ls c T)) t
 
 -- the tuples of a class m that c dominates are those of class m in the view at m of the view at c
 abbrev pub ViewTellsLow : Type 0
 ViewTellsLow =
-    (ls : Labels) → AreDistinct ls → (n : ℕ) (T : Table) → IsStored ls n T → (c m : ℕ) (t : Tuple) → m < length ls → below ls m c ≡ true
+    (ls : Labels) → AreDistinct ls → (n : ℕ) (T : Table) → IsStored ls n T → (c m : ℕ) (t : Tuple) → m < length ls
+    → below ls m c ≡ true
     → Has T m t ↔ (View ls (View ls (IsIn T) c) m t × (tuple_class ls t ≡ label_of ls m))
 
 -- the view at c and the tuples of classes that c dominates determine each other
@@ -38,7 +40,8 @@ RowsAreTheView =
     → ((t : Tuple) → IsAmong t (rows ls c T) ↔ View ls (IsIn T) c t)
     × AreInOrder T (rows ls c T)
 
--- where tables agree outside of an entity, the rows of the one are those of the other, in their order, but for the rows of
+-- where tables agree outside of an entity, the rows of the one are those of the other, in their order, but for the rows
+-- of
 -- the entity, which are those of its tuples alone
 abbrev pub ViewsAreMended : Type 0
 ViewsAreMended =

@@ -9,7 +9,9 @@ use Rattle.mls_scheme.specs.PlaceOrder.{value_total, place_total}
 use Rattle.mls_filterview.specs.Filtering.{element_cmp, row_cmp}
 
 element_total : IsTotalOrder element_cmp
-element_total = then_total (on_total (λ (e : Element). e.value) (options_total value_total)) (on_total (λ e. e.class) nat_cmp_total)
+element_total = then_total (on_total (λ (e : Element). e.value) (options_total value_total))
+    (on_total (λ e. e.class) nat_cmp_total)
 
 pub row_total : IsTotalOrder row_cmp
-row_total = then_total (on_total (λ (r : Place × List Element). r.0) place_total) (on_total (λ r. r.1) (lists_total element_total))
+row_total = then_total (on_total (λ (r : Place × List Element). r.0) place_total)
+    (on_total (λ r. r.1) (lists_total element_total))

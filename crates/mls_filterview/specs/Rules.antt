@@ -37,15 +37,19 @@ pub record IsFirstOfClass (ls : Labels) (ts : List Tuple) (t : Tuple) (m j : ℕ
 
 -- fs has the elements of es wherever m dominates the class in es
 abbrev pub HasBelow : Labels → ℕ → List Element → List Element → Type 0
-HasBelow ls m es fs = (i : ℕ) → i < length es → below ls (at es i).class m ≡ true → (i < length fs) × (at fs i ≡ at es i)
+HasBelow ls m es fs = (i : ℕ) → i < length es → below ls (at es i).class m ≡ true → (i < length fs)
+    × (at fs i ≡ at es i)
 
--- no earlier row has the entity and the class of row i, and the entity's first tuple of each class of the row agrees with it
+-- no earlier row has the entity and the class of row i, and the entity's first tuple of each class of the row agrees
+-- with it
 pub record IsDetermined (ls : Labels) (ts : List Tuple) (i : ℕ) : Type 0 where
-  pub alone : (j : ℕ) → j < i → AreOfOneEntity (row_at ts j) (row_at ts i) → tuple_class ls (row_at ts j) ≡ tuple_class ls (row_at ts i) → ⊥
+  pub alone : (j : ℕ) → j < i → AreOfOneEntity (row_at ts j) (row_at ts i) → tuple_class ls (row_at ts j)
+      ≡ tuple_class ls (row_at ts i) → ⊥
   pub agrees : (m j : ℕ) → OccursIn (row_at ts i) m → IsFirstOfClass ls ts (row_at ts i) m j
       → HasBelow ls m (row_at ts i).elements (row_at ts j).elements
 
--- the classes of a tuple are comparable, so that the greatest of them is the tuple's, and for each of them the entity has
+-- the classes of a tuple are comparable, so that the greatest of them is the tuple's, and for each of them the entity
+-- has
 -- a tuple of that class
 pub record IsClosed (ls : Labels) (ts : List Tuple) (t : Tuple) : Type 0 where
   pub comparable : (a b : ℕ) → OccursIn t a → OccursIn t b → (below ls a b ≡ true) ⊎ (below ls b a ≡ true)
@@ -56,8 +60,10 @@ pub record IsClosed (ls : Labels) (ts : List Tuple) (t : Tuple) : Type 0 where
 -- the same as that it is not above it. The class of a tuple is the join of its classes, so Poly has a meaning
 -- before Closure is asked.
 abbrev pub Keeps : Labels → Scheme → List Tuple → ℕ → Rule → Type 0
-Keeps ls scheme ts i Entity = (k : ℕ) → k < length (row_at ts i).elements → below ls (row_at ts i).key_class (at (row_at ts i).elements k).class ≡ true
-Keeps ls scheme ts i Null = (k : ℕ) → k < length (row_at ts i).elements → (at (row_at ts i).elements k).value ≡ None → (at (row_at ts i).elements k).class ≡ (row_at ts i).key_class
+Keeps ls scheme ts i Entity = (k : ℕ) → k < length (row_at ts i).elements → below ls (row_at ts i).key_class
+    (at (row_at ts i).elements k).class ≡ true
+Keeps ls scheme ts i Null = (k : ℕ) → k < length (row_at ts i).elements → (at (row_at ts i).elements k).value ≡ None
+    → (at (row_at ts i).elements k).class ≡ (row_at ts i).key_class
 Keeps ls scheme ts i Interval = Fits ls scheme (place_of 0 (row_at ts i)) (row_at ts i).elements
 Keeps ls scheme ts i Poly = IsDetermined ls ts i
 Keeps ls scheme ts i Closure = IsClosed ls ts (row_at ts i)
@@ -79,4 +85,5 @@ pub record IsFirstBroken (ls : Labels) (scheme : Scheme) (ts : List Tuple) (i : 
 
 -- the list has the tuples of a table of the stored form, each once, with the kinds and intervals of the scheme
 abbrev pub IsStoredList : Labels → Scheme → List Tuple → Type 0
-IsStoredList ls scheme ts = EachOnce ts × ((T : Table) × ((t : Tuple) → IsAmong t ts ↔ IsIn T t) × IsContent ls scheme T)
+IsStoredList ls scheme ts = EachOnce ts × ((T : Table) × ((t : Tuple) → IsAmong t ts ↔ IsIn T t)
+    × IsContent ls scheme T)

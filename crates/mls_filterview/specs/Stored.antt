@@ -36,7 +36,8 @@ pub record IsStoredTuple (ls : Labels) (n : ℕ) (T : Table) (p : Place) (es : L
   pub comparable : (a b : ℕ) → Occurs p es a → Occurs p es b → (below ls a b ≡ true) ⊎ (below ls b a ≡ true)
   pub greatest : (m : ℕ) → Occurs p es m → below ls m p.class ≡ true
   pub own : Occurs p es p.class
-  pub closed : (m : ℕ) → Occurs p es m → (fs : List Element) × (get T (with_class p m) ≡ Some fs) × AgreesBelow ls m es fs
+  pub closed : (m : ℕ) → Occurs p es m → (fs : List Element) × (get T (with_class p m) ≡ Some fs)
+      × AgreesBelow ls m es fs
 
 abbrev pub IsStored : Labels → ℕ → Table → Type 0
 IsStored ls n T = (p : Place) (es : List Element) → get T p ≡ Some es → IsStoredTuple ls n T p es

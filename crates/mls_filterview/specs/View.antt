@@ -40,4 +40,5 @@ IsAmong x (y ∷ ys) = (x ≡ y) ⊎ IsAmong x ys
 
 -- the tuples stand in the table, each at another place, in the order of places
 abbrev pub AreInOrder : Table → List Tuple → Type 0
-AreInOrder T ts = (es : List (Place × List Element)) × (ts ≡ map (λ e. tuple_at e.0 e.1) es) × IsTrue (is_sorted place_cmp es) × AllByRecursion (λ e. get T e.0 ≡ Some e.1) es
+AreInOrder T ts = (es : List (Place × List Element)) × (ts ≡ map (λ e. tuple_at e.0 e.1) es)
+    × IsTrue (is_sorted place_cmp es) × AllByRecursion (λ e. get T e.0 ≡ Some e.1) es

@@ -35,13 +35,15 @@ IsWidened n T W = (p : Place) → get W p ≡ option_map (λ es. es ++ nulls n p
 
 -- the classes of the tuples, and those of their places, are below k
 abbrev pub AreClassesBelow : ℕ → Table → Type 0
-AreClassesBelow k T = (p : Place) (es : List Element) → get T p ≡ Some es → (p.class < k) × ((m : ℕ) → Occurs p es m → m < k)
+AreClassesBelow k T = (p : Place) (es : List Element) → get T p ≡ Some es → (p.class < k) × ((m : ℕ) → Occurs p es m
+    → m < k)
 
 -- ---- schemes
 
 -- the interval of an attribute contains that of the keys
 abbrev pub ContainsKeys : Labels → Scheme → Attribute → Type 0
-ContainsKeys ls scheme a = (below ls a.1.low (first_key scheme).1.low ≡ true) × (below ls (first_key scheme).1.high a.1.high ≡ true)
+ContainsKeys ls scheme a = (below ls a.1.low (first_key scheme).1.low ≡ true)
+    × (below ls (first_key scheme).1.high a.1.high ≡ true)
 
 -- new has the attributes of old and behind them n more, whose intervals contain that of the keys
 pub record IsWiderScheme (ls : Labels) (n : ℕ) (old new : Scheme) : Type 0 where
@@ -55,26 +57,31 @@ pub record IsWiderScheme (ls : Labels) (n : ℕ) (old new : Scheme) : Type 0 whe
 
 -- what is seen of a table's tuples, widened, is what is seen of the table, widened
 abbrev pub ViewOfWidened : Type 0
-ViewOfWidened = (ls : Labels) (n : ℕ) (T : Table) (c : ℕ) (t : Tuple) → View ls (Widen n (IsIn T)) c t ↔ Widen n (View ls (IsIn T) c) t
+ViewOfWidened = (ls : Labels) (n : ℕ) (T : Table) (c : ℕ) (t : Tuple) → View ls (Widen n (IsIn T)) c t
+    ↔ Widen n (View ls (IsIn T) c) t
 
 -- so of a table that has these tuples
 abbrev pub ViewOfWidenedTable : Type 0
-ViewOfWidenedTable = (ls : Labels) (n : ℕ) (T W : Table) → IsWidened n T W → (c : ℕ) (t : Tuple) → View ls (IsIn W) c t ↔ Widen n (View ls (IsIn T) c) t
+ViewOfWidenedTable = (ls : Labels) (n : ℕ) (T W : Table) → IsWidened n T W → (c : ℕ) (t : Tuple) → View ls (IsIn W) c t
+    ↔ Widen n (View ls (IsIn T) c) t
 
 -- widening keeps the stored form, though labels be declared behind the first k
 abbrev pub WideningKeepsContent : Type 0
 WideningKeepsContent =
-    (ls : Labels) (k n : ℕ) (old new : Scheme) (T W : Table) → 0 < length old.keys → IsUnder k old → IsWiderScheme ls n old new → IsWidened n T W
+    (ls : Labels) (k n : ℕ) (old new : Scheme) (T W : Table) → 0 < length old.keys → IsUnder k old
+    → IsWiderScheme ls n old new → IsWidened n T W
     → IsContent (take k ls) old T → IsContent ls new W
 
 -- what was widened had the stored form under the first k labels, where its classes are among these
 abbrev pub WidenedWasContent : Type 0
 WidenedWasContent =
-    (ls : Labels) (k n : ℕ) (old new : Scheme) (T W : Table) → IsUnder k old → IsWiderScheme ls n old new → IsWidened n T W → AreClassesBelow k T
+    (ls : Labels) (k n : ℕ) (old new : Scheme) (T W : Table) → IsUnder k old → IsWiderScheme ls n old new
+    → IsWidened n T W → AreClassesBelow k T
     → ((p : Place) (es : List Element) → get T p ≡ Some es → length es ≡ length old.others)
     → IsContent ls new W → IsContent (take k ls) old T
 
 -- content whose classes are among the first k labels is content under these alone
 abbrev pub ContentNeedsItsLabels : Type 0
 ContentNeedsItsLabels =
-    (ls : Labels) (k : ℕ) (scheme : Scheme) (T : Table) → IsUnder k scheme → AreClassesBelow k T → IsContent ls scheme T → IsContent (take k ls) scheme T
+    (ls : Labels) (k : ℕ) (scheme : Scheme) (T : Table) → IsUnder k scheme → AreClassesBelow k T → IsContent ls scheme T
+    → IsContent (take k ls) scheme T

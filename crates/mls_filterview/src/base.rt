@@ -56,7 +56,8 @@ impl<T: Drop> From<AllocFailed<T>> for BaseFault {
 /// have failed; and whether the store gives back what was written to it. A store can be found unclean at any call and
 /// never becomes clean again, so what is said of content after a call has the premise that the store is clean then.
 ///
-/// They see at which labels the base was read and changed, whatever a call answers: `access` says of each call where it may do
+/// They see at which labels the base was read and changed, whatever a call answers: `access` says of each call where it
+/// may do
 /// so. So no answer and no fault of what calls a base can depend on a label that its own `access` leaves out.
 ///
 /// Whether a change is begun is known without that premise: an `Ok` of `begin` begins one, an `Ok` of `commit`
@@ -116,7 +117,8 @@ pub trait Base {
         ensures found { (seen self.new).is_clean → IfOk result (IsEntityPart
             ((seen self.old).state.now.db relation) place.now) };
 
-    /// The classes of the elements of the tuple at a place, where there is one. Nothing of the tuple is read but its node.
+    /// The classes of the elements of the tuple at a place, where there is one. Nothing of the tuple is read but its
+    /// node.
     fn pattern(
         &mut self,
         relation: RelNo,
@@ -142,7 +144,8 @@ pub trait Base {
             ≡ with_relation (seen self.old).state relation (insert ((seen self.old).state.now.db relation)
             (place_of_node node) es)) };
 
-    /// Sets the value of a cell, in every tuple of the entity that has it. `place` names the entity and the cell's class;
+    /// Sets the value of a cell, in every tuple of the entity that has it. `place` names the entity and the cell's
+    /// class;
     /// `attr` is below 15. `NotBegun` where no change is begun.
     fn set(
         &mut self,
@@ -158,7 +161,8 @@ pub trait Base {
             ≡ with_relation (seen self.old).state relation
             (change (set_in place.now attr value) ((seen self.old).state.now.db relation))) };
 
-    /// Removes the tuple at a place, if there is one, and its cells, which no other tuple may have. `NotBegun` where no change is begun.
+    /// Removes the tuple at a place, if there is one, and its cells, which no other tuple may have. `NotBegun` where no
+    /// change is begun.
     fn drop_at(&mut self, relation: RelNo, place: &Place) -> Result<(), BaseFault>
         requires { CanDrop seen self.old relation place.now }
         ensures change { IsChange seen (seen self.old).state.begun self.old self.new result }

@@ -29,7 +29,8 @@ pub fn rows_are_the_view()
     ensures { RowsAreTheView }
 {}
 
-/// Where tables agree outside of an entity, so do the rows of a level, and those of the entity are seen in its tuples alone.
+/// Where tables agree outside of an entity, so do the rows of a level, and those of the entity are seen in its tuples
+/// alone.
 pub fn views_are_mended()
     ensures { ViewsAreMended }
 {}

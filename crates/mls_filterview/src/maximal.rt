@@ -52,7 +52,8 @@ fn add_flags(flags: &mut Vec<bool>, rows: &[PlacedTuple]) -> Result<(), AllocErr
     Ok(())
 }
 
-/// For each row, whether no other row subsumes it. Rows come in the order of entities, so that each is compared with those of
+/// For each row, whether no other row subsumes it. Rows come in the order of entities, so that each is compared with
+/// those of
 /// its own alone.
 fn flags_of(alloc: Global, rows: &[PlacedTuple]) -> Result<Vec<bool>, AllocError>
     requires { AreByEntity rows.now }

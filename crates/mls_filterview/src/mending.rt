@@ -87,7 +87,8 @@ fn own_rows<B: Base>(
 
 /// Rows of a level, with those of the entity of a place as the level sees them now.
 ///
-/// What the entity's classes hold of it is read, and no fragment. Where the store fails or a growth is refused, a change
+/// What the entity's classes hold of it is read, and no fragment. Where the store fails or a growth is refused, a
+/// change
 /// that is begun has ended.
 pub fn mend<B: Base>(
     alloc: Global,

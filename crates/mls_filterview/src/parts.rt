@@ -37,7 +37,8 @@ fn is_between(policy: &Policy, key_class: LabelNo, class: LabelNo, label: LabelN
     policy.dominates(class, key_class) && policy.dominates(label, class)
 }
 
-/// What a level may see of the entity of a key class, whose key is that of the place. No fragment is read. The class of the
+/// What a level may see of the entity of a key class, whose key is that of the place. No fragment is read. The class of
+/// the
 /// place is changed.
 pub fn entity_parts<B: Base>(
     alloc: Global,

@@ -109,10 +109,12 @@ fn is_stored_row(
     is_closed(policy, rows, place, elements)
 }
 
-/// Whether rows are content: a relation of the stored form with the kinds and intervals of the scheme, each tuple at its
+/// Whether rows are content: a relation of the stored form with the kinds and intervals of the scheme, each tuple at
+/// its
 /// place.
 ///
-/// It takes memory for one tuple at a time, and looks up the other tuples of an entity by their places. `at` is increased by the
+/// It takes memory for one tuple at a time, and looks up the other tuples of an entity by their places. `at` is
+/// increased by the
 /// number of tuples before the one that is not as it should be.
 pub fn is_content(
     alloc: Global,

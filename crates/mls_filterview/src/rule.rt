@@ -9,7 +9,8 @@ pub enum Rule {
     Null,
     /// The key and the elements have the number, the kinds and the intervals of their attributes.
     Interval,
-    /// No earlier row has the entity and the tuple class, and the row agrees with the entity's first tuple of each of its
+    /// No earlier row has the entity and the tuple class, and the row agrees with the entity's first tuple of each of
+    /// its
     /// classes.
     Poly,
     /// The classes are comparable, and the entity has a tuple of each of them.

@@ -82,10 +82,12 @@ fn tuples_by_reach(alloc: Global, policy: &Policy, low: Fragment) -> Result<Vec<
     in_order_of_reach(alloc, policy, &rows)
 }
 
-/// The tuples of a relation whose classes a level dominates, also those that others subsume: class by class, those classes
+/// The tuples of a relation whose classes a level dominates, also those that others subsume: class by class, those
+/// classes
 /// first that dominate the fewest declared labels, and within one in the order of places.
 ///
-/// It reads the fragments of the labels that the level dominates at once, and no other. Where the store fails or a growth is
+/// It reads the fragments of the labels that the level dominates at once, and no other. Where the store fails or a
+/// growth is
 /// refused, a change that is begun has ended.
 pub fn low_tuples<B: Base>(
     alloc: Global,
@@ -107,7 +109,8 @@ pub fn low_tuples<B: Base>(
 
 /// What a level sees of a relation, in the order of key, number of the key class and number of the class.
 ///
-/// It reads the fragments of the labels that the level dominates at once, and no other. Where the store fails or a growth is
+/// It reads the fragments of the labels that the level dominates at once, and no other. Where the store fails or a
+/// growth is
 /// refused, a change that is begun has ended.
 pub fn view<B: Base>(
     alloc: Global,

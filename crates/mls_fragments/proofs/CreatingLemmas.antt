@@ -49,29 +49,57 @@ empty_database left pages found ours =
     let db = file_trees page_bytes [] pages in
     let unlisted = catalog_rows page_bytes [] (in_use page_bytes pages) in (
       db,
-      (page_bytes, a_size, record { pages = pages; wanted = []; schema = _; found = adopts_of page_bytes left pages found; ours = ours; reads = refl; sound = empty_is_sound db unlisted }),
-      (λ tree low. past_version tree low (all_trees page_bytes [] (in_use page_bytes pages)) (version_in pages) ∙ named_tree tree low page_bytes [] (in_use page_bytes pages), unlisted),
+      (
+        page_bytes,
+        a_size,
+        record {
+          pages = pages;
+          wanted = [];
+          schema = _;
+          found =
+              adopts_of page_bytes left pages found;
+          ours = ours;
+          reads = refl;
+          sound = empty_is_sound db unlisted;
+        },
+      ),
+      (
+        λ tree low. past_version tree low (all_trees page_bytes [] (in_use page_bytes pages)) (version_in pages)
+            ∙ named_tree tree low page_bytes [] (in_use page_bytes pages),
+        unlisted,
+      ),
     )
 
 on_the_way : (left : Image)
-    → IsBlankImage left ⊎ ((pages : Pages) × Recovers page_bytes left pages × (IsNew page_bytes pages ⊎ ∥ IsFresh page_bytes [] pages ∥₁))
+    → IsBlankImage left ⊎ ((pages : Pages) × Recovers page_bytes left pages × (IsNew page_bytes pages
+    ⊎ ∥ IsFresh page_bytes [] pages ∥₁))
     → IsBlankImage left ⊎ ∥ ((db : Trees) × HoldsDatabase left db × IsEmpty db) ∥₁
 on_the_way left (inl blank) = inl blank
 on_the_way left (inr made) =
     inr (elim made.2 [
       | inl new ↦
-          let whole : AreWhole page_bytes made.0 = subst (AreWhole page_bytes) made.1.shows (trimmed_whole page_bytes made.1.stored made.1.whole) in
+          let whole : AreWhole page_bytes made.0 = subst (AreWhole page_bytes) made.1.shows
+          (trimmed_whole page_bytes made.1.stored made.1.whole) in
           let empty = new_is_empty page_bytes made.0 whole new in
-          ∣ empty_database left made.0 made.1 (record { file = empty.0; numbered = λ _. record { listed = empty.1; spaced = refl; ordered = refl } }) ∣₁
+          ∣ empty_database left made.0 made.1 (record {
+            file = empty.0;
+            numbered = λ _. record {
+              listed = empty.1;
+              spaced = refl;
+              ordered = refl;
+            };
+          }) ∣₁
       | inr fresh ↦ ∥∥₁_map fresh (λ it. empty_database left made.0 made.1 it.0)
     ])
 
-module _ {D : Type 0} {g : Ghosts D} (files : Files D) (fresh : Unopened D g) (same : files_of fresh ≡ (files.log, files.db)) where
+module _ {D : Type 0} {g : Ghosts D} (files : Files D) (fresh : Unopened D g) (same : files_of fresh
+    ≡ (files.log, files.db)) where
   pub clean_before : IsTrue (state_of fresh).is_clean → AreClean g files.log files.db
   clean_before clean = sym ((pool_files fresh.pool).1 ∙ ap (λ f. are_clean g f.0 f.1) same) ∙ clean
 
   -- of blank files a crash leaves what a creation goes through
-  pub leaves_blank : (state_of fresh).page_size ≡ page_bytes → wanted_by fresh ≡ [] → IsBlankImage (image_of g files) → (now : State) → Creates fresh now
+  pub leaves_blank : (state_of fresh).page_size ≡ page_bytes → wanted_by fresh ≡ [] → IsBlankImage (image_of g files)
+      → (now : State) → Creates fresh now
       → (left : Image) → now.may_leave left → IsOnTheWay g files left
   leaves_blank size none blank now made left may =
       let seen : image fresh ≡ image_of g files = ap (λ f. seen_image g f.0 f.1) same in
@@ -82,7 +110,8 @@ module _ {D : Type 0} {g : Ghosts D} (files : Files D) (fresh : Unopened D g) (s
 
 -- ---- what an open leaves of files that were read before it
 
-module _ {D : Type 0} {g : Ghosts D} (start read : Files D) (log : OnlyReads g start.log read.log) (db : OnlyReads g start.db read.db) where
+module _ {D : Type 0} {g : Ghosts D} (start read : Files D) (log : OnlyReads g start.log read.log)
+    (db : OnlyReads g start.db read.db) where
   outcomes_before : (left : Image) → outcomes g read.log read.db left → outcomes g start.log start.db left
   outcomes_before left may = (log.crash _ may.0, db.crash _ may.1)
 
@@ -90,7 +119,11 @@ module _ {D : Type 0} {g : Ghosts D} (start read : Files D) (log : OnlyReads g s
   kept_before size left kept =
       let seen : image_of g read ≡ image_of g start = same_image log db in
       record {
-        same = elim kept.same [ inl was ↦ inl (outcomes_before left was) | inr stands ↦ inr (subst (λ i. StandsAs size i left) seen stands) ];
+        same = elim kept.same [
+          | inl was ↦ inl (outcomes_before left was)
+          | inr stands ↦ inr
+              (subst (λ i. StandsAs size i left) seen stands)
+        ];
         unread = λ unreadable. outcomes_before left (kept.unread (subst (IsUnreadable size) (sym seen) unreadable));
         something = λ new. kept.something (λ was. new (outcomes_before left was));
       }
@@ -113,11 +146,18 @@ module _ {D : Type 0} {g : Ghosts D} (start read : Files D) (log : OnlyReads g s
       )
   leaves_before (left.Store now) leaves = λ found may.
       let seen : image_of g read ≡ image_of g start = same_image log db in
-      let was = leaves found may in
-      (subst (λ i. AreFoundIn i found) seen was.0, λ trees held. was.1 trees (subst (λ i. HoldsDatabase i trees) (sym seen) held))
+      let was = leaves found may in (
+        subst (λ i. AreFoundIn i found) seen was.0,
+        λ trees held. was.1 trees (subst (λ i. HoldsDatabase i trees)
+            (sym seen) held),
+      )
 
   -- the same, of blank files
   pub blank_before : (rest : Leftover D g) → LeavesBlank read rest → LeavesBlank start rest
   blank_before (left.Files now) leaves = λ left may. outcomes_before left (leaves left may)
-  blank_before (left.Unopened now) leaves = λ left may. elim (leaves left may) [ inl was ↦ inl (outcomes_before left was) | inr way ↦ inr way ]
+  blank_before (left.Unopened now) leaves = λ left may. elim (leaves left may) [
+    | inl was ↦ inl
+        (outcomes_before left was)
+    | inr way ↦ inr way
+  ]
   blank_before (left.Store now) leaves = leaves

@@ -30,7 +30,8 @@ use Rattle.mls_fragments.proofs.SettingLemmas.{holds_value}
 use Rattle.mls_rows.proofs.DroppingLemmas.{holds_rest}
 
 -- rows that are written in a change
-pub based_on : (t u : TableState) (here new last : Noted) → IsBased t here last → (IsClean u → IsClean t) → u.begun ≡ true → (IsClean u → u.kept ≡ t.kept)
+pub based_on : (t u : TableState) (here new last : Noted) → IsBased t here last → (IsClean u → IsClean t)
+    → u.begun ≡ true → (IsClean u → u.kept ≡ t.kept)
     → (IsClean u → IsNoted t.now here → IsNoted u.now new) → IsBased u new last
 based_on t u here new last based clean mode kept noted = record {
   now = λ h. noted h (based.now (clean h));
@@ -44,7 +45,8 @@ pub readable : (t : TableState) (here last : Noted) → IsBased t here last → 
 readable t here last based clean = (content_of here.content.changes, (based.now clean).holds, (based.now clean).classes)
 
 -- the note of some changes
-noted_as : (rows : Tables) (n : Noted) (changes : List Change) → n.content.changes ≡ changes → n.last ≡ pos (length (content_of changes).audit) → HaveOneMeta rows → HasByteClasses (content_of changes)
+noted_as : (rows : Tables) (n : Noted) (changes : List Change) → n.content.changes ≡ changes
+    → n.last ≡ pos (length (content_of changes).audit) → HaveOneMeta rows → HasByteClasses (content_of changes)
     → Holds rows (content_of changes) → IsNoted rows n
 noted_as rows n changes is last meta bytes holds = record {
   meta = meta;
@@ -54,18 +56,25 @@ noted_as rows n changes is last meta bytes holds = record {
 }
 
 -- so of a note that is copied
-pub noted_copied : (rows : Tables) (n m : Noted) → m.content.changes ≡ n.content.changes → m.last ≡ n.last → IsNoted rows n → IsNoted rows m
-noted_copied rows n m changes last noted = noted_as rows m n.content.changes changes (last ∙ noted.last) noted.meta noted.classes noted.holds
+pub noted_copied : (rows : Tables) (n m : Noted) → m.content.changes ≡ n.content.changes → m.last ≡ n.last
+    → IsNoted rows n → IsNoted rows m
+noted_copied rows n m changes last noted = noted_as rows m n.content.changes changes
+    (last ∙ noted.last) noted.meta noted.classes noted.holds
 
 -- a new store holds nothing
-pub noted_none : (version : Version) (lattice schemes : List ℕ) (rows : Tables) (n : Noted) → rows ≡ described (version_number version) lattice schemes → n.content.changes ≡ [] → n.last ≡ pos 0 → IsNoted rows n
+pub noted_none : (version : Version) (lattice schemes : List ℕ) (rows : Tables) (n : Noted)
+    → rows ≡ described (version_number version) lattice schemes → n.content.changes ≡ [] → n.last ≡ pos 0
+    → IsNoted rows n
 noted_none version lattice schemes rows n is changes last =
-    noted_as rows n [] changes last (meta_made version lattice schemes rows is) none_bytes (subst (λ t. Holds t (content_of [])) (sym is) (holds_none (version_number version) lattice schemes))
+    noted_as rows n [] changes last (meta_made version lattice schemes rows is) none_bytes
+    (subst (λ t. Holds t (content_of [])) (sym is) (holds_none (version_number version) lattice schemes))
 
 -- a store that is opened holds what was found
-pub noted_found : (tables : List Entries) (audit : List (List ℕ)) (rows : Tables) (n : Noted) → n.content.changes ≡ Finds tables audit ∷ [] → n.last ≡ pos (length audit)
+pub noted_found : (tables : List Entries) (audit : List (List ℕ)) (rows : Tables) (n : Noted) → n.content.changes
+    ≡ Finds tables audit ∷ [] → n.last ≡ pos (length audit)
     → HaveOneMeta rows → HasByteClasses (found tables audit) → Holds rows (found tables audit) → IsNoted rows n
-noted_found tables audit rows n changes last meta bytes holds = noted_as rows n (Finds tables audit ∷ []) changes last meta bytes holds
+noted_found tables audit rows n changes last meta bytes holds = noted_as rows n (Finds tables audit
+    ∷ []) changes last meta bytes holds
 
 -- rows that are written beside the description
 meta_stays : (t u : Tables) → u.meta ≡ t.meta → HaveOneMeta t → HaveOneMeta u
@@ -76,38 +85,59 @@ module _ (t u : Tables) (here new : Noted) (was : IsNoted t here) where
   abbrev c : Content
   c = content_of here.content.changes
 
-  pub noted_tuple : (relation : ℕ) (n : Node) (cells : List Cell) → new.content.changes ≡ Adds relation n cells ∷ here.content.changes → new.last ≡ here.last
-      → IsSpelledKey n.key → AllByRecursion (IsCellOf n) cells → get (c.db relation) (place_of_node n) ≡ None → (es : List Element) × IsMadeOf (c.db relation) n cells es
-      → (n.key_class < 256) × (n.label < 256) → AddsTuple (node_row relation n) (map (cell_row relation) cells) t u → IsNoted u new
-  noted_tuple relation n cells changes last key each none made small adds = noted_as u new _ changes (last ∙ was.last) (meta_stays t u (ap (λ (x : Tables). x.meta) adds.rest) was.meta) (tuple_bytes c relation was.classes n _ small)
-      (subst (λ es. Holds u (record c { db = with_table c.db relation (insert (c.db relation) (place_of_node n) es) })) (sym (elements_made (c.db relation) (get (c.db relation)) (λ q. refl) n cells made.0 made.1))
+  pub noted_tuple : (relation : ℕ) (n : Node) (cells : List Cell) → new.content.changes ≡ Adds relation n cells
+      ∷ here.content.changes → new.last ≡ here.last
+      → IsSpelledKey n.key → AllByRecursion (IsCellOf n) cells → get (c.db relation) (place_of_node n) ≡ None
+      → (es : List Element) × IsMadeOf (c.db relation) n cells es
+      → (n.key_class < 256) × (n.label < 256) → AddsTuple (node_row relation n) (map (cell_row relation) cells) t u
+      → IsNoted u new
+  noted_tuple relation n cells changes last key each none made small adds = noted_as u new _ changes (last ∙ was.last)
+      (meta_stays t u (ap (λ (x : Tables). x.meta) adds.rest) was.meta) (tuple_bytes c relation was.classes n _ small)
+      (subst (λ es. Holds u (record c { db = with_table c.db relation (insert (c.db relation) (place_of_node n) es) }))
+      (sym (elements_made (c.db relation) (get (c.db relation)) (λ q. refl) n cells made.0 made.1))
       (holds_tuple t u c relation n cells made.0 was.holds key each none made.1 adds))
 
-  pub noted_value : (relation : ℕ) (p : Place) (attr : ℕ) (v : Option Value) → new.content.changes ≡ Sets relation p attr v ∷ here.content.changes → new.last ≡ here.last
-      → IsSpelledKey p.key → IfSome v HasSpelling → HasCell (c.db relation) p attr → SetsCell (value_row relation p attr v) t u → IsNoted u new
-  noted_value relation p attr v changes last key value there sets = noted_as u new _ changes (last ∙ was.last) (meta_stays t u (ap (λ (x : Tables). x.meta) sets.0) was.meta) (value_bytes c relation was.classes p attr v) (holds_value t u c relation p attr v was.holds key value there sets)
+  pub noted_value : (relation : ℕ) (p : Place) (attr : ℕ) (v : Option Value) → new.content.changes
+      ≡ Sets relation p attr v ∷ here.content.changes → new.last ≡ here.last
+      → IsSpelledKey p.key → IfSome v HasSpelling → HasCell (c.db relation) p attr
+      → SetsCell (value_row relation p attr v) t u → IsNoted u new
+  noted_value relation p attr v changes last key value there sets = noted_as u new _ changes (last ∙ was.last)
+      (meta_stays t u (ap (λ (x : Tables). x.meta) sets.0) was.meta) (value_bytes c relation was.classes p attr v)
+      (holds_value t u c relation p attr v was.holds key value there sets)
 
-  pub noted_rest : (relation : ℕ) (p : Place) → new.content.changes ≡ Drops relation p ∷ here.content.changes → new.last ≡ here.last
+  pub noted_rest : (relation : ℕ) (p : Place) → new.content.changes ≡ Drops relation p ∷ here.content.changes
+      → new.last ≡ here.last
       → IsSpelledKey p.key → IsAlone (c.db relation) p → DropsTuple relation p t u → IsNoted u new
-  noted_rest relation p changes last key alone drops = noted_as u new _ changes (last ∙ was.last) (meta_stays t u (ap (λ (x : Tables). x.meta) drops) was.meta) (rest_bytes c relation was.classes p) (holds_rest t u c relation p was.holds key alone _ refl drops)
+  noted_rest relation p changes last key alone drops = noted_as u new _ changes (last ∙ was.last)
+      (meta_stays t u (ap (λ (x : Tables). x.meta) drops) was.meta) (rest_bytes c relation was.classes p)
+      (holds_rest t u c relation p was.holds key alone _ refl drops)
 
-  pub noted_entry : (bytes : List ℕ) → new.content.changes ≡ Appends bytes ∷ here.content.changes → new.last ≡ here.last +ℤ pos 1
+  pub noted_entry : (bytes : List ℕ) → new.content.changes ≡ Appends bytes ∷ here.content.changes
+      → new.last ≡ here.last +ℤ pos 1
       → AddsEntry (record { number = here.last +ℤ pos 1; bytes = bytes }) t u → IsNoted u new
   noted_entry bytes changes last adds =
       let next : here.last +ℤ pos 1 ≡ pos (length c.audit + 1) = ap (λ n. n +ℤ pos 1) was.last in
-      noted_as u new _ changes (last ∙ next ∙ ap pos (sym (length-append c.audit (bytes ∷ [])))) (meta_stays t u (ap (λ (x : Tables). x.meta) adds.0) was.meta) was.classes
+      noted_as u new _ changes (last ∙ next ∙ ap pos (sym (length-append c.audit (bytes ∷ []))))
+      (meta_stays t u (ap (λ (x : Tables). x.meta) adds.0) was.meta) was.classes
       (holds_entry t u c bytes was.holds (subst (λ n. AddsEntry (record { number = n; bytes = bytes }) t u) next adds))
 
-  pub noted_clear : new.content.changes ≡ Clears ∷ here.content.changes → new.last ≡ pos 0 → ClearsEntries t u → IsNoted u new
-  noted_clear changes last clears = noted_as u new _ changes last (meta_stays t u (ap (λ (x : Tables). x.meta) clears) was.meta) was.classes (holds_no_entries t u c was.holds clears)
+  pub noted_clear : new.content.changes ≡ Clears ∷ here.content.changes → new.last ≡ pos 0 → ClearsEntries t u
+      → IsNoted u new
+  noted_clear changes last clears = noted_as u new _ changes last
+      (meta_stays t u (ap (λ (x : Tables). x.meta) clears) was.meta) was.classes
+      (holds_no_entries t u c was.holds clears)
 
 -- the state in a change, with a tuple more
-pub state_added : (t u : TableState) (here last : Noted) (changes : List Change) (relation : ℕ) (n : Node) (cells : List Cell) (es : List Element) → t.begun ≡ true → u.begun ≡ true
-    → changes ≡ Adds relation n cells ∷ here.content.changes → IsMadeOf ((content_of here.content.changes).db relation) n cells es
+pub state_added : (t u : TableState) (here last : Noted) (changes : List Change) (relation : ℕ) (n : Node)
+    (cells : List Cell) (es : List Element) → t.begun ≡ true → u.begun ≡ true
+    → changes ≡ Adds relation n cells ∷ here.content.changes
+    → IsMadeOf ((content_of here.content.changes).db relation) n cells es
     → state_with (content_of changes) (content_of last.content.changes) u.begun
-    ≡ with_relation (state_of (base_state t here last)) relation (insert ((content_of here.content.changes).db relation) (place_of_node n) es)
+    ≡ with_relation (state_of (base_state t here last)) relation (insert ((content_of here.content.changes).db relation)
+    (place_of_node n) es)
 state_added t u here last changes relation n cells es was mode is made =
-    ap (λ cs. state_with (content_of cs) before u.begun) is ∙ ap (λ fs. state_with (added fs) before u.begun) (elements_made (c.db relation) (get (c.db relation)) (λ q. refl) n cells es made)
+    ap (λ cs. state_with (content_of cs) before u.begun) is ∙ ap (λ fs. state_with (added fs) before u.begun)
+    (elements_made (c.db relation) (get (c.db relation)) (λ q. refl) n cells es made)
     ∙ ap (state_with (added es) before) mode
     ∙ sym (ap (λ b. record { now = added es; kept = cond b before c; begun = b }) was)
   where

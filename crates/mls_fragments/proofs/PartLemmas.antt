@@ -37,7 +37,8 @@ module _ (q : Part) (rel : ℕ) (T : Table) where
   P = table_of (filter here (entries T))
 
   entries_part : entries P ≡ filter here (entries T)
-  entries_part = entries-from_sorted place_cmp (filter here (entries T)) (so_from _ (sorted_filter here (entries T) (so_true _ (entries_sorted T))))
+  entries_part = entries-from_sorted place_cmp (filter here (entries T))
+      (so_from _ (sorted_filter here (entries T) (so_true _ (entries_sorted T))))
 
   of_part : (p : Place) (es : List Element) → get P p ≡ Some es → (get T p ≡ Some es) × (here (p, es) ≡ true)
   of_part p es g =
@@ -45,12 +46,14 @@ module _ (q : Part) (rel : ℕ) (T : Table) where
       (among_entries T (p, es) i.0, i.1)
 
   in_part : (p : Place) (es : List Element) → get T p ≡ Some es → here (p, es) ≡ true → get P p ≡ Some es
-  in_part p es g h = among_entries P (p, es) (subst (IsAmong (p, es)) (sym entries_part) (filter_among here (entries T) (p, es) (entries_among T p es g) h))
+  in_part p es g h = among_entries P (p, es) (subst (IsAmong (p, es)) (sym entries_part) (filter_among here (entries T)
+      (p, es) (entries_among T p es g) h))
 
   -- ---- its rows
 
   node_rows : filter (λ r. q r.rel r.ent) (map (node_row rel) (nodes_in T)) ≡ map (node_row rel) (nodes_in P)
-  node_rows = filter-map _ (node_row rel) (nodes_in T) ∙ ap (map (node_row rel)) (filter-map _ node_of (entries T) ∙ ap (map node_of) (sym entries_part))
+  node_rows = filter-map _ (node_row rel) (nodes_in T) ∙ ap (map (node_row rel)) (filter-map _ node_of (entries T)
+      ∙ ap (map node_of) (sym entries_part))
 
   cell_rows : filter (λ r. q r.rel r.ent) (map (cell_row rel) (cells_in T)) ≡ map (cell_row rel) (cells_in P)
   cell_rows =
@@ -59,16 +62,24 @@ module _ (q : Part) (rel : ℕ) (T : Table) where
       ap (λ x. q rel (key_spelling x.key)) (cell_found 0 e.0 e.1 d k).1.1)
       ∙ ap (flat_map cells_of) (sym entries_part))
 
-  shared_part : ((p : Place) (es : List Element) → get T p ≡ Some es → IsSharedTuple T p es) → (p : Place) (es : List Element) → get P p ≡ Some es → IsSharedTuple P p es
+  shared_part : ((p : Place) (es : List Element) → get T p ≡ Some es → IsSharedTuple T p es)
+      → (p : Place) (es : List Element) → get P p ≡ Some es → IsSharedTuple P p es
   shared_part shared p es g =
       let i = of_part p es g in
       let s = shared p es i.0 in
-      record { key = s.key; values = s.values; own = λ k l. (let o = s.own k l in (o.0, in_part (with_class p (at es k).class) o.0 o.1 i.1, o.2, o.3)) }
+      record {
+        key = s.key;
+        values = s.values;
+        own = λ k l. (let o = s.own k l
+            in (o.0, in_part (with_class p (at es k).class) o.0 o.1 i.1, o.2, o.3));
+      }
 
   table_part : (t : Tables) → HoldsTable t rel T → HoldsTable (rows_of q t) rel P
   table_part t held = record {
-    nodes = rw (← node_rows, filter_turned (λ n. nat_eq n.rel rel) (λ n. q n.rel n.ent) t.nodes) (IsPermutation-filter _ _ _ held.nodes);
-    cells = rw (← cell_rows, filter_turned (λ x. nat_eq x.rel rel) (λ x. q x.rel x.ent) t.cells) (IsPermutation-filter _ _ _ held.cells);
+    nodes = rw (← node_rows, filter_turned (λ n. nat_eq n.rel rel) (λ n. q n.rel n.ent) t.nodes)
+        (IsPermutation-filter _ _ _ held.nodes);
+    cells = rw (← cell_rows, filter_turned (λ x. nat_eq x.rel rel) (λ x. q x.rel x.ent) t.cells)
+        (IsPermutation-filter _ _ _ held.cells);
     shared = shared_part held.shared;
   }
 
@@ -76,16 +87,22 @@ module _ (q : Part) (rel : ℕ) (T : Table) where
 
   content_part : (ls : Labels) (scheme : Scheme) → IsContent ls scheme T → IsContent ls scheme P
   content_part ls scheme content = record {
-    stored = λ p es g. (let i = of_part p es g in moved ls (length scheme.others) T P p es (content.stored p es i.0) (λ m fs o k. in_part (with_class p m) fs k i.1));
+    stored = λ p es g. (let i = of_part p es g in moved ls (length scheme.others) T P p es (content.stored p es i.0)
+        (λ m fs o k. in_part (with_class p m) fs k i.1));
     fits = λ p es g. content.fits p es (of_part p es g).0;
   }
 
 -- ---- all relations
 
 pub part_holds : (q : Part) (t : Tables) (c : Content) → Holds t c → Holds (rows_of q t) (content_of q c)
-part_holds q t c holds = record { tables = λ rel. table_part q rel (c.db rel) t (holds.tables rel); audit = IsPermutation-refl [] }
+part_holds q t c holds = record {
+  tables = λ rel. table_part q rel (c.db rel) t (holds.tables rel);
+  audit =
+      IsPermutation-refl [];
+}
 
-pub part_sound : (q : Part) (policy : Policy) (schemes : Schemes) (labels : ℕ) (c : Content) → IsSoundWithin policy schemes labels c → IsSoundWithin policy schemes labels (content_of q c)
+pub part_sound : (q : Part) (policy : Policy) (schemes : Schemes) (labels : ℕ) (c : Content)
+    → IsSoundWithin policy schemes labels c → IsSoundWithin policy schemes labels (content_of q c)
 part_sound q policy schemes labels c sound = record {
   content = λ rel. content_part q rel (c.db rel) _ _ (sound.content rel);
   classes = λ rel p es g. sound.classes rel p es (of_part q rel (c.db rel) p es g).0;

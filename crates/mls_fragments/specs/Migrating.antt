@@ -77,8 +77,10 @@ wide_tables schemes counts k (es ∷ tables) =
     map (widened_entry (more schemes counts k)) es ∷ wide_tables schemes counts (suc k) tables
 
 -- all rows of an older store, put together and widened: sound content
-pub record HasWidened (policy : Policy) (schemes : Schemes) (labels : ℕ) (counts : List ℕ) (rows : AllRows) (f : Found) : Type 0 where
-  pub widened : (c : Content) × ((t : Tables) → AreAll t rows → Holds t c) × IsSoundBefore policy schemes labels counts c × IsWidenedContent schemes counts c (content_found f)
+pub record HasWidened (policy : Policy) (schemes : Schemes) (labels : ℕ) (counts : List ℕ) (rows : AllRows)
+    (f : Found) : Type 0 where
+  pub widened : (c : Content) × ((t : Tables) → AreAll t rows → Holds t c)
+      × IsSoundBefore policy schemes labels counts c × IsWidenedContent schemes counts c (content_found f)
   pub sound : IsSoundContent policy schemes (content_found f)
   pub classes : HasByteClasses (content_found f)
   pub holds : (t : Tables) → IsPermutation (node_rows 0 (map (λ t. t.entries) f.tables.items)) t.nodes

@@ -101,7 +101,8 @@ pub record IsUnadopted (policy : Policy) (file : SchemesFile) (old new : State) 
   pub made : old.now.schema ≡ no_schema → IsStoreOrMemory e
   pub kept : old.now.schema ≡ no_schema → HasCleanDisk new → KeepsCommit old new
 
--- rows of which no base was made: they are not of others, and are called bad only where they hold no content that is sound
+-- rows of which no base was made: they are not of others, and are called bad only where they hold no content that is
+-- sound
 pub record IsUntaken (Sound : Content → Type 0) (old new : State) (e : OpenFault) : Type 0 where
   pub refused : IsRefused old new
   pub texts : e ≢ OtherPolicy
@@ -133,7 +134,8 @@ pub record HoldsContent (policy : Policy) (schemes : Schemes) (b : BaseState) : 
   pub mode : (state_of b).begun ≡ false
 
 -- a base over an older store, whose content was widened and which this row describes now
-pub record IsMigrated (policy : Policy) (schemes : Schemes) (labels : ℕ) (counts : List ℕ) (row : MetaRow) (old : State) (b : BaseState) : Type 0 where
+pub record IsMigrated (policy : Policy) (schemes : Schemes) (labels : ℕ) (counts : List ℕ) (row : MetaRow) (old : State)
+    (b : BaseState) : Type 0 where
   pub clean : IsClean b.tables → HasCleanDisk old
   pub widened : IsClean b.tables → (c : Content) × Holds (tables_of old.now.trees) c
       × IsSoundBefore policy schemes labels counts c × IsWidenedContent schemes counts c (state_of b).now

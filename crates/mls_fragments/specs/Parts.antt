@@ -42,7 +42,10 @@ rows_of q t = record { nodes = nodes_of q t.nodes; cells = cells_of q t.cells; a
 
 -- the tuples of a part
 abbrev pub content_of : Part → Content → Content
-content_of q c = record { db = λ rel. table_of (filter (λ e. q rel (key_spelling e.0.key)) (entries (c.db rel))); audit = [] }
+content_of q c = record {
+  db = λ rel. table_of (filter (λ e. q rel (key_spelling e.0.key)) (entries (c.db rel)));
+  audit = [];
+}
 
 -- ---- rows in order
 
@@ -64,7 +67,8 @@ pub record IsCut {R : Type 0} (test : R → Bool) (rows : List R) (at : ℕ) : T
   pub last : drop at rows ≡ filter (λ r. not (test r)) rows
 
 -- a part of nodes and cells is taken off them
-pub record IsTakenOff (q : Part) (nodes left_nodes : List NodeRow) (cells left_cells : List CellRow) (part : AllRows) : Type 0 where
+pub record IsTakenOff (q : Part) (nodes left_nodes : List NodeRow) (cells left_cells : List CellRow)
+    (part : AllRows) : Type 0 where
   pub part_nodes : part.nodes.items ≡ nodes_of (other q) nodes
   pub part_cells : part.cells.items ≡ cells_of (other q) cells
   pub kept_nodes : left_nodes ≡ nodes_of q nodes
@@ -78,7 +82,8 @@ abbrev pub rows_in : List NodeRow → List CellRow → Tables
 rows_in nodes cells = record { nodes = nodes; cells = cells; audit = []; meta = [] }
 
 -- the rows hold the tuples, which are sound, and the entries are there
-pub record IsJudged (policy : Policy) (schemes : Schemes) (labels : ℕ) (t : Tables) (list : List (List ℕ)) (c : Content) : Type 0 where
+pub record IsJudged (policy : Policy) (schemes : Schemes) (labels : ℕ) (t : Tables) (list : List (List ℕ))
+    (c : Content) : Type 0 where
   pub tables : (rel : ℕ) → HoldsTable t rel (c.db rel)
   pub sound : IsSoundWithin policy schemes labels c
   pub audit : c.audit ≡ list

@@ -24,7 +24,8 @@ use std::alloc::{AllocFailed, Global};
 use std::hash::{BuildHasher, RandomState};
 use std::io::ErrorKind;
 
-/// The bytes of a page. Each commit writes whole pages to the log, with their digests and sums, so small ones are cheap.
+/// The bytes of a page. Each commit writes whole pages to the log, with their digests and sums, so small ones are
+/// cheap.
 const PAGE_BYTES: usize = 1024;
 
 /// Why the files of a store are not opened.

@@ -9,7 +9,8 @@ use mls_lattice::Items;
 use mls_scheme::{Place, RelNo, Value};
 use std::marker::{Model, PhantomData};
 
-/// The changes that made some content, the last one first. What a store notes is a type of its own (`GhostStore` of `mls_tables`):
+/// The changes that made some content, the last one first. What a store notes is a type of its own (`GhostStore` of
+/// `mls_tables`):
 /// that crate knows no content.
 #[derive(Drop)]
 pub struct GhostContent {

@@ -3,8 +3,10 @@ use mls_filterview::{Base, BaseFault, Cell, Fragment, Node};
 use mls_lattice::{Items, LabelNo};
 use mls_scheme::{Place, RelNo, Value};
 
-/// A base whose store refuses nothing but growths: where a call of it answers Store, it answers Memory. It is generic, since each method
-/// over a store whose type is known costs a proof as long as all of these. It is made of files in memory alone, by `MemoryBase::open`.
+/// A base whose store refuses nothing but growths: where a call of it answers Store, it answers Memory. It is generic,
+/// since each method
+/// over a store whose type is known costs a proof as long as all of these. It is made of files in memory alone, by
+/// `MemoryBase::open`.
 #[derive(Drop)]
 pub struct InMemory<B: Base> {
     pub(crate) base: B,

@@ -49,7 +49,8 @@ fn cells_before(rows: &[CellRow], rel: u32, ent: &[u8]) -> usize
 fn last_part(nodes: &[NodeRow], cells: &[CellRow]) -> (usize, usize)
     requires nodes { AreNodesInOrder nodes.now }
     requires cells { AreCellsInOrder cells.now }
-    ensures { (q : Part) × IsCut (λ r. q r.rel r.ent) nodes.now result.0 × IsCut (λ r. q r.rel r.ent) cells.now result.1 }
+    ensures { (q : Part) × IsCut (λ r. q r.rel r.ent) nodes.now result.0
+        × IsCut (λ r. q r.rel r.ent) cells.now result.1 }
 {
     match nodes.get(nodes.len().saturating_sub(PART)) {
         Some(first) => (

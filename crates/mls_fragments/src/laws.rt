@@ -1,4 +1,5 @@
-//! Laws about stores, which a base over a store relies on: what a store holds is one content, and what was kept is found
+//! Laws about stores, which a base over a store relies on: what a store holds is one content, and what was kept is
+//! found
 //! again. Nothing runs here: each function is empty, and its contract is the law, which callers use by calling it.
 ghost use Rattle.mls_fragments.specs.OneContent.{RowsHoldOneContent};
 ghost use Rattle.mls_fragments.specs.Holdings.{DatabaseHasOneHoldings, GivenBackIsTaken, SoundIsTakenAsItWas};
@@ -9,12 +10,14 @@ pub fn rows_hold_one_content()
     ensures { RowsHoldOneContent }
 {}
 
-/// A whole database holds one thing at most too: nothing yet, or the content of its rows and the row that describes them.
+/// A whole database holds one thing at most too: nothing yet, or the content of its rows and the row that describes
+/// them.
 pub fn database_has_one_holdings()
     ensures { DatabaseHasOneHoldings }
 {}
 
-/// A connection that a base gave back can be adopted again: what `adopt` takes is the content that the base left. Where the policy
+/// A connection that a base gave back can be adopted again: what `adopt` takes is the content that the base left. Where
+/// the policy
 /// or the schemes extend those of the store, it is that content widened by them.
 pub fn given_back_is_taken()
     ensures { GivenBackIsTaken }

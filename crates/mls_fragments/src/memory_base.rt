@@ -21,7 +21,8 @@ use std::alloc::{AllocError, Global};
 /// How many pages are kept. To keep one spares one copy of it.
 const CACHE_PAGES: usize = 64;
 
-/// A base over a store in memory: over files that keep each write at once. These files refuse nothing but growths, which [`SqlBase`]
+/// A base over a store in memory: over files that keep each write at once. These files refuse nothing but growths,
+/// which [`SqlBase`]
 /// reports as Store.
 pub type MemoryBase = InMemory<SqlBase<FileStore<MemoryFile>>>;
 

@@ -119,7 +119,8 @@ fn rewritten<S: Alter>(
     Ok(())
 }
 
-/// A base over a store of an older policy or older schemes, whose relations are widened and which gets these texts, in one
+/// A base over a store of an older policy or older schemes, whose relations are widened and which gets these texts, in
+/// one
 /// transaction.
 fn migrated<S: Alter>(
     alloc: Global,

@@ -75,8 +75,10 @@ fn stop_of(
     }
 }
 
-/// Where the opening of a store stops that has this description, and every row, among which the place counts; none where it
-/// does not stop at rows. The store stays as it is. Where it stops, the rows are those of a store that is bad, and a row
+/// Where the opening of a store stops that has this description, and every row, among which the place counts; none
+/// where it
+/// does not stop at rows. The store stays as it is. Where it stops, the rows are those of a store that is bad, and a
+/// row
 /// that is judged alone is bad itself.
 pub fn bad_row<S: Alter>(
     conn: &mut Connection<S>,

@@ -16,7 +16,8 @@ pub untouched : (h : Hosting) → KeepSame h h
 untouched h path c = (λ k. k, λ k. k)
 
 -- a run without a store, which is closed
-pub ended_in_memory : {A : Type 0} (outcome : Result A RunFault) → IfErr outcome (λ f. f.cause ≡ Store → 0 < 0) → IsCausedInMemory (ended outcome (Ok tt))
+pub ended_in_memory : {A : Type 0} (outcome : Result A RunFault) → IfErr outcome (λ f. f.cause ≡ Store → 0 < 0)
+    → IsCausedInMemory (ended outcome (Ok tt))
 ended_in_memory (Ok end) k = tt
 ended_in_memory (Err fault) k = ((λ is. let none = k is in absurd (omega (arith, none))), refl)
 
@@ -29,21 +30,34 @@ module _ {A : Type 0} (h : Hosted) where
   caused_without kept _ k = absurd k
 
   -- over a store, of which a call failed where more have failed than before
-  pub caused_in_store : (path : List ℕ) (outcome : Result A RunFault) (closed : Result (Unit {0}) CloseFault) (before after : ℕ) → (IsErr closed → h.after.is_unclosed) → (h.after.is_unclosed → IsErr closed) → (0 < after → h.after.has_failed)
-      → (h.after.is_honest → IfErr outcome (λ f. f.cause ≡ Store → before < after)) → IsCaused h (Some path) (ended outcome closed)
-  caused_in_store path (Err fault) (Err e) before after unclosed none failed k = (tt, (λ honest is. let more = k honest is in failed (omega (arith, more))), unclosed refl)
-  caused_in_store path (Err fault) (Ok v) before after unclosed none failed k = (tt, (λ honest is. let more = k honest is in failed (omega (arith, more))), λ is. absurd (true≢false (sym (none is))))
+  pub caused_in_store : (path : List ℕ) (outcome : Result A RunFault) (closed : Result (Unit {0}) CloseFault)
+      (before after : ℕ) → (IsErr closed → h.after.is_unclosed) → (h.after.is_unclosed → IsErr closed)
+      → (0 < after → h.after.has_failed)
+      → (h.after.is_honest → IfErr outcome (λ f. f.cause ≡ Store → before < after))
+      → IsCaused h (Some path) (ended outcome closed)
+  caused_in_store path (Err fault) (Err e) before after unclosed none failed k =
+      (tt, (λ honest is. let more = k honest is in failed (omega (arith, more))), unclosed refl)
+  caused_in_store path (Err fault) (Ok v) before after unclosed none failed k = (
+    tt,
+    (λ honest is. let more = k honest is in failed (omega (arith, more))),
+    λ is. absurd (true≢false (sym (none is))),
+  )
   caused_in_store path (Ok end) (Err e) before after unclosed none failed k = unclosed refl
-  caused_in_store path (Ok end) (Ok v) before after unclosed none failed k = (tt, λ is. absurd (true≢false (sym (none is))))
+  caused_in_store path (Ok end) (Ok v) before after unclosed none failed k =
+      (tt, λ is. absurd (true≢false (sym (none is))))
 
   -- where a store is named, or none
-  pub caused_at : (store at : Option (Bor (List ℕ))) → store ≡ at → (r : Result A Stop) → IsCaused h (named at) r → IsCaused h (named store) r
+  pub caused_at : (store at : Option (Bor (List ℕ))) → store ≡ at → (r : Result A Stop) → IsCaused h (named at) r
+      → IsCaused h (named store) r
   caused_at store at is r k = subst (λ (s : Option (Bor (List ℕ))). IsCaused h (named s) r) (sym is) k
 
-  pub caused_from_memory : (store : Option (Bor (List ℕ))) → store ≡ None → KeepsStores h → (r : Result A Stop) → IsCausedInMemory r → IsCaused h (named store) r
+  pub caused_from_memory : (store : Option (Bor (List ℕ))) → store ≡ None → KeepsStores h → (r : Result A Stop)
+      → IsCausedInMemory r → IsCaused h (named store) r
   caused_from_memory store none kept r k = caused_at store None none r (caused_without kept r k)
 
   -- at the exit of a `?`, of a host that is not touched
-  pub caused_before : (store : Option (List ℕ)) (r : Result A Stop) (reason : Reason) → IsErrAnd r (λ e. e ≡ Before reason) → KeepsStores h → IsCaused h store r
+  pub caused_before : (store : Option (List ℕ)) (r : Result A Stop) (reason : Reason)
+      → IsErrAnd r (λ e. e ≡ Before reason) → KeepsStores h → IsCaused h store r
   caused_before store (Ok a) reason is k = absurd is
-  caused_before store (Err e) reason is k = subst (λ (x : Stop). let r : Result A Stop = Err x in IsCaused h store r) (sym is) k
+  caused_before store (Err e) reason is k = subst (λ (x : Stop). let r : Result A Stop = Err x in IsCaused h store r)
+      (sym is) k

@@ -1,4 +1,5 @@
--- What is stored was read under the policy and the schemes, and was checked under the policy where it has a certificate.
+-- What is stored was read under the policy and the schemes, and was checked under the policy where it has a
+-- certificate.
 use Rattle.std.proofs.Common.{◌≡◌, List, [], ◌∷◌, Option, Some, None, Ok, Err, sym, subst, ap, ◌∙◌}
 use Rattle.std.specs.List.{AllByRecursion}
 use Rattle.mls_lattice.specs.Policy.{Policy}
@@ -33,18 +34,25 @@ module _ (policy : Policy) where
   made_under (Some cert) tx (Certified k) h = h.2
   made_under (Some cert) tx (Plain t) h = tt
 
-  pub stored_read : (schemes : Schemes) (blocks : List Block) (txs : List Tx) (ss : List Stored) → AllByRecursion (IsReadUnder policy schemes) txs → AreStoredWith policy blocks txs ss → AreRead (record { policy = policy; schemes = schemes; stored = ss })
+  pub stored_read : (schemes : Schemes) (blocks : List Block) (txs : List Tx) (ss : List Stored)
+      → AllByRecursion (IsReadUnder policy schemes) txs → AreStoredWith policy blocks txs ss
+      → AreRead (record { policy = policy; schemes = schemes; stored = ss })
   stored_read schemes blocks [] [] read h = tt
   stored_read schemes blocks [] (s ∷ ss) read h = absurd h
   stored_read schemes blocks (tx ∷ txs) [] read h = absurd h
-  stored_read schemes blocks (tx ∷ txs) (s ∷ ss) read h =
-      (subst (IsReadUnder policy schemes) (sym (same_tx (cert_named blocks tx.name) tx s h.0)) read.0, stored_read schemes blocks txs ss read.1 h.1)
+  stored_read schemes blocks (tx ∷ txs) (s ∷ ss) read h = (
+    subst (IsReadUnder policy schemes) (sym (same_tx (cert_named blocks tx.name) tx s h.0)) read.0,
+    stored_read schemes blocks txs ss read.1 h.1,
+  )
 
-  all_made : (blocks : List Block) (txs : List Tx) (ss : List Stored) → AreStoredWith policy blocks txs ss → AllByRecursion (IsMadeUnder policy) ss
+  all_made : (blocks : List Block) (txs : List Tx) (ss : List Stored) → AreStoredWith policy blocks txs ss
+      → AllByRecursion (IsMadeUnder policy) ss
   all_made blocks [] [] h = tt
   all_made blocks [] (s ∷ ss) h = absurd h
   all_made blocks (tx ∷ txs) [] h = absurd h
   all_made blocks (tx ∷ txs) (s ∷ ss) h = (made_under (cert_named blocks tx.name) tx s h.0, all_made blocks txs ss h.1)
 
-  pub stored_certified : (schemes : Schemes) (blocks : List Block) (txs : List Tx) (ss : List Stored) → AreStoredWith policy blocks txs ss → AreCertified (record { policy = policy; schemes = schemes; stored = ss })
-  stored_certified schemes blocks txs ss h = made_certified (record { policy = policy; schemes = schemes; stored = ss }) (all_made blocks txs ss h)
+  pub stored_certified : (schemes : Schemes) (blocks : List Block) (txs : List Tx) (ss : List Stored)
+      → AreStoredWith policy blocks txs ss → AreCertified (record { policy = policy; schemes = schemes; stored = ss })
+  stored_certified schemes blocks txs ss h = made_certified (record { policy = policy; schemes = schemes; stored = ss })
+      (all_made blocks txs ss h)

@@ -26,7 +26,8 @@ tally_told t =
     ++ codes " done, " ++ decimal t.refused ++ codes " refused, " ++ decimal t.misunderstood
     ++ codes " not understood\n"
 
--- a text by which more is told where somebody reads standard error, to explain what was refused: any text there, and none
+-- a text by which more is told where somebody reads standard error, to explain what was refused: any text there, and
+-- none
 -- elsewhere
 pub record IsMore (is_watched : Bool) (Then : List ℕ → Type 0) : Type 0 where
   pub more : List ℕ

@@ -83,7 +83,8 @@ program =
 -- a command of its own for each task
 abbrev pub command_line : App
 command_line =
-    with_subcommand (with_subcommand (with_subcommand (with_subcommand (with_subcommand (with_subcommand (with_subcommand
+    with_subcommand (with_subcommand (with_subcommand
+    (with_subcommand (with_subcommand (with_subcommand (with_subcommand
     (with_subcommand program run.top) shell.top) serve.top) turn.top) show_policy.top) certify.top) check.top) explain.top
 
 -- ---- jobs
@@ -105,9 +106,11 @@ is_flag_set (Some t) = bytes_eq t (codes "true")
 abbrev pub IsTask : Text → List Row → Task → Type 0
 IsTask name rows ShowPolicy = name ≡ codes "show-policy"
 IsTask name rows (Run at is_table) =
-    (name ≡ codes "run") × (named at ≡ first_of (codes "at") rows) × (is_table ≡ is_flag_set (first_of (codes "table") rows))
+    (name ≡ codes "run") × (named at ≡ first_of (codes "at") rows)
+    × (is_table ≡ is_flag_set (first_of (codes "table") rows))
 IsTask name rows (Shell label user) =
-    (name ≡ codes "shell") × (Some label.now ≡ first_of (codes "LABEL") rows) × (Some user.now ≡ first_of (codes "USER") rows)
+    (name ≡ codes "shell") × (Some label.now ≡ first_of (codes "LABEL") rows)
+    × (Some user.now ≡ first_of (codes "USER") rows)
 IsTask name rows Serve = name ≡ codes "serve"
 IsTask name rows (Turn at) =
     (name ≡ codes "turn") × (named at ≡ first_of (codes "at") rows) × (is_some (first_of (codes "store") rows) ≡ true)

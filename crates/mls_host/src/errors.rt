@@ -9,7 +9,8 @@ use crate::usage::Usage;
 use mls_tokens::{WriteFault, write_bytes};
 use std::io::Write;
 
-/// Where a command tells what it refuses. A failure of the writer changes nothing but what is promised of it: what was told is
+/// Where a command tells what it refuses. A failure of the writer changes nothing but what is promised of it: what was
+/// told is
 /// written whole unless a write failed, and a fault of this writer stands for that, which nothing but a write makes.
 /// No contract of a writer tells a refused write from one that was never made. It names the type of its writer, so no
 /// fault comes from another that always fails. A text is handed over in parts, since what can be shown may fail by

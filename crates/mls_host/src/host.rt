@@ -53,9 +53,12 @@ pub enum StoreCause {
 
 /// Where inputs come from, and where stores are.
 ///
-/// Contracts see which bytes a host gives for the file at a path, and, with no path, for the standard input, and why it gives none;
-/// what is typed there, whether reading that may fail, and whether it is a terminal, as standard error may be; what the store at a path
-/// keeps, and why it was not opened; which bytes its files are shown to have, and why they are not shown; and of the store which it took back last, whether it was
+/// Contracts see which bytes a host gives for the file at a path, and, with no path, for the standard input, and why it
+/// gives none;
+/// what is typed there, whether reading that may fail, and whether it is a terminal, as standard error may be; what the
+/// store at a path
+/// keeps, and why it was not opened; which bytes its files are shown to have, and why they are not shown; and of the
+/// store which it took back last, whether it was
 /// clean, whether a call of it failed, and whether it was closed.
 /// Why a store was not opened is asked of the host that has tried to: only what was found then tells it.
 /// Whether a call of the store failed is asked of the store that it took back last, and not how many; the failed calls
@@ -93,7 +96,8 @@ pub trait Host {
     fn is_watched(&self) -> bool
         ensures { result ≡ (hosting self.now).is_watched };
 
-    /// Opens the store at a path, which is made where there is none. What it kept is taken as it was, or, where these files are later
+    /// Opens the store at a path, which is made where there is none. What it kept is taken as it was, or, where these
+    /// files are later
     /// ones than its own, with its relations widened. One that is refused keeps what it kept.
     fn store(
         &mut self,
@@ -126,11 +130,13 @@ pub trait Host {
         ensures closed { (hosting self.new).is_unclosed ↔ IsErr result };
 }
 
-/// All bytes of a reader, where they are at most `MOST_BYTES`. `TooLong` where there are more; a reader that fails tells nobody why.
+/// All bytes of a reader, where they are at most `MOST_BYTES`. `TooLong` where there are more; a reader that fails
+/// tells nobody why.
 pub fn read_whole<R: Read + Drop>(alloc: Global, reader: R) -> Result<Vec<u8>, HostFault>
     ensures bound { IfOk result (λ bytes. length bytes.items ≤ 1048576) }
     ensures whole { IfOk result (λ bytes. IfSome (R.remaining reader) (λ all. bytes.items ≡ all)) }
-    ensures long { IfErr result (λ e. e ≡ HostFault.TooLong → IfSome (R.remaining reader) (λ all. 1048576 < length all)) }
+    ensures long { IfErr result (λ e. e ≡ HostFault.TooLong → IfSome (R.remaining reader) (λ all. 1048576
+        < length all)) }
 {
     let mut bytes = Vec::new(alloc);
     match reader.take(MOST_BYTES as u64 + 1).read_to_end(&mut bytes) {

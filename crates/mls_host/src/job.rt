@@ -8,7 +8,8 @@ use mls_lattice::{Items, LabelNo, Policy, Str};
 use mls_scheme::SchemesFile;
 use mls_translang::{Event, Tx};
 
-/// The policy and the schemes that a job is done under, and the label for which alone it prints, if there is one. The schemes have
+/// The policy and the schemes that a job is done under, and the label for which alone it prints, if there is one. The
+/// schemes have
 /// labels of the policy, and so is the reader one.
 #[derive(Drop)]
 pub struct Setting {

@@ -1,4 +1,5 @@
-//! The words of a command line, what a command asks of the machine that it runs on, what it reads of inputs, and what it refuses.
+//! The words of a command line, what a command asks of the machine that it runs on, what it reads of inputs, and what
+//! it refuses.
 #![tactic(auto)]
 
 mod ending;

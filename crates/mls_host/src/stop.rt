@@ -108,7 +108,8 @@ fn tell_turned<W: Write>(err: &mut W, cause: RunCause, is_closed: bool) -> Resul
 }
 
 impl Stop {
-    /// The exit status: 2 where an input was refused, 1 where a line of a desk was not read, 3 for store, writing and memory.
+    /// The exit status: 2 where an input was refused, 1 where a line of a desk was not read, 3 for store, writing and
+    /// memory.
     pub fn status(&self) -> u8
         ensures { result ≡ stop_status self.now }
     {

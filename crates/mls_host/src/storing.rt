@@ -44,7 +44,8 @@ fn stored_with(policy: &Policy, blocks: &[(Str, Certificate)], tx: Tx) -> Result
     }
 }
 
-/// Transactions as they are stored, in order: each with the first certificate of its name where that holds for it under the policy.
+/// Transactions as they are stored, in order: each with the first certificate of its name where that holds for it under
+/// the policy.
 /// Certificates of other names are ignored.
 /// A certificate is copied for its transaction, so that the blocks of a file are lent.
 pub fn stored_of(

@@ -150,7 +150,8 @@ const STORED_TRANSACTIONS: &str = "The stored transactions, which the script can
 
 const STORED_CERTIFICATES: &str = "Their certificates: without one that holds, no call is allowed";
 
-/// The files that a command names, beside those of its policy and schemes; a run without a script reads it from standard input.
+/// The files that a command names, beside those of its policy and schemes; a run without a script reads it from
+/// standard input.
 #[derive(Clone, Copy)]
 pub struct Files<'a> {
     pub store: Option<&'a str>,

@@ -48,10 +48,13 @@ has_map f [] x (k, within, is) = absurd (omega (arith, within))
 has_map f (y ∷ xs) x (zero, within, is) = subst (λ z. Contains (map f (y ∷ xs)) (f z)) is (here (f y) (map f xs))
 has_map f (y ∷ xs) x (suc k, within, is) = there (f y) (f x) (map f xs) (has_map f xs x (k, omega (arith, within), is))
 
-has_flat : {X Y : Type 0} (f : X → List Y) (xs : List X) (x : X) (y : Y) → Contains xs x → Contains (f x) y → Contains (flat_map f xs) y
+has_flat : {X Y : Type 0} (f : X → List Y) (xs : List X) (x : X) (y : Y) → Contains xs x → Contains (f x) y
+    → Contains (flat_map f xs) y
 has_flat f [] x y (k, within, is) has = absurd (omega (arith, within))
-has_flat f (z ∷ xs) x y (zero, within, is) has = Contains-append_left (f z) (flat_map f xs) y (subst (λ w. Contains (f w) y) (sym is) has)
-has_flat f (z ∷ xs) x y (suc k, within, is) has = Contains-append_right (f z) (flat_map f xs) y (has_flat f xs x y (k, omega (arith, within), is) has)
+has_flat f (z ∷ xs) x y (zero, within, is) has = Contains-append_left (f z) (flat_map f xs) y
+    (subst (λ w. Contains (f w) y) (sym is) has)
+has_flat f (z ∷ xs) x y (suc k, within, is) has = Contains-append_right (f z) (flat_map f xs) y
+    (has_flat f xs x y (k, omega (arith, within), is) has)
 
 pub long_map : {X Y : Type 0} (f : X → Y) (xs : List X) → length (map f xs) ≡ length xs
 long_map f [] = refl
@@ -73,8 +76,10 @@ long_joined (h ∷ heads) tails =
     let more = long_joined heads tails in
     omega (arith, whole, first, more)
 
-has_joined : (heads tails : List (List Item)) (h t : List Item) → Contains heads h → Contains tails t → Contains (joined heads tails) (h ++ t)
-has_joined heads tails h t one two = has_flat (λ h. map (λ t. h ++ t) tails) heads h (h ++ t) one (has_map (λ t. h ++ t) tails t two)
+has_joined : (heads tails : List (List Item)) (h t : List Item) → Contains heads h → Contains tails t
+    → Contains (joined heads tails) (h ++ t)
+has_joined heads tails h t one two = has_flat (λ h. map (λ t. h ++ t) tails) heads h (h ++ t) one
+    (has_map (λ t. h ++ t) tails t two)
 
 -- products, one by one
 times_more : (a b c : ℕ) → a ≤ b → a * c ≤ b * c
@@ -108,7 +113,8 @@ times_one (suc a) = let more = times_one a in omega (arith, more)
 -- ---- releases of a block
 
 -- as many are told as there are
-long_told : (looped : Bool) (block : Block) (told : List Told) (xs zs : List Item) → CanRelease looped block told xs zs → length told ≡ releases block
+long_told : (looped : Bool) (block : Block) (told : List Told) (xs zs : List Item) → CanRelease looped block told xs zs
+    → length told ≡ releases block
 long_told looped End told xs zs h = ap length h.0
 long_told looped (Do (Assign x e) rest) told xs zs h = long_told looped rest told xs zs h
 long_told looped (Do (Write_at relation w writing outcome) rest) told xs zs h = long_told looped rest told xs zs h
@@ -118,32 +124,39 @@ long_told looped (Do (Release e to into) rest) told xs zs (range, more, is, v, v
     let rest_is = long_told looped rest more (xs ++ (to, v) ∷ []) zs h in
     omega (arith, all, rest_is)
 long_told looped (If guard one other rest) told xs zs (a, b, more, is, taken, x, y, h, k, l) =
-    ap length is ∙ long_append (a ++ b) more ∙ (λ i. (long_append a b ∙ (λ j. long_told looped one a xs x h j + long_told looped other b xs y k j)) i + long_told looped rest more (if taken then x else y) zs l i)
+    ap length is ∙ long_append (a ++ b) more ∙
+    (λ i. (long_append a b ∙ (λ j. long_told looped one a xs x h j + long_told looped other b xs y k j)) i + long_told looped rest more (if taken then x else y) zs l i)
 long_told looped (For row relation label body rest) told xs zs (a, more, is, x, y, h, turns, ys, repeats, l) =
     ap length is ∙ long_append a more ∙ (λ i. long_told true body a x y h i + long_told looped rest more ys zs l i)
 
-repeats_none : (Goes : List Item → List Item → Type 0) → ((xs zs : List Item) → Goes xs zs → zs ≡ xs) → (n : ℕ) (xs zs : List Item) → Repeats Goes n xs zs → zs ≡ xs
+repeats_none : (Goes : List Item → List Item → Type 0) → ((xs zs : List Item) → Goes xs zs → zs ≡ xs)
+    → (n : ℕ) (xs zs : List Item) → Repeats Goes n xs zs → zs ≡ xs
 repeats_none Goes none zero xs zs h = h
 repeats_none Goes none (suc n) xs zs (ys, first, rest) = repeats_none Goes none n ys zs rest ∙ none xs ys first
 
 -- where nothing is told nothing is released
-none_released : (looped : Bool) (block : Block) (told : List Told) → told ≡ [] → (xs zs : List Item) → CanRelease looped block told xs zs → zs ≡ xs
+none_released : (looped : Bool) (block : Block) (told : List Told) → told ≡ [] → (xs zs : List Item)
+    → CanRelease looped block told xs zs → zs ≡ xs
 none_released looped End told none xs zs h = h.1
 none_released looped (Do (Assign x e) rest) told none xs zs h = none_released looped rest told none xs zs h
-none_released looped (Do (Write_at relation w writing outcome) rest) told none xs zs h = none_released looped rest told none xs zs h
+none_released looped (Do (Write_at relation w writing outcome) rest) told none xs zs h =
+    none_released looped rest told none xs zs h
 none_released looped (Do (Emit e label) rest) told none xs zs h = none_released looped rest told none xs zs h
-none_released looped (Do (Release e to into) rest) told none xs zs (range, more, is, v, value, h) = absurd (nil_cons _ more (sym none ∙ is))
+none_released looped (Do (Release e to into) rest) told none xs zs (range, more, is, v, value, h) =
+    absurd (nil_cons _ more (sym none ∙ is))
 none_released looped (If guard one other rest) told none xs zs (a, b, more, is, taken, x, y, h, k, l) =
     let outer = both_nil (a ++ b) more (sym none ∙ is) in
     let inner = both_nil a b (sym outer.0) in
-    none_released looped rest more outer.1 (if taken then x else y) zs l ∙ either taken (none_released looped one a inner.0 xs x h) (none_released looped other b inner.1 xs y k)
+    none_released looped rest more outer.1 (if taken then x else y) zs l ∙ either taken
+    (none_released looped one a inner.0 xs x h) (none_released looped other b inner.1 xs y k)
   where
     either : (taken : Bool) → x ≡ xs → y ≡ xs → (if taken then x else y) ≡ xs
     either true one two = one
     either false one two = two
 none_released looped (For row relation label body rest) told none xs zs (a, more, is, x, y, h, turns, ys, repeats, l) =
     let both = both_nil a more (sym none ∙ is) in
-    none_released looped rest more both.1 ys zs l ∙ repeats_none (CanRelease true body a) (none_released true body a both.0) turns xs ys repeats
+    none_released looped rest more both.1 ys zs l ∙ repeats_none (CanRelease true body a)
+    (none_released true body a both.0) turns xs ys repeats
 
 -- ---- from a block to a rest of it
 
@@ -155,14 +168,16 @@ is_nil [] = inl refl
 is_nil (x ∷ xs) = inr (λ e. nil_cons x xs (sym e))
 
 -- the lists of a block alone
-lists_alone : {looped : Bool} {block : Block} {told : List Told} {count : ℕ} → Multiplies looped block End told count → count < uncounted
+lists_alone : {looped : Bool} {block : Block} {told : List Told} {count : ℕ} → Multiplies looped block End told count
+    → count < uncounted
     → (all : List (List Item)) × (length all ≤ count) × HasLists looped block told all
 lists_alone {looped} {block} {told} {count} m counted =
     let it = m.lists counted [] ([] ∷ []) (over looped) in
     let one = times_one count in
     (it.0, omega (arith, it.1, one), subst (λ t. HasLists looped block t it.0) (append-nil told) it.2)
 
-pub multiplies_none : {looped : Bool} {block rest : Block} → ((told : List Told) (xs zs : List Item) → CanRelease looped block told xs zs → CanRelease looped rest told xs zs) → releases block ≡ releases rest
+pub multiplies_none : {looped : Bool} {block rest : Block} → ((told : List Told) (xs zs : List Item)
+    → CanRelease looped block told xs zs → CanRelease looped rest told xs zs) → releases block ≡ releases rest
     → Multiplies looped block rest [] 1
 multiplies_none same long = record {
   some = omega arith;
@@ -172,7 +187,8 @@ multiplies_none same long = record {
   lists = λ counted more lists has. (lists, omega arith, λ xs zs h. has xs zs (same more xs zs h));
 }
 
-pub multiplies_then : {looped : Bool} {block mid rest : Block} {one two : List Told} {m n count : ℕ} → Multiplies looped block mid one m → Multiplies looped mid rest two n → count ≡ min (m * n) uncounted
+pub multiplies_then : {looped : Bool} {block mid rest : Block} {one two : List Told} {m n count : ℕ}
+    → Multiplies looped block mid one m → Multiplies looped mid rest two n → count ≡ min (m * n) uncounted
     → Multiplies looped block rest (one ++ two) count
 multiplies_then {looped} {block} {mid} {rest} {one} {two} {m} {n} {count} first next is =
     let m_some = first.some in
@@ -199,26 +215,36 @@ multiplies_then {looped} {block} {mid} {rest} {one} {two} {m} {n} {count} first 
           let b = first.lists (omega (arith, is, counted, m_within, m_one)) (two ++ more) a.0 a.2 in
           let whole : count ≡ m * n = omega (arith, is, counted) in
           let wider = more_times m (length a.0) (n * length lists) a.1 in
-          let product : m * (n * length lists) ≡ count * length lists = sym (times_times m n (length lists)) ∙ ap (λ k. k * length lists) (sym whole) in
-          (b.0, omega (arith, b.1, wider, product), subst (λ t. HasLists looped block t b.0) (sym (append_assoc one two more)) b.2);
+          let product : m * (n * length lists) ≡ count * length lists = sym (times_times m n (length lists))
+          ∙ ap (λ k. k * length lists) (sym whole) in (
+            b.0,
+            omega (arith, b.1, wider, product),
+            subst (λ t. HasLists looped block t b.0)
+                (sym (append_assoc one two more)) b.2,
+          );
     }
 
 module _ (this : Told) (count : ℕ) (some : 1 ≤ count) (many : this.looped ≡ true → count ≡ uncounted)
-    (few : this.looped ≡ false → count < uncounted → (values : List (Option Value)) × (length values ≤ count) × HasValues this.range values) where
+    (few : this.looped ≡ false → count < uncounted → (values : List (Option Value)) × (length values ≤ count)
+    × HasValues this.range values) where
   -- each value, and each list of the rest behind it
-  released : (looped : Bool) (e : Expr) (rest : Block) → this.looped ≡ looped → (values : List (Option Value)) → HasValues this.range values → (more : List Told) (lists : List (List Item)) → HasLists looped rest more lists
-      → HasLists looped (Do (Release e this.to this.into) rest) (this ∷ more) (joined (map (λ v. (this.to, v) ∷ []) values) lists)
+  released : (looped : Bool) (e : Expr) (rest : Block) → this.looped ≡ looped → (values : List (Option Value))
+      → HasValues this.range values → (more : List Told) (lists : List (List Item)) → HasLists looped rest more lists
+      → HasLists looped (Do (Release e this.to this.into) rest) (this ∷ more)
+      (joined (map (λ v. (this.to, v) ∷ []) values) lists)
   released looped e rest at values has more lists all xs zs (range, behind, is, v, value, h) =
       let same : this.range ≡ range = ap (λ (t : Told). t.range) (cons_first this _ more behind is) in
       let rest_is : more ≡ behind = cons_rest this _ more behind is in
-      let l = all (xs ++ (this.to, v) ∷ []) zs (subst (λ t. CanRelease looped rest t (xs ++ (this.to, v) ∷ []) zs) (sym rest_is) h) in
+      let l = all (xs ++ (this.to, v) ∷ []) zs (subst (λ t. CanRelease looped rest t (xs ++ (this.to, v) ∷ []) zs)
+      (sym rest_is) h) in
       let item = has_map (λ v. (this.to, v) ∷ []) values v (has v (subst (λ r. Admits r v) (sym same) value)) in (
         (this.to, v) ∷ l.0,
         has_joined (map (λ v. (this.to, v) ∷ []) values) lists ((this.to, v) ∷ []) l.0 item l.1,
         l.2 ∙ append_assoc xs ((this.to, v) ∷ []) l.0,
       )
 
-  pub multiplies_release : (e : Expr) (rest : Block) → Multiplies this.looped (Do (Release e this.to this.into) rest) rest (this ∷ []) count
+  pub multiplies_release : (e : Expr) (rest : Block)
+      → Multiplies this.looped (Do (Release e this.to this.into) rest) rest (this ∷ []) count
   multiplies_release e rest = record {
     some = some;
     long = refl;
@@ -228,36 +254,54 @@ module _ (this : Told) (count : ℕ) (some : 1 ≤ count) (many : this.looped �
       | inl in_loop ↦ absurd (omega (arith, many in_loop, counted))
       | inr once ↦
           let values = few once counted in
-          let long = long_joined (map (λ v. (this.to, v) ∷ []) values.0) lists ∙ ap (λ k. k * length lists) (long_map (λ v. (this.to, v) ∷ []) values.0) in
-          let wider = times_more (length values.0) count (length lists) values.1 in
-          (joined (map (λ v. (this.to, v) ∷ []) values.0) lists, omega (arith, long, wider), released this.looped e rest refl values.0 values.2 more lists has)
+          let long = long_joined (map (λ v. (this.to, v) ∷ []) values.0) lists ∙ ap (λ k. k * length lists)
+          (long_map (λ v. (this.to, v) ∷ []) values.0) in
+          let wider = times_more (length values.0) count (length lists) values.1 in (
+            joined (map (λ v. (this.to, v) ∷ []) values.0) lists,
+            omega (arith, long, wider),
+            released this.looped e rest refl values.0 values.2 more lists has,
+          )
     ];
   }
 
-module _ {looped : Bool} {one other : Block} {a b : List Told} {m n count : ℕ} (first : Multiplies looped one End a m) (second : Multiplies looped other End b n)
+module _ {looped : Bool} {one other : Block} {a b : List Told} {m n count : ℕ} (first : Multiplies looped one End a m)
+    (second : Multiplies looped other End b n)
     (none : a ++ b ≡ [] → count ≡ m) (many : ¬ (a ++ b ≡ []) → count ≡ min (m + n) uncounted) where
   -- what is told of the blocks is told of each in its place
-  split : (a' b' more behind : List Told) (xs x y : List Item) → CanRelease looped one a' xs x → CanRelease looped other b' xs y → (a ++ b) ++ more ≡ (a' ++ b') ++ behind → (a ≡ a') × ((b ≡ b') × (more ≡ behind))
+  split : (a' b' more behind : List Told) (xs x y : List Item) → CanRelease looped one a' xs x
+      → CanRelease looped other b' xs y → (a ++ b) ++ more ≡ (a' ++ b') ++ behind → (a ≡ a')
+      × ((b ≡ b') × (more ≡ behind))
   split a' b' more behind xs x y h k is =
       let long_a = long_told looped one a' xs x h in
       let long_b = long_told looped other b' xs y k in
       let whole = long_append a b in
       let whole' = long_append a' b' in
-      let outer = same_front (a ++ b) (a' ++ b') more behind (omega (arith, whole, whole', long_a, long_b, first.long, second.long)) is in
+      let outer = same_front (a ++ b) (a' ++ b') more behind (omega (
+        arith,
+        whole,
+        whole',
+        long_a,
+        long_b,
+        first.long,
+        second.long,
+      )) is in
       let inner = same_front a a' b b' (omega (arith, long_a, first.long)) outer.0 in
       (inner.0, (inner.1, outer.1))
 
-  module _ (guard : Expr) (rest : Block) (more : List Told) (lists : List (List Item)) (has : HasLists looped rest more lists) where
+  module _ (guard : Expr) (rest : Block) (more : List Told) (lists : List (List Item))
+      (has : HasLists looped rest more lists) where
     silent : a ++ b ≡ [] → HasLists looped (If guard one other rest) ((a ++ b) ++ more) lists
     silent empty xs zs (a', b', behind, is, taken, x, y, h, k, l) =
         let same = split a' b' more behind xs x y h k is in
         let nil = both_nil a b (sym empty) in
         let stay_x = none_released looped one a' (sym same.0 ∙ nil.0) xs x h in
         let stay_y = none_released looped other b' (sym same.1.0 ∙ nil.1) xs y k in
-        let stays : (taken : Bool) → (if taken then x else y) ≡ xs = λ t. elim t as (λ t. (if t then x else y) ≡ xs) [ true ↦ stay_x | false ↦ stay_y ] in
+        let stays : (taken : Bool) → (if taken then x else y) ≡ xs = λ t. elim t as (λ t. (if t then x else y)
+        ≡ xs) [ true ↦ stay_x | false ↦ stay_y ] in
         has xs zs (subst₂ (λ t from. CanRelease looped rest t from zs) (sym same.1.1) (stays taken) l)
 
-    either : (A B : List (List Item)) → HasLists looped one a A → HasLists looped other b B → HasLists looped (If guard one other rest) ((a ++ b) ++ more) (joined (A ++ B) lists)
+    either : (A B : List (List Item)) → HasLists looped one a A → HasLists looped other b B
+        → HasLists looped (If guard one other rest) ((a ++ b) ++ more) (joined (A ++ B) lists)
     either A B has_a has_b xs zs (a', b', behind, is, taken, x, y, h, k, l) =
         let same = split a' b' more behind xs x y h k is in
         let one_is = has_a xs x (subst (λ t. CanRelease looped one t xs x) (sym same.0) h) in
@@ -268,7 +312,8 @@ module _ {looped : Bool} {one other : Block} {a b : List Told} {m n count : ℕ}
           | false ↦ (other_is.0, Contains-append_right A B other_is.0 other_is.1, other_is.2)
         ] in
         let here_is = branch taken in
-        let rest_is = has (if taken then x else y) zs (subst (λ t. CanRelease looped rest t (if taken then x else y) zs) (sym same.1.1) l) in (
+        let rest_is = has (if taken then x else y) zs (subst (λ t. CanRelease looped rest t (if taken then x else y) zs)
+        (sym same.1.1) l) in (
           here_is.0 ++ rest_is.0,
           has_joined (A ++ B) lists here_is.0 rest_is.0 here_is.1 rest_is.1,
           rest_is.2 ∙ ap (λ from. from ++ rest_is.0) here_is.2 ∙ append_assoc xs here_is.0 rest_is.0,
@@ -278,7 +323,14 @@ module _ {looped : Bool} {one other : Block} {a b : List Told} {m n count : ℕ}
   multiplies_if guard rest =
       let m_some = first.some in
       let n_some = second.some in record {
-        some = elim (is_nil (a ++ b)) [ inl empty ↦ omega (arith, none empty, m_some) | inr full ↦ omega (arith, many full, m_some) ];
+        some = elim (is_nil (a ++ b)) [
+          | inl empty ↦ omega (arith, none empty, m_some)
+          | inr full ↦ omega (
+            arith,
+            many full,
+            m_some,
+          )
+        ];
         long = let lengths = long_append a b in omega (arith, lengths, first.long, second.long);
         nothing = λ empty. none empty ∙ first.nothing (both_nil a b (sym empty)).0;
         loops = λ e. elim (is_nil (a ++ b)) [
@@ -302,17 +354,26 @@ module _ {looped : Bool} {one other : Block} {a b : List Told} {m n count : ℕ}
               let B = lists_alone second (omega (arith, count_is, counted)) in
               let long = long_joined (A.0 ++ B.0) lists in
               let size = long_append A.0 B.0 in
-              let wider = times_more (length (A.0 ++ B.0)) count (length lists) (omega (arith, size, A.1, B.1, count_is)) in
+              let wider = times_more (length (A.0 ++ B.0)) count (length lists) (omega (
+                arith,
+                size,
+                A.1,
+                B.1,
+                count_is,
+              )) in
               (joined (A.0 ++ B.0) lists, omega (arith, long, wider), either guard rest more lists has A.0 B.0 A.2 B.2)
         ];
       }
 
-module _ {body : Block} {a : List Told} {count : ℕ} (inside : Multiplies true body End a count) (row : List ℕ) (relation label : ℕ) (rest : Block) where
-  turns : (looped : Bool) (more : List Told) (lists : List (List Item)) → HasLists looped rest more lists → a ≡ [] → HasLists looped (For row relation label body rest) (a ++ more) lists
+module _ {body : Block} {a : List Told} {count : ℕ} (inside : Multiplies true body End a count) (row : List ℕ)
+    (relation label : ℕ) (rest : Block) where
+  turns : (looped : Bool) (more : List Told) (lists : List (List Item)) → HasLists looped rest more lists → a ≡ []
+      → HasLists looped (For row relation label body rest) (a ++ more) lists
   turns looped more lists has empty xs zs (a', behind, is, x, y, h, times, ys, repeats, l) =
       let long = long_told true body a' x y h in
       let same = same_front a a' more behind (omega (arith, long, inside.long)) is in
-      let stays = repeats_none (CanRelease true body a') (none_released true body a' (sym same.0 ∙ empty)) times xs ys repeats in
+      let stays = repeats_none (CanRelease true body a') (none_released true body a'
+      (sym same.0 ∙ empty)) times xs ys repeats in
       has xs zs (subst₂ (λ t from. CanRelease looped rest t from zs) (sym same.1) stays l)
 
   pub multiplies_for : {looped : Bool} → Multiplies looped (For row relation label body rest) rest a count
@@ -332,7 +393,8 @@ module _ {body : Block} {a : List Told} {count : ℕ} (inside : Multiplies true 
 -- ---- a whole transaction
 
 -- so many lists at most, as a reader sees them
-pub all_lists : (tx : Tx) {told : List Told} {count : ℕ} → Multiplies false tx.body End told count → count < uncounted → (policy : Policy) (schemes : Schemes) (c : ℕ)
+pub all_lists : (tx : Tx) {told : List Told} {count : ℕ} → Multiplies false tx.body End told count → count < uncounted
+    → (policy : Policy) (schemes : Schemes) (c : ℕ)
     → (lists : List (List Item)) × (length lists ≤ count) × HasAll policy schemes tx c told lists
 all_lists tx {told} {count} m counted policy schemes c =
     let it = lists_alone m counted in

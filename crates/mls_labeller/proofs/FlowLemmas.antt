@@ -39,12 +39,16 @@ module _ (c : Claim) where
   }
 
   -- those of the transaction itself raise none
-  ends_bounded : {A : Type 0} (label : A → ℕ) (r : Rule) (xs : List A) → AllByRecursion Bounded (by 0 r (flat_map (λ x. within_ends (label x)) xs))
+  ends_bounded : {A : Type 0} (label : A → ℕ) (r : Rule) (xs : List A)
+      → AllByRecursion Bounded (by 0 r (flat_map (λ x. within_ends (label x)) xs))
   ends_bounded label r [] = tt
   ends_bounded label r (x ∷ xs) = (tt, (tt, ends_bounded label r xs))
 
   pub all_bounded : AllByRecursion Bounded (body_lines c.tx) → AllByRecursion Bounded (lines c.tx)
-  all_bounded h = all_append Bounded (tx_lines c.tx) (body_lines c.tx) (tt, ends_bounded (λ p. p.1.label) rule.Context c.tx.params) h
+  all_bounded h = all_append Bounded (tx_lines c.tx) (body_lines c.tx) (
+    tt,
+    ends_bounded (λ p. p.1.label) rule.Context c.tx.params,
+  ) h
 
   pub body_bounded : AllByRecursion Bounded (lines c.tx) → AllByRecursion Bounded (body_lines c.tx)
   body_bounded h = all_back Bounded (tx_lines c.tx) (body_lines c.tx) h
@@ -65,7 +69,8 @@ module _ (ls : Labels) (tx : Tx) (x y : Certificate) where
     source_falls (Declared label) = Dominates-refl _
 
     pub over_falls : (p : Pair) (ss : List Source) → IsAbove cy p ss → IsAbove cx p ss
-    over_falls p ss h = all_if (λ s. Dominates p (source_label cy s)) (λ s. Dominates p (source_label cx s)) (λ s d. Dominates-trans p (source_label cy s) (source_label cx s) d (source_falls s)) ss h
+    over_falls p ss h = all_if (λ s. Dominates p (source_label cy s)) (λ s. Dominates p (source_label cx s))
+        (λ s d. Dominates-trans p (source_label cy s) (source_label cx s) d (source_falls s)) ss h
 
     flow_falls : (f : Flow) → IsBounded cx f → IsObeyed cy f → IsObeyed cx f
     flow_falls (Into ts ss) h g = h
@@ -77,5 +82,6 @@ module _ (ls : Labels) (tx : Tx) (x y : Certificate) where
     lesser_obey m r = record {
       var_count = m.var_count;
       stmt_count = m.stmt_count;
-      lines = all_zip (λ line. IsBounded cx line.flow) (λ line. IsObeyed cy line.flow) (λ line. IsObeyed cx line.flow) (λ line. flow_falls line.flow) (lines tx) m.bounds r.lines;
+      lines = all_zip (λ line. IsBounded cx line.flow) (λ line. IsObeyed cy line.flow) (λ line. IsObeyed cx line.flow)
+          (λ line. flow_falls line.flow) (lines tx) m.bounds r.lines;
     }

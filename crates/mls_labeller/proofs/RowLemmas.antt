@@ -39,7 +39,8 @@ pub no_row : (rows : List (List Label)) (n : ℕ) → n ≤ 0 → row_after (cer
 no_row rows zero none = refl
 no_row rows (suc n) none = absurd (omega (arith, none))
 
-pub own_row : (rows : List (List Label)) (n : ℕ) → 0 < n → row_after (certificate version.Second rows) n ≡ get_or rows n []
+pub own_row : (rows : List (List Label)) (n : ℕ) → 0 < n → row_after (certificate version.Second rows) n
+    ≡ get_or rows n []
 own_row rows zero some = absurd (omega (arith, some))
 own_row rows (suc n) some = later_row rows n
 
@@ -63,19 +64,26 @@ length_at [] r = refl
 length_at (row ∷ rows) zero = refl
 length_at (row ∷ rows) (suc r) = length_at rows r
 
-all_lengths : (rows : List (List Label)) (count n : ℕ) → map length rows ≡ replicate count n → AllByRecursion (λ row. length row ≡ n) rows
+all_lengths : (rows : List (List Label)) (count n : ℕ) → map length rows ≡ replicate count n
+    → AllByRecursion (λ row. length row ≡ n) rows
 all_lengths [] count n e = tt
 all_lengths (row ∷ rows) zero n e = absurd cc
 all_lengths (row ∷ rows) (suc count) n e = (ap (λ l. get_or l 0 0) e, all_lengths rows count n (ap (drop 1) e))
 
-pub var_counts : (v : Version) (tx : Tx) (rows : List (List Label)) → map length rows ≡ counts_of v tx → AllByRecursion (λ row. length row ≡ length tx.vars) (var_rows (certificate v rows))
+pub var_counts : (v : Version) (tx : Tx) (rows : List (List Label)) → map length rows ≡ counts_of v tx
+    → AllByRecursion (λ row. length row ≡ length tx.vars) (var_rows (certificate v rows))
 var_counts version.First tx rows e = (length_at rows 1 ∙ (λ t. get_or (e t) 1 0), tt)
-var_counts version.Second tx rows e = all_lengths (drop 1 rows) (statements tx.body) (length tx.vars) (sym (drop-map length 1 rows) ∙ ap (drop 1) e)
+var_counts version.Second tx rows e = all_lengths (drop 1 rows) (statements tx.body) (length tx.vars)
+    (sym (drop-map length 1 rows) ∙ ap (drop 1) e)
 
-pub stmt_counts : (v : Version) (tx : Tx) (rows : List (List Label)) → map length rows ≡ counts_of v tx → Counts (statements tx.body) (certificate v rows)
+pub stmt_counts : (v : Version) (tx : Tx) (rows : List (List Label)) → map length rows ≡ counts_of v tx
+    → Counts (statements tx.body) (certificate v rows)
 stmt_counts version.First tx rows e = length_at rows 0 ∙ (λ t. get_or (e t) 0 0)
-stmt_counts version.Second tx rows e =
-    (sym (length-map (drop 1 rows) length) ∙ ap length (sym (drop-map length 1 rows) ∙ ap (drop 1) e) ∙ length-replicate (statements tx.body) (length tx.vars), length_at rows 0 ∙ (λ t. get_or (e t) 0 0))
+stmt_counts version.Second tx rows e = (
+  sym (length-map (drop 1 rows) length) ∙ ap length (sym (drop-map length 1 rows) ∙ ap (drop 1) e) ∙ length-replicate
+      (statements tx.body) (length tx.vars),
+  length_at rows 0 ∙ (λ t. get_or (e t) 0 0),
+)
 
 -- ---- a label and its place
 
@@ -96,13 +104,16 @@ module _ (rows : List (List Label)) (r i : ℕ) (new : Label) (lt : i < length (
   row = get_or rows r []
 
   row_put : map pair_of (get_or (put rows r i new) r []) ≡ set (map pair_of row) i (pair_of new)
-  row_put = ap (map pair_of) (get_or-set_same rows r (set row i new) [] (row_there rows r i lt)) ∙ map-set pair_of row i new
+  row_put = ap (map pair_of) (get_or-set_same rows r (set row i new) [] (row_there rows r i lt))
+      ∙ map-set pair_of row i new
 
   pub put_here : label_at (put rows r i new) r i ≡ pair_of new
-  put_here = (λ t. get_or (row_put t) i bottom) ∙ get_or-set_same (map pair_of row) i (pair_of new) bottom (omega (arith, lt, length-map row pair_of))
+  put_here = (λ t. get_or (row_put t) i bottom) ∙ get_or-set_same (map pair_of row) i (pair_of new) bottom
+      (omega (arith, lt, length-map row pair_of))
 
   put_beside : (j : ℕ) → (j ≡ i → ⊥) → label_at (put rows r i new) r j ≡ label_at rows r j
-  put_beside j other = (λ t. get_or (row_put t) j bottom) ∙ get_or-set_other (map pair_of row) i j (pair_of new) bottom other
+  put_beside j other = (λ t. get_or (row_put t) j bottom) ∙ get_or-set_other (map pair_of row) i j
+      (pair_of new) bottom other
 
   -- it is the place, or its label is as it was
   put_cases : (m j : ℕ) → ((m ≡ r) × (j ≡ i)) ⊎ (label_at (put rows r i new) m j ≡ label_at rows m j)
@@ -111,31 +122,39 @@ module _ (rows : List (List Label)) (r i : ℕ) (new : Label) (lt : i < length (
         | inl same ↦
             elim (cases_eq j i) [
               | inl equal ↦ inl (same, equal)
-              | inr other ↦ inr (ap (λ (k : ℕ). label_at (put rows r i new) k j) same ∙ put_beside j other ∙ ap (λ (k : ℕ). label_at rows k j) (sym same))
+              | inr other ↦ inr (ap (λ (k : ℕ). label_at (put rows r i new) k j) same ∙ put_beside j other
+                  ∙ ap (λ (k : ℕ). label_at rows k j) (sym same))
             ]
-        | inr other ↦ inr (ap (λ (l : List Label). get_or (map pair_of l) j bottom) (get_or-set_other rows r m (set row i new) [] other))
+        | inr other ↦ inr (ap (λ (l : List Label). get_or (map pair_of l) j bottom) (get_or-set_other rows r m
+            (set row i new) [] other))
       ]
 
   pub put_counts : map length (put rows r i new) ≡ map length rows
   put_counts = map-set_same length rows r (set row i new) [] (length-set row i new)
 
-  pub put_room : (p : Pair) → new.rank < 256 → new.cats < 2 ^ 32 → pair_of new ≡ join (label_at rows r i) p → (Dominates (label_at rows r i) p → ⊥) → room (put rows r i new) < room rows
+  pub put_room : (p : Pair) → new.rank < 256 → new.cats < 2 ^ 32 → pair_of new ≡ join (label_at rows r i) p
+      → (Dominates (label_at rows r i) p → ⊥) → room (put rows r i new) < room rows
   put_room p rank cats is above =
       let no_label : Label = record { rank = 0; cats = 0 } in
       let here = label_here row i no_label lt in
       sum_less _ rows r (set row i new) [] (row_there rows r i lt)
       (sum_less _ row i new no_label lt
-      (room_less (get_or row i no_label) new p rank cats (is ∙ ap (λ q. join q p) here) (λ h. above (subst (λ q. Dominates q p) (sym here) h))))
+      (room_less (get_or row i no_label) new p rank cats (is ∙ ap (λ q. join q p) here)
+      (λ h. above (subst (λ q. Dominates q p) (sym here) h))))
 
 -- ---- the label of a slot
 
-pub there : (tx : Tx) (v : Version) (t : Slot) → HasSlot tx t → (rows : List (List Label)) → map length rows ≡ counts_of v tx → (cell v t).1 < length (get_or rows (cell v t).0 [])
-there tx version.First (Variable n i) has rows counts = let long = length_at rows 1 ∙ (λ t. get_or (counts t) 1 0) in omega (arith, has.1, long)
+pub there : (tx : Tx) (v : Version) (t : Slot) → HasSlot tx t → (rows : List (List Label)) → map length rows
+    ≡ counts_of v tx → (cell v t).1 < length (get_or rows (cell v t).0 [])
+there tx version.First (Variable n i) has rows counts = let long = length_at rows 1 ∙ (λ t. get_or (counts t) 1 0)
+    in omega (arith, has.1, long)
 there tx version.Second (Variable zero i) has rows counts = absurd (omega (arith, has.0.0))
 there tx version.Second (Variable (suc n) i) has rows counts =
-    let long = length_at rows (suc n) ∙ (λ t. get_or (counts t) (suc n) 0) ∙ get_or-replicate (statements tx.body) n (length tx.vars) 0 (omega (arith, has.0.1)) in
+    let long = length_at rows (suc n) ∙ (λ t. get_or (counts t) (suc n) 0) ∙ get_or-replicate (statements tx.body) n
+    (length tx.vars) 0 (omega (arith, has.0.1)) in
     omega (arith, has.1, long)
-there tx v (Statement n) has rows counts = let long = length_at rows 0 ∙ (λ t. get_or (counts t) 0 0) in omega (arith, has.0, has.1, long)
+there tx v (Statement n) has rows counts = let long = length_at rows 0 ∙ (λ t. get_or (counts t) 0 0)
+    in omega (arith, has.0, has.1, long)
 
 module _ (p : Policy) (tx : Tx) where
   abbrev at : Version → List (List Label) → Claim
@@ -148,7 +167,8 @@ module _ (p : Policy) (tx : Tx) where
   stmt_own : (v : Version) (n : ℕ) → IsOwn v (Statement (suc n))
   stmt_own v n rows =
       let place : n ≡ suc n - 1 = omega arith in
-      ap (λ (row : List Label). get_or (map pair_of row) n bottom) (pc_row v rows) ∙ ap (λ (k : ℕ). label_at rows 0 k) place
+      ap (λ (row : List Label). get_or (map pair_of row) n bottom) (pc_row v rows)
+      ∙ ap (λ (k : ℕ). label_at rows 0 k) place
 
   var_own : (n i : ℕ) → IsOwn version.Second (Variable (suc n) i)
   var_own n i rows = ap (λ (row : List Label). get_or (map pair_of row) i bottom) (later_row rows n)
@@ -161,7 +181,8 @@ module _ (p : Policy) (tx : Tx) where
   slot_own v (Statement (suc n)) has rows = stmt_own v n rows
 
   -- or else it is always the same
-  own_or_same : (v : Version) (t : Slot) → IsOwn v t ⊎ ((x y : List (List Label)) → slot_label (at v x) t ≡ slot_label (at v y) t)
+  own_or_same : (v : Version) (t : Slot) → IsOwn v t ⊎ ((x y : List (List Label)) → slot_label (at v x) t
+      ≡ slot_label (at v y) t)
   own_or_same version.First (Variable n i) = inl (λ rows. refl)
   own_or_same version.Second (Variable zero i) = inr (λ x y. refl)
   own_or_same version.Second (Variable (suc n) i) = inl (var_own n i)
@@ -169,7 +190,9 @@ module _ (p : Policy) (tx : Tx) where
   own_or_same v (Statement (suc n)) = inl (stmt_own v n)
 
   -- one label that rises stays below, and so do they all
-  pub stays_below : (v : Version) (x other : List (List Label)) (t : Slot) (new : Label) → HasSlot tx t → map length x ≡ counts_of v tx → Dominates (slot_label (at v other) t) (pair_of new) → Below (at v x) (at v other) → Below (at v (put x (cell v t).0 (cell v t).1 new)) (at v other)
+  pub stays_below : (v : Version) (x other : List (List Label)) (t : Slot) (new : Label) → HasSlot tx t → map length x
+      ≡ counts_of v tx → Dominates (slot_label (at v other) t) (pair_of new) → Below (at v x) (at v other)
+      → Below (at v (put x (cell v t).0 (cell v t).1 new)) (at v other)
   stays_below v x other t new has counts over below u =
       let r = (cell v t).0 in
       let i = (cell v t).1 in
@@ -180,9 +203,12 @@ module _ (p : Policy) (tx : Tx) where
         | inl own ↦
             elim (put_cases x r i new lt (cell v u).0 (cell v u).1) [
               | inl same ↦
-                  let here : slot_label (at v y) u ≡ pair_of new = own y ∙ (λ s. label_at y (same.0 s) (same.1 s)) ∙ put_here x r i new lt in
-                  let that : q ≡ slot_label (at v other) t = own other ∙ (λ s. label_at other (same.0 s) (same.1 s)) ∙ sym (slot_own v t has other) in
-                  subst (λ p. Dominates p (slot_label (at v y) u)) (sym that) (subst (Dominates (slot_label (at v other) t)) (sym here) over)
+                  let here : slot_label (at v y) u ≡ pair_of new = own y ∙ (λ s. label_at y (same.0 s) (same.1 s))
+                  ∙ put_here x r i new lt in
+                  let that : q ≡ slot_label (at v other) t = own other ∙ (λ s. label_at other (same.0 s) (same.1 s))
+                  ∙ sym (slot_own v t has other) in
+                  subst (λ p. Dominates p (slot_label (at v y) u)) (sym that)
+                  (subst (Dominates (slot_label (at v other) t)) (sym here) over)
               | inr kept ↦ subst (Dominates q) (own x ∙ sym kept ∙ sym (own y)) (below u)
             ]
         | inr fixed ↦ subst (Dominates q) (fixed x y) (below u)
@@ -190,7 +216,8 @@ module _ (p : Policy) (tx : Tx) where
 
   -- ---- the lowest labels
 
-  pub lowest_below : (v : Version) (x other : List (List Label)) → ((r i : ℕ) → label_at x r i ≡ bottom) → Below (at v x) (at v other)
+  pub lowest_below : (v : Version) (x other : List (List Label)) → ((r i : ℕ) → label_at x r i ≡ bottom)
+      → Below (at v x) (at v other)
   lowest_below v x other low t =
       let q = slot_label (at v other) t in
       elim (own_or_same v t) [
@@ -209,17 +236,21 @@ times_at P (suc n) (suc i) a d h k = times_at P n i a d h k
 
 -- one label, for all variables and statements
 abbrev pub rows_with : Label → Version → Tx → List (List Label)
-rows_with l v tx = replicate (statements tx.body) l ∷ replicate (row_count v (statements tx.body)) (replicate (length tx.vars) l)
+rows_with l v tx = replicate (statements tx.body) l ∷ replicate (row_count v (statements tx.body))
+    (replicate (length tx.vars) l)
 
 pub with_counts : (l : Label) (v : Version) (tx : Tx) → map length (rows_with l v tx) ≡ counts_of v tx
 with_counts l v tx =
-    (λ t. length-replicate (statements tx.body) l t ∷ map_times length (row_count v (statements tx.body)) (replicate (length tx.vars) l) t)
+    (λ t. length-replicate (statements tx.body) l t ∷ map_times length (row_count v (statements tx.body))
+    (replicate (length tx.vars) l) t)
     ∙ (λ t. statements tx.body ∷ replicate (row_count v (statements tx.body)) (length-replicate (length tx.vars) l t))
 
 module _ (l : Label) (low : pair_of l ≡ bottom) where
   low_row : (n i : ℕ) → get_or (map pair_of (replicate n l)) i bottom ≡ bottom
-  low_row n i = (λ t. get_or (map_times pair_of n l t) i bottom) ∙ times_at (λ p. p ≡ bottom) n i (pair_of l) bottom low refl
+  low_row n i = (λ t. get_or (map_times pair_of n l t) i bottom) ∙ times_at (λ p. p ≡ bottom) n i
+      (pair_of l) bottom low refl
 
   pub low_labels : (v : Version) (tx : Tx) (r i : ℕ) → label_at (rows_with l v tx) r i ≡ bottom
   low_labels v tx zero i = low_row (statements tx.body) i
-  low_labels v tx (suc r) i = times_at (λ row. get_or (map pair_of row) i bottom ≡ bottom) (row_count v (statements tx.body)) r (replicate (length tx.vars) l) [] (low_row (length tx.vars) i) refl
+  low_labels v tx (suc r) i = times_at (λ row. get_or (map pair_of row) i bottom ≡ bottom)
+      (row_count v (statements tx.body)) r (replicate (length tx.vars) l) [] (low_row (length tx.vars) i) refl

@@ -18,5 +18,6 @@ HasNone v policy tx Memory = Unit {0}
 -- it is the first rule that the least labels break
 abbrev pub IsFirst : Version → Policy → Tx → LabelFault → Type 0
 IsFirst v policy tx (NoLabels stmt rule) =
-    (cert : Certificate) × (IsLeast v policy tx cert × (First (claim policy tx cert) ≡ Err (record { stmt = stmt; rule = rule })))
+    (cert : Certificate) × (IsLeast v policy tx cert × (First (claim policy tx cert)
+    ≡ Err (record { stmt = stmt; rule = rule })))
 IsFirst v policy tx Memory = Unit {0}

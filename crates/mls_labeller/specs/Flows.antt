@@ -1,4 +1,5 @@
--- What sets lower bounds on the labels of a certificate: of the lines of the statements, those by which something flows into variables and statements.
+-- What sets lower bounds on the labels of a certificate: of the lines of the statements, those by which something flows
+-- into variables and statements.
 use Rattle.std.specs.Prelude.{ℕ, List, map}
 use Rattle.mls_translang.specs.Tree.{Block}
 use Rattle.mls_certcheck.specs.Points.{directs}

@@ -36,4 +36,5 @@ Below c d = (slot : Slot) → Dominates (slot_label d slot) (slot_label c slot)
 pub record IsLeast (v : Version) (policy : Policy) (tx : Tx) (cert : Certificate) : Type 0 where
   pub version : IsOf v cert
   pub meets : Meets (claim policy tx cert)
-  pub least : (other : Certificate) → IsOf v other → Meets (claim policy tx other) → Below (claim policy tx cert) (claim policy tx other)
+  pub least : (other : Certificate) → IsOf v other → Meets (claim policy tx other) → Below (claim policy tx cert)
+      (claim policy tx other)

@@ -22,21 +22,26 @@ abbrev pub Repeats : (List Item → List Item → Type 0) → ℕ → List Item 
 Repeats Goes zero xs zs = zs ≡ xs
 Repeats Goes (suc n) xs zs = (ys : List Item) × Goes xs ys × Repeats Goes n ys zs
 
--- what is told of the releases of a block, in a loop or not, and items that were released before a run of it and are behind it
+-- what is told of the releases of a block, in a loop or not, and items that were released before a run of it and are
+-- behind it
 abbrev pub CanRelease : Bool → Block → List Told → List Item → List Item → Type 0
 CanRelease looped End told xs zs = (told ≡ []) × (zs ≡ xs)
 -- a release gives its label and a value of its range, and other statements give nothing
 CanRelease looped (Do (Release e to into) rest) told xs zs =
-    (range : Range) × (more : List Told) × (told ≡ record { to = to; into = into; range = range; looped = looped } ∷ more)
+    (range : Range) × (more : List Told) × (told ≡ record { to = to; into = into; range = range; looped = looped }
+    ∷ more)
     × (v : Option Value) × Admits range v × CanRelease looped rest more (xs ++ (to, v) ∷ []) zs
 CanRelease looped (Do stmt rest) told xs zs = CanRelease looped rest told xs zs
 -- a branch gives what one of its blocks can give
 CanRelease looped (If guard one other rest) told xs zs =
-    (a : List Told) × (b : List Told) × (more : List Told) × (told ≡ (a ++ b) ++ more) × (taken : Bool) × (x : List Item) × (y : List Item)
-    × CanRelease looped one a xs x × CanRelease looped other b xs y × CanRelease looped rest more (if taken then x else y) zs
+    (a : List Told) × (b : List Told) × (more : List Told) × (told ≡ (a ++ b) ++ more) × (taken : Bool)
+    × (x : List Item) × (y : List Item)
+    × CanRelease looped one a xs x × CanRelease looped other b xs y × CanRelease looped rest more
+    (if taken then x else y) zs
 -- a loop gives what its body can give, never or again and again
 CanRelease looped (For row relation label body rest) told xs zs =
-    (a : List Told) × (more : List Told) × (told ≡ a ++ more) × (x : List Item) × (y : List Item) × CanRelease true body a x y
+    (a : List Told) × (more : List Told) × (told ≡ a ++ more) × (x : List Item) × (y : List Item)
+    × CanRelease true body a x y
     × (turns : ℕ) × (ys : List Item) × Repeats (CanRelease true body a) turns xs ys × CanRelease looped rest more ys zs
 
 -- in every run from any database, with any arguments, the releases have values of the ranges that are told
@@ -52,13 +57,17 @@ abbrev pub Goes : Bool → Block → List Range → List Told → Progress → P
 Goes looped block after told s t = AreHeld after t.vars × CanRelease looped block told s.released t.released
 
 -- so goes every run of a block
-pub record Covers (looped : Bool) (before : List Range) (block : Block) (after : List Range) (told : List Told) : Type 0 where
-  pub runs : (ls : Labels) (schemes : Schemes) (args : List (Option Value)) (around : List Tuple) (s : Progress) → AreHeld before s.vars
+pub record Covers (looped : Bool) (before : List Range) (block : Block) (after : List Range)
+    (told : List Told) : Type 0 where
+  pub runs : (ls : Labels) (schemes : Schemes) (args : List (Option Value)) (around : List Tuple) (s : Progress)
+      → AreHeld before s.vars
       → Goes looped block after told s (run_block ls schemes args block around s)
 
 -- so goes every run of a block, if it does from a point inside, where there are ranges now
-pub record Reaches (looped : Bool) (before : List Range) (block : Block) (now : List Range) (rest : Block) (told : List Told) : Type 0 where
-  pub covers : (after : List Range) (more : List Told) → Covers looped now rest after more → Covers looped before block after (told ++ more)
+pub record Reaches (looped : Bool) (before : List Range) (block : Block) (now : List Range) (rest : Block)
+    (told : List Told) : Type 0 where
+  pub covers : (after : List Range) (more : List Told) → Covers looped now rest after more
+      → Covers looped before block after (told ++ more)
 
 -- ---- how many lists of items there are
 
@@ -72,9 +81,11 @@ releases (For row relation label body rest) = releases body + releases rest
 
 -- each list of items that a block can release behind others
 abbrev pub HasLists : Bool → Block → List Told → List (List Item) → Type 0
-HasLists looped block told lists = (xs : List Item) (zs : List Item) → CanRelease looped block told xs zs → (ys : List Item) × Contains lists ys × (zs ≡ xs ++ ys)
+HasLists looped block told lists = (xs : List Item) (zs : List Item) → CanRelease looped block told xs zs
+    → (ys : List Item) × Contains lists ys × (zs ≡ xs ++ ys)
 
--- From a block to a rest of it: for each list that the rest can release there are so many, if they are counted. One is of nothing, and
+-- From a block to a rest of it: for each list that the rest can release there are so many, if they are counted. One is
+-- of nothing, and
 -- in a loop no others are counted.
 pub record Multiplies (looped : Bool) (block rest : Block) (told : List Told) (count : ℕ) : Type 0 where
   pub some : 1 ≤ count
@@ -99,18 +110,22 @@ module _ (policy : Policy) (schemes : Schemes) (tx : Tx) (c : ℕ) where
   pub record TellsAtMost (count : ℕ) : Type 0 where
     pub class : World → ℕ
     pub few : (w : World) → class w < count
-    pub alike : (v w : World) → class v ≡ class w → AreStored (labels_of policy) schemes v.db → AreStored (labels_of policy) schemes w.db
+    pub alike : (v w : World) → class v ≡ class w → AreStored (labels_of policy) schemes v.db
+        → AreStored (labels_of policy) schemes w.db
         → SameViews (labels_of policy) c v.db w.db → SameArgs (labels_of policy) c (param_labels tx) v.args w.args
         → Alike (labels_of policy) c (run_of v) (run_of w)
 
   -- each list of items that can be released, as c sees it, is among these
   abbrev pub HasAll : List Told → List (List Item) → Type 0
   HasAll told lists =
-      (items : List Item) → CanRelease false tx.body told [] items → Contains lists (seen_items (labels_of policy) c items)
+      (items : List Item) → CanRelease false tx.body told [] items
+      → Contains lists (seen_items (labels_of policy) c items)
 
--- by one call c can tell apart at most as many classes of worlds as there are lists of items of the ranges that are told
+-- by one call c can tell apart at most as many classes of worlds as there are lists of items of the ranges that are
+-- told
 abbrev pub CallsTellFew : Type 0
 CallsTellFew =
     (policy : Policy) (tx : Tx) → Secure policy tx → (told : List Told) → AreTold tx told
-    → (schemes : Schemes) → IsReadUnder policy schemes tx → (c : ℕ) (lists : List (List Item)) → HasAll policy schemes tx c told lists
+    → (schemes : Schemes) → IsReadUnder policy schemes tx → (c : ℕ) (lists : List (List Item))
+    → HasAll policy schemes tx c told lists
     → TellsAtMost policy schemes tx c (length lists)

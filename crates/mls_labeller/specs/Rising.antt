@@ -24,7 +24,11 @@ abbrev pub rows_of : Labels → List (List Label)
 rows_of l = map (λ row. row.items) l.rows.items
 
 abbrev pub certificate : Version → List (List Label) → Certificate
-certificate version.First rows = One (record { var_labels = slice_index_or rows 1 []; pc_labels = slice_index_or rows 0 [] })
+certificate version.First rows = One (record {
+  var_labels = slice_index_or rows 1 [];
+  pc_labels =
+      slice_index_or rows 0 [];
+})
 certificate version.Second rows = Two (record { rows = drop 1 rows; pc_labels = slice_index_or rows 0 [] })
 
 abbrev pub claim_at : Rising → List (List Label) → Claim
@@ -75,7 +79,8 @@ module _ (k : Rising) where
     pub counts : map length rows ≡ counts_of k.version k.labeller.tx.now
     pub below : IsDue (Below (claim_at k rows))
 
-  -- labels that stand, after others: where none rose, they are the same and the bound holds, and else there is less room
+  -- labels that stand, after others: where none rose, they are the same and the bound holds, and else there is less
+  -- room
   pub record Rises (bound : Claim → Type 0) (x y : List (List Label)) (rose : Bool) : Type 0 where
     pub stands : Stands y
     pub still : rose ≡ false → (y ≡ x) × bound (claim_at k y)

@@ -32,7 +32,8 @@ impl Bounds {
 
     /// What the results of an operator lie within, where that is told.
     pub(crate) fn apply(self, operator: Operator, other: Bounds) -> Option<Bounds>
-        ensures within { IfSome result (λ b. (m n : ℤ) → Within self m → Within other n → Within b (arithmetic operator m n)) }
+        ensures within { IfSome result (λ b. (m n : ℤ) → Within self m → Within other n
+            → Within b (arithmetic operator m n)) }
         ensures arithmetic { IsSome result → IsArithmetic operator }
     {
         match operator {

@@ -26,7 +26,8 @@ fn labelled(
 ) -> Result<Certificate, LabelFault>
     ensures obeys { IfOk result (λ cert. Rules (claim policy.now tx.now cert)) }
     ensures least { IfOk result (λ cert. IsLeast version policy.now tx.now cert) }
-    ensures below { IfOk result (λ cert. (other : SpecCertificate) → IsOf version other → Rules (claim policy.now tx.now other)
+    ensures below { IfOk result (λ cert. (other : SpecCertificate) → IsOf version other
+        → Rules (claim policy.now tx.now other)
         → Below (claim policy.now tx.now cert) (claim policy.now tx.now other)) }
     ensures none { IfErr result (HasNone version policy.now tx.now) }
     ensures first { IfErr result (IsFirst version policy.now tx.now) }

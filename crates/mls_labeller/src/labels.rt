@@ -7,7 +7,8 @@ use mls_certcheck::{Cert, Cert2, Certificate, Slot, Version};
 use mls_lattice::{Items, Label};
 use std::alloc::{AllocError, Global};
 
-/// Rows of labels, in the order of the numbers of what they are of. The first row is of the statements. The others are of the variables:
+/// Rows of labels, in the order of the numbers of what they are of. The first row is of the statements. The others are
+/// of the variables:
 /// one row in version 1, and one for each statement in version 2.
 #[derive(Drop)]
 pub(crate) struct Labels {
@@ -47,7 +48,8 @@ impl Labels {
         vars: usize,
         stmts: usize,
     ) -> Result<Labels, AllocError>
-        ensures { IfOk result (λ l. rows_of l ≡ replicate stmts label ∷ replicate (row_count version stmts) (replicate vars label)) }
+        ensures { IfOk result (λ l. rows_of l ≡ replicate stmts label ∷ replicate (row_count version stmts)
+            (replicate vars label)) }
     {
         let count = match version {
             Version::First => 1,
@@ -94,7 +96,8 @@ impl Labels {
     /// Puts another label at a place of a row.
     pub(crate) fn put(&mut self, row: usize, place: usize, label: Label)
         requires { place < length (slice_index_or (rows_of self.old) row []) }
-        ensures { rows_of self.new ≡ slice_set (rows_of self.old) row (slice_set (slice_index_or (rows_of self.old) row []) place label) }
+        ensures { rows_of self.new ≡ slice_set (rows_of self.old) row
+            (slice_set (slice_index_or (rows_of self.old) row []) place label) }
     {
         self.rows[row][place] = label;
     }

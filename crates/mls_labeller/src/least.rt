@@ -34,7 +34,8 @@ fn is_it(variable: Option<u8>, place: usize) -> bool
     }
 }
 
-/// What the labels of a version rise for. At each step there are as many as it takes, and none is higher than in any labels that meet all
+/// What the labels of a version rise for. At each step there are as many as it takes, and none is higher than in any
+/// labels that meet all
 /// lower bounds.
 #[derive(Drop)]
 pub(crate) struct Rising<'a> {
@@ -82,7 +83,8 @@ impl Rising<'_> {
         requires stands { Stands self.now (rows_of labels.old) }
         requires slot { HasSlot self.now.labeller.tx.now slot }
         requires due { IsDue self.now (λ c. Dominates (slot_label c slot) (pair_of low)) }
-        ensures { Rises self.now (λ c. Dominates (slot_label c slot) (pair_of low)) (rows_of labels.old) (rows_of labels.new) result }
+        ensures { Rises self.now (λ c. Dominates (slot_label c slot) (pair_of low)) (rows_of labels.old)
+            (rows_of labels.new) result }
     {
         let here = self.held(labels, slot);
         if here.dominates(low) {
@@ -98,7 +100,8 @@ impl Rising<'_> {
         requires stands { Stands self.now (rows_of labels.old) }
         requires targets { AllByRecursion (HasSlot self.now.labeller.tx.now) targets.now }
         requires due { IsDue self.now (λ c. IsBounded c (Into targets.now sources.now)) }
-        ensures { Rises self.now (λ c. IsBounded c (Into targets.now sources.now)) (rows_of labels.old) (rows_of labels.new) result }
+        ensures { Rises self.now (λ c. IsBounded c (Into targets.now sources.now)) (rows_of labels.old)
+            (rows_of labels.new) result }
     {
         let low = self.joined(labels, sources);
         let mut rose = false;
@@ -108,12 +111,14 @@ impl Rising<'_> {
         rose
     }
 
-    /// Raises the labels of the variables after the one statement to those after the other, but for one: false where they all were there.
+    /// Raises the labels of the variables after the one statement to those after the other, but for one: false where
+    /// they all were there.
     fn keep(&self, labels: &mut Labels, from: usize, to: usize, but: Option<u8>) -> bool
         requires stands { Stands self.now (rows_of labels.old) }
         requires statement { HasStatement self.now.labeller.tx.now to }
         requires due { IsDue self.now (λ c. IsBounded c (Kept from to but)) }
-        ensures { Rises self.now (λ c. IsBounded c (Kept from to but)) (rows_of labels.old) (rows_of labels.new) result }
+        ensures { Rises self.now (λ c. IsBounded c (Kept from to but)) (rows_of labels.old)
+            (rows_of labels.new) result }
     {
         let mut rose = false;
         for place in 0..self.labeller.tx.vars().len() {

@@ -154,7 +154,8 @@ impl Range {
 
     /// How many values it holds, as far as they can be counted.
     pub(crate) fn count(&self) -> u64
-        ensures { result < uncounted → (values : List (Option SpecValue)) × (length values ≤ result) × HasValues self.now values }
+        ensures { result < uncounted → (values : List (Option SpecValue)) × (length values ≤ result)
+            × HasValues self.now values }
     {
         let values = match (&self.listed, self.bounds) {
             (Some(values), _) => values.len() as u64,

@@ -57,7 +57,8 @@ fn bits_to(text: &mut String, count: u64) -> Result<(), AllocError> {
     }
 }
 
-/// What is told of a release into a variable of a kind: its values, and how much they tell by one call or, in a loop, each time. Of a
+/// What is told of a release into a variable of a kind: its values, and how much they tell by one call or, in a loop,
+/// each time. Of a
 /// range too large to be counted, that is left out.
 pub fn words(alloc: Global, told: &Told, kind: Kind) -> Result<String, AllocError> {
     let mut text = String::new(alloc);

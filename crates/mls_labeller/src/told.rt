@@ -25,7 +25,8 @@ pub struct Told {
     pub looped: bool,
 }
 
-/// What is told of each release of a transaction, in the order of its text, and how many lists of values they can have together at
+/// What is told of each release of a transaction, in the order of its text, and how many lists of values they can have
+/// together at
 /// most, as far as these can be counted.
 #[derive(Drop)]
 pub struct Releases {

@@ -23,7 +23,8 @@ pub(crate) struct Walk {
     pub turns: usize,
 }
 
-/// The ranges after statements, what is told of their releases, and how many lists of values these can have, as far as they can be
+/// The ranges after statements, what is told of their releases, and how many lists of values these can have, as far as
+/// they can be
 /// counted.
 #[derive(Drop)]
 pub(crate) struct Walked {
@@ -69,7 +70,8 @@ impl Walk {
     /// A statement.
     #[cycle(walk)]
     fn stmt(self, before: &Ranges, stmt: &Stmt) -> Result<Walked, AllocError>
-        ensures { IfOk result (λ w. (rest : List SpecStmt) → Reaches self.looped before.now.vars.items (block_of (stmt.now ∷ rest))
+        ensures { IfOk result (λ w. (rest : List SpecStmt) → Reaches self.looped before.now.vars.items
+            (block_of (stmt.now ∷ rest))
             w.ranges.vars.items (block_of rest) w.told.items
             × Multiplies self.looped (block_of (stmt.now ∷ rest)) (block_of rest) w.told.items w.lists) }
     {

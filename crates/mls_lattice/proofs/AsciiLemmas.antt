@@ -15,11 +15,14 @@ pub digit_small : (b : ℕ) → is_ascii_digit b ≡ true → b < 128
 digit_small b h = grind (arith, nat_tests)
 
 -- bytes that pass a test which only ASCII passes
-pub all_ascii : (p : ℕ → Bool) → ((b : ℕ) → p b ≡ true → b < 128) → (bytes : List ℕ) → list_all p bytes ≡ true → IsAscii bytes
+pub all_ascii : (p : ℕ → Bool) → ((b : ℕ) → p b ≡ true → b < 128) → (bytes : List ℕ) → list_all p bytes ≡ true
+    → IsAscii bytes
 all_ascii p small [] h = λ i. omega arith
-all_ascii p small (b ∷ bytes) h = let both = and_parts _ _ h in IsAscii-cons b bytes (small b both.0) (all_ascii p small bytes both.1)
+all_ascii p small (b ∷ bytes) h = let both = and_parts _ _ h in IsAscii-cons b bytes (small b both.0)
+    (all_ascii p small bytes both.1)
 
 -- no answer to them is a fault
-pub ok_from_utf8 : {A E : Type 0} (bytes : List ℕ) (P : A → Type 0) (Q : E → Type 0) (r : Result A E) → MatchResult r P (λ e. (IsUtf8 bytes → ⊥) × Q e) → IsAscii bytes → IsOk r
+pub ok_from_utf8 : {A E : Type 0} (bytes : List ℕ) (P : A → Type 0) (Q : E → Type 0) (r : Result A E)
+    → MatchResult r P (λ e. (IsUtf8 bytes → ⊥) × Q e) → IsAscii bytes → IsOk r
 ok_from_utf8 bytes P Q (Ok x) h ascii = refl
 ok_from_utf8 bytes P Q (Err e) h ascii = absurd (h.0 (IsUtf8-from_ascii bytes ascii))

@@ -38,7 +38,10 @@ unfolding cats_below
 contains-cats_below zero n k = set.contains-empty nat_cmp k ∙ rw (le-ltb k 0 (omega arith)) refl
 contains-cats_below (suc m) n k =
     elim (cases_Bool (has n m)) [
-      | inl on ↦ rw on (set.contains-insert nat_cmp_total (cats_below m n) m k ∙ rw (unsigned_tied k m, contains-cats_below m n k) (added n m k on))
+      | inl on ↦ rw on (set.contains-insert nat_cmp_total (cats_below m n) m k ∙ rw (
+        unsigned_tied k m,
+        contains-cats_below m n k,
+      ) (added n m k on))
       | inr off ↦ rw off (contains-cats_below m n k ∙ skipped n m k off)
     ]
 
@@ -59,12 +62,19 @@ and_bits x y a b = grind (arith, nat_tests)
 pub cats_of-bit_or : (a b : ℕ) → cats_of (bit_or a b) ≡ set.union (cats_of a) (cats_of b)
 cats_of-bit_or a b = set.same_set nat_cmp_total nat_cmp-IsAntisymmetric _ _ (λ k.
     contains-cats_of (bit_or a b) k ∙ ap (λ x. x == 1) (bit_at_or a b k) ∙ or_bits _ _ (bit_at-lt a k) (bit_at-lt b k)
-    ∙ sym (set.contains-union nat_cmp_total (cats_of a) (cats_of b) k ∙ rw (contains-cats_of a k, contains-cats_of b k) refl))
+    ∙ sym (set.contains-union nat_cmp_total (cats_of a) (cats_of b) k ∙ rw (
+      contains-cats_of a k,
+      contains-cats_of b k,
+    ) refl))
 
 pub cats_of-bit_and : (a b : ℕ) → cats_of (bit_and a b) ≡ set.intersection (cats_of a) (cats_of b)
 cats_of-bit_and a b = set.same_set nat_cmp_total nat_cmp-IsAntisymmetric _ _ (λ k.
-    contains-cats_of (bit_and a b) k ∙ ap (λ x. x == 1) (bit_at_and a b k) ∙ and_bits _ _ (bit_at-lt a k) (bit_at-lt b k)
-    ∙ sym (set.contains-intersection nat_cmp_total (cats_of a) (cats_of b) k ∙ rw (contains-cats_of a k, contains-cats_of b k) refl))
+    contains-cats_of (bit_and a b) k ∙ ap (λ x. x == 1) (bit_at_and a b k) ∙ and_bits _ _ (bit_at-lt a k)
+    (bit_at-lt b k)
+    ∙ sym (set.contains-intersection nat_cmp_total (cats_of a) (cats_of b) k ∙ rw (
+      contains-cats_of a k,
+      contains-cats_of b k,
+    ) refl))
 
 -- numbers with the same categories are equal
 pub same_from_cats : (a b : ℕ) → cats_of a ≡ cats_of b → a ≡ b
@@ -75,17 +85,23 @@ same_from_cats a b h = same_from_bits a b (λ k.
     grind (arith, nat_tests))
 
 -- a & b is a exactly where each category of a is one of b
-pub within_by_and : (a b : ℕ) → bit_and a b ≡ a → (k : ℕ) → set.contains (cats_of a) k ≡ true → set.contains (cats_of b) k ≡ true
+pub within_by_and : (a b : ℕ) → bit_and a b ≡ a → (k : ℕ) → set.contains (cats_of a) k ≡ true
+    → set.contains (cats_of b) k ≡ true
 within_by_and a b h k in_a =
-    let e : set.contains (cats_of a) k ≡ (set.contains (cats_of a) k && set.contains (cats_of b) k) = ap (λ s. set.contains s k) (ap cats_of (sym h) ∙ cats_of-bit_and a b) ∙ set.contains-intersection nat_cmp_total (cats_of a) (cats_of b) k in
+    let e : set.contains (cats_of a) k ≡ (set.contains (cats_of a) k && set.contains (cats_of b) k) =
+    ap (λ s. set.contains s k) (ap cats_of (sym h) ∙ cats_of-bit_and a b) ∙ set.contains-intersection nat_cmp_total
+    (cats_of a) (cats_of b) k in
     (and_parts _ _ (sym e ∙ in_a)).1
 
 both : (x y : Bool) → (x ≡ true → y ≡ true) → (x && y) ≡ x
 both true y h = h refl
 both false y h = refl
 
-pub and_by_within : (a b : ℕ) → ((k : ℕ) → set.contains (cats_of a) k ≡ true → set.contains (cats_of b) k ≡ true) → bit_and a b ≡ a
-and_by_within a b h = same_from_cats (bit_and a b) a (cats_of-bit_and a b ∙ set.same_set nat_cmp_total nat_cmp-IsAntisymmetric _ _ (λ k. set.contains-intersection nat_cmp_total (cats_of a) (cats_of b) k ∙ both _ _ (h k)))
+pub and_by_within : (a b : ℕ) → ((k : ℕ) → set.contains (cats_of a) k ≡ true → set.contains (cats_of b) k ≡ true)
+    → bit_and a b ≡ a
+and_by_within a b h = same_from_cats (bit_and a b) a (cats_of-bit_and a b
+    ∙ set.same_set nat_cmp_total nat_cmp-IsAntisymmetric _ _ (λ k. set.contains-intersection nat_cmp_total (cats_of a)
+    (cats_of b) k ∙ both _ _ (h k)))
 
 -- ---- one category
 
@@ -99,8 +115,10 @@ pub cats_of-with : (n k : ℕ) → k < 32 → cats_of (bit_or n (1 * 2 ^ k % 2 ^
 cats_of-with n k within = set.same_set nat_cmp_total nat_cmp-IsAntisymmetric _ _ (λ i.
     contains-cats_of (bit_or n (1 * 2 ^ k % 2 ^ 32)) i
     ∙ elim (cases_eq i k) [
-      | inl same ↦ rw same (one_same n k within ∙ sym (set.contains-insert nat_cmp_total (cats_of n) k k ∙ rw (unsigned_tied k k, eq-eqb k k refl) refl))
-      | inr other ↦ one_other n k i within other ∙ sym (set.contains-insert nat_cmp_total (cats_of n) k i ∙ rw (unsigned_tied i k, ne_eqb i k other) (contains-cats_of n i))
+      | inl same ↦ rw same (one_same n k within ∙ sym (set.contains-insert nat_cmp_total (cats_of n) k k
+          ∙ rw (unsigned_tied k k, eq-eqb k k refl) refl))
+      | inr other ↦ one_other n k i within other ∙ sym (set.contains-insert nat_cmp_total (cats_of n) k i
+          ∙ rw (unsigned_tied i k, ne_eqb i k other) (contains-cats_of n i))
     ])
 
 shifted : (k : ℕ) → k < 32 → 1 * 2 ^ k % 2 ^ 32 ≡ 2 ^ k
@@ -114,7 +132,8 @@ bit_test (suc (suc b)) m two some = absurd (omega arith)
 pub has-mask : (n k : ℕ) → k < 32 → not (bit_and n (1 * 2 ^ k % 2 ^ 32) == 0) ≡ set.contains (cats_of n) k
 has-mask n k within =
     let some : 0 < 2 ^ k = pow_pos k in
-    sym (contains-cats_of n k ∙ bit_test (bit_at n k) (2 ^ k) (bit_at-lt n k) some ∙ ap (λ x. not (x == 0)) (sym (ap (bit_and n) (shifted k within) ∙ and_pow n k)))
+    sym (contains-cats_of n k ∙ bit_test (bit_at n k) (2 ^ k) (bit_at-lt n k) some ∙ ap (λ x. not (x == 0))
+    (sym (ap (bit_and n) (shifted k within) ∙ and_pow n k)))
 
 pub ruleset with_one = (cats_of-with)
 

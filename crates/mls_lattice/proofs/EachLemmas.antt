@@ -11,11 +11,13 @@ module _ {A : Type 0} where
   all_if P Q f [] h = tt
   all_if P Q f (x ∷ xs) h = (f x h.0, all_if P Q f xs h.1)
 
-  pub all_zip : (P Q R : A → Type 0) → ((x : A) → P x → Q x → R x) → (xs : List A) → AllByRecursion P xs → AllByRecursion Q xs → AllByRecursion R xs
+  pub all_zip : (P Q R : A → Type 0) → ((x : A) → P x → Q x → R x) → (xs : List A) → AllByRecursion P xs
+      → AllByRecursion Q xs → AllByRecursion R xs
   all_zip P Q R f [] h k = tt
   all_zip P Q R f (x ∷ xs) h k = (f x h.0 k.0, all_zip P Q R f xs h.1 k.1)
 
-  pub all_append : (P : A → Type 0) (xs ys : List A) → AllByRecursion P xs → AllByRecursion P ys → AllByRecursion P (xs ++ ys)
+  pub all_append : (P : A → Type 0) (xs ys : List A) → AllByRecursion P xs → AllByRecursion P ys
+      → AllByRecursion P (xs ++ ys)
   all_append P [] ys h k = k
   all_append P (x ∷ xs) ys h k = (h.0, all_append P xs ys h.1 k)
 
@@ -43,10 +45,12 @@ module _ {A B : Type 0} (P : B → Type 0) where
   all_map f [] h = tt
   all_map f (x ∷ xs) h = (h.0, all_map f xs h.1)
 
-  pub flat_each : (f : A → List B) (xs : List A) → AllByRecursion P (flat_map f xs) → AllByRecursion (λ x. AllByRecursion P (f x)) xs
+  pub flat_each : (f : A → List B) (xs : List A) → AllByRecursion P (flat_map f xs)
+      → AllByRecursion (λ x. AllByRecursion P (f x)) xs
   flat_each f [] h = tt
   flat_each f (x ∷ xs) h = (all_front P (f x) (flat_map f xs) h, flat_each f xs (all_back P (f x) (flat_map f xs) h))
 
-  pub each_flat : (f : A → List B) (xs : List A) → AllByRecursion (λ x. AllByRecursion P (f x)) xs → AllByRecursion P (flat_map f xs)
+  pub each_flat : (f : A → List B) (xs : List A) → AllByRecursion (λ x. AllByRecursion P (f x)) xs
+      → AllByRecursion P (flat_map f xs)
   each_flat f [] h = tt
   each_flat f (x ∷ xs) h = all_append P (f x) (flat_map f xs) h.0 (each_flat f xs h.1)

@@ -28,21 +28,27 @@ use Rattle.mls_lattice.proofs.TablesLemmas.{distinct_more, distinct-none}
 -- ---- of all rows
 
 -- what each row has
-each-row : {B : Type 0} (R : List B → Data → B → Type 0) (P : B → Type 0) → ((before : List B) (d : Data) (row : B) → R before d row → P row)
+each-row : {B : Type 0} (R : List B → Data → B → Type 0) (P : B → Type 0) → ((before : List B) (d : Data) (row : B)
+    → R before d row → P row)
     → (before : List B) (ds : Items) (rows : List B) → Rows R before ds rows → AllByRecursion P rows
 each-row R P has before no_items [] h = tt
 each-row R P has before no_items (row ∷ rows) h = absurd h
 each-row R P has before (item d ds) [] h = absurd h
-each-row R P has before (item d ds) (row ∷ rows) h = (has before d row h.0, each-row R P has (before ++ row ∷ []) ds rows h.1)
+each-row R P has before (item d ds) (row ∷ rows) h = (
+  has before d row h.0,
+  each-row R P has (before ++ row ∷ []) ds rows h.1,
+)
 
 -- what holds of the rows so far, and stays so with each row
-all-rows : {B : Type 0} (R : List B → Data → B → Type 0) (P : List B → Type 0) → ((before : List B) (d : Data) (row : B) → R before d row → P before → P (before ++ row ∷ []))
+all-rows : {B : Type 0} (R : List B → Data → B → Type 0) (P : List B → Type 0) → ((before : List B) (d : Data) (row : B)
+    → R before d row → P before → P (before ++ row ∷ []))
     → (before : List B) (ds : Items) (rows : List B) → Rows R before ds rows → P before → P (before ++ rows)
 all-rows R P more before no_items [] h holds = subst P (sym (append-nil before)) holds
 all-rows R P more before no_items (row ∷ rows) h holds = absurd h
 all-rows R P more before (item d ds) [] h holds = absurd h
 all-rows R P more before (item d ds) (row ∷ rows) h holds =
-    subst P (append_assoc before (row ∷ []) rows) (all-rows R P more (before ++ row ∷ []) ds rows h.1 (more before d row h.0 holds))
+    subst P (append_assoc before (row ∷ []) rows) (all-rows R P more (before ++ row ∷ []) ds rows h.1
+    (more before d row h.0 holds))
 
 none-distinct : {K : Type 0} (eq : K → K → Bool) → IsDistinct eq []
 unfolding IsDistinct
@@ -50,21 +56,28 @@ none-distinct eq = tt
 
 -- rows with a name that no row before has
 module _ {B : Type 0} (name : B → Name) where
-  named-rows : (R : List B → Data → B → Type 0) → ((before : List B) (d : Data) (row : B) → R before d row → is_name (name row) ≡ true)
+  named-rows : (R : List B → Data → B → Type 0) → ((before : List B) (d : Data) (row : B) → R before d row
+      → is_name (name row) ≡ true)
       → (before : List B) (ds : Items) (rows : List B) → Rows R before ds rows → AreNames (map name rows)
   named-rows R has before no_items [] h = tt
   named-rows R has before no_items (row ∷ rows) h = absurd h
   named-rows R has before (item d ds) [] h = absurd h
-  named-rows R has before (item d ds) (row ∷ rows) h = (has before d row h.0, named-rows R has (before ++ row ∷ []) ds rows h.1)
+  named-rows R has before (item d ds) (row ∷ rows) h = (
+    has before d row h.0,
+    named-rows R has (before ++ row ∷ []) ds rows h.1,
+  )
 
-  new-name : (rows : List B) (row : B) → list_any (λ other. bytes_eq (name other) (name row)) rows ≡ false → list_any (bytes_eq (name row)) (map name rows) ≡ false
+  new-name : (rows : List B) (row : B) → list_any (λ other. bytes_eq (name other) (name row)) rows ≡ false
+      → list_any (bytes_eq (name row)) (map name rows) ≡ false
   new-name [] row h = refl
   new-name (r ∷ rows) row h =
       let p = or_parts (bytes_eq (name r) (name row)) (list_any (λ other. bytes_eq (name other) (name row)) rows) h in
       rw (nat_list_eq_equiv.symm (name row) (name r) ∙ p.0) (new-name rows row p.1)
 
-  more-names : (rows : List B) (row : B) → list_any (λ other. bytes_eq (name other) (name row)) rows ≡ false → IsDistinct bytes_eq (map name rows) → IsDistinct bytes_eq (map name (rows ++ row ∷ []))
-  more-names rows row new apart = rw (map_push name rows row) (IsDistinct-push nat_list_eq_equiv (map name rows) (name row) apart (new-name rows row new))
+  more-names : (rows : List B) (row : B) → list_any (λ other. bytes_eq (name other) (name row)) rows ≡ false
+      → IsDistinct bytes_eq (map name rows) → IsDistinct bytes_eq (map name (rows ++ row ∷ []))
+  more-names rows row new apart = rw (map_push name rows row) (IsDistinct-push nat_list_eq_equiv (map name rows)
+      (name row) apart (new-name rows row new))
 
 -- ---- levels and categories
 
@@ -91,15 +104,18 @@ kept-categories_distinct document p says = names-distinct says.categories.0 p.ca
 
 kept-label_names : (document : Members) (p : Policy) → Says document p → AreNames (map (λ l. l.name) p.labels)
 kept-label_names document p says =
-    named-rows (λ (l : Named). l.name) (SaysLabel p.levels p.categories) (λ before d l h. h.name.is_name) [] says.labels.0 p.labels says.labels.2
+    named-rows (λ (l : Named). l.name) (SaysLabel p.levels p.categories)
+    (λ before d l h. h.name.is_name) [] says.labels.0 p.labels says.labels.2
 
 kept-names : (document : Members) (p : Policy) → Says document p → IsDistinct bytes_eq (map (λ l. l.name) p.labels)
 kept-names document p says =
-    all-rows (SaysLabel p.levels p.categories) (λ ls. IsDistinct bytes_eq (map (λ l. l.name) ls)) (λ before d l h apart. more-names (λ (x : Named). x.name) before l h.new_name apart)
+    all-rows (SaysLabel p.levels p.categories) (λ ls. IsDistinct bytes_eq (map (λ l. l.name) ls))
+    (λ before d l h apart. more-names (λ (x : Named). x.name) before l h.new_name apart)
     [] says.labels.0 p.labels says.labels.2 (none-distinct bytes_eq)
 
 -- a value that no test finds is that of none
-new-value : (ls : List Named) (p : Pair) → list_any (λ other. same_pair other.value p) ls ≡ false → (a : ℕ) → a < length (map (λ (l : Named). l.value) ls) → label_of (map (λ l. l.value) ls) a ≢ p
+new-value : (ls : List Named) (p : Pair) → list_any (λ other. same_pair other.value p) ls ≡ false → (a : ℕ)
+    → a < length (map (λ (l : Named). l.value) ls) → label_of (map (λ l. l.value) ls) a ≢ p
 new-value [] p h a lt e = absurd (omega arith)
 new-value (l ∷ ls) p h zero lt e =
     let off = (or_parts (same_pair l.value p) (list_any (λ other. same_pair other.value p) ls) h).0 in
@@ -110,60 +126,84 @@ new-value (l ∷ ls) p h (suc a) lt e = new-value ls p (or_parts (same_pair l.va
 kept-distinct : (document : Members) (p : Policy) → Says document p → AreDistinct (labels_of p)
 kept-distinct document p says =
     all-rows (SaysLabel p.levels p.categories) (λ ls. AreDistinct (map (λ l. l.value) ls))
-    (λ before d l h apart. rw (map_push (λ (x : Named). x.value) before l) (distinct_more (map (λ (x : Named). x.value) before) l.value apart (new-value before l.value h.new_value)))
+    (λ before d l h apart. rw (map_push (λ (x : Named). x.value) before l)
+    (distinct_more (map (λ (x : Named). x.value) before) l.value apart (new-value before l.value h.new_value)))
     [] says.labels.0 p.labels says.labels.2 distinct-none
 
 kept-ranked : (document : Members) (p : Policy) → Says document p → AllByRecursion (HasLevel (length p.levels)) p.labels
 kept-ranked document p says =
-    each-row (SaysLabel p.levels p.categories) (HasLevel (length p.levels)) (λ before d l h. record { rank = (position-Some _ p.levels l.value.rank [] h.value.rank).0 })
+    each-row (SaysLabel p.levels p.categories) (HasLevel (length p.levels)) (λ before d l h. record {
+      rank =
+          (position-Some _ p.levels l.value.rank [] h.value.rank).0;
+    })
     [] says.labels.0 p.labels says.labels.2
 
 -- ---- users
 
 kept-user_names : (document : Members) (p : Policy) → Says document p → AreNames (map (λ u. u.name) p.users)
 kept-user_names document p says =
-    named-rows (λ (u : User). u.name) (SaysUser p.labels) (λ before d u h. h.name.is_name) [] says.users.0 p.users says.users.2
+    named-rows (λ (u : User). u.name) (SaysUser p.labels)
+    (λ before d u h. h.name.is_name) [] says.users.0 p.users says.users.2
 
-kept-users_distinct : (document : Members) (p : Policy) → Says document p → IsDistinct bytes_eq (map (λ u. u.name) p.users)
+kept-users_distinct : (document : Members) (p : Policy) → Says document p
+    → IsDistinct bytes_eq (map (λ u. u.name) p.users)
 kept-users_distinct document p says =
-    all-rows (SaysUser p.labels) (λ us. IsDistinct bytes_eq (map (λ u. u.name) us)) (λ before d u h apart. more-names (λ (x : User). x.name) before u h.new_name apart)
+    all-rows (SaysUser p.labels) (λ us. IsDistinct bytes_eq (map (λ u. u.name) us)) (λ before d u h apart. more-names
+    (λ (x : User). x.name) before u h.new_name apart)
     [] says.users.0 p.users says.users.2 (none-distinct bytes_eq)
 
-within : (labels : List Named) (name : Name) (k : ℕ) → position (λ l. bytes_eq l.name name) labels ≡ Some k → k < length labels
+within : (labels : List Named) (name : Name) (k : ℕ) → position (λ l. bytes_eq l.name name) labels ≡ Some k
+    → k < length labels
 within [] name k e = absurd cc
 within (l ∷ ls) name k e = (position-Some (λ x. bytes_eq x.name name) (l ∷ ls) k l e).0
 
-trusted-declared : (labels : List Named) (field : Option Data) (o : Option (ℕ × ℕ)) → SaysTrusted labels field o → IfSome o (λ i. (i.0 < length labels) × (i.1 < length labels))
+trusted-declared : (labels : List Named) (field : Option Data) (o : Option (ℕ × ℕ)) → SaysTrusted labels field o
+    → IfSome o (λ i. (i.0 < length labels) × (i.1 < length labels))
 trusted-declared labels field None h = tt
-trusted-declared labels field (Some i) (low, high, is, l, h, order) = (within labels l.name i.0 l.place, within labels h.name i.1 h.place)
+trusted-declared labels field (Some i) (low, high, is, l, h, order) = (
+  within labels l.name i.0 l.place,
+  within labels h.name i.1 h.place,
+)
 
-trusted-ordered : (labels : List Named) (field : Option Data) (o : Option (ℕ × ℕ)) → SaysTrusted labels field o → IfSome o (λ i. below (map (λ l. l.value) labels) i.0 i.1 ≡ true)
+trusted-ordered : (labels : List Named) (field : Option Data) (o : Option (ℕ × ℕ)) → SaysTrusted labels field o
+    → IfSome o (λ i. below (map (λ l. l.value) labels) i.0 i.1 ≡ true)
 trusted-ordered labels field None h = tt
 trusted-ordered labels field (Some i) (low, high, is, l, h, order) = order
 
-kept-cleared : (document : Members) (p : Policy) → Says document p → AllByRecursion (IsCleared (length p.labels)) p.users
+kept-cleared : (document : Members) (p : Policy) → Says document p
+    → AllByRecursion (IsCleared (length p.labels)) p.users
 kept-cleared document p says =
     each-row (SaysUser p.labels) (IsCleared (length p.labels))
-    (λ before d u h. record { clearance = within p.labels h.cleared u.clearance h.clearance; trusted = trusted-declared p.labels _ u.trusted h.trusted })
+    (λ before d u h. record {
+      clearance = within p.labels h.cleared u.clearance h.clearance;
+      trusted =
+          trusted-declared p.labels _ u.trusted h.trusted;
+    })
     [] says.users.0 p.users says.users.2
 
 kept-trusted : (document : Members) (p : Policy) → Says document p → AllByRecursion (IsTrusted (labels_of p)) p.users
 kept-trusted document p says =
-    each-row (SaysUser p.labels) (IsTrusted (labels_of p)) (λ before d u h. trusted-ordered p.labels _ u.trusted h.trusted) [] says.users.0 p.users says.users.2
+    each-row (SaysUser p.labels) (IsTrusted (labels_of p))
+    (λ before d u h. trusted-ordered p.labels _ u.trusted h.trusted) [] says.users.0 p.users says.users.2
 
 -- ---- the matrix
 
-user-within : (users : List User) (name : Name) (k : ℕ) → position (λ u. bytes_eq u.name name) users ≡ Some k → k < length users
+user-within : (users : List User) (name : Name) (k : ℕ) → position (λ u. bytes_eq u.name name) users ≡ Some k
+    → k < length users
 user-within [] name k e = absurd cc
 user-within (u ∷ us) name k e = (position-Some (λ x. bytes_eq x.name name) (u ∷ us) k u e).0
 
 kept-held : (document : Members) (p : Policy) → Says document p → AllByRecursion (HasUser (length p.users)) p.matrix
 kept-held document p says =
-    each-row (SaysRight p.users) (HasUser (length p.users)) (λ before d r h. record { user = user-within p.users h.name r.user h.user }) [] says.matrix.0 p.matrix says.matrix.2
+    each-row (SaysRight p.users) (HasUser (length p.users)) (λ before d r h. record {
+      user =
+          user-within p.users h.name r.user h.user;
+    }) [] says.matrix.0 p.matrix says.matrix.2
 
 kept-object_names : (document : Members) (p : Policy) → Says document p → AreNames (map (λ r. r.object) p.matrix)
 kept-object_names document p says =
-    named-rows (λ (r : Right). r.object) (SaysRight p.users) (λ before d r h. h.object.is_name) [] says.matrix.0 p.matrix says.matrix.2
+    named-rows (λ (r : Right). r.object) (SaysRight p.users)
+    (λ before d r h. h.object.is_name) [] says.matrix.0 p.matrix says.matrix.2
 
 entry-equiv : IsEquivalence same_entry
 entry-equiv = record {
@@ -176,23 +216,29 @@ entry-equiv = record {
     congr r s t e =
         let p = and_parts (nat_eq s.user r.user) (bytes_eq s.object r.object) e in
         let user : nat_eq t.user r.user ≡ nat_eq t.user s.user =
-        nat_eq_equiv.symm t.user r.user ∙ sym (nat_eq_equiv.congr s.user r.user t.user p.0) ∙ nat_eq_equiv.symm s.user t.user in
+        nat_eq_equiv.symm t.user r.user ∙ sym (nat_eq_equiv.congr s.user r.user t.user p.0)
+        ∙ nat_eq_equiv.symm s.user t.user in
         let object : bytes_eq t.object r.object ≡ bytes_eq t.object s.object =
-        nat_list_eq_equiv.symm t.object r.object ∙ sym (nat_list_eq_equiv.congr s.object r.object t.object p.1) ∙ nat_list_eq_equiv.symm s.object t.object in
+        nat_list_eq_equiv.symm t.object r.object ∙ sym (nat_list_eq_equiv.congr s.object r.object t.object p.1)
+        ∙ nat_list_eq_equiv.symm s.object t.object in
         rw (user, object) refl
 
 kept-entries_distinct : (document : Members) (p : Policy) → Says document p → IsDistinct same_entry p.matrix
 kept-entries_distinct document p says =
-    all-rows (SaysRight p.users) (IsDistinct same_entry) (λ before d r h apart. IsDistinct-push entry-equiv before r apart h.new) [] says.matrix.0 p.matrix says.matrix.2 (none-distinct same_entry)
+    all-rows (SaysRight p.users) (IsDistinct same_entry)
+    (λ before d r h apart. IsDistinct-push entry-equiv before r apart h.new) [] says.matrix.0 p.matrix says.matrix.2
+    (none-distinct same_entry)
 
-mode-small : (b c d e : Bool) (m : ℕ) → cond b (Ok 1) (cond c (Ok 2) (cond d (Ok 4) (cond e (Ok 8) (Err UnknownName)))) ≡ Ok m → m < 2 ^ 4
+mode-small : (b c d e : Bool) (m : ℕ) → cond b (Ok 1) (cond c (Ok 2) (cond d (Ok 4) (cond e (Ok 8) (Err UnknownName))))
+    ≡ Ok m → m < 2 ^ 4
 mode-small true c d e m h = let same = ok_is 1 m h in omega (arith, same)
 mode-small false true d e m h = let same = ok_is 2 m h in omega (arith, same)
 mode-small false false true e m h = let same = ok_is 4 m h in omega (arith, same)
 mode-small false false false true m h = let same = ok_is 8 m h in omega (arith, same)
 mode-small false false false false m h = absurd cc
 
-together-small : (n : ℕ) (modes : List ℕ) → n < 2 ^ 4 → AllByRecursion (λ m. m < 2 ^ 4) modes → fold bit_or n modes < 2 ^ 4
+together-small : (n : ℕ) (modes : List ℕ) → n < 2 ^ 4 → AllByRecursion (λ m. m < 2 ^ 4) modes → fold bit_or n modes
+    < 2 ^ 4
 together-small n [] small all = small
 together-small n (m ∷ modes) small all = together-small (bit_or n m) modes (or_lt 4 n m small all.0) all.1
 
@@ -233,12 +279,29 @@ policy-kept document p says = record {
 }
 
 -- a policy that reading gives part by part
-pub policy-read : (document : Members) (version : Version) (levels categories : List Name) (labels : List Named) (users : List User) (matrix : List Right)
-    → version_at document ≡ Ok version → levels_at document ≡ Ok levels → categories_at document ≡ Ok categories → labels_at levels categories document ≡ Ok labels
+pub policy-read : (document : Members) (version : Version) (levels categories : List Name) (labels : List Named)
+    (users : List User) (matrix : List Right)
+    → version_at document ≡ Ok version → levels_at document ≡ Ok levels → categories_at document ≡ Ok categories
+    → labels_at levels categories document ≡ Ok labels
     → users_at labels document ≡ Ok users → matrix_at users document ≡ Ok matrix
-    → IsPolicy (record { version = version; levels = levels; categories = categories; labels = labels; users = users; matrix = matrix })
+    → IsPolicy (record {
+      version = version;
+      levels = levels;
+      categories = categories;
+      labels = labels;
+      users = users;
+      matrix = matrix;
+    })
 unfolding policy_at
 policy-read document version levels categories labels users matrix v l c b u m =
-    let p : Policy = record { version = version; levels = levels; categories = categories; labels = labels; users = users; matrix = matrix } in
+    let p : Policy = record {
+      version = version;
+      levels = levels;
+      categories = categories;
+      labels = labels;
+      users =
+          users;
+      matrix = matrix;
+    } in
     let read : policy_at document ≡ Ok p = rw (v, l, c, b, u, m) refl in
     policy-kept document p (says_found document p read)

@@ -34,7 +34,8 @@ same_bools false false f g = refl
 pub Dominates-antisym : (p q : Pair) → Dominates p q → Dominates q p → p ≡ q
 Dominates-antisym p q d e =
     let r : p.rank ≡ q.rank = omega (arith, d.rank, e.rank) in
-    let s : p.cats ≡ q.cats = set.same_set nat_cmp_total nat_cmp-IsAntisymmetric p.cats q.cats (λ k. same_bools _ _ (e.cats k) (d.cats k)) in
+    let s : p.cats ≡ q.cats = set.same_set nat_cmp_total nat_cmp-IsAntisymmetric p.cats q.cats
+    (λ k. same_bools _ _ (e.cats k) (d.cats k)) in
     λ i. record { rank = r i; cats = s i }
 
 -- ---- the join
@@ -62,7 +63,8 @@ join-right p q = record {
 pub join-least : (p q r : Pair) → Dominates r p → Dominates r q → Dominates r (join p q)
 join-least p q r d e = record {
   rank = omega (arith, d.rank, e.rank);
-  cats = λ k h. elim (or_cases _ _ (sym (set.contains-union nat_cmp_total p.cats q.cats k) ∙ h)) [ inl a ↦ d.cats k a | inr b ↦ e.cats k b ];
+  cats = λ k h. elim (or_cases _ _ (sym (set.contains-union nat_cmp_total p.cats q.cats k)
+      ∙ h)) [ inl a ↦ d.cats k a | inr b ↦ e.cats k b ];
 }
 
 -- ---- the meet
@@ -102,17 +104,21 @@ below-refl ls a = Dominates-⊑ _ _ (Dominates-refl (label_of ls a))
 
 pub below-trans : (ls : Labels) (a b c : ℕ) → below ls a b ≡ true → below ls b c ≡ true → below ls a c ≡ true
 unfolding below
-below-trans ls a b c h k = Dominates-⊑ _ _ (Dominates-trans _ _ _ (⊑-Dominates (label_of ls b) (label_of ls c) k) (⊑-Dominates (label_of ls a) (label_of ls b) h))
+below-trans ls a b c h k = Dominates-⊑ _ _ (Dominates-trans _ _ _ (⊑-Dominates (label_of ls b) (label_of ls c) k)
+    (⊑-Dominates (label_of ls a) (label_of ls b) h))
 
-pub below-antisym : (ls : Labels) → AreDistinct ls → (a b : ℕ) → a < length ls → b < length ls → below ls a b ≡ true → below ls b a ≡ true → a ≡ b
+pub below-antisym : (ls : Labels) → AreDistinct ls → (a b : ℕ) → a < length ls → b < length ls → below ls a b ≡ true
+    → below ls b a ≡ true → a ≡ b
 unfolding below
-below-antisym ls d a b p q h k = d a b p q (Dominates-antisym _ _ (⊑-Dominates (label_of ls b) (label_of ls a) k) (⊑-Dominates (label_of ls a) (label_of ls b) h))
+below-antisym ls d a b p q h k = d a b p q (Dominates-antisym _ _ (⊑-Dominates (label_of ls b) (label_of ls a) k)
+    (⊑-Dominates (label_of ls a) (label_of ls b) h))
 
 pub by_number : IsOrderByNumber
 by_number = record { reflexive = below-refl; transitive = below-trans; antisymmetric = below-antisym }
 
 -- a test of two labels is the test of their numbers
-pub test-below : (b : Bool) (ls : Labels) (low high : ℕ) (p q : Pair) → (b ≡ true ↔ Dominates q p) → p ≡ label_of ls low → q ≡ label_of ls high → b ≡ below ls low high
+pub test-below : (b : Bool) (ls : Labels) (low high : ℕ) (p q : Pair) → (b ≡ true ↔ Dominates q p) → p ≡ label_of ls low
+    → q ≡ label_of ls high → b ≡ below ls low high
 unfolding below
 test-below b ls low high p q is l h =
     same_bools b (p ⊑ q) (λ t. Dominates-⊑ p q (is.0 t)) (λ t. is.1 (⊑-Dominates p q t)) ∙ (λ i. l i ⊑ h i)
@@ -128,7 +134,8 @@ same_pair-same p q h =
     Dominates-antisym p q (⊑-Dominates q p both.1) (⊑-Dominates p q both.0)
 
 -- two labels are one exactly where their pairs are
-pub same_label : (l m : Label) (b : Bool) → b ≡ (nat_eq l.rank m.rank && nat_eq l.cats m.cats) → b ≡ same_pair (pair_of l) (pair_of m)
+pub same_label : (l m : Label) (b : Bool) → b ≡ (nat_eq l.rank m.rank && nat_eq l.cats m.cats)
+    → b ≡ same_pair (pair_of l) (pair_of m)
 same_label l m b e =
     e ∙ same_bools _ _
     (λ h.
@@ -139,4 +146,5 @@ same_label l m b e =
     ap (same_pair (pair_of l)) (sym same) ∙ same_pair-refl (pair_of l))
     (λ h.
     let same = same_pair-same (pair_of l) (pair_of m) h in
-    and_from _ _ (eq-eqb _ _ (ap (λ (p : Pair). p.rank) same)) (eq-eqb _ _ (same_from_cats _ _ (ap (λ (p : Pair). p.cats) same))))
+    and_from _ _ (eq-eqb _ _ (ap (λ (p : Pair). p.rank) same))
+    (eq-eqb _ _ (same_from_cats _ _ (ap (λ (p : Pair). p.cats) same))))

@@ -9,12 +9,14 @@ use Rattle.mls_lattice.specs.declared.failed.Failed.TheVariants.{Fault}
 use Rattle.mls_lattice.specs.Reading.{◌>>=◌, Shows, items_len, all_items}
 
 -- `ok_or` of what a look-up found
-pub Shows-ok_or : {F X Y : Type 0} (f : X → Y) (o : Option X) (p : Option Y) (e : F) (r : Result X F) → option_map f o ≡ p → r ≡ ok_or o e → Shows f r (ok_or p e)
+pub Shows-ok_or : {F X Y : Type 0} (f : X → Y) (o : Option X) (p : Option Y) (e : F) (r : Result X F) → option_map f o
+    ≡ p → r ≡ ok_or o e → Shows f r (ok_or p e)
 Shows-ok_or f None p e r h q = rw (q, ← h) refl
 Shows-ok_or f (Some x) p e r h q = rw (q, ← h) refl
 
 -- what a function answers that took memory and met a fault
-pub gives_fault : {F Y : Type 0} (read : Result Y F) (fault : F) → read ≡ Err fault → (other : F) → Fault fault ≡ Fault other → read ≡ Err other
+pub gives_fault : {F Y : Type 0} (read : Result Y F) (fault : F) → read ≡ Err fault → (other : F) → Fault fault
+    ≡ Fault other → read ≡ Err other
 gives_fault read fault is other same = is ∙ ap (λ (e : _). Err e) (let e : fault ≡ other = cc in e)
 
 -- how many items there are
@@ -28,8 +30,10 @@ all_items-view p [] = refl
 all_items-view p (v ∷ vs) = rw (all_items-view p vs) refl
 
 -- the item at the place that a loop has reached
-pub here : {Y : Type 0} (items : List Value) (i : ℕ) (v : Value) → i < length items → v ≡ get_or items i v → (f : Items → Y) → f (items_view (drop i items)) ≡ f (item (view v) (items_view (drop (i + 1) items)))
-here items i v within is f = ap f (items_view-drop items i v within ∙ ap (λ (x : Value). item (view x) (items_view (drop (i + 1) items))) (sym is))
+pub here : {Y : Type 0} (items : List Value) (i : ℕ) (v : Value) → i < length items → v ≡ get_or items i v
+    → (f : Items → Y) → f (items_view (drop i items)) ≡ f (item (view v) (items_view (drop (i + 1) items)))
+here items i v within is f = ap f (items_view-drop items i v within
+    ∙ ap (λ (x : Value). item (view x) (items_view (drop (i + 1) items))) (sym is))
 
 pub ruleset counts = (items_len-view, all_items-view)
 
@@ -43,16 +47,19 @@ pub same_ok : {A E : Type 0} (r : Result A E) (x y : A) → r ≡ Ok x → r ≡
 same_ok r x y p q = ok_is x y (sym p ∙ q)
 
 -- the value of a step that did not fail
-pub bind_ok : {A B E : Type 0} (r : Result A E) (f : A → Result B E) (y : B) → (r >>= f) ≡ Ok y → (x : A) × (r ≡ Ok x) × (f x ≡ Ok y)
+pub bind_ok : {A B E : Type 0} (r : Result A E) (f : A → Result B E) (y : B) → (r >>= f) ≡ Ok y → (x : A) × (r ≡ Ok x)
+    × (f x ≡ Ok y)
 bind_ok (Ok x) f y e = (x, refl, e)
 bind_ok (Err d) f y e = absurd cc
 
 -- which way a test went that did not fail
-pub guard_ok : {A E : Type 0} (b : Bool) (d : E) (r : Result A E) (y : A) → cond b (Err d) r ≡ Ok y → (b ≡ false) × (r ≡ Ok y)
+pub guard_ok : {A E : Type 0} (b : Bool) (d : E) (r : Result A E) (y : A) → cond b (Err d) r ≡ Ok y → (b ≡ false)
+    × (r ≡ Ok y)
 guard_ok true d r y e = absurd cc
 guard_ok false d r y e = (refl, e)
 
-pub pass_ok : {A E : Type 0} (b : Bool) (d : E) (r : Result A E) (y : A) → cond b r (Err d) ≡ Ok y → (b ≡ true) × (r ≡ Ok y)
+pub pass_ok : {A E : Type 0} (b : Bool) (d : E) (r : Result A E) (y : A) → cond b r (Err d) ≡ Ok y → (b ≡ true)
+    × (r ≡ Ok y)
 pass_ok true d r y e = (refl, e)
 pass_ok false d r y e = absurd cc
 

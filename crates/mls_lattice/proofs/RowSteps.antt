@@ -9,7 +9,8 @@ use Rattle.mls_lattice.specs.PolicyReading.{rows_at}
 use Rattle.mls_lattice.proofs.ReadingLemmas.{here}
 
 module _ {B : Type 0} (read : List B → Data → Result B FieldFault) (front : List B) (items : List Value) (i : ℕ) where
-  pub rows_refused : (v : Value) (e : FieldFault) → i < length items → v ≡ get_or items i v → read front (view v) ≡ Err e → rows_at read front (items_view (drop i items)) ≡ Err e
+  pub rows_refused : (v : Value) (e : FieldFault) → i < length items → v ≡ get_or items i v → read front (view v)
+      ≡ Err e → rows_at read front (items_view (drop i items)) ≡ Err e
   rows_refused v e within is bad = here items i v within is (rows_at read front) ∙ rw bad refl
 
   pub rows_over : length items ≤ i → rows_at read front (items_view (drop i items)) ≡ Ok front

@@ -27,15 +27,21 @@ table_found d fields e = table_from_as_table d fields (found_ok (as_table d) Wro
 
 -- ---- names
 
-pub new_name_found : (before : List Name) (d : Data) (name : Name) → new_name_at before d ≡ Ok name → SaysName before d name
+pub new_name_found : (before : List Name) (d : Data) (name : Name) → new_name_at before d ≡ Ok name
+    → SaysName before d name
 unfolding new_name_at
 new_name_found before d name e =
     let a = bind_ok (name_at d) _ name e in
     let b = bind_ok (once (list_any (bytes_eq a.0) before)) _ name a.2 in
     let n = name_found d a.0 a.1 in
-    subst (λ (x : Name). SaysName before d x) (ok_is a.0 name b.2) (record { text = n.0; is_name = n.1; new = once_ok _ b.0 b.1 })
+    subst (λ (x : Name). SaysName before d x) (ok_is a.0 name b.2) (record {
+      text = n.0;
+      is_name = n.1;
+      new = once_ok _ b.0 b.1;
+    })
 
-pub new_name_again : (before : List Name) (d : Data) (name : Name) → SaysName before d name → new_name_at before d ≡ Ok name
+pub new_name_again : (before : List Name) (d : Data) (name : Name) → SaysName before d name → new_name_at before d
+    ≡ Ok name
 unfolding new_name_at
 new_name_again before d name h = rw (h.text, h.is_name, h.new) refl
 
@@ -44,25 +50,43 @@ name_kind before d name h = rw h.text refl
 
 -- ---- labels
 
-categories_found : (categories : List Name) (before : List ℕ) (ds : Items) (all : Categories) → more_categories categories (set.from_list before) ds ≡ Ok all
+categories_found : (categories : List Name) (before : List ℕ) (ds : Items) (all : Categories)
+    → more_categories categories (set.from_list before) ds ≡ Ok all
     → (places : List ℕ) × Rows (SaysCategory categories) before ds places × (all ≡ set.from_list (before ++ places))
-categories_found categories before no_items all e =
-    ([], tt, sym (ok_is (set.from_list before) all e) ∙ ap (λ (ks : List ℕ). set.from_list ks) (sym (append-nil before)))
+categories_found categories before no_items all e = (
+  [],
+  tt,
+  sym (ok_is (set.from_list before) all e) ∙ ap (λ (ks : List ℕ). set.from_list ks)
+      (sym (append-nil before)),
+)
 categories_found categories before (item d ds) all e =
     let a = bind_ok (name_at d) _ all e in
     let b = bind_ok (place_in categories a.0) _ all a.2 in
     let k = b.0 in
-    let c = guard_ok (set.contains (set.from_list before) k) Repeated (more_categories categories (set.insert (set.from_list before) k) ds) all b.2 in
+    let c = guard_ok (set.contains (set.from_list before) k) Repeated (more_categories categories
+    (set.insert (set.from_list before) k) ds) all b.2 in
     let n = name_found d a.0 a.1 in
     let pushed = set.from_list_push nat_cmp_total nat_cmp-IsAntisymmetric before k in
-    let more = categories_found categories (before ++ k ∷ []) ds all (ap (λ s. more_categories categories s ds) pushed ∙ c.1) in
+    let more = categories_found categories (before ++ k ∷ []) ds all (ap (λ s. more_categories categories s ds) pushed
+    ∙ c.1) in
     let place = found_ok (position (λ other. bytes_eq other a.0) categories) UnknownName k b.1 in (
       k ∷ more.0,
-      (record { name = a.0; text = n.0; is_name = n.1; place = place; new = sym (set.contains-from_list_nat before k) ∙ c.0 }, more.1),
+      (
+        record {
+          name = a.0;
+          text = n.0;
+          is_name = n.1;
+          place = place;
+          new = sym (set.contains-from_list_nat before k)
+              ∙ c.0;
+        },
+        more.1,
+      ),
       more.2 ∙ ap (λ (ks : List ℕ). set.from_list ks) (append_assoc before (k ∷ []) more.0),
     )
 
-categories_again : (categories : List Name) (before : List ℕ) (ds : Items) (places : List ℕ) → Rows (SaysCategory categories) before ds places
+categories_again : (categories : List Name) (before : List ℕ) (ds : Items) (places : List ℕ)
+    → Rows (SaysCategory categories) before ds places
     → more_categories categories (set.from_list before) ds ≡ Ok (set.from_list (before ++ places))
 categories_again categories before no_items [] h = ap (λ (ks : List ℕ). Ok (set.from_list ks)) (sym (append-nil before))
 categories_again categories before no_items (k ∷ places) h = absurd h
@@ -76,10 +100,12 @@ categories_again categories before (item d ds) (k ∷ places) h =
     ∙ categories_again categories (before ++ k ∷ []) ds places h.1
     ∙ ap (λ (ks : List ℕ). Ok (set.from_list ks)) (append_assoc before (k ∷ []) places))
 
-category_kind : (categories : List Name) (before : List ℕ) (d : Data) (k : ℕ) → SaysCategory categories before d k → is_some (as_str d) ≡ true
+category_kind : (categories : List Name) (before : List ℕ) (d : Data) (k : ℕ) → SaysCategory categories before d k
+    → is_some (as_str d) ≡ true
 category_kind categories before d k h = rw h.text refl
 
-value_found : (levels categories : List Name) (fields : Members) (value : Pair) → value_at levels categories fields ≡ Ok value → SaysValue levels categories fields value
+value_found : (levels categories : List Name) (fields : Members) (value : Pair) → value_at levels categories fields
+    ≡ Ok value → SaysValue levels categories fields value
 unfolding value_at
 value_found levels categories fields value e =
     let a = bind_ok (name_field (codes "level") fields) _ value e in
@@ -100,14 +126,24 @@ value_found levels categories fields value e =
       cats = cats.2;
     })
 
-value_again : (levels categories : List Name) (fields : Members) (value : Pair) → SaysValue levels categories fields value → value_at levels categories fields ≡ Ok value
+value_again : (levels categories : List Name) (fields : Members) (value : Pair)
+    → SaysValue levels categories fields value → value_at levels categories fields ≡ Ok value
 unfolding value_at
 value_again levels categories fields value h =
-    let kinds = rows_all (SaysCategory categories) (λ x. is_some (as_str x)) (category_kind categories) [] h.items h.places h.says_places in
-    let cats : more_categories categories set.empty h.items ≡ Ok value.cats = categories_again categories [] h.items h.places h.says_places ∙ ap (λ (s : Categories). Ok s) (sym h.cats) in
-    rw (field_again (codes "level") fields h.level h.has_level, h.rank, optional_again (λ x. is_some (as_str x)) (codes "categories") fields h.items h.has_items kinds, cats) refl
+    let kinds = rows_all (SaysCategory categories) (λ x. is_some (as_str x))
+    (category_kind categories) [] h.items h.places h.says_places in
+    let cats : more_categories categories set.empty h.items ≡ Ok value.cats =
+    categories_again categories [] h.items h.places h.says_places ∙ ap (λ (s : Categories). Ok s) (sym h.cats) in
+    rw (
+      field_again (codes "level") fields h.level h.has_level,
+      h.rank,
+      optional_again (λ x. is_some (as_str x))
+          (codes "categories") fields h.items h.has_items kinds,
+      cats,
+    ) refl
 
-pub label_found : (levels categories : List Name) (before : List Named) (d : Data) (l : Named) → label_at levels categories before d ≡ Ok l → SaysLabel levels categories before d l
+pub label_found : (levels categories : List Name) (before : List Named) (d : Data) (l : Named)
+    → label_at levels categories before d ≡ Ok l → SaysLabel levels categories before d l
 unfolding label_at
 label_found levels categories before d l e =
     let t = bind_ok (table_at d) _ l e in
@@ -126,12 +162,20 @@ label_found levels categories before d l e =
       new_value = once_ok _ f.0 f.1;
     })
 
-pub label_again : (levels categories : List Name) (before : List Named) (d : Data) (l : Named) → SaysLabel levels categories before d l → label_at levels categories before d ≡ Ok l
+pub label_again : (levels categories : List Name) (before : List Named) (d : Data) (l : Named)
+    → SaysLabel levels categories before d l → label_at levels categories before d ≡ Ok l
 unfolding label_at
 label_again levels categories before d l h =
-    rw (h.is_table, field_again (codes "name") h.fields l.name h.name, h.new_name, value_again levels categories h.fields l.value h.value, h.new_value) refl
+    rw (
+      h.is_table,
+      field_again (codes "name") h.fields l.name h.name,
+      h.new_name,
+      value_again levels categories h.fields l.value h.value,
+      h.new_value,
+    ) refl
 
-pub label_kind : (levels categories : List Name) (before : List Named) (d : Data) (l : Named) → SaysLabel levels categories before d l → is_some (as_table d) ≡ true
+pub label_kind : (levels categories : List Name) (before : List Named) (d : Data) (l : Named)
+    → SaysLabel levels categories before d l → is_some (as_table d) ≡ true
 label_kind levels categories before d l h = rw h.is_table refl
 
 -- ---- users
@@ -140,9 +184,16 @@ place_found : (labels : List Named) (d : Data) (k : ℕ) → label_name_at label
 place_found labels d k e =
     let a = bind_ok (name_at d) _ k e in
     let n = name_found d a.0 a.1 in
-    record { name = a.0; text = n.0; is_name = n.1; place = found_ok (position (λ l. bytes_eq l.name a.0) labels) UnknownName k a.2 }
+    record {
+      name = a.0;
+      text = n.0;
+      is_name = n.1;
+      place =
+          found_ok (position (λ l. bytes_eq l.name a.0) labels) UnknownName k a.2;
+    }
 
-trusted_found : (labels : List Named) (field : Option Data) (o : Option (ℕ × ℕ)) → trusted_at labels field ≡ Ok o → SaysTrusted labels field o
+trusted_found : (labels : List Named) (field : Option Data) (o : Option (ℕ × ℕ)) → trusted_at labels field ≡ Ok o
+    → SaysTrusted labels field o
 trusted_found labels None o e = subst (λ (x : Option (ℕ × ℕ)). SaysTrusted labels None x) (ok_is None o e) refl
 trusted_found labels (Some d) o e =
     let a = bind_ok (texts_at d) (interval_at labels) o e in
@@ -156,16 +207,19 @@ trusted_found labels (Some d) o e =
         let l = bind_ok (label_name_at labels low) _ o e in
         let h = bind_ok (label_name_at labels high) _ o l.2 in
         let t = pass_ok (below (map (λ x. x.value) labels) l.0 h.0) EmptyInterval (Ok (Some (l.0, h.0))) o h.2 in
-        subst (λ (x : Option (ℕ × ℕ)). SaysTrusted labels (Some (array (item low (item high no_items)))) x) (ok_is (Some (l.0, h.0)) o t.1)
+        subst (λ (x : Option (ℕ × ℕ)). SaysTrusted labels (Some (array (item low (item high no_items)))) x)
+        (ok_is (Some (l.0, h.0)) o t.1)
         (low, high, refl, place_found labels low l.0 l.1, place_found labels high h.0 h.1, t.0)
     go (item low (item high (item more ds))) e = absurd cc
 
-trusted_again : (labels : List Named) (field : Option Data) (o : Option (ℕ × ℕ)) → SaysTrusted labels field o → trusted_at labels field ≡ Ok o
+trusted_again : (labels : List Named) (field : Option Data) (o : Option (ℕ × ℕ)) → SaysTrusted labels field o
+    → trusted_at labels field ≡ Ok o
 trusted_again labels field None h = rw h refl
 trusted_again labels field (Some i) (low, high, is, l, h, order) =
     rw (is, l.text, h.text, l.is_name, h.is_name, l.place, h.place, order) refl
 
-pub user_found : (labels : List Named) (before : List User) (d : Data) (u : User) → user_at labels before d ≡ Ok u → SaysUser labels before d u
+pub user_found : (labels : List Named) (before : List User) (d : Data) (u : User) → user_at labels before d ≡ Ok u
+    → SaysUser labels before d u
 unfolding user_at
 user_found labels before d u e =
     let t = bind_ok (table_at d) _ u e in
@@ -187,17 +241,27 @@ user_found labels before d u e =
       trusted = trusted_found labels (get_member (codes "trusted") t.0) g.0 g.1;
     })
 
-pub user_again : (labels : List Named) (before : List User) (d : Data) (u : User) → SaysUser labels before d u → user_at labels before d ≡ Ok u
+pub user_again : (labels : List Named) (before : List User) (d : Data) (u : User) → SaysUser labels before d u
+    → user_at labels before d ≡ Ok u
 unfolding user_at
 user_again labels before d u h =
-    rw (h.is_table, field_again (codes "name") h.fields u.name h.name, h.new_name, field_again (codes "clearance") h.fields h.cleared h.has_clearance, h.clearance, trusted_again labels (get_member (codes "trusted") h.fields) u.trusted h.trusted) refl
+    rw (
+      h.is_table,
+      field_again (codes "name") h.fields u.name h.name,
+      h.new_name,
+      field_again (codes "clearance") h.fields h.cleared h.has_clearance,
+      h.clearance,
+      trusted_again labels (get_member (codes "trusted") h.fields) u.trusted h.trusted,
+    ) refl
 
-pub user_kind : (labels : List Named) (before : List User) (d : Data) (u : User) → SaysUser labels before d u → is_some (as_table d) ≡ true
+pub user_kind : (labels : List Named) (before : List User) (d : Data) (u : User) → SaysUser labels before d u
+    → is_some (as_table d) ≡ true
 user_kind labels before d u h = rw h.is_table refl
 
 -- ---- the matrix
 
-modes_found : (before : List ℕ) (ds : Items) (all : ℕ) → more_modes (together before) ds ≡ Ok all → (modes : List ℕ) × Rows SaysMode before ds modes × (all ≡ together (before ++ modes))
+modes_found : (before : List ℕ) (ds : Items) (all : ℕ) → more_modes (together before) ds ≡ Ok all → (modes : List ℕ)
+    × Rows SaysMode before ds modes × (all ≡ together (before ++ modes))
 modes_found before no_items all e =
     ([], tt, sym (ok_is (together before) all e) ∙ ap together (sym (append-nil before)))
 modes_found before (item d ds) all e =
@@ -205,13 +269,23 @@ modes_found before (item d ds) all e =
     let b = bind_ok (mode_of a.0) _ all a.2 in
     let m = b.0 in
     let c = guard_ok (bit_and (together before) m == m) Repeated (more_modes (bit_or (together before) m) ds) all b.2 in
-    let more = modes_found (before ++ m ∷ []) ds all (ap (λ (n : ℕ). more_modes n ds) (fold_push bit_or 0 before m) ∙ c.1) in (
+    let more = modes_found (before ++ m ∷ []) ds all (ap (λ (n : ℕ). more_modes n ds) (fold_push bit_or 0 before m)
+    ∙ c.1) in (
       m ∷ more.0,
-      (record { word = a.0; text = string_from_as_str d a.0 (found_ok (as_str d) WrongKind a.0 a.1); is_word = b.1; new = c.0 }, more.1),
+      (
+        record {
+          word = a.0;
+          text = string_from_as_str d a.0 (found_ok (as_str d) WrongKind a.0 a.1);
+          is_word = b.1;
+          new = c.0;
+        },
+        more.1,
+      ),
       more.2 ∙ ap together (append_assoc before (m ∷ []) more.0),
     )
 
-modes_again : (before : List ℕ) (ds : Items) (modes : List ℕ) → Rows SaysMode before ds modes → more_modes (together before) ds ≡ Ok (together (before ++ modes))
+modes_again : (before : List ℕ) (ds : Items) (modes : List ℕ) → Rows SaysMode before ds modes
+    → more_modes (together before) ds ≡ Ok (together (before ++ modes))
 modes_again before no_items [] h = ap (λ (ms : List ℕ). Ok (together ms)) (sym (append-nil before))
 modes_again before no_items (m ∷ modes) h = absurd h
 modes_again before (item d ds) [] h = absurd h
@@ -225,7 +299,8 @@ modes_again before (item d ds) (m ∷ modes) h =
 mode_kind : (before : List ℕ) (d : Data) (mode : ℕ) → SaysMode before d mode → is_some (as_str d) ≡ true
 mode_kind before d mode h = rw h.text refl
 
-pub right_found : (users : List User) (before : List Right) (d : Data) (r : Right) → right_at users before d ≡ Ok r → SaysRight users before d r
+pub right_found : (users : List User) (before : List Right) (d : Data) (r : Right) → right_at users before d ≡ Ok r
+    → SaysRight users before d r
 unfolding right_at
 right_found users before d r e =
     let t = bind_ok (table_at d) _ r e in
@@ -247,21 +322,34 @@ right_found users before d r e =
       user = found_ok (position (λ u. bytes_eq u.name a.0) users) UnknownName b.0 b.1;
       object = field_found (codes "object") t.0 c.0 c.1;
       items = g.0;
-      has_items = found_ok (get_member (codes "modes") t.0) MissingField f.0 f.1 ∙ ap (λ (x : Data). Some x) (kind_found (λ x. is_some (as_str x)) f.0 g.0 g.1);
+      has_items = found_ok (get_member (codes "modes") t.0) MissingField f.0 f.1 ∙ ap (λ (x : Data). Some x)
+          (kind_found (λ x. is_some (as_str x)) f.0 g.0 g.1);
       modes = modes.0;
       says_modes = modes.1;
       all_modes = modes.2;
       new = once_ok _ o.0 o.1;
     })
 
-pub right_again : (users : List User) (before : List Right) (d : Data) (r : Right) → SaysRight users before d r → right_at users before d ≡ Ok r
+pub right_again : (users : List User) (before : List Right) (d : Data) (r : Right) → SaysRight users before d r
+    → right_at users before d ≡ Ok r
 unfolding right_at
 right_again users before d r h =
     let kinds = rows_all SaysMode (λ x. is_some (as_str x)) mode_kind [] h.items h.modes h.says_modes in
-    let modes : more_modes 0 h.items ≡ Ok r.modes.0 = modes_again [] h.items h.modes h.says_modes ∙ ap (λ (n : ℕ). Ok n) (sym h.all_modes) in
-    rw (h.is_table, field_again (codes "user") h.fields h.name h.has_user, h.user, field_again (codes "object") h.fields r.object h.object, h.has_items, kinds, modes, h.new) refl
+    let modes : more_modes 0 h.items ≡ Ok r.modes.0 = modes_again [] h.items h.modes h.says_modes ∙ ap (λ (n : ℕ). Ok n)
+    (sym h.all_modes) in
+    rw (
+      h.is_table,
+      field_again (codes "user") h.fields h.name h.has_user,
+      h.user,
+      field_again (codes "object") h.fields r.object h.object,
+      h.has_items,
+      kinds,
+      modes,
+      h.new,
+    ) refl
 
-pub right_kind : (users : List User) (before : List Right) (d : Data) (r : Right) → SaysRight users before d r → is_some (as_table d) ≡ true
+pub right_kind : (users : List User) (before : List Right) (d : Data) (r : Right) → SaysRight users before d r
+    → is_some (as_table d) ≡ true
 right_kind users before d r h = rw h.is_table refl
 
 -- ---- all of it
@@ -272,16 +360,20 @@ numbered true two n v first second e = first refl ∙ ap (λ (x : Version). pos 
 numbered false true n v first second e = second refl ∙ ap (λ (x : Version). pos (version_number x)) (ok_is Two v e)
 numbered false false n v first second e = absurd cc
 
-pub version_found : (document : Members) (v : Version) → version_at document ≡ Ok v → get_member (codes "version") document ≡ Some (integer (pos (version_number v)))
+pub version_found : (document : Members) (v : Version) → version_at document ≡ Ok v
+    → get_member (codes "version") document ≡ Some (integer (pos (version_number v)))
 unfolding version_at
 version_found document v e =
     let a = bind_ok (wanted (codes "version") document) _ v e in
     let b = bind_ok (integer_at a.0) _ v a.2 in
-    let n = numbered (int_eq b.0 (pos 1)) (int_eq b.0 (pos 2)) b.0 v (λ is. (Decides-int_eq b.0 (pos 1)).0 is) (λ is. (Decides-int_eq b.0 (pos 2)).0 is) b.2 in
+    let n = numbered (int_eq b.0 (pos 1)) (int_eq b.0 (pos 2)) b.0 v (λ is. (Decides-int_eq b.0 (pos 1)).0 is)
+    (λ is. (Decides-int_eq b.0 (pos 2)).0 is) b.2 in
     found_ok (get_member (codes "version") document) MissingField a.0 a.1
-    ∙ ap (λ (d : Data). Some d) (integer_from_as_integer a.0 b.0 (found_ok (as_integer a.0) WrongKind b.0 b.1) ∙ ap integer n)
+    ∙ ap (λ (d : Data). Some d) (integer_from_as_integer a.0 b.0 (found_ok (as_integer a.0) WrongKind b.0 b.1)
+    ∙ ap integer n)
 
-pub version_again : (document : Members) (v : Version) → get_member (codes "version") document ≡ Some (integer (pos (version_number v))) → version_at document ≡ Ok v
+pub version_again : (document : Members) (v : Version) → get_member (codes "version") document
+    ≡ Some (integer (pos (version_number v))) → version_at document ≡ Ok v
 unfolding version_at
 version_again document One e = rw e refl
 version_again document Two e = rw e refl

@@ -17,9 +17,11 @@ last_of : (ls : Labels) (p : Pair) → label_of (ls ++ p ∷ []) (length ls) ≡
 last_of [] p = refl
 last_of (l ∷ ls) p = last_of ls p
 
-pub distinct_more : (ls : Labels) (p : Pair) → AreDistinct ls → ((a : ℕ) → a < length ls → label_of ls a ≢ p) → AreDistinct (ls ++ p ∷ [])
+pub distinct_more : (ls : Labels) (p : Pair) → AreDistinct ls → ((a : ℕ) → a < length ls → label_of ls a ≢ p)
+    → AreDistinct (ls ++ p ∷ [])
 distinct_more ls p apart new a b in_a in_b same =
-    let before : (i : ℕ) → i < length ls → label_of (ls ++ p ∷ []) i ≡ label_of ls i = λ i lt. get_or_append_left ls (p ∷ []) bottom i lt in
+    let before : (i : ℕ) → i < length ls → label_of (ls ++ p ∷ []) i ≡ label_of ls i = λ i lt. get_or_append_left ls
+    (p ∷ []) bottom i lt in
     elim (cases_lt a (length ls)) [
       | inl la ↦ elim (cases_lt b (length ls)) [
         | inl lb ↦ apart a b la lb (sym (before a la) ∙ same ∙ before b lb)
@@ -46,8 +48,11 @@ pub distinct-none : AreDistinct []
 distinct-none a b in_a in_b same = absurd (omega arith)
 
 -- a row of labels
-pub label_rows-more : (items : List Value) (i : ℕ) (v : Value) (read : List Named → Data → Result Named FieldFault) (front : List NamedLabel) (l : NamedLabel)
+pub label_rows-more : (items : List Value) (i : ℕ) (v : Value) (read : List Named → Data → Result Named FieldFault)
+    (front : List NamedLabel) (l : NamedLabel)
     → i < length items → v ≡ get_or items i v → read (map named front) (view v) ≡ Ok (named l)
-    → rows_at read (map named (front ++ l ∷ [])) (items_view (drop (i + 1) items)) ≡ rows_at read (map named front) (items_view (drop i items))
+    → rows_at read (map named (front ++ l ∷ [])) (items_view (drop (i + 1) items)) ≡ rows_at read (map named front)
+    (items_view (drop i items))
 label_rows-more items i v read front l within is ok =
-    ap (λ ls. rows_at read ls (items_view (drop (i + 1) items))) (map_push named front l) ∙ rows-more items i v within is read (map named front) (named l) ok
+    ap (λ ls. rows_at read ls (items_view (drop (i + 1) items))) (map_push named front l)
+    ∙ rows-more items i v within is read (map named front) (named l) ok

@@ -25,7 +25,8 @@ spaced word = codes " " ++ word
 -- the names of a set's categories, in declared order; the first name has place k
 abbrev pub names_of : ℕ → List Name → Categories → List Name
 names_of k [] cats = []
-names_of k (name ∷ names) cats = if set.contains cats k then name ∷ names_of (k + 1) names cats else names_of (k + 1) names cats
+names_of k (name ∷ names) cats = if set.contains cats k then name ∷ names_of (k + 1) names cats else names_of
+    (k + 1) names cats
 
 abbrev pub level_line : Name → List ℕ
 level_line name = codes "level " ++ name ++ codes "\n"
@@ -35,12 +36,14 @@ category_line name = codes "category " ++ name ++ codes "\n"
 
 abbrev pub label_line : List Name → List Name → Named → List ℕ
 label_line levels categories l =
-    codes "label " ++ l.name ++ spaced (name_at levels l.value.rank) ++ flat_map spaced (names_of 0 categories l.value.cats) ++ codes "\n"
+    codes "label " ++ l.name ++ spaced (name_at levels l.value.rank) ++ flat_map spaced
+    (names_of 0 categories l.value.cats) ++ codes "\n"
 
 -- the levels, categories and labels
 abbrev pub lattice_of : Policy → List ℕ
 lattice_of p =
-    flat_map level_line p.levels ++ flat_map category_line p.categories ++ flat_map (label_line p.levels p.categories) p.labels
+    flat_map level_line p.levels ++ flat_map category_line p.categories
+    ++ flat_map (label_line p.levels p.categories) p.labels
 
 -- the ends of an interval, after spaces
 abbrev pub interval_text : List Named → Option (ℕ × ℕ) → List ℕ
@@ -57,11 +60,13 @@ word_if modes mode word = if bit_and modes mode == mode then spaced word else []
 
 abbrev pub modes_text : ℕ → List ℕ
 modes_text modes =
-    word_if modes 1 (codes "execute") ++ word_if modes 2 (codes "read") ++ word_if modes 4 (codes "append") ++ word_if modes 8 (codes "write")
+    word_if modes 1 (codes "execute") ++ word_if modes 2 (codes "read") ++ word_if modes 4 (codes "append")
+    ++ word_if modes 8 (codes "write")
 
 abbrev pub right_line : List User → Right → List ℕ
 right_line users r = codes "matrix " ++ user_name users r.user ++ spaced r.object ++ modes_text r.modes.0 ++ codes "\n"
 
 abbrev pub canon_of : Policy → List ℕ
 canon_of p =
-    codes "policy " ++ version_text p.version ++ codes "\n" ++ lattice_of p ++ flat_map (user_line p.labels) p.users ++ flat_map (right_line p.users) p.matrix
+    codes "policy " ++ version_text p.version ++ codes "\n" ++ lattice_of p ++ flat_map (user_line p.labels) p.users
+    ++ flat_map (right_line p.users) p.matrix

@@ -21,4 +21,5 @@ AreDistinct ls = (a b : ℕ) → a < length ls → b < length ls → label_of ls
 pub record IsOrderByNumber : Type 0 where
   pub reflexive : (ls : Labels) (a : ℕ) → below ls a a ≡ true
   pub transitive : (ls : Labels) (a b c : ℕ) → below ls a b ≡ true → below ls b c ≡ true → below ls a c ≡ true
-  pub antisymmetric : (ls : Labels) → AreDistinct ls → (a b : ℕ) → a < length ls → b < length ls → below ls a b ≡ true → below ls b a ≡ true → a ≡ b
+  pub antisymmetric : (ls : Labels) → AreDistinct ls → (a b : ℕ) → a < length ls → b < length ls → below ls a b ≡ true
+      → below ls b a ≡ true → a ≡ b

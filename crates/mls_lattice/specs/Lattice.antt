@@ -76,4 +76,7 @@ pub record IsGreatestLowerBound : Type 0 where
 -- how a pair is stored
 abbrev pub pair_code : Coded Pair
 pair_code =
-    code_by (ℕ × Categories) (coded× coded_ℕ (set.code coded_ℕ)) (λ p. (p.rank, p.cats)) (λ d. record { rank = d.0; cats = d.1 }) (λ _. refl)
+    code_by (ℕ × Categories) (coded× coded_ℕ (set.code coded_ℕ)) (λ p. (p.rank, p.cats)) (λ d. record {
+      rank = d.0;
+      cats = d.1;
+    }) (λ _. refl)

@@ -68,7 +68,8 @@ is_entry user object r = nat_eq r.user user && bytes_eq r.object object
 abbrev pub same_entry : Right → Right → Bool
 same_entry r s = is_entry r.user r.object s
 
--- What holds of every policy: names are NAMEs, none is twice where it names a thing, no two labels have one value, what a row
+-- What holds of every policy: names are NAMEs, none is twice where it names a thing, no two labels have one value, what
+-- a row
 -- names is declared, and a trusted interval isn't empty.
 pub record IsPolicy (p : Policy) : Type 0 where
   pub some_level : 0 < length p.levels

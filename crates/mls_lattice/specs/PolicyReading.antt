@@ -165,4 +165,12 @@ policy_at document = do
   labels ← labels_at levels categories document
   users ← users_at labels document
   matrix ← matrix_at users document
-  Ok (record { version = version; levels = levels; categories = categories; labels = labels; users = users; matrix = matrix })
+  Ok (record {
+    version = version;
+    levels = levels;
+    categories = categories;
+    labels = labels;
+    users = users;
+    matrix =
+        matrix;
+  })

@@ -19,7 +19,8 @@ ReadsPolicy bytes p = (document : Members) × IsDocument bytes document × Says 
 
 -- the bytes are a document with this first fault
 abbrev pub HasFault : List ℕ → PolicyFault → Type 0
-HasFault bytes e = (document : Members) × IsDocument bytes document × (fault : FieldFault) × (policy_at document ≡ Err fault) × (e ≡ fault_of fault)
+HasFault bytes e = (document : Members) × IsDocument bytes document × (fault : FieldFault)
+    × (policy_at document ≡ Err fault) × (e ≡ fault_of fault)
 
 -- a document is that of one policy at most
 abbrev pub SaysOne : Type 0

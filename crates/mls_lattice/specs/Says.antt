@@ -80,7 +80,8 @@ pub record SaysPlace (labels : List Named) (d : Data) (k : ℕ) : Type 0 where
 abbrev pub SaysTrusted : List Named → Option Data → Option (ℕ × ℕ) → Type 0
 SaysTrusted labels field None = field ≡ None
 SaysTrusted labels field (Some i) =
-    (low : Data) × (high : Data) × (field ≡ Some (array (item low (item high no_items)))) × SaysPlace labels low i.0 × SaysPlace labels high i.1
+    (low : Data) × (high : Data) × (field ≡ Some (array (item low (item high no_items)))) × SaysPlace labels low i.0
+    × SaysPlace labels high i.1
     × (below (map (λ l. l.value) labels) i.0 i.1 ≡ true)
 
 pub record SaysUser (labels : List Named) (before : List User) (d : Data) (u : User) : Type 0 where

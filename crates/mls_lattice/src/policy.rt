@@ -58,20 +58,38 @@ impl Model for Policy {
 
     ghost coded = { Prim.hlevel (codes, pair_code) };
 
-    ghost view = { λ a. record { version = a.version; levels = a.levels; categories = a.categories; labels = map named a.labels; users = a.users; matrix = a.matrix } };
+    ghost view = { λ a. record {
+      version = a.version;
+      levels = a.levels;
+      categories = a.categories;
+      labels =
+          map named a.labels;
+      users = a.users;
+      matrix = a.matrix;
+    } };
 
-    ghost invariant = { λ a. IsPolicy (record { version = a.version; levels = a.levels; categories = a.categories; labels = map named a.labels; users = a.users; matrix = a.matrix }) };
+    ghost invariant = { λ a. IsPolicy (record {
+      version = a.version;
+      levels = a.levels;
+      categories = a.categories;
+      labels = map named a.labels;
+      users = a.users;
+      matrix = a.matrix;
+    }) };
 }
 
 impl Policy {
-    /// Reads the bytes of a TOML document. NotToml is the answer where they are none, and also where they are not UTF-8;
-    /// the other faults come in the order of the fields, as `policy_at` has them. Memory may stand in place of any answer.
+    /// Reads the bytes of a TOML document. NotToml is the answer where they are none, and also where they are not
+    /// UTF-8;
+    /// the other faults come in the order of the fields, as `policy_at` has them. Memory may stand in place of any
+    /// answer.
     /// Beside the fault stands where in the document the reader stopped.
     pub fn read_at(alloc: Global, bytes: &[u8]) -> Result<Policy, Refused<PolicyFault>>
         // What is read is what the bytes say.
         ensures found { IfOk result (ReadsPolicy bytes.now) }
         // Nothing that says a policy is refused, unless memory runs out.
-        ensures refused { IfErr result (λ e. e.fault ≢ PolicyFault.Memory → (p : Policy) → ReadsPolicy bytes.now p → ⊥) }
+        ensures refused { IfErr result (λ e. e.fault ≢ PolicyFault.Memory → (p : Policy) → ReadsPolicy bytes.now p
+            → ⊥) }
         // Another fault of a document is its first.
         ensures first { IfErr result (λ e. e.fault ≢ PolicyFault.Memory → e.fault ≢ PolicyFault.NotToml
             → HasFault bytes.now e.fault) }
@@ -134,7 +152,8 @@ impl Policy {
         Ok(text.into_bytes())
     }
 
-    /// The lines of the canonical text for levels, categories and labels: a store keeps them, since its rows rest on them.
+    /// The lines of the canonical text for levels, categories and labels: a store keeps them, since its rows rest on
+    /// them.
     pub fn lattice_text(&self, alloc: Global) -> Result<Vec<u8>, AllocError>
         ensures text { IfOk result (λ text. text.items ≡ lattice_of self.now) }
         ensures unicode { IfOk result (λ text. IsUtf8 text.items) }
@@ -277,7 +296,8 @@ impl Policy {
         self.users[user.index()].clearance
     }
 
-    /// The interval in which a user may run transactions that release, if there is one; its second label dominates its first.
+    /// The interval in which a user may run transactions that release, if there is one; its second label dominates its
+    /// first.
     pub fn trusted(&self, user: UserNo) -> Option<(LabelNo, LabelNo)>
         requires { user < length self.now.users }
         ensures row { option_map (λ u. u.trusted) (slice_get self.now.users user) ≡ Some result }

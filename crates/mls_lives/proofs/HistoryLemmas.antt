@@ -38,12 +38,19 @@ record Parted {A : Type 0} (R : A → ℕ → Type 0) (xs ys : List A) (counts :
   pub first : AllZip R xs front
   pub second : AllZip R ys rest
 
-parted : {A : Type 0} (R : A → ℕ → Type 0) (xs ys : List A) (counts : List ℕ) → AllZip R (xs ++ ys) counts → Parted R xs ys counts
+parted : {A : Type 0} (R : A → ℕ → Type 0) (xs ys : List A) (counts : List ℕ) → AllZip R (xs ++ ys) counts
+    → Parted R xs ys counts
 parted R [] ys counts h = record { front = []; rest = counts; are = refl; first = tt; second = h }
 parted R (x ∷ xs) ys [] h = absurd h
 parted R (x ∷ xs) ys (n ∷ ns) h =
     let more = parted R xs ys ns h.1 in
-    record { front = n ∷ more.front; rest = more.rest; are = ap (λ l. n ∷ l) more.are; first = (h.0, more.first); second = more.second }
+    record {
+      front = n ∷ more.front;
+      rest = more.rest;
+      are = ap (λ l. n ∷ l) more.are;
+      first = (h.0, more.first);
+      second = more.second;
+    }
 
 -- lists, one behind another
 in_a_row : {A : Type 0} → List (List A) → List A
@@ -65,7 +72,8 @@ module _ (ls : Labels) (schemes : Schemes) (c : ℕ) where
   none_at [] h = (0, omega arith, refl)
   none_at (x ∷ xs) h = absurd h
 
-  history_few : (txs : List (List Tx)) (counts : List ℕ) → AllZip (IsFew ls schemes c) (in_a_row txs) counts → HistoryFew txs (product counts)
+  history_few : (txs : List (List Tx)) (counts : List ℕ) → AllZip (IsFew ls schemes c) (in_a_row txs) counts
+      → HistoryFew txs (product counts)
   unfolding in_a_row
   history_few [] [] h = record { lists = [] ∷ []; few = omega arith; all = none_at }
   history_few [] (n ∷ ns) h = absurd h
@@ -74,15 +82,18 @@ module _ (ls : Labels) (schemes : Schemes) (c : ℕ) where
       let one = few_after ls schemes c run p.front p.first in
       let more = history_few txs p.rest p.second in
       let long = long_joined ◌∷◌ one.lists more.lists in
-      let within : length one.lists * length more.lists ≤ product p.front * product p.rest = mul-le-mul one.few more.few in
-      let whole : product counts ≡ product p.front * product p.rest = ap product p.are ∙ product-append p.front p.rest in
+      let within : length one.lists * length more.lists ≤ product p.front * product p.rest = mul-le-mul one.few more.few
+      in
+      let whole : product counts ≡ product p.front * product p.rest = ap product p.are ∙ product-append p.front p.rest
+      in
       record {
         lists = joined ◌∷◌ one.lists more.lists;
         few = omega (arith, long, within, whole);
         all = by_first one.lists more.lists one.all more.all;
       }
     where
-      by_first : (heads : List (List Item)) (tails : List (List (List Item))) → ((items : List Item) → AreReleased ls schemes c run items → Contains heads items)
+      by_first : (heads : List (List Item)) (tails : List (List (List Item)))
+          → ((items : List Item) → AreReleased ls schemes c run items → Contains heads items)
           → ((items : List (List Item)) → AreAllReleased txs items → Contains tails items)
           → (items : List (List Item)) → AreAllReleased (run ∷ txs) items → Contains (joined ◌∷◌ heads tails) items
       by_first heads tails f g [] h = absurd h
@@ -98,7 +109,8 @@ start_stored : (P : Database → Type 0) (w : World) (b : Bool) → P w.db → P
 start_stored P w true h = h
 start_stored P w false h = h
 
-start_sessions : (w : World) (b : Bool) (level : ℕ) (name : Name) → (cond b (turned w) w).sessions level name ≡ w.sessions level name
+start_sessions : (w : World) (b : Bool) (level : ℕ) (name : Name) → (cond b (turned w) w).sessions level name
+    ≡ w.sessions level name
 start_sessions w true level name = refl
 start_sessions w false level name = refl
 
@@ -110,48 +122,70 @@ module _ (ls : Labels) (schemes : Schemes) (distinct : AreDistinct ls) (c : ℕ)
     distinct_at = subst AreDistinct (sym under.labels) distinct
 
     stored_at : (db : Database) → secure.AreStored ls schemes db → AreStored site db
-    stored_at db h = subst (λ l. secure.AreStored l site.schemes db) (sym under.labels) (subst (λ s. secure.AreStored ls s db) (sym under.relations) h)
+    stored_at db h = subst (λ l. secure.AreStored l site.schemes db) (sym under.labels)
+        (subst (λ s. secure.AreStored ls s db) (sym under.relations) h)
 
     stored_back : (db : Database) → AreStored site db → secure.AreStored ls schemes db
-    stored_back db h = subst (λ s. secure.AreStored ls s db) under.relations (subst (λ l. secure.AreStored l site.schemes db) under.labels h)
+    stored_back db h = subst (λ s. secure.AreStored ls s db) under.relations
+        (subst (λ l. secure.AreStored l site.schemes db) under.labels h)
 
-    released_back : (txs : List Tx) (items : List Item) → AreReleased (site_labels site) site.schemes c txs items → AreReleased ls schemes c txs items
-    released_back txs items h = subst (λ s. AreReleased ls s c txs items) under.relations (subst (λ l. AreReleased l site.schemes c txs items) under.labels h)
+    released_back : (txs : List Tx) (items : List Item) → AreReleased (site_labels site) site.schemes c txs items
+        → AreReleased ls schemes c txs items
+    released_back txs items h = subst (λ s. AreReleased ls s c txs items) under.relations
+        (subst (λ l. AreReleased l site.schemes c txs items) under.labels h)
 
     few_back : (tx : Tx) (n : ℕ) → ReleasesAtMost site c tx n → IsFew ls schemes c tx n
-    few_back tx n h = subst (λ s. IsFew ls s c tx n) under.relations (subst (λ l. IsFew l site.schemes c tx n) under.labels (counted_few site c tx n h))
+    few_back tx n h = subst (λ s. IsFew ls s c tx n) under.relations
+        (subst (λ l. IsFew l site.schemes c tx n) under.labels (counted_few site c tx n h))
 
-  stored_start : (w : World) (r : RunAt) → secure.AreStored ls schemes w.db → secure.AreStored ls schemes (run_start w r).db
+  stored_start : (w : World) (r : RunAt) → secure.AreStored ls schemes w.db
+      → secure.AreStored ls schemes (run_start w r).db
   stored_start w r h = start_stored (secure.AreStored ls schemes) w r.turns h
 
-  stored_end : (w : World) (r : RunAt) → IsSiteUnder ls schemes r.site → EventsFit r.site r.events → secure.AreStored ls schemes w.db → secure.AreStored ls schemes (run_end w r).db
+  stored_end : (w : World) (r : RunAt) → IsSiteUnder ls schemes r.site → EventsFit r.site r.events
+      → secure.AreStored ls schemes w.db → secure.AreStored ls schemes (run_end w r).db
   stored_end w r under fits h =
       stored_back r.site under _
-      (run_stored r.site (distinct_at r.site under) (run_start w r) r.events (stored_at r.site under (run_start w r).db (stored_start w r h)) fits (all_calls_read r.site (distinct_at r.site under) under.read r.events))
+      (run_stored r.site (distinct_at r.site under) (run_start w r) r.events (stored_at r.site under (run_start w r).db
+      (stored_start w r h)) fits (all_calls_read r.site (distinct_at r.site under) under.read r.events))
 
   -- ---- histories that look alike
 
-  look_between : (rs ss ts : List RunAt) → AllZip (LookAlike c) rs ss → AllZip (LookAlike c) rs ts → AllZip (LookAlike c) ss ts
+  look_between : (rs ss ts : List RunAt) → AllZip (LookAlike c) rs ss → AllZip (LookAlike c) rs ts
+      → AllZip (LookAlike c) ss ts
   look_between [] [] [] h k = tt
   look_between [] [] (t ∷ ts) h k = absurd k
   look_between [] (s ∷ ss) ts h k = absurd h
   look_between (r ∷ rs) [] ts h k = absurd h
   look_between (r ∷ rs) (s ∷ ss) [] h k = absurd k
-  look_between (r ∷ rs) (s ∷ ss) (t ∷ ts) h k =
-      (record { site = sym h.0.site ∙ k.0.site; turns = sym h.0.turns ∙ k.0.turns; events = (λ i. seen (sym h.0.site i) c s.events) ∙ sym h.0.events ∙ k.0.events ∙ (λ i. seen (h.0.site i) c t.events) }, look_between rs ss ts h.1 k.1)
+  look_between (r ∷ rs) (s ∷ ss) (t ∷ ts) h k = (
+    record {
+      site = sym h.0.site ∙ k.0.site;
+      turns = sym h.0.turns ∙ k.0.turns;
+      events =
+          (λ i. seen (sym h.0.site i) c s.events) ∙ sym h.0.events ∙ k.0.events ∙ (λ i. seen (h.0.site i) c t.events);
+    },
+    look_between rs ss ts h.1 k.1,
+  )
 
   -- what holds of the sites of one holds of those of the other
-  of_sites : (P : Site → Type 0) (rs ss : List RunAt) → AllZip (LookAlike c) rs ss → AllByRecursion (λ r. P r.site) rs → AllByRecursion (λ s. P s.site) ss
+  of_sites : (P : Site → Type 0) (rs ss : List RunAt) → AllZip (LookAlike c) rs ss → AllByRecursion (λ r. P r.site) rs
+      → AllByRecursion (λ s. P s.site) ss
   of_sites P [] [] h k = tt
   of_sites P [] (s ∷ ss) h k = absurd h
   of_sites P (r ∷ rs) [] h k = absurd h
   of_sites P (r ∷ rs) (s ∷ ss) h k = (subst P h.0.site k.0, of_sites P rs ss h.1 k.1)
 
-  release_same : (rs ss : List RunAt) (v w : World) → history_released c v rs ≡ history_released c w ss → ReleaseAlike c v w rs ss
+  release_same : (rs ss : List RunAt) (v w : World) → history_released c v rs ≡ history_released c w ss
+      → ReleaseAlike c v w rs ss
   unfolding history_released
   release_same [] ss v w h = tt
   release_same (r ∷ rs) [] v w h = tt
-  release_same (r ∷ rs) (s ∷ ss) v w h = (inl (head_same _ _ _ _ h), release_same rs ss (run_end v r) (run_end w s) (tail_same _ _ _ _ h))
+  release_same (r ∷ rs) (s ∷ ss) v w h = (
+    inl (head_same _ _ _ _ h),
+    release_same rs ss (run_end v r) (run_end w s)
+        (tail_same _ _ _ _ h),
+  )
     where
       head_same : (x y : List Item) (xs ys : List (List Item)) → x ∷ xs ≡ y ∷ ys → x ≡ y
       head_same x y xs ys e = cc
@@ -159,17 +193,22 @@ module _ (ls : Labels) (schemes : Schemes) (distinct : AreDistinct ls) (c : ℕ)
       tail_same : (x y : List Item) (xs ys : List (List Item)) → x ∷ xs ≡ y ∷ ys → xs ≡ ys
       tail_same x y xs ys e = cc
 
-  module _ (past : Past) (under : IsHistoryUnder ls schemes past.runs) (certified : AllByRecursion (λ r. AreCertified r.site) past.runs) where
-    between : (one two : Past) → BeginsAs ls schemes c past one → BeginsAs ls schemes c past two → history_released c one.world one.runs ≡ history_released c two.world two.runs
+  module _ (past : Past) (under : IsHistoryUnder ls schemes past.runs) (certified : AllByRecursion
+      (λ r. AreCertified r.site) past.runs) where
+    between : (one two : Past) → BeginsAs ls schemes c past one → BeginsAs ls schemes c past two
+        → history_released c one.world one.runs ≡ history_released c two.world two.runs
         → HistoriesEndAlike ls c one.world two.world one.runs two.runs
     between one two a b same =
-        accepted_histories ls schemes distinct one.world one.runs a.stored (of_sites (IsSiteUnder ls schemes) past.runs one.runs a.runs under) a.fits
+        accepted_histories ls schemes distinct one.world one.runs a.stored
+        (of_sites (IsSiteUnder ls schemes) past.runs one.runs a.runs under) a.fits
         (of_sites AreCertified past.runs one.runs a.runs certified) c two.world two.runs b.stored b.fits
-        (agree_between ls c past.world one.world two.world a.agree b.agree) (look_between past.runs one.runs two.runs a.runs b.runs)
+        (agree_between ls c past.world one.world two.world a.agree b.agree)
+        (look_between past.runs one.runs two.runs a.runs b.runs)
         (release_same one.runs two.runs one.world two.world same)
 
     tell_few : (lists : List (List (List Item))) (count : ℕ) → length lists ≤ count
-        → ((other : Past) → BeginsAs ls schemes c past other → Contains lists (history_released c other.world other.runs)) → TellsAtMost ls schemes c past count
+        → ((other : Past) → BeginsAs ls schemes c past other
+        → Contains lists (history_released c other.world other.runs)) → TellsAtMost ls schemes c past count
     tell_few lists count long has = record {
       class = λ other begins. (has other begins).0;
       few = λ other begins. (let within = (has other begins).1 in omega (arith, within, long));
@@ -178,22 +217,27 @@ module _ (ls : Labels) (schemes : Schemes) (distinct : AreDistinct ls) (c : ℕ)
 
   -- ---- what is run, and what that releases
 
-  history_releases : (w : World) (rs : List RunAt) → secure.AreStored ls schemes w.db → IsHistoryUnder ls schemes rs → HistoryFits rs → AllByRecursion (λ r. AreCertified r.site) rs
+  history_releases : (w : World) (rs : List RunAt) → secure.AreStored ls schemes w.db → IsHistoryUnder ls schemes rs
+      → HistoryFits rs → AllByRecursion (λ r. AreCertified r.site) rs
       → AreAllReleased ls schemes c (history_txs c w rs) (history_released c w rs)
   unfolding history_released history_txs
   history_releases w [] sw under fits certified = tt
   history_releases w (r ∷ rs) sw under fits certified =
       let d = distinct_at r.site under.0 in (
-        released_back r.site under.0 (all_ran r.site c (run_start w r) r.events) (released_to r.site c (run_start w r) r.events)
-            (run_releases r.site c d under.0.read (certified_secure r.site d certified.0) (run_start w r) r.events (stored_at r.site under.0 (run_start w r).db (stored_start w r sw)) fits.0),
+        released_back r.site under.0 (all_ran r.site c (run_start w r) r.events)
+            (released_to r.site c (run_start w r) r.events)
+            (run_releases r.site c d under.0.read (certified_secure r.site d certified.0) (run_start w r) r.events
+            (stored_at r.site under.0 (run_start w r).db (stored_start w r sw)) fits.0),
         history_releases (run_end w r) rs (stored_end w r under.0 fits.0 sw) under.1 fits.1 certified.1,
       )
 
   abbrev SameSessions : World → World → Type 0
   SameSessions v w = (level : ℕ) (name : Name) → below ls level c ≡ true → v.sessions level name ≡ w.sessions level name
 
-  same_txs : (v w : World) (rs ss : List RunAt) → secure.AreStored ls schemes v.db → secure.AreStored ls schemes w.db → IsHistoryUnder ls schemes rs → HistoryFits rs → HistoryFits ss
-      → AllByRecursion (λ r. AreCertified r.site) rs → SameSessions v w → AllZip (LookAlike c) rs ss → history_txs c v rs ≡ history_txs c w ss
+  same_txs : (v w : World) (rs ss : List RunAt) → secure.AreStored ls schemes v.db → secure.AreStored ls schemes w.db
+      → IsHistoryUnder ls schemes rs → HistoryFits rs → HistoryFits ss
+      → AllByRecursion (λ r. AreCertified r.site) rs → SameSessions v w → AllZip (LookAlike c) rs ss
+      → history_txs c v rs ≡ history_txs c w ss
   unfolding history_txs
   same_txs v w [] [] sv sw under fr fs certified h look = refl
   same_txs v w [] (s ∷ ss) sv sw under fr fs certified h look = absurd look
@@ -202,42 +246,56 @@ module _ (ls : Labels) (schemes : Schemes) (distinct : AreDistinct ls) (c : ℕ)
       let d = distinct_at r.site under.0 in
       let fits : EventsFit r.site s.events = subst (λ at. EventsFit at s.events) (sym look.0.site) fs.0 in
       let first : all_ran r.site c (run_start v r) r.events ≡ all_ran s.site c (run_start w s) s.events
-      = same_ran r.site c d under.0.read (certified_secure r.site d certified.0) r.events s.events (run_start v r) (run_start w s) fr.0 fits
-      (stored_at r.site under.0 (run_start v r).db (stored_start v r sv)) (stored_at r.site under.0 (run_start w s).db (stored_start w s sw))
-      (λ l n b. start_sessions v r.turns l n ∙ h l n (subst (λ at. below at l c ≡ true) under.0.labels b) ∙ sym (start_sessions w s.turns l n))
+      = same_ran r.site c d under.0.read (certified_secure r.site d certified.0) r.events s.events (run_start v r)
+      (run_start w s) fr.0 fits
+      (stored_at r.site under.0 (run_start v r).db (stored_start v r sv)) (stored_at r.site under.0 (run_start w s).db
+      (stored_start w s sw))
+      (λ l n b. start_sessions v r.turns l n ∙ h l n (subst (λ at. below at l c ≡ true) under.0.labels b)
+      ∙ sym (start_sessions w s.turns l n))
       look.0.events
       ∙ (λ i. all_ran (look.0.site i) c (run_start w s) s.events) in
-      let rest = same_txs (run_end v r) (run_end w s) rs ss (stored_end v r under.0 fr.0 sv) (stored_end w s (subst (IsSiteUnder ls schemes) look.0.site under.0) fs.0 sw)
+      let rest = same_txs (run_end v r) (run_end w s) rs ss (stored_end v r under.0 fr.0 sv)
+      (stored_end w s (subst (IsSiteUnder ls schemes) look.0.site under.0) fs.0 sw)
       under.1 fr.1 fs.1 certified.1 (λ l n b. refl) look.1 in
       λ i. first i ∷ rest i
 
   -- counts of what is run at its site are counts of it
   each_few : (site : Site) → IsSiteUnder ls schemes site → (txs : List Tx) (rest : List (Site × Tx)) (others : List Tx)
-      → ((counts : List ℕ) → AllZip (λ (run : Site × Tx) n. ReleasesAtMost run.0 c run.1 n) rest counts → AllZip (IsFew ls schemes c) others counts)
-      → (counts : List ℕ) → AllZip (λ (run : Site × Tx) n. ReleasesAtMost run.0 c run.1 n) (map (λ (tx : Tx). (site, tx)) txs ++ rest) counts → AllZip (IsFew ls schemes c) (txs ++ others) counts
+      → ((counts : List ℕ) → AllZip (λ (run : Site × Tx) n. ReleasesAtMost run.0 c run.1 n) rest counts
+      → AllZip (IsFew ls schemes c) others counts)
+      → (counts : List ℕ) → AllZip (λ (run : Site × Tx) n. ReleasesAtMost run.0 c run.1 n)
+      (map (λ (tx : Tx). (site, tx)) txs ++ rest) counts → AllZip (IsFew ls schemes c) (txs ++ others) counts
   each_few site under [] rest others k counts h = k counts h
   each_few site under (tx ∷ txs) rest others k [] h = absurd h
-  each_few site under (tx ∷ txs) rest others k (n ∷ ns) h = (few_back site under tx n h.0, each_few site under txs rest others k ns h.1)
+  each_few site under (tx ∷ txs) rest others k (n ∷ ns) h = (
+    few_back site under tx n h.0,
+    each_few site under txs rest others k ns h.1,
+  )
 
-  all_few : (w : World) (rs : List RunAt) → IsHistoryUnder ls schemes rs → (counts : List ℕ) → AllZip (λ (run : Site × Tx) n. ReleasesAtMost run.0 c run.1 n) (history_ran c w rs) counts
+  all_few : (w : World) (rs : List RunAt) → IsHistoryUnder ls schemes rs → (counts : List ℕ)
+      → AllZip (λ (run : Site × Tx) n. ReleasesAtMost run.0 c run.1 n) (history_ran c w rs) counts
       → AllZip (IsFew ls schemes c) (in_a_row (history_txs c w rs)) counts
   unfolding history_ran history_txs in_a_row
   all_few w [] under [] h = tt
   all_few w [] under (n ∷ ns) h = absurd h
   all_few w (r ∷ rs) under counts h =
-      each_few r.site under.0 (all_ran r.site c (run_start w r) r.events) (history_ran c (run_end w r) rs) (in_a_row (history_txs c (run_end w r) rs)) (all_few (run_end w r) rs under.1) counts h
+      each_few r.site under.0 (all_ran r.site c (run_start w r) r.events) (history_ran c (run_end w r) rs)
+      (in_a_row (history_txs c (run_end w r) rs)) (all_few (run_end w r) rs under.1) counts h
 
 -- ---- the laws
 
 pub histories_tell : HistoriesTellFew
-histories_tell ls schemes distinct c past under certified lists has = tell_few ls schemes distinct c past under certified lists (length lists) (omega arith) has
+histories_tell ls schemes distinct c past under certified lists has =
+    tell_few ls schemes distinct c past under certified lists (length lists) (omega arith) has
 
 pub history_calls_multiply : HistoryCallsMultiply
 history_calls_multiply ls schemes distinct c past under certified stored fits counts each =
-    let few = history_few ls schemes c (history_txs c past.world past.runs) counts (all_few ls schemes distinct c past.world past.runs under counts each) in
+    let few = history_few ls schemes c (history_txs c past.world past.runs) counts
+    (all_few ls schemes distinct c past.world past.runs under counts each) in
     tell_few ls schemes distinct c past under certified few.lists (product counts) few.few
     (λ other begins. few.all (history_released c other.world other.runs)
     (subst (λ txs. AreAllReleased ls schemes c txs (history_released c other.world other.runs))
     (sym (same_txs ls schemes distinct c past.world other.world past.runs other.runs stored begins.stored under fits begins.fits certified begins.agree.sessions begins.runs))
-    (history_releases ls schemes distinct c other.world other.runs begins.stored (of_sites ls schemes distinct c (IsSiteUnder ls schemes) past.runs other.runs begins.runs under) begins.fits
+    (history_releases ls schemes distinct c other.world other.runs begins.stored (of_sites ls schemes distinct c
+    (IsSiteUnder ls schemes) past.runs other.runs begins.runs under) begins.fits
     (of_sites ls schemes distinct c AreCertified past.runs other.runs begins.runs certified))))

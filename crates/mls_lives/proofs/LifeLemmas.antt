@@ -20,35 +20,42 @@ agree_between ls c u v w h k = record {
   entries = sym h.entries ∙ k.entries;
 }
 
-module _ (site : Site) (distinct : AreDistinct (site_labels site)) (read : AreRead site) (certified : AreCertified site) (c : ℕ) (life : Life) where
+module _ (site : Site) (distinct : AreDistinct (site_labels site)) (read : AreRead site) (certified : AreCertified site)
+    (c : ℕ) (life : Life) where
   -- two lives that begin so, and release the same
-  between : (one two : Life) → BeginsAs site c life one → BeginsAs site c life two → released_to site c one.world one.events ≡ released_to site c two.world two.events
+  between : (one two : Life) → BeginsAs site c life one → BeginsAs site c life two
+      → released_to site c one.world one.events ≡ released_to site c two.world two.events
       → EndAlike site c one.world two.world one.events two.events
   between one two a b same =
       accepted_alike site distinct read certified one.world one.events a.stored a.fits c two.world two.events b.stored b.fits
-      (agree_between (site_labels site) c life.world one.world two.world a.agree b.agree) (sym a.events ∙ b.events) (inl same)
+      (agree_between (site_labels site) c life.world one.world two.world a.agree b.agree) (sym a.events ∙ b.events)
+      (inl same)
 
-  tell_few : (lists : List (List Item)) (count : ℕ) → length lists ≤ count → HasReleases site c life lists → TellsAtMost site c life count
+  tell_few : (lists : List (List Item)) (count : ℕ) → length lists ≤ count → HasReleases site c life lists
+      → TellsAtMost site c life count
   tell_few lists count long has = record {
     class = λ other begins. (has other begins).0;
     few = λ other begins. (let within = (has other begins).1 in omega (arith, within, long));
     alike = λ one two a b one_class. between one two a b (same_place lists _ _ (has one a) (has two b) one_class);
   }
 
-pub each_few : (site : Site) (c : ℕ) (txs : List Tx) (counts : List ℕ) → AllZip (ReleasesAtMost site c) txs counts → AllZip (IsFew (site_labels site) site.schemes c) txs counts
+pub each_few : (site : Site) (c : ℕ) (txs : List Tx) (counts : List ℕ) → AllZip (ReleasesAtMost site c) txs counts
+    → AllZip (IsFew (site_labels site) site.schemes c) txs counts
 each_few site c [] [] h = tt
 each_few site c [] (n ∷ ns) h = absurd h
 each_few site c (tx ∷ txs) [] h = absurd h
 each_few site c (tx ∷ txs) (n ∷ ns) h = (counted_few site c tx n h.0, each_few site c txs ns h.1)
 
 pub runs_tell : RunsTellFew
-runs_tell site distinct read certified c life lists has = tell_few site distinct read certified c life lists (length lists) (omega arith) has
+runs_tell site distinct read certified c life lists has = tell_few site distinct read certified c life lists
+    (length lists) (omega arith) has
 
 pub calls_multiply : CallsMultiply
 calls_multiply site distinct read certified c life stored fits counts each =
     let ls = site_labels site in
     let secure = certified_secure site distinct certified in
-    let few = few_after ls site.schemes c (all_ran site c life.world life.events) counts (each_few site c (all_ran site c life.world life.events) counts each) in
+    let few = few_after ls site.schemes c (all_ran site c life.world life.events) counts
+    (each_few site c (all_ran site c life.world life.events) counts each) in
     tell_few site distinct read certified c life few.lists (product counts) few.few
     (λ other begins. few.all (released_to site c other.world other.events)
     (subst (λ txs. AreReleased ls site.schemes c txs (released_to site c other.world other.events))

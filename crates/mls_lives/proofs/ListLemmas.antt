@@ -17,10 +17,13 @@ has_map f [] x (k, within, is) = absurd (omega (arith, within))
 has_map f (y ∷ xs) x (zero, within, is) = subst (λ z. Contains (map f (y ∷ xs)) (f z)) is (here (f y) (map f xs))
 has_map f (y ∷ xs) x (suc k, within, is) = there (f y) (f x) (map f xs) (has_map f xs x (k, omega (arith, within), is))
 
-has_flat : {X Y : Type 0} (f : X → List Y) (xs : List X) (x : X) (y : Y) → Contains xs x → Contains (f x) y → Contains (flat_map f xs) y
+has_flat : {X Y : Type 0} (f : X → List Y) (xs : List X) (x : X) (y : Y) → Contains xs x → Contains (f x) y
+    → Contains (flat_map f xs) y
 has_flat f [] x y (k, within, is) has = absurd (omega (arith, within))
-has_flat f (z ∷ xs) x y (zero, within, is) has = Contains-append_left (f z) (flat_map f xs) y (subst (λ w. Contains (f w) y) (sym is) has)
-has_flat f (z ∷ xs) x y (suc k, within, is) has = Contains-append_right (f z) (flat_map f xs) y (has_flat f xs x y (k, omega (arith, within), is) has)
+has_flat f (z ∷ xs) x y (zero, within, is) has = Contains-append_left (f z) (flat_map f xs) y
+    (subst (λ w. Contains (f w) y) (sym is) has)
+has_flat f (z ∷ xs) x y (suc k, within, is) has = Contains-append_right (f z) (flat_map f xs) y
+    (has_flat f xs x y (k, omega (arith, within), is) has)
 
 long_map : {X Y : Type 0} (f : X → Y) (xs : List X) → length (map f xs) ≡ length xs
 long_map f [] = refl
@@ -34,7 +37,8 @@ long_append (x ∷ xs) ys = let more = long_append xs ys in omega (arith, more)
 pub joined : {X Y Z : Type 0} → (X → Y → Z) → List X → List Y → List Z
 joined f heads tails = flat_map (λ h. map (f h) tails) heads
 
-pub long_joined : {X Y Z : Type 0} (f : X → Y → Z) (heads : List X) (tails : List Y) → length (joined f heads tails) ≡ length heads * length tails
+pub long_joined : {X Y Z : Type 0} (f : X → Y → Z) (heads : List X) (tails : List Y) → length (joined f heads tails)
+    ≡ length heads * length tails
 unfolding joined
 long_joined f [] tails = omega arith
 long_joined f (h ∷ heads) tails =
@@ -43,7 +47,8 @@ long_joined f (h ∷ heads) tails =
     let more = long_joined f heads tails in
     omega (arith, whole, first, more)
 
-pub has_joined : {X Y Z : Type 0} (f : X → Y → Z) (heads : List X) (tails : List Y) (h : X) (t : Y) → Contains heads h → Contains tails t → Contains (joined f heads tails) (f h t)
+pub has_joined : {X Y Z : Type 0} (f : X → Y → Z) (heads : List X) (tails : List Y) (h : X) (t : Y) → Contains heads h
+    → Contains tails t → Contains (joined f heads tails) (f h t)
 unfolding joined
 has_joined f heads tails h t one two = has_flat (λ h. map (f h) tails) heads h (f h t) one (has_map (f h) tails t two)
 

@@ -58,10 +58,13 @@ sorted_of R (x ∷ xs) h = (each_among (λ y. R x y ≡ Less) xs h.0, sorted_of 
 abbrev Lower : Entry → Entry → Type 0
 Lower d e = place_cmp d.0 e.0 ≡ Less
 
-below_each : (p : Place) (es : List Entry) → IsSo (below_all place_cmp p es) → (e : Entry) → IsAmong e es → place_cmp p e.0 ≡ Less
+below_each : (p : Place) (es : List Entry) → IsSo (below_all place_cmp p es) → (e : Entry) → IsAmong e es
+    → place_cmp p e.0 ≡ Less
 below_each p [] h e i = absurd i
-below_each p (d ∷ es) h e (inl q) = ap (λ (x : Entry). place_cmp p x.0) q ∙ so_less (place_cmp p d.0) (so_first (is_lt (place_cmp p d.0)) (below_all place_cmp p es) h)
-below_each p (d ∷ es) h e (inr i) = below_each p es (so_second (is_lt (place_cmp p d.0)) (below_all place_cmp p es) h) e i
+below_each p (d ∷ es) h e (inl q) = ap (λ (x : Entry). place_cmp p x.0) q ∙ so_less (place_cmp p d.0)
+    (so_first (is_lt (place_cmp p d.0)) (below_all place_cmp p es) h)
+below_each p (d ∷ es) h e (inr i) = below_each p es (so_second (is_lt (place_cmp p d.0))
+    (below_all place_cmp p es) h) e i
 
 entries_rise : (es : List Entry) → IsSo (is_sorted place_cmp es) → Rises Lower es
 entries_rise [] h = tt
@@ -79,25 +82,32 @@ module _ (ls : Labels) (c : ℕ) (T : Table) (distinct : AreDistinct ls) (n : �
   number_of : (m : ℕ) (t : Tuple) → IsAmong t (of_class (entries (low ls c T)) m) → class_number ls t ≡ m
   number_of = has_number ls c T distinct n stored
 
-  by_place : (s t : Tuple) (m : ℕ) → class_number ls s ≡ m → class_number ls t ≡ m → place_cmp (place_of m s) (place_of m t) ≡ Less → Up s t
+  by_place : (s t : Tuple) (m : ℕ) → class_number ls s ≡ m → class_number ls t ≡ m
+      → place_cmp (place_of m s) (place_of m t) ≡ Less → Up s t
   by_place s t m one two lower =
       let same : class_number ls s ≡ class_number ls t = one ∙ sym two in
-      ap (λ o. ordering_then o (ordering_then (nat_cmp (class_number ls s) (class_number ls t)) (place_cmp (place_of (class_number ls s) s) (place_of (class_number ls t) t)))) (tied _ _ (ap (reach ls) same))
-      ∙ ap (λ o. ordering_then o (place_cmp (place_of (class_number ls s) s) (place_of (class_number ls t) t))) (tied _ _ same)
+      ap (λ o. ordering_then o (ordering_then (nat_cmp (class_number ls s) (class_number ls t))
+      (place_cmp (place_of (class_number ls s) s) (place_of (class_number ls t) t))))
+      (tied _ _ (ap (reach ls) same))
+      ∙ ap (λ o. ordering_then o (place_cmp (place_of (class_number ls s) s) (place_of (class_number ls t) t)))
+      (tied _ _ same)
       ∙ (λ i. place_cmp (place_of (one i) s) (place_of (two i) t)) ∙ lower
 
   by_class : (s t : Tuple) (a b : ℕ) → class_number ls s ≡ a → class_number ls t ≡ b → Before ls a b → Up s t
   by_class s t a b one two (inl fewer) =
-      ap (λ o. ordering_then o (ordering_then (nat_cmp (class_number ls s) (class_number ls t)) (place_cmp (place_of (class_number ls s) s) (place_of (class_number ls t) t))))
+      ap (λ o. ordering_then o (ordering_then (nat_cmp (class_number ls s) (class_number ls t))
+      (place_cmp (place_of (class_number ls s) s) (place_of (class_number ls t) t))))
       ((λ i. nat_cmp (reach ls (one i)) (reach ls (two i))) ∙ less (reach ls a) (reach ls b) fewer)
   by_class s t a b one two (inr same) =
-      ap (λ o. ordering_then o (ordering_then (nat_cmp (class_number ls s) (class_number ls t)) (place_cmp (place_of (class_number ls s) s) (place_of (class_number ls t) t))))
+      ap (λ o. ordering_then o (ordering_then (nat_cmp (class_number ls s) (class_number ls t))
+      (place_cmp (place_of (class_number ls s) s) (place_of (class_number ls t) t))))
       (tied _ _ (ap (reach ls) one ∙ same.0 ∙ sym (ap (reach ls) two)))
       ∙ ap (λ o. ordering_then o (place_cmp (place_of (class_number ls s) s) (place_of (class_number ls t) t)))
       ((λ i. nat_cmp (one i) (two i)) ∙ less a b same.1)
 
   -- the tuples of one class
-  class_rises : (m : ℕ) (es : List Entry) → ((e : Entry) → IsAmong e es → (e.0.class ≡ m) × (class_number ls (tuple_at e.0 e.1) ≡ m)) → Rises Lower es
+  class_rises : (m : ℕ) (es : List Entry) → ((e : Entry) → IsAmong e es → (e.0.class ≡ m)
+      × (class_number ls (tuple_at e.0 e.1) ≡ m)) → Rises Lower es
       → Rises Up (map (λ (e : Entry). tuple_at e.0 e.1) es)
   class_rises m [] h k = tt
   class_rises m (d ∷ es) h k = (
@@ -107,7 +117,8 @@ module _ (ls : Labels) (c : ℕ) (T : Table) (distinct : AreDistinct ls) (n : �
         let there = h e (inr j) in
         subst (Up (tuple_at d.0 d.1)) (sym is)
         (by_place (tuple_at d.0 d.1) (tuple_at e.0 e.1) m here.1 there.1
-        ((λ x. place_cmp (place_of (sym here.0 x) (tuple_at d.0 d.1)) (place_of (sym there.0 x) (tuple_at e.0 e.1))) ∙ k.0 e j))),
+        ((λ x. place_cmp (place_of (sym here.0 x) (tuple_at d.0 d.1)) (place_of (sym there.0 x) (tuple_at e.0 e.1)))
+        ∙ k.0 e j))),
     class_rises m es (λ e i. h e (inr i)) k.1,
   )
 
@@ -116,8 +127,13 @@ module _ (ls : Labels) (c : ℕ) (T : Table) (distinct : AreDistinct ls) (n : �
   all_rise (m ∷ ms) h =
       let es = of_number ls c T m in
       rises_append Up (of_class (entries (low ls c T)) m) (flat_map (of_class (entries (low ls c T))) ms)
-      (class_rises m es (λ e i. ((in_number ls c T m e i).1, number_of m (tuple_at e.0 e.1) (map_among (λ (e : Entry). tuple_at e.0 e.1) es e i)))
-      (rises_filter Lower (λ (e : Entry). nat_eq e.0.class m) (entries (low ls c T)) (entries_rise (entries (low ls c T)) (entries_sorted (low ls c T)))))
+      (class_rises m es (λ e i. (
+        (in_number ls c T m e i).1,
+        number_of m (tuple_at e.0 e.1)
+            (map_among (λ (e : Entry). tuple_at e.0 e.1) es e i),
+      ))
+      (rises_filter Lower (λ (e : Entry). nat_eq e.0.class m) (entries (low ls c T))
+      (entries_rise (entries (low ls c T)) (entries_sorted (low ls c T)))))
       (all_rise ms h.1)
       (λ s t i j.
       let r = among_flat_map (of_class (entries (low ls c T))) ms t j in
@@ -125,4 +141,5 @@ module _ (ls : Labels) (c : ℕ) (T : Table) (distinct : AreDistinct ls) (n : �
 
 pub dumps_come_upward : DumpsComeUpward
 unfolding low_tuples
-dumps_come_upward ls distinct n c T stored = sorted_of (upward_cmp ls) _ (all_rise ls c T distinct n stored (upward ls) (upward_rises ls))
+dumps_come_upward ls distinct n c T stored = sorted_of (upward_cmp ls) _ (all_rise ls c T distinct n stored (upward ls)
+    (upward_rises ls))

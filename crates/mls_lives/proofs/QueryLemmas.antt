@@ -45,7 +45,11 @@ module _ {A : Type 0} where
 
   sub_filter : (p : A → Bool) (xs : List A) → IsSublist (filter p xs) xs
   sub_filter p [] = tt
-  sub_filter p (x ∷ xs) = elim (p x) as (λ b. IsSublist (cond b (x ∷ filter p xs) (filter p xs)) (x ∷ xs)) [ true ↦ inl (refl, sub_filter p xs) | false ↦ sub_more (filter p xs) xs x (sub_filter p xs) ]
+  sub_filter p (x ∷ xs) = elim (p x) as (λ b. IsSublist (cond b (x ∷ filter p xs) (filter p xs)) (x ∷ xs)) [
+    | true ↦ inl
+        (refl, sub_filter p xs)
+    | false ↦ sub_more (filter p xs) xs x (sub_filter p xs)
+  ]
 
   sub_take : (n : ℕ) (xs : List A) → IsSublist (take n xs) xs
   sub_take zero xs = tt
@@ -80,10 +84,12 @@ module _ (ls : Labels) where
   above_key s t h = same_key s.key t.key (and_parts (is_key s.key t.key) _ h).0
 
   above_class : (s t : Tuple) → is_above ls s t ≡ true → Dominates (tuple_class ls s) (tuple_class ls t)
-  above_class s t h = ⊑-Dominates (tuple_class ls t) (tuple_class ls s) (and_parts (tuple_class ls t ⊑ tuple_class ls s) _ (and_parts (is_key s.key t.key) _ h).1).0
+  above_class s t h = ⊑-Dominates (tuple_class ls t) (tuple_class ls s)
+      (and_parts (tuple_class ls t ⊑ tuple_class ls s) _ (and_parts (is_key s.key t.key) _ h).1).0
 
   above_not : (s t : Tuple) → is_above ls s t ≡ true → tuple_class ls s ⊑ tuple_class ls t ≡ false
-  above_not s t h = not_so _ (and_parts (tuple_class ls t ⊑ tuple_class ls s) _ (and_parts (is_key s.key t.key) _ h).1).1
+  above_not s t h = not_so _ (and_parts (tuple_class ls t ⊑ tuple_class ls s) _
+      (and_parts (is_key s.key t.key) _ h).1).1
     where
       not_so : (b : Bool) → not b ≡ true → b ≡ false
       not_so true e = sym e
@@ -92,15 +98,21 @@ module _ (ls : Labels) where
   above_trans : (r s t : Tuple) → is_above ls s t ≡ true → is_above ls r s ≡ true → is_above ls r t ≡ true
   above_trans r s t h k =
       let key : r.key ≡ t.key = above_key r s k ∙ above_key s t h in
-      let up : Dominates (tuple_class ls r) (tuple_class ls t) = Dominates-trans (tuple_class ls r) (tuple_class ls s) (tuple_class ls t) (above_class r s k) (above_class s t h) in
+      let up : Dominates (tuple_class ls r) (tuple_class ls t) = Dominates-trans (tuple_class ls r) (tuple_class ls s)
+      (tuple_class ls t) (above_class r s k) (above_class s t h) in
       let other : tuple_class ls r ⊑ tuple_class ls t ≡ false
       = false_from_ne_true (tuple_class ls r ⊑ tuple_class ls t) (λ e.
-      true≢false (sym (Dominates-⊑ (tuple_class ls r) (tuple_class ls s) (Dominates-trans (tuple_class ls s) (tuple_class ls t) (tuple_class ls r) (above_class s t h) (⊑-Dominates (tuple_class ls r) (tuple_class ls t) e))) ∙ above_not r s k)) in
+      true≢false (sym (Dominates-⊑ (tuple_class ls r) (tuple_class ls s) (Dominates-trans (tuple_class ls s)
+      (tuple_class ls t) (tuple_class ls r) (above_class s t h) (⊑-Dominates (tuple_class ls r)
+      (tuple_class ls t) e))) ∙ above_not r s k)) in
       and_from (is_key r.key t.key) _ (key_same r.key t.key key)
-      (and_from (tuple_class ls t ⊑ tuple_class ls r) _ (Dominates-⊑ (tuple_class ls t) (tuple_class ls r) up) (ap not other))
+      (and_from (tuple_class ls t ⊑ tuple_class ls r) _ (Dominates-⊑ (tuple_class ls t) (tuple_class ls r) up)
+      (ap not other))
 
   not_above_itself : (t : Tuple) → is_above ls t t ≡ false
-  not_above_itself t = false_from_ne_true (is_above ls t t) (λ h. true≢false (sym (Dominates-⊑ (tuple_class ls t) (tuple_class ls t) (Dominates-refl (tuple_class ls t))) ∙ above_not t t h))
+  not_above_itself t = false_from_ne_true (is_above ls t t)
+      (λ h. true≢false (sym (Dominates-⊑ (tuple_class ls t) (tuple_class ls t) (Dominates-refl (tuple_class ls t)))
+      ∙ above_not t t h))
 
   abbrev HasTop : List Tuple → Tuple → Type 0
   HasTop ts t = (s : Tuple) × IsAmong s (tops ls ts) × (s.key ≡ t.key) × (tuple_class ls t ⊑ tuple_class ls s ≡ true)
@@ -114,22 +126,30 @@ module _ (ls : Labels) where
       ]
 
   -- so many stand above a tuple at most
-  top_within : (n : ℕ) (ts : List Tuple) (t : Tuple) → IsAmong t ts → length (filter (λ s. is_above ls s t) ts) < n → HasTop ts t
+  top_within : (n : ℕ) (ts : List Tuple) (t : Tuple) → IsAmong t ts → length (filter (λ s. is_above ls s t) ts) < n
+      → HasTop ts t
   top_within zero ts t i l = absurd (omega (arith, l))
   top_within (suc n) ts t i l =
       elim (cases_Bool (list_any (λ s. is_above ls s t) ts)) [
         | inl b ↦
             let r = any_among (λ s. is_above ls s t) ts b in
             let s = r.0 in
-            let fewer = filter_less (λ x. is_above ls x s) (λ x. is_above ls x t) (λ x h. above_trans x s t r.2 h) s (not_above_itself s) r.2 ts r.1 in
+            let fewer = filter_less (λ x. is_above ls x s) (λ x. is_above ls x t) (λ x h. above_trans x s t r.2 h) s
+            (not_above_itself s) r.2 ts r.1 in
             let up = top_within n ts s r.1 (omega (arith, l, fewer)) in (
               up.0,
               up.1,
               up.2 ∙ above_key s t r.2,
               Dominates-⊑ (tuple_class ls t) (tuple_class ls up.0)
-                  (Dominates-trans (tuple_class ls up.0) (tuple_class ls s) (tuple_class ls t) (⊑-Dominates (tuple_class ls s) (tuple_class ls up.0) up.3) (above_class s t r.2)),
+                  (Dominates-trans (tuple_class ls up.0) (tuple_class ls s) (tuple_class ls t)
+                  (⊑-Dominates (tuple_class ls s) (tuple_class ls up.0) up.3) (above_class s t r.2)),
             )
-        | inr b ↦ (t, filter_among (λ x. not (list_any (λ s. is_above ls s x) ts)) ts t i (ap not b), refl, Dominates-⊑ (tuple_class ls t) (tuple_class ls t) (Dominates-refl (tuple_class ls t)))
+        | inr b ↦ (
+          t,
+          filter_among (λ x. not (list_any (λ s. is_above ls s x) ts)) ts t i (ap not b),
+          refl,
+          Dominates-⊑ (tuple_class ls t) (tuple_class ls t) (Dominates-refl (tuple_class ls t)),
+        )
       ]
 
 pub highest_keep : HighestKeepEachKey
@@ -137,18 +157,27 @@ highest_keep ls ts t i = top_within ls (suc (length (filter (λ s. is_above ls s
 
 -- ---- one key
 
-highest_of_key : (ls : Labels) (key : List Value) (b : Bool) (ts : List Tuple) → highest_of ls b (filter (λ t. is_key t.key key) ts) ≡ filter (λ t. is_key t.key key) (highest_of ls b ts)
+highest_of_key : (ls : Labels) (key : List Value) (b : Bool) (ts : List Tuple)
+    → highest_of ls b (filter (λ t. is_key t.key key) ts) ≡ filter (λ t. is_key t.key key) (highest_of ls b ts)
 highest_of_key ls key true ts =
-    within_filter (λ t. is_key t.key key) (λ t. not (list_any (λ s. is_above ls s t) (filter (λ t. is_key t.key key) ts))) (λ t. not (list_any (λ s. is_above ls s t) ts))
-    (λ t h. ap not (any_filter (λ s. is_key s.key key) (λ s. is_above ls s t) (λ s a. ap (λ k. is_key k key) (above_key ls s t a) ∙ h) ts)) ts
+    within_filter (λ t. is_key t.key key) (λ t. not (list_any (λ s. is_above ls s t)
+    (filter (λ t. is_key t.key key) ts))) (λ t. not (list_any (λ s. is_above ls s t) ts))
+    (λ t h. ap not (any_filter (λ s. is_key s.key key) (λ s. is_above ls s t) (λ s a. ap (λ k. is_key k key)
+    (above_key ls s t a) ∙ h) ts)) ts
 highest_of_key ls key false ts = refl
 
 -- what holds of the rows holds of those that a filter leaves
-each_filter : (P : Tuple → Type 0) (p : Tuple → Bool) (ts : List Tuple) → AllByRecursion P ts → AllByRecursion P (filter p ts)
+each_filter : (P : Tuple → Type 0) (p : Tuple → Bool) (ts : List Tuple) → AllByRecursion P ts
+    → AllByRecursion P (filter p ts)
 each_filter P p [] h = tt
-each_filter P p (t ∷ ts) h = elim (p t) as (λ b. AllByRecursion P (cond b (t ∷ filter p ts) (filter p ts))) [ true ↦ (h.0, each_filter P p ts h.1) | false ↦ each_filter P p ts h.1 ]
+each_filter P p (t ∷ ts) h = elim (p t) as (λ b. AllByRecursion P (cond b (t ∷ filter p ts) (filter p ts))) [
+  | true ↦
+      (h.0, each_filter P p ts h.1)
+  | false ↦ each_filter P p ts h.1
+]
 
-each_highest : (P : Tuple → Type 0) (ls : Labels) (b : Bool) (ts : List Tuple) → AllByRecursion P ts → AllByRecursion P (highest_of ls b ts)
+each_highest : (P : Tuple → Type 0) (ls : Labels) (b : Bool) (ts : List Tuple) → AllByRecursion P ts
+    → AllByRecursion P (highest_of ls b ts)
 each_highest P ls true ts h = each_filter P (λ t. not (list_any (λ s. is_above ls s t) ts)) ts h
 each_highest P ls false ts h = h
 
@@ -163,9 +192,12 @@ one_key ls T c q key demands =
     let class = has_class ls q.class in
     let test = meets q.test in
     let seen = highest_of ls q.highest ts in
-    let ask : List Tuple → List Tuple = λ xs. first_of q.first (filter test (filter class (highest_of ls q.highest xs))) in
-    let each : AllByRecursion (λ t. test t ≡ true → has_key t ≡ true) ts = each_row _ ts (λ t i h. key_same t.key key (demands t i h)) in
-    let those : filter test (filter class (highest_of ls q.highest (filter has_key ts))) ≡ filter test (filter class seen)
+    let ask : List Tuple → List Tuple = λ xs. first_of q.first (filter test (filter class (highest_of ls q.highest xs)))
+    in
+    let each : AllByRecursion (λ t. test t ≡ true → has_key t ≡ true) ts =
+    each_row _ ts (λ t i h. key_same t.key key (demands t i h)) in
+    let those : filter test (filter class (highest_of ls q.highest (filter has_key ts)))
+    ≡ filter test (filter class seen)
     = ap (λ xs. filter test (filter class xs)) (highest_of_key ls key q.highest ts)
     ∙ ap (filter test) (within_filter has_key class class (λ t e. refl) seen)
     ∙ filter_where test has_key (filter class seen) (each_filter _ class seen (each_highest _ ls q.highest ts each)) in

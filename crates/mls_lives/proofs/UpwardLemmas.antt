@@ -16,7 +16,8 @@ module _ {A : Type 0} (R : A → A → Type 0) where
   Rises [] = Unit {0}
   Rises (x ∷ xs) = ((y : A) → IsAmong y xs → R x y) × Rises xs
 
-  pub rises_append : (xs ys : List A) → Rises xs → Rises ys → ((x y : A) → IsAmong x xs → IsAmong y ys → R x y) → Rises (xs ++ ys)
+  pub rises_append : (xs ys : List A) → Rises xs → Rises ys → ((x y : A) → IsAmong x xs → IsAmong y ys → R x y)
+      → Rises (xs ++ ys)
   rises_append [] ys h k across = k
   rises_append (x ∷ xs) ys h k across = (
     (λ y i. elim (among_append xs ys y i) [ inl l ↦ h.0 y l | inr r ↦ across x y (inl refl) r ]),
@@ -41,9 +42,13 @@ module _ {A : Type 0} (R : A → A → Type 0) where
   behind_all [] ys x h y i = h.0 y i
   behind_all (z ∷ xs) ys x h y i = behind_all xs ys x h.1 y i
 
-pub rises_weaker : {A : Type 0} (R S : A → A → Type 0) → (xs : List A) → ((x y : A) → IsAmong x xs → IsAmong y xs → R x y → S x y) → Rises R xs → Rises S xs
+pub rises_weaker : {A : Type 0} (R S : A → A → Type 0) → (xs : List A) → ((x y : A) → IsAmong x xs → IsAmong y xs
+    → R x y → S x y) → Rises R xs → Rises S xs
 rises_weaker R S [] k h = tt
-rises_weaker R S (x ∷ xs) k h = ((λ y i. k x y (inl refl) (inr i) (h.0 y i)), rises_weaker R S xs (λ a b i j r. k a b (inr i) (inr j) r) h.1)
+rises_weaker R S (x ∷ xs) k h = (
+  (λ y i. k x y (inl refl) (inr i) (h.0 y i)),
+  rises_weaker R S xs (λ a b i j r. k a b (inr i) (inr j) r) h.1,
+)
 
 -- ---- numbers
 
@@ -64,7 +69,8 @@ among_numbers zero k h = absurd (omega (arith, h))
 among_numbers (suc n) k h =
     elim (cases_Bool (nat_eq k n)) [
       | inl e ↦ among_right (numbers n) (n ∷ []) k (inl (eqb-true k n e))
-      | inr ne ↦ among_left (numbers n) (n ∷ []) k (among_numbers n k (less_or (cases_Bool (nat_lt k n)) (λ e. true≢false (sym (eq-eqb k n e) ∙ ne))))
+      | inr ne ↦ among_left (numbers n) (n ∷ []) k (among_numbers n k (less_or (cases_Bool (nat_lt k n))
+          (λ e. true≢false (sym (eq-eqb k n e) ∙ ne))))
     ]
   where
     less_or : (nat_lt k n ≡ true) ⊎ (nat_lt k n ≡ false) → (k ≡ n → ⊥) → k < n
@@ -83,41 +89,57 @@ filter_few : (p : ℕ → Bool) (xs : List ℕ) → length (filter p xs) ≤ len
 filter_few p [] = omega arith
 filter_few p (x ∷ xs) =
     let more = filter_few p xs in
-    elim (p x) as (λ b. length (cond b (x ∷ filter p xs) (filter p xs)) ≤ suc (length xs)) [ true ↦ omega (arith, more) | false ↦ omega (arith, more) ]
+    elim (p x) as (λ b. length (cond b (x ∷ filter p xs) (filter p xs)) ≤ suc (length xs)) [
+      | true ↦ omega (
+        arith,
+        more,
+      )
+      | false ↦ omega (arith, more)
+    ]
 
 longer : {A : Type 0} (b : Bool) (ys : List A) (y : A) → length ys ≤ length (cond b (y ∷ ys) ys)
 longer true ys y = omega arith
 longer false ys y = omega arith
 
 -- what passes the first test passes the second
-filter_within : {A : Type 0} (p q : A → Bool) → ((x : A) → p x ≡ true → q x ≡ true) → (xs : List A) → length (filter p xs) ≤ length (filter q xs)
+filter_within : {A : Type 0} (p q : A → Bool) → ((x : A) → p x ≡ true → q x ≡ true) → (xs : List A)
+    → length (filter p xs) ≤ length (filter q xs)
 filter_within p q h [] = omega arith
 filter_within p q h (x ∷ xs) =
     let more = filter_within p q h xs in
     elim (cases_Bool (p x)) [
-      | inl e ↦ (let one : length (filter p (x ∷ xs)) ≡ suc (length (filter p xs)) = ap (λ b. length (cond b (x ∷ filter p xs) (filter p xs))) e in
-          let two : length (filter q (x ∷ xs)) ≡ suc (length (filter q xs)) = ap (λ b. length (cond b (x ∷ filter q xs) (filter q xs))) (h x e) in
+      | inl e ↦ (let one : length (filter p (x ∷ xs)) ≡ suc (length (filter p xs)) =
+          ap (λ b. length (cond b (x ∷ filter p xs) (filter p xs))) e in
+          let two : length (filter q (x ∷ xs)) ≡ suc (length (filter q xs)) =
+          ap (λ b. length (cond b (x ∷ filter q xs) (filter q xs))) (h x e) in
           omega (arith, more, one, two))
-      | inr e ↦ (let one : length (filter p (x ∷ xs)) ≡ length (filter p xs) = ap (λ b. length (cond b (x ∷ filter p xs) (filter p xs))) e in
+      | inr e ↦ (let one : length (filter p (x ∷ xs)) ≡ length (filter p xs) =
+          ap (λ b. length (cond b (x ∷ filter p xs) (filter p xs))) e in
           let two : length (filter q xs) ≤ length (filter q (x ∷ xs)) = longer (q x) (filter q xs) x in
           omega (arith, more, one, two))
     ]
 
 -- and one that stands there passes the second alone
-pub filter_less : {A : Type 0} (p q : A → Bool) → ((x : A) → p x ≡ true → q x ≡ true) → (m : A) → p m ≡ false → q m ≡ true → (xs : List A) → IsAmong m xs → length (filter p xs) < length (filter q xs)
+pub filter_less : {A : Type 0} (p q : A → Bool) → ((x : A) → p x ≡ true → q x ≡ true) → (m : A) → p m ≡ false
+    → q m ≡ true → (xs : List A) → IsAmong m xs → length (filter p xs) < length (filter q xs)
 filter_less p q h m out into [] i = absurd i
 filter_less p q h m out into (x ∷ xs) (inl e) =
     let more = filter_within p q h xs in
-    let one : length (filter p (x ∷ xs)) ≡ length (filter p xs) = ap (λ b. length (cond b (x ∷ filter p xs) (filter p xs))) (ap p (sym e) ∙ out) in
-    let two : length (filter q (x ∷ xs)) ≡ suc (length (filter q xs)) = ap (λ b. length (cond b (x ∷ filter q xs) (filter q xs))) (ap q (sym e) ∙ into) in
+    let one : length (filter p (x ∷ xs)) ≡ length (filter p xs) =
+    ap (λ b. length (cond b (x ∷ filter p xs) (filter p xs))) (ap p (sym e) ∙ out) in
+    let two : length (filter q (x ∷ xs)) ≡ suc (length (filter q xs)) =
+    ap (λ b. length (cond b (x ∷ filter q xs) (filter q xs))) (ap q (sym e) ∙ into) in
     omega (arith, more, one, two)
 filter_less p q h m out into (x ∷ xs) (inr i) =
     let more = filter_less p q h m out into xs i in
     elim (cases_Bool (p x)) [
-      | inl e ↦ (let one : length (filter p (x ∷ xs)) ≡ suc (length (filter p xs)) = ap (λ b. length (cond b (x ∷ filter p xs) (filter p xs))) e in
-          let two : length (filter q (x ∷ xs)) ≡ suc (length (filter q xs)) = ap (λ b. length (cond b (x ∷ filter q xs) (filter q xs))) (h x e) in
+      | inl e ↦ (let one : length (filter p (x ∷ xs)) ≡ suc (length (filter p xs)) =
+          ap (λ b. length (cond b (x ∷ filter p xs) (filter p xs))) e in
+          let two : length (filter q (x ∷ xs)) ≡ suc (length (filter q xs)) =
+          ap (λ b. length (cond b (x ∷ filter q xs) (filter q xs))) (h x e) in
           omega (arith, more, one, two))
-      | inr e ↦ (let one : length (filter p (x ∷ xs)) ≡ length (filter p xs) = ap (λ b. length (cond b (x ∷ filter p xs) (filter p xs))) e in
+      | inr e ↦ (let one : length (filter p (x ∷ xs)) ≡ length (filter p xs) =
+          ap (λ b. length (cond b (x ∷ filter p xs) (filter p xs))) e in
           let two : length (filter q xs) ≤ length (filter q (x ∷ xs)) = longer (q x) (filter q xs) x in
           omega (arith, more, one, two))
     ]
@@ -155,7 +177,11 @@ module _ (ls : Labels) where
 
   bucket_rises : (r : ℕ) → Rises Before (of_reach ls r)
   bucket_rises r =
-      rises_weaker Less Before (of_reach ls r) (λ x y i j l. inr ((of_reach_among r x i).1 ∙ sym (of_reach_among r y j).1, l))
+      rises_weaker Less Before (of_reach ls r) (λ x y i j l. inr (
+        (of_reach_among r x i).1
+            ∙ sym (of_reach_among r y j).1,
+        l,
+      ))
       (rises_filter Less (λ m. nat_eq (reach ls m) r) (numbers count) (numbers_rise count))
 
   none_behind : (xs : List ℕ) → xs ++ [] ≡ xs
@@ -165,7 +191,8 @@ module _ (ls : Labels) where
   buckets_rise : (n : ℕ) → Rises Before (flat_map (of_reach ls) (numbers n))
   buckets_rise zero = tt
   buckets_rise (suc n) =
-      subst (Rises Before) (sym (flat_map-append (of_reach ls) (numbers n) (n ∷ []) ∙ ap (λ l. flat_map (of_reach ls) (numbers n) ++ l) (none_behind (of_reach ls n))))
+      subst (Rises Before) (sym (flat_map-append (of_reach ls) (numbers n) (n ∷ [])
+      ∙ ap (λ l. flat_map (of_reach ls) (numbers n) ++ l) (none_behind (of_reach ls n))))
       (rises_append Before (flat_map (of_reach ls) (numbers n)) (of_reach ls n) (buckets_rise n) (bucket_rises n)
       (λ x y i j.
       let r = among_flat_map (of_reach ls) (numbers n) x i in
@@ -182,14 +209,22 @@ module _ (ls : Labels) where
 
   pub upward_all : (m : ℕ) → m < count → IsAmong m (upward ls)
   upward_all m declared =
-      flat_map_among (of_reach ls) (numbers (suc count)) (reach ls m) m (among_numbers (suc count) (reach ls m) (reach_within m))
-      (filter_among (λ k. nat_eq (reach ls k) (reach ls m)) (numbers count) m (among_numbers count m declared) (eq-eqb (reach ls m) (reach ls m) refl))
+      flat_map_among (of_reach ls) (numbers (suc count)) (reach ls m) m (among_numbers (suc count) (reach ls m)
+      (reach_within m))
+      (filter_among (λ k. nat_eq (reach ls k) (reach ls m)) (numbers count) m (among_numbers count m declared)
+      (eq-eqb (reach ls m) (reach ls m) refl))
 
   -- another label below one dominates fewer
-  reach_less : AreDistinct ls → (k m : ℕ) → k < count → m < count → below ls k m ≡ true → (k ≡ m → ⊥) → reach ls k < reach ls m
+  reach_less : AreDistinct ls → (k m : ℕ) → k < count → m < count → below ls k m ≡ true → (k ≡ m → ⊥) → reach ls k
+      < reach ls m
   reach_less distinct k m dk dm under ne =
       filter_less (λ j. below ls j k) (λ j. below ls j m) (λ j h. below-trans ls j k m h under) m
-      (elim (cases_Bool (below ls m k)) [ inl h ↦ absurd (ne (below-antisym ls distinct k m dk dm under h)) | inr h ↦ h ]) (below-refl ls m) (numbers count) (among_numbers count m dm)
+      (elim (cases_Bool (below ls m k)) [
+        | inl h ↦ absurd
+            (ne (below-antisym ls distinct k m dk dm under h))
+        | inr h ↦ h
+      ]) (below-refl ls m) (numbers count)
+      (among_numbers count m dm)
 
   -- ---- at one label of them
 
@@ -209,5 +244,9 @@ module _ (ls : Labels) where
         elim (among_append xs (m ∷ ys) k (subst (IsAmong k) parts (upward_all k dk))) [
           | inl i ↦ i
           | inr (inl e) ↦ absurd (ne e)
-          | inr (inr i) ↦ absurd (elim (behind_all Before xs ys m rising k i) [ inl l ↦ omega (arith, less, l) | inr l ↦ (let same = l.0 in omega (arith, less, same)) ])
+          | inr (inr i) ↦ absurd (elim (behind_all Before xs ys m rising k i) [
+            | inl l ↦ omega (arith, less, l)
+            | inr l ↦
+                (let same = l.0 in omega (arith, less, same))
+          ])
         ]

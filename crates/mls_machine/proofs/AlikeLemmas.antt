@@ -26,23 +26,28 @@ use Rattle.mls_machine.specs.Observation.{IsNoCall}
 use Rattle.mls_machine.proofs.LowLemmas.{LowAgree}
 
 -- a filter within a filter that lets more through
-pub filter_within : {A : Type 0} (p q : A → Bool) → ((x : A) → p x ≡ true → q x ≡ true) → (xs : List A) → filter p (filter q xs) ≡ filter p xs
+pub filter_within : {A : Type 0} (p q : A → Bool) → ((x : A) → p x ≡ true → q x ≡ true) → (xs : List A)
+    → filter p (filter q xs) ≡ filter p xs
 filter_within p q h [] = refl
 filter_within p q h (x ∷ xs) =
     elim (q x) as (λ b. q x ≡ b → filter p (cond b (x ∷ filter q xs) (filter q xs)) ≡ filter p (x ∷ xs)) [
       | true ↦ λ e. ap (λ ys. cond (p x) (x ∷ ys) ys) (filter_within p q h xs)
-      | false ↦ λ e. filter_within p q h xs ∙ ap (λ b. cond b (x ∷ filter p xs) (filter p xs)) (sym (false_from_ne_true (p x) (λ t. true≢false (sym (h x t) ∙ e))))
+      | false ↦ λ e. filter_within p q h xs ∙ ap (λ b. cond b (x ∷ filter p xs) (filter p xs))
+          (sym (false_from_ne_true (p x) (λ t. true≢false (sym (h x t) ∙ e))))
     ] refl
 
-visible_within : (ls : Labels) (l c : ℕ) → below ls l c ≡ true → (es : List Entry) → visible ls l (visible ls c es) ≡ visible ls l es
-visible_within ls l c h es = filter_within (λ x. below ls (label_of x) l) (λ x. below ls (label_of x) c) (λ x k. below-trans ls (label_of x) l c k h) es
+visible_within : (ls : Labels) (l c : ℕ) → below ls l c ≡ true → (es : List Entry) → visible ls l (visible ls c es)
+    ≡ visible ls l es
+visible_within ls l c h es = filter_within (λ x. below ls (label_of x) l) (λ x. below ls (label_of x) c)
+    (λ x k. below-trans ls (label_of x) l c k h) es
 
 -- two steps are answered the same, and leave worlds that look alike to c
 pub record StepAlike (ls : Labels) (c : ℕ) (s t : Step) : Type 0 where
   pub world : LowAgree ls c s.world t.world
   pub reply : s.reply ≡ t.reply
 
-module _ (site : Site) (c : ℕ) (v w : World) (e : Event) (seen : below (site_labels site) e.level c ≡ true) (h : LowAgree (site_labels site) c v w) where
+module _ (site : Site) (c : ℕ) (v w : World) (e : Event) (seen : below (site_labels site) e.level c ≡ true)
+    (h : LowAgree (site_labels site) c v w) where
   abbrev Alike : Step → Step → Type 0
   Alike s t = StepAlike (site_labels site) c s t
 
@@ -54,28 +59,48 @@ module _ (site : Site) (c : ℕ) (v w : World) (e : Event) (seen : below (site_l
   }
 
   -- the same entries more
-  pub alike_entries : (added : List Entry) → visible (site_labels site) c (v.audit ++ added) ≡ visible (site_labels site) c (w.audit ++ added)
+  pub alike_entries : (added : List Entry) → visible (site_labels site) c (v.audit ++ added)
+      ≡ visible (site_labels site) c (w.audit ++ added)
   alike_entries added =
       let ls = site_labels site in
-      filter-append (λ x. below ls (label_of x) c) v.audit added ∙ ap (λ xs. xs ++ visible ls c added) h.entries ∙ sym (filter-append (λ x. below ls (label_of x) c) w.audit added)
+      filter-append (λ x. below ls (label_of x) c) v.audit added ∙ ap (λ xs. xs ++ visible ls c added) h.entries
+      ∙ sym (filter-append (λ x. below ls (label_of x) c) w.audit added)
 
   alike_denied : (user : ℕ) (denial : Denial) → Alike (denied site v e user denial) (denied site w e user denial)
-  alike_denied user denial = record { world = record { tables = h.tables; sessions = h.sessions; entries = alike_entries (denial_entry site e user denial ∷ []) }; reply = refl }
+  alike_denied user denial = record {
+    world = record {
+      tables = h.tables;
+      sessions = h.sessions;
+      entries =
+          alike_entries (denial_entry site e user denial ∷ []);
+    };
+    reply = refl;
+  }
 
-  alike_unless : (denial : Option Denial) (user : ℕ) (s t : Step) → (denial ≡ None → Alike s t) → Alike (unless site denial v e user s) (unless site denial w e user t)
+  alike_unless : (denial : Option Denial) (user : ℕ) (s t : Step) → (denial ≡ None → Alike s t)
+      → Alike (unless site denial v e user s) (unless site denial w e user t)
   alike_unless None user s t k = k refl
   alike_unless (Some denial) user s t k = alike_denied user denial
 
   -- ---- effects
 
-  alike_view : (user relation label : ℕ) (query : Query) → first_denial (view_denials site e.level user relation label) ≡ None → Alike (viewed site v relation label query) (viewed site w relation label query)
+  alike_view : (user relation label : ℕ) (query : Query) → first_denial (view_denials site e.level user relation label)
+      ≡ None → Alike (viewed site v relation label query) (viewed site w relation label query)
   alike_view user relation label query none =
       let ls = site_labels site in
       let lower = below-trans ls label e.level c (view_below site e.level user relation label none) seen in
-      record { world = h; reply = ap (λ ts. Rows (found ls query ts)) (rows_under ls c label (v.db relation) (w.db relation) (h.tables relation) lower) }
+      record {
+        world = h;
+        reply = ap (λ ts. Rows (found ls query ts)) (rows_under ls c label (v.db relation)
+            (w.db relation) (h.tables relation) lower);
+      }
 
   alike_dump : (relation : ℕ) → Alike (dumped site v relation e.level) (dumped site w relation e.level)
-  alike_dump relation = record { world = h; reply = ap Dumped (low_tuples_under (site_labels site) c e.level (v.db relation) (w.db relation) (h.tables relation) seen) }
+  alike_dump relation = record {
+    world = h;
+    reply = ap Dumped (low_tuples_under (site_labels site) c e.level
+        (v.db relation) (w.db relation) (h.tables relation) seen);
+  }
 
   abbrev result : World → ℕ → Write → Written
   result u relation wr = write (site_labels site) (site_scheme site relation) e.level wr (u.db relation)
@@ -89,19 +114,28 @@ module _ (site : Site) (c : ℕ) (v w : World) (e : Event) (seen : below (site_l
       ∙ ap (λ T. (result_on relation wr T).outcome) (h.tables relation)
       ∙ sym (low_use_low (site_labels site) (site_scheme site relation) c e.level (w.db relation) wr seen).0
 
-  same_low_table : (relation : ℕ) (wr : Write) → low (site_labels site) c (result v relation wr).table ≡ low (site_labels site) c (result w relation wr).table
+  same_low_table : (relation : ℕ) (wr : Write) → low (site_labels site) c (result v relation wr).table
+      ≡ low (site_labels site) c (result w relation wr).table
   same_low_table relation wr =
       (low_use_low (site_labels site) (site_scheme site relation) c e.level (v.db relation) wr seen).1
       ∙ ap (λ T. (result_on relation wr T).table) (h.tables relation)
       ∙ sym (low_use_low (site_labels site) (site_scheme site relation) c e.level (w.db relation) wr seen).1
 
-  same_low_tables : (relation : ℕ) (wr : Write) (r : ℕ) (b : Bool) → low (site_labels site) c (cond b (result v relation wr).table (v.db r)) ≡ low (site_labels site) c (cond b (result w relation wr).table (w.db r))
+  same_low_tables : (relation : ℕ) (wr : Write) (r : ℕ) (b : Bool)
+      → low (site_labels site) c (cond b (result v relation wr).table (v.db r)) ≡ low (site_labels site) c
+      (cond b (result w relation wr).table (w.db r))
   same_low_tables relation wr r true = same_low_table relation wr
   same_low_tables relation wr r false = h.tables r
 
-  alike_wrote : (relation : ℕ) (wr : Write) → Alike (wrote site v e.level relation wr) (wrote site w e.level relation wr)
+  alike_wrote : (relation : ℕ) (wr : Write) → Alike (wrote site v e.level relation wr)
+      (wrote site w e.level relation wr)
   alike_wrote relation wr = record {
-    world = record { tables = λ r. same_low_tables relation wr r (nat_eq r relation); sessions = h.sessions; entries = h.entries };
+    world = record {
+      tables = λ r. same_low_tables relation wr r (nat_eq r relation);
+      sessions = h.sessions;
+      entries =
+          h.entries;
+    };
     reply = ap Wrote (same_outcome relation wr);
   }
 
@@ -110,19 +144,25 @@ module _ (site : Site) (c : ℕ) (v w : World) (e : Event) (seen : below (site_l
       let ls = site_labels site in
       record {
         world = h;
-        reply = ap Entries (sym (visible_within ls e.level c seen v.audit) ∙ ap (visible ls e.level) h.entries ∙ visible_within ls e.level c seen w.audit);
+        reply = ap Entries (sym (visible_within ls e.level c seen v.audit) ∙ ap (visible ls e.level) h.entries
+            ∙ visible_within ls e.level c seen w.audit);
       }
 
   -- ---- commands
 
-  alike_write : (denial : Option Denial) (user relation : ℕ) (wr : Write) → Alike (unless site denial v e user (wrote site v e.level relation wr)) (unless site denial w e user (wrote site w e.level relation wr))
-  alike_write denial user relation wr = alike_unless denial user (wrote site v e.level relation wr) (wrote site w e.level relation wr) (λ none. alike_wrote relation wr)
+  alike_write : (denial : Option Denial) (user relation : ℕ) (wr : Write)
+      → Alike (unless site denial v e user (wrote site v e.level relation wr)) (unless site denial w e user
+      (wrote site w e.level relation wr))
+  alike_write denial user relation wr = alike_unless denial user (wrote site v e.level relation wr)
+      (wrote site w e.level relation wr) (λ none. alike_wrote relation wr)
 
-  alike_inside : (command : Command) (user : ℕ) → IsNoCall command → Alike (step_inside site v e command user) (step_inside site w e command user)
+  alike_inside : (command : Command) (user : ℕ) → IsNoCall command → Alike (step_inside site v e command user)
+      (step_inside site w e command user)
   alike_inside (commands.Open name) user plain = alike_denied user _
   alike_inside commands.Close user plain = record { world = alike_session None; reply = refl }
   alike_inside commands.Audit user plain = alike_listed
-  alike_inside (commands.View relation label query counts) user plain = alike_unless _ user _ _ (alike_view user relation label query)
+  alike_inside (commands.View relation label query counts) user plain = alike_unless _ user _ _
+      (alike_view user relation label query)
   alike_inside (commands.Dump relation) user plain = alike_unless _ user _ _ (λ none. alike_dump relation)
   alike_inside (commands.Write relation wr) user plain = alike_write _ user relation wr
   alike_inside (commands.Call name args) user plain = absurd plain
@@ -135,7 +175,8 @@ module _ (site : Site) (c : ℕ) (v w : World) (e : Event) (seen : below (site_l
   alike_outside (commands.Open name) = alike_open (cleared site e.level (user_named site.policy name))
   alike_outside _ = record { world = h; reply = refl }
 
-  alike_at : (session : Option ℕ) → IsNoCall e.command → Alike (step_at site v e e.command session) (step_at site w e e.command session)
+  alike_at : (session : Option ℕ) → IsNoCall e.command → Alike (step_at site v e e.command session)
+      (step_at site w e e.command session)
   alike_at (Some user) plain = alike_inside e.command user plain
   alike_at None plain = alike_outside e.command
 
@@ -143,5 +184,6 @@ module _ (site : Site) (c : ℕ) (v w : World) (e : Event) (seen : below (site_l
   pub alike_step : IsNoCall e.command → StepAlike (site_labels site) c (step site v e) (step site w e)
   unfolding step
   alike_step plain =
-      subst (λ o. Alike (step_at site v e e.command (v.sessions e.level e.session)) (step_at site w e e.command o)) (h.sessions e.level e.session seen)
+      subst (λ o. Alike (step_at site v e e.command (v.sessions e.level e.session)) (step_at site w e e.command o))
+      (h.sessions e.level e.session seen)
       (alike_at (v.sessions e.level e.session) plain)

@@ -1,4 +1,5 @@
--- Two steps at one level that c dominates, from worlds that look alike to c: calls of one transaction, whose arguments look
+-- Two steps at one level that c dominates, from worlds that look alike to c: calls of one transaction, whose arguments
+-- look
 -- alike to c, and two events that look alike to c.
 use Rattle.std.proofs.Common.{◌≡◌, ℕ, Bool, true, false, not, ◌&&◌, ◌||◌, List, [], ◌∷◌, ◌++◌, length, map, Option, Some, None, refl, sym, ap, ◌∙◌, subst, inl, inr, ◌⊎◌, true≢false, nat_eq, IfSome, eqb-true}
 use Rattle.std.proofs.lemmas.List.{length-map}
@@ -36,21 +37,25 @@ use Rattle.mls_machine.proofs.AlikeLemmas.{alike_entries, alike_step}
 -- two steps, at two events, show c the same and leave worlds that look alike to it
 pub record StepsAlike (site : Site) (c : ℕ) (e x : Event) (s t : Step) : Type 0 where
   pub world : LowAgree (site_labels site) c s.world t.world
-  pub lines : out (site_labels site) c (reply_lines site e s.reply) ≡ out (site_labels site) c (reply_lines site x t.reply)
-  pub released : seen_items (site_labels site) c (released_in s.reply) ≡ seen_items (site_labels site) c (released_in t.reply)
+  pub lines : out (site_labels site) c (reply_lines site e s.reply) ≡ out (site_labels site) c
+      (reply_lines site x t.reply)
+  pub released : seen_items (site_labels site) c (released_in s.reply) ≡ seen_items (site_labels site) c
+      (released_in t.reply)
   pub reply : reply_shown (site_labels site) c s.reply ≡ reply_shown (site_labels site) c t.reply
 
 -- or what they release to c tells them apart, which is where c is not above all that the call can read
 abbrev pub SplitOrAlike : Site → ℕ → Event → Event → Step → Step → Type 0
 SplitOrAlike site c e x s t =
-    (Split (seen_items (site_labels site) c (released_in s.reply)) (seen_items (site_labels site) c (released_in t.reply)) × (IsBelowCeiling site c e.command → ⊥))
+    (Split (seen_items (site_labels site) c (released_in s.reply)) (seen_items (site_labels site) c
+    (released_in t.reply)) × (IsBelowCeiling site c e.command → ⊥))
     ⊎ StepsAlike site c e x s t
 
 -- an event with another command
 abbrev pub twin : Event → Command → Event
 twin e command = record { level = e.level; session = e.session; command = command }
 
-module _ (site : Site) (distinct : AreDistinct (site_labels site)) (c : ℕ) (v w : World) (sv : AreStored site v.db) (sw : AreStored site w.db) (h : LowAgree (site_labels site) c v w) (e : Event)
+module _ (site : Site) (distinct : AreDistinct (site_labels site)) (c : ℕ) (v w : World) (sv : AreStored site v.db)
+    (sw : AreStored site w.db) (h : LowAgree (site_labels site) c v w) (e : Event)
     (sees : below (site_labels site) e.level c ≡ true) where
   -- ---- two calls
 
@@ -68,50 +73,66 @@ module _ (site : Site) (distinct : AreDistinct (site_labels site)) (c : ℕ) (v 
     Same o = blanked (site_labels site) c (params_of o) vs ≡ blanked (site_labels site) c (params_of o) ws
 
     -- arguments that c does not see decide no denial
-    same_denial : (user : ℕ) (tx : Tx) → blanked (site_labels site) c tx.params vs ≡ blanked (site_labels site) c tx.params ws
+    same_denial : (user : ℕ) (tx : Tx) → blanked (site_labels site) c tx.params vs
+        ≡ blanked (site_labels site) c tx.params ws
         → first_denial (call_denials site e.level user tx vs) ≡ first_denial (call_denials site e.level user tx ws)
     unfolding first_denial
     same_denial user tx same =
-        elim (nat_eq tx.lo e.level) as (λ b. nat_eq tx.lo e.level ≡ b → of_both (nat_eq tx.lo e.level) (wrong vs) ≡ of_both (nat_eq tx.lo e.level) (wrong ws)) [
+        elim (nat_eq tx.lo e.level) as (λ b. nat_eq tx.lo e.level ≡ b → of_both (nat_eq tx.lo e.level) (wrong vs)
+        ≡ of_both (nat_eq tx.lo e.level) (wrong ws)) [
           | true ↦ λ q.
               let count = same_count (site_labels site) c tx.params vs ws same in
-              let kinds = same_wrong (site_labels site) c tx.lo (ap (λ l. below (site_labels site) l c) (eqb-true tx.lo e.level q) ∙ sees) tx.params vs ws same in
+              let kinds = same_wrong (site_labels site) c tx.lo (ap (λ l. below (site_labels site) l c)
+              (eqb-true tx.lo e.level q) ∙ sees) tx.params vs ws same in
               λ i. of_both (nat_eq tx.lo e.level) (not (nat_eq (count i) (length tx.params)) || kinds i)
-          | false ↦ λ q. ap (λ b. of_both b (wrong vs)) q ∙ no_matter (lacks_rights_on site user tx.name (execute_mode ∷ [])) (exceed site (clearance_of site.policy user) (tx.hi ∷ [])) ∙ ap (λ b. of_both b (wrong ws)) (sym q)
+          | false ↦ λ q. ap (λ b. of_both b (wrong vs)) q ∙ no_matter (lacks_rights_on site user tx.name (execute_mode
+              ∷ [])) (exceed site (clearance_of site.policy user) (tx.hi ∷ [])) ∙ ap (λ b. of_both b (wrong ws)) (sym q)
         ] refl
       where
         wrong : List (Option Value) → Bool
         wrong xs = not (nat_eq (length xs) (length tx.params)) || are_wrong_at tx.lo tx.params xs
 
         trust : Bool
-        trust = not (nat_eq tx.hi tx.lo) && lie_outside (site_labels site) (trusted_of site.policy user) (tx.lo ∷ tx.hi ∷ [])
+        trust = not (nat_eq tx.hi tx.lo) && lie_outside (site_labels site) (trusted_of site.policy user) (tx.lo ∷ tx.hi
+            ∷ [])
 
         of_all : Bool → Bool → Bool → Bool → Option Denial
         of_all ds ss b r = first_denial ((ds, Ds) ∷ (ss, Ss) ∷ (not b, Star) ∷ (trust, Trust) ∷ (r, Arguments) ∷ [])
 
         of_both : Bool → Bool → Option Denial
-        of_both b r = of_all (lacks_rights_on site user tx.name (execute_mode ∷ [])) (exceed site (clearance_of site.policy user) (tx.hi ∷ [])) b r
+        of_both b r = of_all (lacks_rights_on site user tx.name (execute_mode ∷ []))
+            (exceed site (clearance_of site.policy user) (tx.hi ∷ [])) b r
 
         no_matter : (ds ss : Bool) → of_all ds ss false (wrong vs) ≡ of_all ds ss false (wrong ws)
         no_matter ds ss = refl
 
-    both_denied : (user : ℕ) (denial : Denial) → Alike (denied site v first user denial) (denied site w second user denial)
+    both_denied : (user : ℕ) (denial : Denial) → Alike (denied site v first user denial)
+        (denied site w second user denial)
     both_denied user denial = inr (record {
-      world = record { tables = h.tables; sessions = h.sessions; entries = alike_entries site c v w e sees h (denial_entry site e user denial ∷ []) };
+      world = record {
+        tables = h.tables;
+        sessions = h.sessions;
+        entries = alike_entries site c v w e sees h
+            (denial_entry site e user denial ∷ []);
+      };
       lines = refl;
       released = refl;
       reply = refl;
     })
 
-    same_entries : (user : ℕ) (items others : List Item) → seen_items (site_labels site) c items ≡ seen_items (site_labels site) c others
-        → visible (site_labels site) c (call_entries site first user name items) ≡ visible (site_labels site) c (call_entries site second user name others)
+    same_entries : (user : ℕ) (items others : List Item) → seen_items (site_labels site) c items
+        ≡ seen_items (site_labels site) c others
+        → visible (site_labels site) c (call_entries site first user name items) ≡ visible (site_labels site) c
+        (call_entries site second user name others)
     same_entries user items others x =
         entries_seen (site_labels site) c site first user name items
         ∙ ap (entries_of site e user name (below (site_labels site) e.level c)) x
         ∙ sym (entries_seen (site_labels site) c site second user name others)
 
-    both_called : (user : ℕ) (tx : Tx) → IsSafe site tx → (IsBelowCeiling site c (commands.Call name vs) → below (site_labels site) tx.hi c ≡ true) → length vs ≡ length tx.params
-        → blanked (site_labels site) c tx.params vs ≡ blanked (site_labels site) c tx.params ws → Alike (called site v first user name tx vs) (called site w second user name tx ws)
+    both_called : (user : ℕ) (tx : Tx) → IsSafe site tx → (IsBelowCeiling site c (commands.Call name vs)
+        → below (site_labels site) tx.hi c ≡ true) → length vs ≡ length tx.params
+        → blanked (site_labels site) c tx.params vs ≡ blanked (site_labels site) c tx.params ws
+        → Alike (called site v first user name tx vs) (called site w second user name tx ws)
     both_called user tx safe ceiling count same =
         let ls = site_labels site in
         let count' = sym (same_count ls c tx.params vs ws same) ∙ count in
@@ -120,48 +141,75 @@ module _ (site : Site) (distinct : AreDistinct (site_labels site)) (c : ℕ) (v 
         let s = run_tx ls site.schemes tx args v.db in
         let t = run_tx ls site.schemes tx brgs w.db in
         let labels = length-map tx.params (λ p. p.1.label) in
-        elim (safe.secure.two_runs c site.schemes v.db w.db args brgs safe.read sv sw (λ r. views_from_low ls _ _ (v.db r) (w.db r) (sv r) (sw r) c (h.tables r))
-        (record { count = fitted_count tx.params vs count ∙ sym labels; count' = fitted_count tx.params ws count' ∙ sym labels; each = same_fitted ls c tx.params vs ws same })) [
+        elim (safe.secure.two_runs c site.schemes v.db w.db args brgs safe.read sv sw (λ r. views_from_low ls _ _
+        (v.db r) (w.db r) (sv r) (sw r) c (h.tables r))
+        (record {
+          count = fitted_count tx.params vs count ∙ sym labels;
+          count' = fitted_count tx.params ws count'
+              ∙ sym labels;
+          each = same_fitted ls c tx.params vs ws same;
+        })) [
           | inl x ↦ inl (x.1, λ k. true≢false (sym (ceiling k) ∙ x.0))
           | inr x ↦ inr (record {
             world = record {
-              tables = λ r. low_from_views ls distinct _ _ (s.db r) (t.db r) (keep_form site.policy distinct site.schemes tx safe.read args v.db sv r) (keep_form site.policy distinct site.schemes tx safe.read brgs w.db sw r) c (x.views r);
+              tables = λ r. low_from_views ls distinct _ _ (s.db r) (t.db r)
+                  (keep_form site.policy distinct site.schemes tx safe.read args v.db sv r)
+                  (keep_form site.policy distinct site.schemes tx safe.read brgs w.db sw r) c (x.views r);
               sessions = h.sessions;
-              entries = filter-append (λ y. below ls (label_of y) c) v.audit (call_entries site first user name s.released)
+              entries = filter-append (λ y. below ls (label_of y) c) v.audit
+                  (call_entries site first user name s.released)
                   ∙ (λ i. h.entries i ++ same_entries user s.released t.released x.released i)
-                  ∙ sym (filter-append (λ y. below ls (label_of y) c) w.audit (call_entries site second user name t.released));
+                  ∙ sym (filter-append (λ y. below ls (label_of y) c) w.audit
+                  (call_entries site second user name t.released));
             };
-            lines = filter-append (λ l. below ls l.label c) (map (line site.policy e e.level) (call_texts (commands.Call name vs))) (item_lines site.policy first (called site v first user name tx vs).reply)
+            lines = filter-append (λ l. below ls l.label c) (map (line site.policy e e.level)
+                (call_texts (commands.Call name vs))) (item_lines site.policy first
+                (called site v first user name tx vs).reply)
                 ∙ ap (λ xs. out ls c (map (line site.policy e e.level) (call_texts (commands.Call name vs))) ++ xs)
-                (lines_seen ls c site.policy first s.emitted s.released ∙ (λ i. lines_of site.policy e (x.emitted i) (x.released i)) ∙ sym (lines_seen ls c site.policy second t.emitted t.released))
-                ∙ sym (filter-append (λ l. below ls l.label c) (map (line site.policy e e.level) (call_texts (commands.Call name vs))) (item_lines site.policy second (called site w second user name tx ws).reply));
+                (lines_seen ls c site.policy first s.emitted s.released ∙ (λ i. lines_of site.policy e (x.emitted i)
+                (x.released i)) ∙ sym (lines_seen ls c site.policy second t.emitted t.released))
+                ∙ sym (filter-append (λ l. below ls l.label c) (map (line site.policy e e.level)
+                (call_texts (commands.Call name vs))) (item_lines site.policy second
+                (called site w second user name tx ws).reply));
             released = x.released;
             reply = λ i. Ran (record { emitted = x.emitted i; released = x.released i });
           })
         ]
 
-    both_unless : (user : ℕ) (a b : Option Denial) → a ≡ b → (s t : Step) → (a ≡ None → Alike s t) → Alike (unless site a v first user s) (unless site b w second user t)
-    both_unless user a b q s t k = subst (λ d. Alike (unless site a v first user s) (unless site d w second user t)) q (by_denial a k)
+    both_unless : (user : ℕ) (a b : Option Denial) → a ≡ b → (s t : Step) → (a ≡ None → Alike s t)
+        → Alike (unless site a v first user s) (unless site b w second user t)
+    both_unless user a b q s t k = subst (λ d. Alike (unless site a v first user s) (unless site d w second user t)) q
+        (by_denial a k)
       where
-        by_denial : (d : Option Denial) → (d ≡ None → Alike s t) → Alike (unless site d v first user s) (unless site d w second user t)
+        by_denial : (d : Option Denial) → (d ≡ None → Alike s t) → Alike (unless site d v first user s)
+            (unless site d w second user t)
         by_denial None k = k refl
         by_denial (Some denial) k = both_denied user denial
 
-    both_calls : (user : ℕ) (o : Option Stored) → stored_named site.stored name ≡ o → IfSome (certified_of o) (IsSafe site) → Same o → Alike (call_step site v first user name vs o) (call_step site w second user name ws o)
+    both_calls : (user : ℕ) (o : Option Stored) → stored_named site.stored name ≡ o
+        → IfSome (certified_of o) (IsSafe site) → Same o → Alike (call_step site v first user name vs o)
+        (call_step site w second user name ws o)
     both_calls user None found safe same = both_denied user _
     both_calls user (Some (Plain tx)) found safe same = both_denied user _
     both_calls user (Some (Certified k)) found safe same =
-        both_unless user (first_denial (call_denials site e.level user k.tx vs)) (first_denial (call_denials site e.level user k.tx ws)) (same_denial user k.tx same) (called site v first user name k.tx vs) (called site w second user name k.tx ws)
-        (λ none. both_called user k.tx safe (λ b. subst (λ o. IfSome o (λ s. below (site_labels site) (tx_of s).hi c ≡ true)) found b) (may_run site e.level user k.tx vs none).count same)
+        both_unless user (first_denial (call_denials site e.level user k.tx vs))
+        (first_denial (call_denials site e.level user k.tx ws)) (same_denial user k.tx same)
+        (called site v first user name k.tx vs) (called site w second user name k.tx ws)
+        (λ none. both_called user k.tx safe (λ b. subst (λ o. IfSome o (λ s. below (site_labels site) (tx_of s).hi c
+        ≡ true)) found b) (may_run site e.level user k.tx vs none).count same)
 
-    calls_at : IfSome (certified_of (stored_named site.stored name)) (IsSafe site) → Same (stored_named site.stored name)
-        → (session : Option ℕ) → Alike (step_at site v first (commands.Call name vs) session) (step_at site w second (commands.Call name ws) session)
+    calls_at : IfSome (certified_of (stored_named site.stored name)) (IsSafe site)
+        → Same (stored_named site.stored name)
+        → (session : Option ℕ) → Alike (step_at site v first (commands.Call name vs) session)
+        (step_at site w second (commands.Call name ws) session)
     calls_at safe same None = inr (record { world = h; lines = refl; released = refl; reply = refl })
     calls_at safe same (Some user) = both_calls user (stored_named site.stored name) refl safe same
 
-    call_steps : WhereCalled site (IsSafe site) (commands.Call name vs) → Same (stored_named site.stored name) → Alike (step site v first) (step site w second)
+    call_steps : WhereCalled site (IsSafe site) (commands.Call name vs) → Same (stored_named site.stored name)
+        → Alike (step site v first) (step site w second)
     unfolding step
-    call_steps safe same = subst (λ o. Alike (step site v first) (step_at site w second (commands.Call name ws) o)) (h.sessions e.level e.session sees) (calls_at safe same (v.sessions e.level e.session))
+    call_steps safe same = subst (λ o. Alike (step site v first) (step_at site w second (commands.Call name ws) o))
+        (h.sessions e.level e.session sees) (calls_at safe same (v.sessions e.level e.session))
 
   -- ---- two commands that look alike to c
 
@@ -202,13 +250,16 @@ module _ (site : Site) (distinct : AreDistinct (site_labels site)) (c : ℕ) (v 
   args_of (commands.Call name args) = args
   args_of command = []
 
-  plain_no_call : (name : Name) (args : List (Option Value)) (b : Command) → IsNoCall b → commands.Call name args ≡ b → ⊥
+  plain_no_call : (name : Name) (args : List (Option Value)) (b : Command) → IsNoCall b → commands.Call name args ≡ b
+      → ⊥
   plain_no_call name args b p q = subst IsNoCall (sym q) p
 
-  from_call : (name : Name) (vs : List (Option Value)) (b : Command) → WhereCalled site (IsSafe site) (commands.Call name vs) → sh (commands.Call name vs) ≡ sh b → Pair (commands.Call name vs) b
+  from_call : (name : Name) (vs : List (Option Value)) (b : Command) → WhereCalled site (IsSafe site)
+      (commands.Call name vs) → sh (commands.Call name vs) ≡ sh b → Pair (commands.Call name vs) b
   from_call name vs (commands.Call n ws) safe q =
       let same : name ≡ n = ap name_of q in
-      let args = ap args_of q ∙ ap (λ m. blanked (site_labels site) c (params_of (stored_named site.stored m)) ws) (sym same) in
+      let args = ap args_of q ∙ ap (λ m. blanked (site_labels site) c (params_of (stored_named site.stored m)) ws)
+      (sym same) in
       subst (λ m. Pair (commands.Call name vs) (commands.Call m ws)) same (call_steps name vs ws safe args)
   from_call name vs _ safe q = absurd (plain_no_call name _ _ tt q)
 
@@ -216,13 +267,21 @@ module _ (site : Site) (distinct : AreDistinct (site_labels site)) (c : ℕ) (v 
   pair (commands.Open name) b safe q = from_plain (commands.Open name) b tt q
   pair commands.Close b safe q = from_plain commands.Close b tt q
   pair commands.Audit b safe q = from_plain commands.Audit b tt q
-  pair (commands.View relation label query counts) b safe q = from_plain (commands.View relation label query counts) b tt q
+  pair (commands.View relation label query counts) b safe q =
+      from_plain (commands.View relation label query counts) b tt q
   pair (commands.Dump relation) b safe q = from_plain (commands.Dump relation) b tt q
   pair (commands.Write relation wr) b safe q = from_plain (commands.Write relation wr) b tt q
   pair (commands.Call name vs) b safe q = from_call name vs b safe q
 
   -- two events that look alike to c
-  pub seen_steps : (x : Event) → WhereCalled site (IsSafe site) e.command → glimpse site c e ≡ glimpse site c x → SplitOrAlike site c e x (step site v e) (step site w x)
+  pub seen_steps : (x : Event) → WhereCalled site (IsSafe site) e.command → glimpse site c e ≡ glimpse site c x
+      → SplitOrAlike site c e x (step site v e) (step site w x)
   seen_steps x safe g =
-      let is_x : twin e x.command ≡ x = λ i. record { level = (g i).level; session = (g i).session; command = x.command } in
-      subst (λ y. SplitOrAlike site c e y (step site v e) (step site w y)) is_x (pair e.command x.command safe (ap (λ y. y.command) g))
+      let is_x : twin e x.command ≡ x = λ i. record {
+        level = (g i).level;
+        session = (g i).session;
+        command =
+            x.command;
+      } in
+      subst (λ y. SplitOrAlike site c e y (step site v e) (step site w y)) is_x (pair e.command x.command safe
+      (ap (λ y. y.command) g))

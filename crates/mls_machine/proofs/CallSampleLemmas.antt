@@ -1,4 +1,5 @@
--- A script of two calls, and the lines that it prints: one is denied; the other has an argument of the wrong kind above the
+-- A script of two calls, and the lines that it prints: one is denied; the other has an argument of the wrong kind above
+-- the
 -- session's level, which is taken as null, and emits it there and releases it.
 use Rattle.std.proofs.Common.{◌≡◌, ℕ, true, false, List, [], ◌∷◌, ◌++◌, Option, ap, refl, ◌∙◌, Ok, Err, ◌==◌, Bool, cond, not, ◌&&◌, ◌||◌, nat_eq, bit_and, codes, length, Some, None, find, bytes_eq}
 use Rattle.std.specs.List.{list_any}
@@ -93,12 +94,16 @@ module _ (u s : Pair) (rights : List Right) (k : Certified) (is : k.tx ≡ pass)
 
   abbrev done_call : Step
   done_call = record {
-    world = record denied_call.world { audit = denied_call.world.audit ++ call_entries site (call_of a_text) 0 (codes "Pass") items };
+    world = record denied_call.world {
+      audit = denied_call.world.audit ++ call_entries site (call_of a_text) 0
+          (codes "Pass") items;
+    };
     reply = Ran (record { emitted = (1, None) ∷ []; released = items });
   }
 
   abbrev all_entries : List Entry
-  all_entries = denial_entry site (call_of no_args) 0 Arguments ∷ call_entries site (call_of a_text) 0 (codes "Pass") items
+  all_entries = denial_entry site (call_of no_args) 0 Arguments ∷ call_entries site (call_of a_text) 0
+      (codes "Pass") items
 
   -- ---- a call, by the modes of the user and by which labels dominate which
 
@@ -111,17 +116,21 @@ module _ (u s : Pair) (rights : List Right) (k : Certified) (is : k.tx ≡ pass)
       ∷ (not (nat_eq (length args) 1) || false, Arguments) ∷ []
 
   abbrev calling : World → List (Option Value) → List (Bool × Denial) → Step
-  calling w args ds = unless site (first_denial ds) w (call_of args) 0 (called site w (call_of args) 0 (codes "Pass") pass args)
+  calling w args ds = unless site (first_denial ds) w (call_of args) 0 (called site w (call_of args) 0
+      (codes "Pass") pass args)
 
   -- it is found, and what is found is the transaction
-  found : (name : Name) → find (λ x. bytes_eq (tx_of x).name name) (stored.Certified k ∷ []) ≡ cond (bytes_eq (codes "Pass") name) (Some (stored.Certified k)) None
+  found : (name : Name) → find (λ x. bytes_eq (tx_of x).name name) (stored.Certified k ∷ [])
+      ≡ cond (bytes_eq (codes "Pass") name) (Some (stored.Certified k)) None
   found name = λ i. cond (bytes_eq (is i).name name) (Some (stored.Certified k)) None
 
-  next : (w : World) (e : Event) (es : List Event) (t : Step) → step site w e ≡ t → run_lines Lines site w (e ∷ es) ≡ reply_lines site e t.reply ++ run_lines Lines site t.world es
+  next : (w : World) (e : Event) (es : List Event) (t : Step) → step site w e ≡ t → run_lines Lines site w (e ∷ es)
+      ≡ reply_lines site e t.reply ++ run_lines Lines site t.world es
   unfolding run_lines
   next w e es t h = ap (λ (x : Step). reply_lines site e x.reply ++ run_lines Lines site x.world es) h
 
-  module _ (u-u : below ls 0 0 ≡ true) (u-s : below ls 0 1 ≡ true) (s-s : below ls 1 1 ≡ true) (executes : granted_modes rights 0 (codes "Pass") ≡ 1) where
+  module _ (u-u : below ls 0 0 ≡ true) (u-s : below ls 0 1 ≡ true) (s-s : below ls 1 1 ≡ true)
+      (executes : granted_modes rights 0 (codes "Pass") ≡ 1) where
     opening : Bool → Step
     opening b = open_step site start opens (cond (not b || false) (Err Ss) (Ok 0))
 
@@ -130,18 +139,23 @@ module _ (u s : Pair) (rights : List Right) (k : Certified) (is : k.tx ≡ pass)
     tom_opens = ap opening u-s
 
     -- in the session of tom
-    call_is : (w : World) (args : List (Option Value)) → call_step site w (call_of args) 0 (codes "Pass") args (find (λ x. bytes_eq (tx_of x).name (codes "Pass")) (stored.Certified k ∷ [])) ≡ calling w args (call_denials site 0 0 pass args)
+    call_is : (w : World) (args : List (Option Value)) → call_step site w (call_of args) 0 (codes "Pass") args
+        (find (λ x. bytes_eq (tx_of x).name (codes "Pass")) (stored.Certified k ∷ []))
+        ≡ calling w args (call_denials site 0 0 pass args)
     call_is w args =
         ap (call_step site w (call_of args) 0 (codes "Pass") args) (found (codes "Pass"))
-        ∙ ap (λ tx. unless site (first_denial (call_denials site 0 0 tx args)) w (call_of args) 0 (called site w (call_of args) 0 (codes "Pass") tx args)) is
+        ∙ ap (λ tx. unless site (first_denial (call_denials site 0 0 tx args)) w (call_of args) 0
+        (called site w (call_of args) 0 (codes "Pass") tx args)) is
 
     no_argument : step site with_tom (call_of no_args) ≡ denied_call
     unfolding step first_denial
-    no_argument = call_is with_tom no_args ∙ (λ i. calling with_tom no_args (denials (executes i) (u-u i) (u-s i) (s-s i) no_args))
+    no_argument = call_is with_tom no_args ∙ (λ i. calling with_tom no_args (denials (executes i) (u-u i) (u-s i)
+        (s-s i) no_args))
 
     a_text_is_null : step site denied_call.world (call_of a_text) ≡ done_call
     unfolding step first_denial run_block perform eval
-    a_text_is_null = call_is denied_call.world a_text ∙ (λ i. calling denied_call.world a_text (denials (executes i) (u-u i) (u-s i) (s-s i) a_text))
+    a_text_is_null = call_is denied_call.world a_text ∙ (λ i. calling denied_call.world a_text
+        (denials (executes i) (u-u i) (u-s i) (s-s i) a_text))
 
     -- each of the entries has the label U
     shown : Bool → List Entry → List Entry
@@ -152,20 +166,26 @@ module _ (u s : Pair) (rights : List Right) (k : Certified) (is : k.tx ≡ pass)
     unfolding step shown
     tom_audits = λ i. record { world = done_call.world; reply = Entries (shown (u-u i) all_entries) }
 
-    each_item_has_its_label : printed (run_lines Lines site start (opens ∷ call_of no_args ∷ call_of a_text ∷ audits ∷ [])) ≡
+    each_item_has_its_label : printed (run_lines Lines site start (opens ∷ call_of no_args ∷ call_of a_text ∷ audits
+        ∷ [])) ≡
         codes "U U/t opened tom\nU U/t denied 40 Arguments\nU U/t called Pass\nS U/t emit null\nU U/t release null\nU U/t audit\nU U/t entry U denied tom t 40\nU U/t entry U called tom t Pass\nU U/t entry U released tom t null\n"
     unfolding run_lines digits
     each_item_has_its_label = ap printed (
         next start opens (call_of no_args ∷ call_of a_text ∷ audits ∷ []) _ tom_opens
-        ∙ ap (λ xs. reply_lines site opens (Opened 0) ++ xs) (next with_tom (call_of no_args) (call_of a_text ∷ audits ∷ []) _ no_argument
-        ∙ ap (λ xs. reply_lines site (call_of no_args) denied_call.reply ++ xs) (next denied_call.world (call_of a_text) (audits ∷ []) _ a_text_is_null
-        ∙ ap (λ xs. reply_lines site (call_of a_text) done_call.reply ++ xs) (next done_call.world audits [] _ tom_audits)))
+        ∙ ap (λ xs. reply_lines site opens (Opened 0) ++ xs) (next with_tom (call_of no_args) (call_of a_text ∷ audits
+        ∷ []) _ no_argument
+        ∙ ap (λ xs. reply_lines site (call_of no_args) denied_call.reply ++ xs) (next denied_call.world (call_of a_text)
+        (audits ∷ []) _ a_text_is_null
+        ∙ ap (λ xs. reply_lines site (call_of a_text) done_call.reply ++ xs)
+        (next done_call.world audits [] _ tom_audits)))
         )
 
     -- what is not stored, and what is stored without a certificate
-    unknown : step site with_tom (event (Call (codes "Nope") [])) ≡ denied site with_tom (event (Call (codes "Nope") [])) 0 UnknownTransaction
+    unknown : step site with_tom (event (Call (codes "Nope") [])) ≡ denied site with_tom
+        (event (Call (codes "Nope") [])) 0 UnknownTransaction
     unfolding step
     unknown = ap (call_step site with_tom (event (Call (codes "Nope") [])) 0 (codes "Nope") []) (found (codes "Nope"))
 
-  uncertified : (w : World) (e : Event) (name : Name) (args : List (Option Value)) → call_step site w e 0 name args (Some (stored.Plain other)) ≡ denied site w e 0 NotCertified
+  uncertified : (w : World) (e : Event) (name : Name) (args : List (Option Value)) → call_step site w e 0 name args
+      (Some (stored.Plain other)) ≡ denied site w e 0 NotCertified
   uncertified w e name args = refl

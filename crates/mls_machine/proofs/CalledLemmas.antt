@@ -33,11 +33,15 @@ CallsRead site = WhereCalled site (IsReadUnder site.policy site.schemes)
 -- ---- of all that are stored
 
 -- what holds of all holds of the one that is found
-pub found_holds : {X : Type 0} (P : X → Type 0) (test : X → Bool) (xs : List X) → AllByRecursion P xs → IfSome (find test xs) P
+pub found_holds : {X : Type 0} (P : X → Type 0) (test : X → Bool) (xs : List X) → AllByRecursion P xs
+    → IfSome (find test xs) P
 found_holds P test [] h = tt
-found_holds P test (x ∷ xs) h = elim (test x) as (λ b. IfSome (cond b (Some x) (find test xs)) P) [ true ↦ h.0 | false ↦ found_holds P test xs h.1 ]
+found_holds P test (x ∷ xs) h = elim (test x) as
+    (λ b. IfSome (cond b (Some x) (find test xs)) P) [ true ↦ h.0 | false ↦ found_holds P test xs h.1 ]
 
-where_called : (site : Site) (P : Tx → Type 0) → ((name : Name) → IfSome (certified_of (stored_named site.stored name)) P) → (command : Command) → WhereCalled site P command
+where_called : (site : Site) (P : Tx → Type 0)
+    → ((name : Name) → IfSome (certified_of (stored_named site.stored name)) P) → (command : Command)
+    → WhereCalled site P command
 where_called site P h (commands.Call name args) = h name
 where_called site P h _ = tt
 
@@ -47,18 +51,23 @@ pub record IsSafe (site : Site) (tx : Tx) : Type 0 where
   pub secure : Secure site.policy tx
 
 pub all_read : (site : Site) → AreRead site → (command : Command) → CallsRead site command
-all_read site read = where_called site (IsReadUnder site.policy site.schemes) (λ name. by_stored (stored_named site.stored name) (found_holds _ _ site.stored read))
+all_read site read = where_called site (IsReadUnder site.policy site.schemes)
+    (λ name. by_stored (stored_named site.stored name) (found_holds _ _ site.stored read))
   where
-    by_stored : (o : Option Stored) → IfSome o (λ s. IsReadUnder site.policy site.schemes (tx_of s)) → IfSome (certified_of o) (IsReadUnder site.policy site.schemes)
+    by_stored : (o : Option Stored) → IfSome o (λ s. IsReadUnder site.policy site.schemes (tx_of s))
+        → IfSome (certified_of o) (IsReadUnder site.policy site.schemes)
     by_stored None r = tt
     by_stored (Some (Plain tx)) r = tt
     by_stored (Some (Certified k)) r = r
 
-pub all_safe : (site : Site) → AreRead site → AreSecure site → (command : Command) → WhereCalled site (IsSafe site) command
+pub all_safe : (site : Site) → AreRead site → AreSecure site → (command : Command)
+    → WhereCalled site (IsSafe site) command
 all_safe site read secure =
-    where_called site (IsSafe site) (λ name. by_stored (stored_named site.stored name) (found_holds _ _ site.stored read) (found_holds _ _ site.stored secure))
+    where_called site (IsSafe site) (λ name. by_stored (stored_named site.stored name)
+    (found_holds _ _ site.stored read) (found_holds _ _ site.stored secure))
   where
-    by_stored : (o : Option Stored) → IfSome o (λ s. IsReadUnder site.policy site.schemes (tx_of s)) → IfSome o (WhereCertified (Secure site.policy)) → IfSome (certified_of o) (IsSafe site)
+    by_stored : (o : Option Stored) → IfSome o (λ s. IsReadUnder site.policy site.schemes (tx_of s))
+        → IfSome o (WhereCertified (Secure site.policy)) → IfSome (certified_of o) (IsSafe site)
     by_stored None r s = tt
     by_stored (Some (Plain tx)) r s = tt
     by_stored (Some (Certified k)) r s = record { read = r; secure = s }
@@ -80,6 +89,7 @@ some_weaker : {X : Type 0} (P Q : X → Type 0) → ((x : X) → P x → Q x) �
 some_weaker P Q k None h = tt
 some_weaker P Q k (Some x) h = k x h
 
-pub weaker : (site : Site) (P Q : Tx → Type 0) → ((tx : Tx) → P tx → Q tx) → (command : Command) → WhereCalled site P command → WhereCalled site Q command
+pub weaker : (site : Site) (P Q : Tx → Type 0) → ((tx : Tx) → P tx → Q tx) → (command : Command)
+    → WhereCalled site P command → WhereCalled site Q command
 weaker site P Q k (commands.Call name args) h = some_weaker P Q k (certified_of (stored_named site.stored name)) h
 weaker site P Q k _ h = tt

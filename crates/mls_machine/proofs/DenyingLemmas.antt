@@ -14,16 +14,19 @@ use Rattle.mls_machine.specs.Denying.{first_denial, no_user, user_named, clearan
 
 -- ---- users
 
-pub user_below : (policy : Policy) (name : Name) (user : ℕ) → user_named policy name ≡ Some user → user < length policy.users
+pub user_below : (policy : Policy) (name : Name) (user : ℕ) → user_named policy name ≡ Some user
+    → user < length policy.users
 user_below policy name user h = (position-Some (λ u. bytes_eq u.name name) policy.users user no_user h).0
 
 some_is : (a b : ℕ) → Some a ≡ Some b → a ≡ b
 some_is a b e = cc
 
-pub clearance_found : (policy : Policy) (user label : ℕ) → user < length policy.users → option_map (λ u. u.clearance) (slice_get policy.users user) ≡ Some label
+pub clearance_found : (policy : Policy) (user label : ℕ) → user < length policy.users → option_map (λ u. u.clearance)
+    (slice_get policy.users user) ≡ Some label
     → label ≡ clearance_of policy user
 clearance_found policy user label within row =
-    some_is label (clearance_of policy user) (sym row ∙ ap (option_map (λ (u : User). u.clearance)) (slice_get-get_or policy.users user no_user within))
+    some_is label (clearance_of policy user) (sym row ∙ ap (option_map (λ (u : User). u.clearance))
+    (slice_get-get_or policy.users user no_user within))
 
 -- ---- where there is no denial no condition holds
 
@@ -41,15 +44,19 @@ not_denied (d ∷ ds) h =
     ] refl h
 
 -- the level of the session dominates the label of a view that is not denied
-pub view_below : (site : Site) (level user relation label : ℕ) → first_denial (view_denials site level user relation label) ≡ None → below (site_labels site) label level ≡ true
-view_below site level user relation label h = not-false _ (or_parts _ _ (not_denied (view_denials site level user relation label) h).1.1.0).0
+pub view_below : (site : Site) (level user relation label : ℕ)
+    → first_denial (view_denials site level user relation label) ≡ None → below (site_labels site) label level ≡ true
+view_below site level user relation label h =
+    not-false _ (or_parts _ _ (not_denied (view_denials site level user relation label) h).1.1.0).0
 
--- the level of the session is the lowest label of a call that is not denied, and there is an argument for each parameter
+-- the level of the session is the lowest label of a call that is not denied, and there is an argument for each
+-- parameter
 pub record MayRun (level : ℕ) (tx : Tx) (args : List (Option Value)) : Type 0 where
   pub lo : tx.lo ≡ level
   pub count : length args ≡ length tx.params
 
-pub may_run : (site : Site) (level user : ℕ) (tx : Tx) (args : List (Option Value)) → first_denial (call_denials site level user tx args) ≡ None → MayRun level tx args
+pub may_run : (site : Site) (level user : ℕ) (tx : Tx) (args : List (Option Value))
+    → first_denial (call_denials site level user tx args) ≡ None → MayRun level tx args
 may_run site level user tx args h =
     let n = not_denied (call_denials site level user tx args) h in
     record { lo = eqb-true _ _ (not-false _ n.1.1.0); count = eqb-true _ _ (not-false _ (or_parts _ _ n.1.1.1.1.0).0) }

@@ -1,4 +1,5 @@
--- What a level sees of the lines of a reply, in each form: those of what it sees of the event and of the reply, or none.
+-- What a level sees of the lines of a reply, in each form: those of what it sees of the event and of the reply, or
+-- none.
 use Rattle.std.proofs.Common.{◌≡◌, ℕ, true, false, cond, List, [], ◌∷◌, ◌++◌, map, refl, sym, ap, ◌∙◌}
 use Rattle.std.proofs.lemmas.List.Elements.{filter-append}
 use Rattle.mls_lattice.specs.Labels.{Labels, below}
@@ -28,7 +29,8 @@ module _ (site : Site) (c : ℕ) where
   same_views (commands.Call name args) tuples = refl
   same_views a tuples = refl
 
-  same_tables : (a : Command) (tuples : List Tuple) → table_texts site (shown site c a) tuples ≡ table_texts site a tuples
+  same_tables : (a : Command) (tuples : List Tuple) → table_texts site (shown site c a) tuples
+      ≡ table_texts site a tuples
   same_tables (commands.Call name args) tuples = refl
   same_tables a tuples = refl
 
@@ -36,17 +38,20 @@ module _ (site : Site) (c : ℕ) where
   same_calls (commands.Call name args) = refl
   same_calls a = refl
 
-  same_dumps : (session : Name) (a : Command) (tuples : List Tuple) → dump_texts site session (shown site c a) tuples ≡ dump_texts site session a tuples
+  same_dumps : (session : Name) (a : Command) (tuples : List Tuple) → dump_texts site session (shown site c a) tuples
+      ≡ dump_texts site session a tuples
   same_dumps session (commands.Call name args) tuples = refl
   same_dumps session a tuples = refl
 
-  same_texts : (session : Name) (a : Command) (r : Reply) → reply_texts site session (shown site c a) (reply_shown ls c r) ≡ reply_texts site session a r
+  same_texts : (session : Name) (a : Command) (r : Reply) → reply_texts site session (shown site c a)
+      (reply_shown ls c r) ≡ reply_texts site session a r
   same_texts session a (Rows tuples) = same_views a tuples
   same_texts session a (Dumped tuples) = same_dumps (printable session) a tuples
   same_texts session a (Ran run) = same_calls a
   same_texts session a r = refl
 
-  same_in_table : (session : Name) (a : Command) (r : Reply) → texts_in_table site session (shown site c a) (reply_shown ls c r) ≡ texts_in_table site session a r
+  same_in_table : (session : Name) (a : Command) (r : Reply) → texts_in_table site session (shown site c a)
+      (reply_shown ls c r) ≡ texts_in_table site session a r
   same_in_table session a (Rows tuples) = same_tables a tuples
   same_in_table session a (Dumped tuples) = same_dumps (printable session) a tuples
   same_in_table session a (Ran run) = same_calls a
@@ -62,23 +67,30 @@ module _ (site : Site) (c : ℕ) where
       texts_seen : (texts : List (List ℕ)) → out ls c (on_level texts) ≡ on_level texts
       texts_seen [] = refl
       texts_seen (t ∷ texts) =
-          ap (λ b. cond b (line site.policy e e.level t ∷ out ls c (on_level texts)) (out ls c (on_level texts))) sees ∙ ap (λ l. line site.policy e e.level t ∷ l) (texts_seen texts)
+          ap (λ b. cond b (line site.policy e e.level t ∷ out ls c (on_level texts)) (out ls c (on_level texts))) sees
+          ∙ ap (λ l. line site.policy e e.level t ∷ l) (texts_seen texts)
 
       items_seen : (r : Reply) → out ls c (item_lines site.policy e r) ≡ item_lines site.policy e (reply_shown ls c r)
       items_seen (Ran run) = lines_seen ls c site.policy e run.emitted run.released
       items_seen r = refl
 
-      with_seen : (r : Reply) (texts others : List (List ℕ)) → others ≡ texts → out ls c (lines_with site e texts r) ≡ lines_with site (glimpse site c e) others (reply_shown ls c r)
+      with_seen : (r : Reply) (texts others : List (List ℕ)) → others ≡ texts → out ls c (lines_with site e texts r)
+          ≡ lines_with site (glimpse site c e) others (reply_shown ls c r)
       with_seen r texts others same =
           filter-append (λ l. below ls l.label c) (on_level texts) (item_lines site.policy e r)
-          ∙ (λ i. texts_seen texts i ++ items_seen r i) ∙ ap (λ t. on_level t ++ item_lines site.policy e (reply_shown ls c r)) (sym same)
+          ∙ (λ i. texts_seen texts i ++ items_seen r i) ∙ ap (λ t. on_level t ++ item_lines site.policy e
+          (reply_shown ls c r)) (sym same)
 
-      pub seen_in : (r : Reply) (form : Form) → out ls c (reply_lines_in form site e r) ≡ reply_lines_in form site (glimpse site c e) (reply_shown ls c r)
-      seen_in r Lines = with_seen r (reply_texts site e.session e.command r) (reply_texts site e.session (shown site c e.command) (reply_shown ls c r)) (same_texts e.session e.command r)
+      pub seen_in : (r : Reply) (form : Form) → out ls c (reply_lines_in form site e r) ≡ reply_lines_in form site
+          (glimpse site c e) (reply_shown ls c r)
+      seen_in r Lines = with_seen r (reply_texts site e.session e.command r) (reply_texts site e.session
+          (shown site c e.command) (reply_shown ls c r)) (same_texts e.session e.command r)
       seen_in r Table =
-          filter-map (λ l. below ls l.label c) escaped_line (lines_with site e (texts_in_table site e.session e.command r) r)
+          filter-map (λ l. below ls l.label c) escaped_line
+          (lines_with site e (texts_in_table site e.session e.command r) r)
           ∙ ap (map escaped_line)
-          (with_seen r (texts_in_table site e.session e.command r) (texts_in_table site e.session (shown site c e.command) (reply_shown ls c r)) (same_in_table e.session e.command r))
+          (with_seen r (texts_in_table site e.session e.command r) (texts_in_table site e.session
+          (shown site c e.command) (reply_shown ls c r)) (same_in_table e.session e.command r))
 
     -- ---- at another
 
@@ -86,7 +98,8 @@ module _ (site : Site) (c : ℕ) where
       items_hidden : out ls c (item_lines site.policy e r) ≡ []
       items_hidden =
           let texts = reply_texts site e.session e.command r in
-          ap (λ l. l ++ out ls c (item_lines site.policy e r)) (sym (hidden_lines ls c site.policy e e.level hidden texts))
+          ap (λ l. l ++ out ls c (item_lines site.policy e r))
+          (sym (hidden_lines ls c site.policy e e.level hidden texts))
           ∙ sym (filter-append (λ l. below ls l.label c) (on_level texts) (item_lines site.policy e r)) ∙ silent
 
       with_hidden : (texts : List (List ℕ)) → out ls c (lines_with site e texts r) ≡ []
@@ -97,4 +110,6 @@ module _ (site : Site) (c : ℕ) where
       pub hidden_in : (form : Form) → out ls c (reply_lines_in form site e r) ≡ []
       hidden_in Lines = silent
       hidden_in Table =
-          filter-map (λ l. below ls l.label c) escaped_line (lines_with site e (texts_in_table site e.session e.command r) r) ∙ ap (map escaped_line) (with_hidden (texts_in_table site e.session e.command r))
+          filter-map (λ l. below ls l.label c) escaped_line
+          (lines_with site e (texts_in_table site e.session e.command r) r) ∙ ap (map escaped_line)
+          (with_hidden (texts_in_table site e.session e.command r))

@@ -34,15 +34,20 @@ use Rattle.mls_machine.proofs.ItemLemmas.{lines_of, lines_seen, entries_of, entr
 
 -- ---- lines
 
-pub hidden_lines : (ls : Labels) (c : ℕ) (p : Policy) (e : Event) (label : ℕ) → below ls label c ≡ false → (texts : List (List ℕ)) → out ls c (map (line p e label) texts) ≡ []
+pub hidden_lines : (ls : Labels) (c : ℕ) (p : Policy) (e : Event) (label : ℕ) → below ls label c ≡ false
+    → (texts : List (List ℕ)) → out ls c (map (line p e label) texts) ≡ []
 hidden_lines ls c p e label h [] = refl
 hidden_lines ls c p e label h (text ∷ texts) =
-    ap (λ b. cond b (line p e label text ∷ out ls c (map (line p e label) texts)) (out ls c (map (line p e label) texts))) h ∙ hidden_lines ls c p e label h texts
+    ap (λ b. cond b (line p e label text ∷ out ls c (map (line p e label) texts))
+    (out ls c (map (line p e label) texts))) h ∙ hidden_lines ls c p e label h texts
 
-hidden_reply : (site : Site) (c : ℕ) (e : Event) (r : Reply) → below (site_labels site) e.level c ≡ false → out (site_labels site) c (item_lines site.policy e r) ≡ [] → out (site_labels site) c (reply_lines site e r) ≡ []
+hidden_reply : (site : Site) (c : ℕ) (e : Event) (r : Reply) → below (site_labels site) e.level c ≡ false
+    → out (site_labels site) c (item_lines site.policy e r) ≡ [] → out (site_labels site) c (reply_lines site e r) ≡ []
 hidden_reply site c e r h items =
-    filter-append (λ l. below (site_labels site) l.label c) (map (line site.policy e e.level) (reply_texts site e.session e.command r)) (item_lines site.policy e r)
-    ∙ (λ i. hidden_lines (site_labels site) c site.policy e e.level h (reply_texts site e.session e.command r) i ++ items i)
+    filter-append (λ l. below (site_labels site) l.label c) (map (line site.policy e e.level)
+    (reply_texts site e.session e.command r)) (item_lines site.policy e r)
+    ∙ (λ i. hidden_lines (site_labels site) c site.policy e e.level h (reply_texts site e.session e.command r) i
+    ++ items i)
 
 -- ---- steps
 
@@ -52,12 +57,14 @@ pub record Silent (site : Site) (c : ℕ) (w : World) (e : Event) (s : Step) : T
   pub lines : out (site_labels site) c (reply_lines site e s.reply) ≡ []
   pub released : seen_items (site_labels site) c (released_in s.reply) ≡ []
 
-module _ (site : Site) (distinct : AreDistinct (site_labels site)) (c : ℕ) (w : World) (stored : AreStored site w.db) (e : Event) (h : below (site_labels site) e.level c ≡ false) where
+module _ (site : Site) (distinct : AreDistinct (site_labels site)) (c : ℕ) (w : World) (stored : AreStored site w.db)
+    (e : Event) (h : below (site_labels site) e.level c ≡ false) where
   abbrev Unseen : Step → Type 0
   Unseen s = Silent site c w e s
 
   -- a reply without items
-  without_items : (s : Step) → LowAgree (site_labels site) c w s.world → item_lines site.policy e s.reply ≡ [] → released_in s.reply ≡ [] → Unseen s
+  without_items : (s : Step) → LowAgree (site_labels site) c w s.world → item_lines site.policy e s.reply ≡ []
+      → released_in s.reply ≡ [] → Unseen s
   without_items s world items released = record {
     world = world;
     lines = hidden_reply site c e s.reply h (ap (out (site_labels site) c) items);
@@ -67,7 +74,8 @@ module _ (site : Site) (distinct : AreDistinct (site_labels site)) (c : ℕ) (w 
   same : (r : Reply) → item_lines site.policy e r ≡ [] → released_in r ≡ [] → Unseen (record { world = w; reply = r })
   same r = without_items (record { world = w; reply = r }) (lows_same (site_labels site) c w)
 
-  other_session : (user : Option ℕ) (l : ℕ) (n : Name) → below (site_labels site) l c ≡ true → w.sessions l n ≡ (in_session w e user).sessions l n
+  other_session : (user : Option ℕ) (l : ℕ) (n : Name) → below (site_labels site) l c ≡ true → w.sessions l n
+      ≡ (in_session w e user).sessions l n
   other_session user l n k =
       sym (ap (λ b. cond b user (w.sessions l n)) (and_left (nat_eq l e.level) (bytes_eq n e.session)
       (ne_eqb l e.level (λ q. true≢false (sym k ∙ ap (λ m. below (site_labels site) m c) q ∙ h)))))
@@ -82,49 +90,67 @@ module _ (site : Site) (distinct : AreDistinct (site_labels site)) (c : ℕ) (w 
       without_items (denied site w e user denial) (record {
         tables = λ r. refl;
         sessions = λ l n k. refl;
-        entries = sym (filter-append (λ x. below ls (label_of x) c) w.audit (entry ∷ []) ∙ ap (λ b. visible ls c w.audit ++ cond b (entry ∷ []) []) h ∙ append-nil (visible ls c w.audit));
+        entries = sym (filter-append (λ x. below ls (label_of x) c) w.audit (entry ∷ []) ∙ ap (λ b. visible ls c w.audit
+            ++ cond b (entry ∷ []) []) h ∙ append-nil (visible ls c w.audit));
       }) refl refl
 
-  hidden_unless : (denial : Option Denial) (user : ℕ) (effect : Step) → (denial ≡ None → Unseen effect) → Unseen (unless site denial w e user effect)
+  hidden_unless : (denial : Option Denial) (user : ℕ) (effect : Step) → (denial ≡ None → Unseen effect)
+      → Unseen (unless site denial w e user effect)
   hidden_unless None user effect k = k refl
   hidden_unless (Some denial) user effect k = hidden_denied user denial
 
-  written_low : (relation : ℕ) (wr : Write) (r : ℕ) → low (site_labels site) c (w.db r) ≡ low (site_labels site) c ((wrote site w e.level relation wr).world.db r)
+  written_low : (relation : ℕ) (wr : Write) (r : ℕ) → low (site_labels site) c (w.db r) ≡ low (site_labels site) c
+      ((wrote site w e.level relation wr).world.db r)
   written_low relation wr r = by_test (nat_eq r relation) refl
     where
       by_test : (b : Bool) → nat_eq r relation ≡ b
-          → low (site_labels site) c (w.db r) ≡ low (site_labels site) c (cond b (write (site_labels site) (site_scheme site relation) e.level wr (w.db relation)).table (w.db r))
-      by_test true q = ap (λ x. low (site_labels site) c (w.db x)) (eqb-true r relation q) ∙ sym (high_leave_low (site_labels site) (site_scheme site relation) _ c e.level (w.db relation) (stored relation) wr h)
+          → low (site_labels site) c (w.db r) ≡ low (site_labels site) c
+          (cond b (write (site_labels site) (site_scheme site relation) e.level wr (w.db relation)).table (w.db r))
+      by_test true q = ap (λ x. low (site_labels site) c (w.db x)) (eqb-true r relation q)
+          ∙ sym (high_leave_low (site_labels site) (site_scheme site relation) _ c e.level (w.db relation)
+          (stored relation) wr h)
       by_test false q = refl
 
-  hidden_write : (denial : Option Denial) (user relation : ℕ) (wr : Write) → Unseen (unless site denial w e user (wrote site w e.level relation wr))
+  hidden_write : (denial : Option Denial) (user relation : ℕ) (wr : Write)
+      → Unseen (unless site denial w e user (wrote site w e.level relation wr))
   hidden_write denial user relation wr =
       hidden_unless denial user (wrote site w e.level relation wr)
-      (λ none. without_items (wrote site w e.level relation wr) (record { tables = written_low relation wr; sessions = λ l n k. refl; entries = refl }) refl refl)
+      (λ none. without_items (wrote site w e.level relation wr) (record {
+        tables = written_low relation wr;
+        sessions =
+            λ l n k. refl;
+        entries = refl;
+      }) refl refl)
 
   -- ---- calls
 
   -- a transaction is called at its lowest label, and shows nothing to what does not dominate that
-  hidden_called : (user : ℕ) (name : Name) (tx : Tx) (args : List (Option Value)) → IsSafe site tx → tx.lo ≡ e.level → Unseen (called site w e user name tx args)
+  hidden_called : (user : ℕ) (name : Name) (tx : Tx) (args : List (Option Value)) → IsSafe site tx → tx.lo ≡ e.level
+      → Unseen (called site w e user name tx args)
   hidden_called user name tx args safe lo =
       let ls = site_labels site in
       let end = run_tx ls site.schemes tx (fitted tx.params args) w.db in
-      let quiet = safe.secure.one_run c site.schemes w.db (fitted tx.params args) safe.read stored (ap (λ l. below ls l c) lo ∙ h) in
+      let quiet = safe.secure.one_run c site.schemes w.db (fitted tx.params args) safe.read stored
+      (ap (λ l. below ls l c) lo ∙ h) in
       let kept = keep_form site.policy distinct site.schemes tx safe.read (fitted tx.params args) w.db stored in
       record {
         world = record {
           tables = λ r. sym (low_from_views ls distinct _ _ (end.db r) (w.db r) (kept r) (stored r) c (quiet.views r));
           sessions = λ l n k. refl;
-          entries = sym (filter-append (λ x. below ls (label_of x) c) w.audit (call_entries site e user name end.released)
-              ∙ ap (λ xs. visible ls c w.audit ++ xs) (entries_seen ls c site e user name end.released ∙ (λ i. entries_of site e user name (h i) (quiet.released i)))
+          entries = sym (filter-append (λ x. below ls (label_of x) c) w.audit
+              (call_entries site e user name end.released)
+              ∙ ap (λ xs. visible ls c w.audit ++ xs) (entries_seen ls c site e user name end.released
+              ∙ (λ i. entries_of site e user name (h i) (quiet.released i)))
               ∙ append-nil (visible ls c w.audit));
         };
         lines = hidden_reply site c e (called site w e user name tx args).reply h
-            (lines_seen ls c site.policy e end.emitted end.released ∙ (λ i. lines_of site.policy e (quiet.emitted i) (quiet.released i)));
+            (lines_seen ls c site.policy e end.emitted end.released ∙ (λ i. lines_of site.policy e (quiet.emitted i)
+            (quiet.released i)));
         released = quiet.released;
       }
 
-  hidden_call : (user : ℕ) (name : Name) (args : List (Option Value)) (o : Option Stored) → IfSome (certified_of o) (IsSafe site) → Unseen (call_step site w e user name args o)
+  hidden_call : (user : ℕ) (name : Name) (args : List (Option Value)) (o : Option Stored)
+      → IfSome (certified_of o) (IsSafe site) → Unseen (call_step site w e user name args o)
   hidden_call user name args None safe = hidden_denied user _
   hidden_call user name args (Some (Plain tx)) safe = hidden_denied user _
   hidden_call user name args (Some (Certified k)) safe =
@@ -133,12 +159,15 @@ module _ (site : Site) (distinct : AreDistinct (site_labels site)) (c : ℕ) (w 
 
   -- ---- commands
 
-  hidden_inside : (command : Command) (user : ℕ) → WhereCalled site (IsSafe site) command → Unseen (step_inside site w e command user)
+  hidden_inside : (command : Command) (user : ℕ) → WhereCalled site (IsSafe site) command
+      → Unseen (step_inside site w e command user)
   hidden_inside (commands.Open name) user safe = hidden_denied user AlreadyOpen
   hidden_inside commands.Close user safe = without_items _ (hidden_session None) refl refl
   hidden_inside commands.Audit user safe = same _ refl refl
-  hidden_inside (commands.View relation label query counts) user safe = hidden_unless _ user (viewed site w relation label query) (λ none. same _ refl refl)
-  hidden_inside (commands.Dump relation) user safe = hidden_unless _ user (dumped site w relation e.level) (λ none. same _ refl refl)
+  hidden_inside (commands.View relation label query counts) user safe = hidden_unless _ user
+      (viewed site w relation label query) (λ none. same _ refl refl)
+  hidden_inside (commands.Dump relation) user safe = hidden_unless _ user (dumped site w relation e.level)
+      (λ none. same _ refl refl)
   hidden_inside (commands.Write relation wr) user safe = hidden_write _ user relation wr
   hidden_inside (commands.Call name args) user safe = hidden_call user name args (stored_named site.stored name) safe
 
@@ -150,7 +179,8 @@ module _ (site : Site) (distinct : AreDistinct (site_labels site)) (c : ℕ) (w 
   hidden_outside (commands.Open name) = hidden_open (cleared site e.level (user_named site.policy name))
   hidden_outside _ = same _ refl refl
 
-  hidden_at : (session : Option ℕ) → WhereCalled site (IsSafe site) e.command → Unseen (step_at site w e e.command session)
+  hidden_at : (session : Option ℕ) → WhereCalled site (IsSafe site) e.command
+      → Unseen (step_at site w e e.command session)
   hidden_at (Some user) safe = hidden_inside e.command user safe
   hidden_at None safe = hidden_outside e.command
 

@@ -28,7 +28,8 @@ turned_alike ls c v w h = record { views = h.views; sessions = h.sessions; entri
 
 pub turned_lines : TurningsShowTheSame
 turned_lines p ls c v w h =
-    filter-map (λ l. below ls l.label c) (turn_line p) v.audit ∙ ap (map (turn_line p)) h.entries ∙ sym (filter-map (λ l. below ls l.label c) (turn_line p) w.audit)
+    filter-map (λ l. below ls l.label c) (turn_line p) v.audit ∙ ap (map (turn_line p)) h.entries
+    ∙ sym (filter-map (λ l. below ls l.label c) (turn_line p) w.audit)
 
 -- the list is turned in both worlds, or in neither
 module _ (ls : Labels) (c : ℕ) (v w : World) (h : AgreeAt ls c v w) where
@@ -36,15 +37,18 @@ module _ (ls : Labels) (c : ℕ) (v w : World) (h : AgreeAt ls c v w) where
   both_turned true = turned_alike ls c v w h
   both_turned false = h
 
-  both_lines : (p : Policy) (b : Bool) → out ls c (cond b (turn_lines p v.audit) []) ≡ out ls c (cond b (turn_lines p w.audit) [])
+  both_lines : (p : Policy) (b : Bool) → out ls c (cond b (turn_lines p v.audit) [])
+      ≡ out ls c (cond b (turn_lines p w.audit) [])
   both_lines p true = turned_lines p ls c v w h
   both_lines p false = refl
 
   starts_alike : (r s : RunAt) → LookAlike c r s → AgreeAt ls c (run_start v r) (run_start w s)
-  starts_alike r s look = subst (λ b. AgreeAt ls c (run_start v r) (cond b (turned w) w)) look.turns (both_turned r.turns)
+  starts_alike r s look = subst (λ b. AgreeAt ls c (run_start v r) (cond b (turned w) w)) look.turns
+      (both_turned r.turns)
 
   turnings_alike : (r s : RunAt) → LookAlike c r s → out ls c (turning_lines v r) ≡ out ls c (turning_lines w s)
-  turnings_alike r s look = both_lines r.site.policy r.turns ∙ (λ i. out ls c (cond (look.turns i) (turn_lines (look.site i).policy w.audit) []))
+  turnings_alike r s look = both_lines r.site.policy r.turns
+      ∙ (λ i. out ls c (cond (look.turns i) (turn_lines (look.site i).policy w.audit) []))
 
 -- a turning leaves the database
 start_stored : (P : Database → Type 0) (w : World) (b : Bool) → P w.db → P (cond b (turned w) w).db
@@ -88,13 +92,17 @@ module _ (ls : Labels) (schemes : Schemes) (distinct : AreDistinct ls) where
     distinct_at = subst AreDistinct (sym under.labels) distinct
 
     stored_at : (db : Database) → secure.AreStored ls schemes db → AreStored site db
-    stored_at db h = subst (λ l. secure.AreStored l site.schemes db) (sym under.labels) (subst (λ s. secure.AreStored ls s db) (sym under.relations) h)
+    stored_at db h = subst (λ l. secure.AreStored l site.schemes db) (sym under.labels)
+        (subst (λ s. secure.AreStored ls s db) (sym under.relations) h)
 
     stored_back : (db : Database) → AreStored site db → secure.AreStored ls schemes db
-    stored_back db h = subst (λ s. secure.AreStored ls s db) under.relations (subst (λ l. secure.AreStored l site.schemes db) under.labels h)
+    stored_back db h = subst (λ s. secure.AreStored ls s db) under.relations
+        (subst (λ l. secure.AreStored l site.schemes db) under.labels h)
 
-    stored_end : (w : World) (es : List Event) → EventsFit site es → secure.AreStored ls schemes w.db → secure.AreStored ls schemes (end_of site w es).db
-    stored_end w es fits h = stored_back _ (run_stored site distinct_at w es (stored_at w.db h) fits (all_calls_read site distinct_at under.read es))
+    stored_end : (w : World) (es : List Event) → EventsFit site es → secure.AreStored ls schemes w.db
+        → secure.AreStored ls schemes (end_of site w es).db
+    stored_end w es fits h = stored_back _ (run_stored site distinct_at w es (stored_at w.db h) fits
+        (all_calls_read site distinct_at under.read es))
 
   start_at : (w : World) (r : RunAt) → secure.AreStored ls schemes w.db → secure.AreStored ls schemes (run_start w r).db
   start_at w r h = start_stored (secure.AreStored ls schemes) w r.turns h
@@ -102,21 +110,26 @@ module _ (ls : Labels) (schemes : Schemes) (distinct : AreDistinct ls) where
   -- ---- two runs
 
   record RunsEnd (c : ℕ) (v w : World) (r s : RunAt) : Type 0 where
-    pub lines : (form : Form) → out ls c (turning_lines v r ++ run_lines form r.site (run_start v r) r.events) ≡ out ls c (turning_lines w s ++ run_lines form s.site (run_start w s) s.events)
+    pub lines : (form : Form) → out ls c (turning_lines v r ++ run_lines form r.site (run_start v r) r.events)
+        ≡ out ls c (turning_lines w s ++ run_lines form s.site (run_start w s) s.events)
     pub replies : replies_shown r.site c (run_start v r) r.events ≡ replies_shown s.site c (run_start w s) s.events
     pub world : AgreeAt ls c (run_end v r) (run_end w s)
 
-  runs_end : (Other : List Event → Type 0) (c : ℕ) (r s : RunAt) (v w : World) → IsSiteUnder ls schemes r.site → LookAlike c r s → Passes Other (run_start v r) r
+  runs_end : (Other : List Event → Type 0) (c : ℕ) (r s : RunAt) (v w : World) → IsSiteUnder ls schemes r.site
+      → LookAlike c r s → Passes Other (run_start v r) r
       → secure.AreStored ls schemes w.db → EventsFit s.site s.events → Other s.events → AgreeAt ls c v w
       → ReleaseSame r.site c (run_start v r) r.events s.site (run_start w s) s.events → RunsEnd c v w r s
   runs_end Other c r s v w under look passes sw fits other agree released =
       let x = run_start v r in let y = run_start w s in
-      let end = passes c y s.events (stored_at r.site under y.db (start_at w s sw)) (subst (λ at. EventsFit at s.events) (sym look.site) fits) other
+      let end = passes c y s.events (stored_at r.site under y.db (start_at w s sw)) (subst (λ at. EventsFit at s.events)
+      (sym look.site) fits) other
       (subst (λ l. AgreeAt l c x y) (sym under.labels) (starts_alike ls c v w agree r s look))
       look.events
       (subst (λ at. ReleaseSame r.site c x r.events at y s.events) (sym look.site) released) in
-      let ran : (form : Form) → out ls c (run_lines form r.site x r.events) ≡ out ls c (run_lines form s.site y s.events)
-      = λ form. ap (λ l. out l c (run_lines form r.site x r.events)) (sym under.labels) ∙ end.out form ∙ (λ i. out (under.labels i) c (run_lines form (look.site i) y s.events)) in
+      let ran : (form : Form) → out ls c (run_lines form r.site x r.events)
+      ≡ out ls c (run_lines form s.site y s.events)
+      = λ form. ap (λ l. out l c (run_lines form r.site x r.events)) (sym under.labels) ∙ end.out form
+      ∙ (λ i. out (under.labels i) c (run_lines form (look.site i) y s.events)) in
       record {
         lines = λ form. filter-append (λ l. below ls l.label c) (turning_lines v r) (run_lines form r.site x r.events)
             ∙ (λ i. turnings_alike ls c v w agree r s look i ++ ran form i)
@@ -129,58 +142,89 @@ module _ (ls : Labels) (schemes : Schemes) (distinct : AreDistinct ls) where
 
   -- ---- run by run
 
-  alike : (Other : List Event → Type 0) (c : ℕ) (rs ss : List RunAt) (v w : World) → IsHistoryUnder ls schemes rs → EachPasses Other v rs
+  alike : (Other : List Event → Type 0) (c : ℕ) (rs ss : List RunAt) (v w : World) → IsHistoryUnder ls schemes rs
+      → EachPasses Other v rs
       → secure.AreStored ls schemes w.db → HistoryFits ss → AllByRecursion (λ s. Other s.events) ss
       → AgreeAt ls c v w → AllZip (LookAlike c) rs ss → ReleaseAlike c v w rs ss → HistoriesEndAlike ls c v w rs ss
   unfolding history_end history_lines history_replies
-  alike Other c [] [] v w under passes sw fits other agree look released = record { lines = λ form. refl; replies = refl; worlds = agree }
+  alike Other c [] [] v w under passes sw fits other agree look released = record {
+    lines = λ form. refl;
+    replies =
+        refl;
+    worlds = agree;
+  }
   alike Other c [] (s ∷ ss) v w under passes sw fits other agree look released = absurd look
   alike Other c (r ∷ rs) [] v w under passes sw fits other agree look released = absurd look
   alike Other c (r ∷ rs) (s ∷ ss) v w under passes sw fits other agree look released =
       let end = runs_end Other c r s v w under.0 look.0 passes.0 sw fits.0 other.0 agree released.0 in
-      let left = stored_end s.site (subst (IsSiteUnder ls schemes) look.0.site under.0) (run_start w s) s.events fits.0 (start_at w s sw) in
-      let rest = alike Other c rs ss (run_end v r) (run_end w s) under.1 passes.1 left fits.1 other.1 end.world look.1 released.1 in
-      record { lines = λ form. λ i. end.lines form i ∷ rest.lines form i; replies = λ i. end.replies i ∷ rest.replies i; worlds = rest.worlds }
+      let left = stored_end s.site (subst (IsSiteUnder ls schemes) look.0.site under.0) (run_start w s) s.events fits.0
+      (start_at w s sw) in
+      let rest = alike Other c rs ss (run_end v r)
+      (run_end w s) under.1 passes.1 left fits.1 other.1 end.world look.1 released.1 in
+      record {
+        lines = λ form. λ i. end.lines form i ∷ rest.lines form i;
+        replies = λ i. end.replies i ∷ rest.replies i;
+        worlds = rest.worlds;
+      }
 
   -- ---- what is known of each run
 
-  secure_pass : (v : World) (rs : List RunAt) → secure.AreStored ls schemes v.db → IsHistoryUnder ls schemes rs → HistoryFits rs → AllByRecursion (λ r. AreSecure r.site) rs → EachPasses Any v rs
+  secure_pass : (v : World) (rs : List RunAt) → secure.AreStored ls schemes v.db → IsHistoryUnder ls schemes rs
+      → HistoryFits rs → AllByRecursion (λ r. AreSecure r.site) rs → EachPasses Any v rs
   secure_pass v [] sv under fits safe = tt
   secure_pass v (r ∷ rs) sv under fits safe = (
     (λ c w fs sw ff other agree same released.
-        secure_alike r.site (distinct_at r.site under.0) under.0.read safe.0 (run_start v r) r.events (stored_at r.site under.0 (run_start v r).db (start_at v r sv)) fits.0 c w fs sw ff agree same released),
-    secure_pass (run_end v r) rs (stored_end r.site under.0 (run_start v r) r.events fits.0 (start_at v r sv)) under.1 fits.1 safe.1,
+        secure_alike r.site (distinct_at r.site under.0) under.0.read safe.0 (run_start v r) r.events
+        (stored_at r.site under.0 (run_start v r).db (start_at v r sv)) fits.0 c w fs sw ff agree same released),
+    secure_pass (run_end v r) rs (stored_end r.site under.0 (run_start v r) r.events fits.0
+        (start_at v r sv)) under.1 fits.1 safe.1,
   )
 
-  plain_pass : (v : World) (rs : List RunAt) → secure.AreStored ls schemes v.db → IsHistoryUnder ls schemes rs → HistoryFits rs → HistoryHasNoCall rs → EachPasses HaveNoCall v rs
+  plain_pass : (v : World) (rs : List RunAt) → secure.AreStored ls schemes v.db → IsHistoryUnder ls schemes rs
+      → HistoryFits rs → HistoryHasNoCall rs → EachPasses HaveNoCall v rs
   plain_pass v [] sv under fits plain = tt
   plain_pass v (r ∷ rs) sv under fits plain = (
     (λ c w fs sw ff other agree same released.
-        runs_alike r.site (distinct_at r.site under.0) (run_start v r) r.events (stored_at r.site under.0 (run_start v r).db (start_at v r sv)) fits.0 (none_secure r.site r.events plain.0) c w fs sw ff
+        runs_alike r.site (distinct_at r.site under.0) (run_start v r) r.events (stored_at r.site under.0
+        (run_start v r).db (start_at v r sv)) fits.0 (none_secure r.site r.events plain.0) c w fs sw ff
         (none_secure r.site fs other) (none_seen r.site c r.events plain.0) agree same),
-    plain_pass (run_end v r) rs (stored_end r.site under.0 (run_start v r) r.events fits.0 (start_at v r sv)) under.1 fits.1 plain.1,
+    plain_pass (run_end v r) rs (stored_end r.site under.0 (run_start v r) r.events fits.0
+        (start_at v r sv)) under.1 fits.1 plain.1,
   )
 
   any_pass : (v : World) (rs : List RunAt) → EachPassesOnlyReleasesDown v rs → EachPasses Any v rs
   any_pass v [] passes = tt
-  any_pass v (r ∷ rs) passes = ((λ c w fs sw ff other agree same released. passes.0 c w fs sw ff agree same released), any_pass (run_end v r) rs passes.1)
+  any_pass v (r ∷ rs) passes = (
+    (λ c w fs sw ff other agree same released. passes.0 c w fs sw ff agree same released),
+    any_pass (run_end v r) rs passes.1,
+  )
 
-  all_secure : (rs : List RunAt) → IsHistoryUnder ls schemes rs → AllByRecursion (λ r. AreCertified r.site) rs → AllByRecursion (λ r. AreSecure r.site) rs
+  all_secure : (rs : List RunAt) → IsHistoryUnder ls schemes rs → AllByRecursion (λ r. AreCertified r.site) rs
+      → AllByRecursion (λ r. AreSecure r.site) rs
   all_secure [] under certified = tt
-  all_secure (r ∷ rs) under certified = (certified_secure r.site (distinct_at r.site under.0) certified.0, all_secure rs under.1 certified.1)
+  all_secure (r ∷ rs) under certified = (
+    certified_secure r.site (distinct_at r.site under.0) certified.0,
+    all_secure rs under.1 certified.1,
+  )
 
-  integrity : (v : World) (rs : List RunAt) → secure.AreStored ls schemes v.db → IsHistoryUnder ls schemes rs → HistoryFits rs → KeepsIntegrityInHistory v rs
+  integrity : (v : World) (rs : List RunAt) → secure.AreStored ls schemes v.db → IsHistoryUnder ls schemes rs
+      → HistoryFits rs → KeepsIntegrityInHistory v rs
   integrity v [] sv under fits = tt
   integrity v (r ∷ rs) sv under fits = (
-    keep_integrity r.site (distinct_at r.site under.0) under.0.read (run_start v r) r.events (stored_at r.site under.0 (run_start v r).db (start_at v r sv)) fits.0,
-    integrity (run_end v r) rs (stored_end r.site under.0 (run_start v r) r.events fits.0 (start_at v r sv)) under.1 fits.1,
+    keep_integrity r.site (distinct_at r.site under.0) under.0.read (run_start v r) r.events (stored_at r.site under.0
+        (run_start v r).db (start_at v r sv)) fits.0,
+    integrity (run_end v r) rs (stored_end r.site under.0 (run_start v r) r.events fits.0
+        (start_at v r sv)) under.1 fits.1,
   )
 
 -- no call reads anything
 plain_release : (c : ℕ) (v w : World) (rs ss : List RunAt) → HistoryHasNoCall rs → ReleaseAlike c v w rs ss
 plain_release c v w [] ss plain = tt
 plain_release c v w (r ∷ rs) [] plain = tt
-plain_release c v w (r ∷ rs) (s ∷ ss) plain = (inr (unseen_ceilings r.site c (seen r.site c r.events) (none_seen r.site c r.events plain.0)), plain_release c (run_end v r) (run_end w s) rs ss plain.1)
+plain_release c v w (r ∷ rs) (s ∷ ss) plain = (
+  inr (unseen_ceilings r.site c (seen r.site c r.events) (none_seen r.site c r.events plain.0)),
+  plain_release c (run_end v r) (run_end w s) rs ss plain.1,
+)
 
 -- ---- the laws
 
@@ -189,19 +233,25 @@ histories_keep ls schemes distinct v rs sv under fits = integrity ls schemes dis
 
 pub low_histories : LowHistoriesAreAlike
 low_histories ls schemes distinct v rs sv under fits plain c w ss sw other_fits other agree look =
-    alike ls schemes distinct HaveNoCall c rs ss v w under (plain_pass ls schemes distinct v rs sv under fits plain) sw other_fits other agree look (plain_release c v w rs ss plain)
+    alike ls schemes distinct HaveNoCall c rs ss v w under
+    (plain_pass ls schemes distinct v rs sv under fits plain) sw other_fits other agree look
+    (plain_release c v w rs ss plain)
 
 pub secure_histories : SecureHistoriesAreAlike
 secure_histories ls schemes distinct v rs sv under fits safe c w ss sw other_fits agree look released =
-    alike ls schemes distinct Any c rs ss v w under (secure_pass ls schemes distinct v rs sv under fits safe) sw other_fits (any_other ss) agree look released
+    alike ls schemes distinct Any c rs ss v w under
+    (secure_pass ls schemes distinct v rs sv under fits safe) sw other_fits (any_other ss) agree look released
 
 pub accepted_histories : AcceptedHistoriesAreAlike
-accepted_histories ls schemes distinct v rs sv under fits certified = secure_histories ls schemes distinct v rs sv under fits (all_secure ls schemes distinct rs under certified)
+accepted_histories ls schemes distinct v rs sv under fits certified =
+    secure_histories ls schemes distinct v rs sv under fits (all_secure ls schemes distinct rs under certified)
 
 pub histories_pass : HistoriesPassWhatRunsPass
 histories_pass ls schemes distinct v rs under passes c w ss sw other_fits agree look released =
-    alike ls schemes distinct Any c rs ss v w under (any_pass ls schemes distinct v rs passes) sw other_fits (any_other ss) agree look released
+    alike ls schemes distinct Any c rs ss v w under (any_pass ls schemes distinct v rs passes) sw other_fits
+    (any_other ss) agree look released
 
 pub histories_show : HistoriesShowOnlyReleases
 histories_show ls schemes v rs passes c form w ss sw fits agree look released =
-    sym (map-map printed (out ls c) (history_lines form v rs)) ∙ ap (map printed) ((passes c w ss sw fits agree look released).lines form) ∙ map-map printed (out ls c) (history_lines form w ss)
+    sym (map-map printed (out ls c) (history_lines form v rs)) ∙ ap (map printed)
+    ((passes c w ss sw fits agree look released).lines form) ∙ map-map printed (out ls c) (history_lines form w ss)

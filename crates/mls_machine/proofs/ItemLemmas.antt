@@ -17,31 +17,40 @@ use Rattle.mls_machine.specs.Observation.{out}
 use Rattle.mls_lattice.specs.Canon.{user_name}
 
 -- a filter of a map
-pub filter-map : {A B : Type 0} (p : B → Bool) (f : A → B) (xs : List A) → filter p (map f xs) ≡ map f (filter (λ x. p (f x)) xs)
+pub filter-map : {A B : Type 0} (p : B → Bool) (f : A → B) (xs : List A) → filter p (map f xs)
+    ≡ map f (filter (λ x. p (f x)) xs)
 filter-map p f [] = refl
 filter-map p f (x ∷ xs) =
-    elim (p (f x)) as (λ b. cond b (f x ∷ filter p (map f xs)) (filter p (map f xs)) ≡ map f (cond b (x ∷ filter (λ x. p (f x)) xs) (filter (λ x. p (f x)) xs))) [
+    elim (p (f x)) as (λ b. cond b (f x ∷ filter p (map f xs)) (filter p (map f xs))
+    ≡ map f (cond b (x ∷ filter (λ x. p (f x)) xs) (filter (λ x. p (f x)) xs))) [
       | true ↦ ap (λ ys. f x ∷ ys) (filter-map p f xs)
       | false ↦ filter-map p f xs
     ]
 
 -- the lines of items, emitted and released
 abbrev pub lines_of : Policy → Event → List Item → List Item → List Line
-lines_of p e emitted released = map (item_line p e (codes "emit ")) emitted ++ map (item_line p e (codes "release ")) released
+lines_of p e emitted released = map (item_line p e (codes "emit ")) emitted
+    ++ map (item_line p e (codes "release ")) released
 
 -- the entry of a call where its level is seen, and those of releases
 abbrev pub entries_of : Site → Event → ℕ → Name → Bool → List Item → List Entry
 entries_of site e user name b released =
-    cond b (entries.Called e.level (user_name site.policy.users user) e.session name ∷ map (release_entry site e user) released) (map (release_entry site e user) released)
+    cond b (entries.Called e.level (user_name site.policy.users user) e.session name
+    ∷ map (release_entry site e user) released) (map (release_entry site e user) released)
 
 module _ (ls : Labels) (c : ℕ) where
   pub lines_seen : (p : Policy) (e : Event) (emitted released : List Item)
-      → out ls c (item_lines p e (Ran (record { emitted = emitted; released = released }))) ≡ lines_of p e (seen_items ls c emitted) (seen_items ls c released)
+      → out ls c (item_lines p e (Ran (record { emitted = emitted; released = released })))
+      ≡ lines_of p e (seen_items ls c emitted) (seen_items ls c released)
   lines_seen p e emitted released =
-      filter-append (λ l. below ls l.label c) (map (item_line p e (codes "emit ")) emitted) (map (item_line p e (codes "release ")) released)
-      ∙ (λ i. filter-map (λ l. below ls l.label c) (item_line p e (codes "emit ")) emitted i ++ filter-map (λ l. below ls l.label c) (item_line p e (codes "release ")) released i)
+      filter-append (λ l. below ls l.label c) (map (item_line p e (codes "emit ")) emitted)
+      (map (item_line p e (codes "release ")) released)
+      ∙ (λ i. filter-map (λ l. below ls l.label c) (item_line p e (codes "emit ")) emitted i ++ filter-map
+      (λ l. below ls l.label c) (item_line p e (codes "release ")) released i)
 
   pub entries_seen : (site : Site) (e : Event) (user : ℕ) (name : Name) (released : List Item)
-      → visible ls c (call_entries site e user name released) ≡ entries_of site e user name (below ls e.level c) (seen_items ls c released)
+      → visible ls c (call_entries site e user name released) ≡ entries_of site e user name (below ls e.level c)
+      (seen_items ls c released)
   entries_seen site e user name released =
-      ap (λ xs. cond (below ls e.level c) (entries.Called e.level (user_name site.policy.users user) e.session name ∷ xs) xs) (filter-map (λ x. below ls (label_of x) c) (release_entry site e user) released)
+      ap (λ xs. cond (below ls e.level c) (entries.Called e.level (user_name site.policy.users user) e.session name
+      ∷ xs) xs) (filter-map (λ x. below ls (label_of x) c) (release_entry site e user) released)

@@ -41,22 +41,29 @@ pub record Fitting (site : Site) (level relation : ℕ) (wr : Write) : Type 0 wh
 -- ---- what each write and each call keeps of each relation
 
 pub record Kept (site : Site) (P : ℕ → Table → Type 0) : Type 0 where
-  pub by_write : (relation level : ℕ) (wr : Write) (T : Table) → Fitting site level relation wr → P relation T → P relation (write (site_labels site) (site_scheme site relation) level wr T).table
-  pub by_call : (tx : Tx) (args : List (Option Value)) (db : Database) → IsReadUnder site.policy site.schemes tx → length args ≡ length tx.params → ((relation : ℕ) → P relation (db relation))
+  pub by_write : (relation level : ℕ) (wr : Write) (T : Table) → Fitting site level relation wr → P relation T
+      → P relation (write (site_labels site) (site_scheme site relation) level wr T).table
+  pub by_call : (tx : Tx) (args : List (Option Value)) (db : Database) → IsReadUnder site.policy site.schemes tx
+      → length args ≡ length tx.params → ((relation : ℕ) → P relation (db relation))
       → (relation : ℕ) → P relation ((run_tx (site_labels site) site.schemes tx (fitted tx.params args) db).db relation)
 
 module _ (site : Site) (P : ℕ → Table → Type 0) (keeps : Kept site P) where
   abbrev Holds : World → Type 0
   Holds w = (relation : ℕ) → P relation (w.db relation)
 
-  wrote_holds : (w : World) (level relation : ℕ) (wr : Write) → Fitting site level relation wr → Holds w → Holds (wrote site w level relation wr).world
+  wrote_holds : (w : World) (level relation : ℕ) (wr : Write) → Fitting site level relation wr → Holds w
+      → Holds (wrote site w level relation wr).world
   wrote_holds w level relation wr fits all r = by_test (nat_eq r relation) refl
     where
-      by_test : (b : Bool) → nat_eq r relation ≡ b → P r (cond b (write (site_labels site) (site_scheme site relation) level wr (w.db relation)).table (w.db r))
-      by_test true e = subst (λ q. P q (write (site_labels site) (site_scheme site relation) level wr (w.db relation)).table) (sym (eqb-true r relation e)) (keeps.by_write relation level wr (w.db relation) fits (all relation))
+      by_test : (b : Bool) → nat_eq r relation ≡ b
+          → P r (cond b (write (site_labels site) (site_scheme site relation) level wr (w.db relation)).table (w.db r))
+      by_test true e = subst (λ q. P q (write (site_labels site) (site_scheme site relation) level wr
+          (w.db relation)).table) (sym (eqb-true r relation e)) (keeps.by_write relation level wr (w.db relation) fits
+          (all relation))
       by_test false e = all r
 
-  unless_holds : (denial : Option Denial) (w : World) (e : Event) (user : ℕ) (effect : Step) → Holds w → (denial ≡ None → Holds effect.world) → Holds (unless site denial w e user effect).world
+  unless_holds : (denial : Option Denial) (w : World) (e : Event) (user : ℕ) (effect : Step) → Holds w
+      → (denial ≡ None → Holds effect.world) → Holds (unless site denial w e user effect).world
   unless_holds None w e user effect all new = new refl
   unless_holds (Some denial) w e user effect all new = all
 
@@ -64,26 +71,40 @@ module _ (site : Site) (P : ℕ → Table → Type 0) (keeps : Kept site P) wher
     level_fits : e.level < length (site_labels site)
     level_fits = subst (λ n. e.level < n) (sym (length-map site.policy.labels (λ l. l.value))) declared
 
-    fitting : (relation : ℕ) (wr : Write) → IsWriteOf site.policy (site_scheme site relation) wr → Fitting site e.level relation wr
-    fitting relation (Insert key values) fits = record { numbers = (level_fits, AllZip-long _ (site_scheme site relation).others values fits.1); kinds = fits }
-    fitting relation (Update key key_class from sets) fits = record { numbers = (level_fits, fits.3.some, fits.3.known); kinds = fits.3.kinds }
+    fitting : (relation : ℕ) (wr : Write) → IsWriteOf site.policy (site_scheme site relation) wr
+        → Fitting site e.level relation wr
+    fitting relation (Insert key values) fits =
+        record { numbers = (level_fits, AllZip-long _ (site_scheme site relation).others values fits.1); kinds = fits }
+    fitting relation (Update key key_class from sets) fits = record {
+      numbers = (level_fits, fits.3.some, fits.3.known);
+      kinds = fits.3.kinds;
+    }
     fitting relation (Delete key key_class) fits = record { numbers = tt; kinds = tt }
 
-    write_holds : (user relation : ℕ) (wr : Write) (denial : Option Denial) → Fitting site e.level relation wr → Holds (unless site denial w e user (wrote site w e.level relation wr)).world
-    write_holds user relation wr denial fits = unless_holds denial w e user (wrote site w e.level relation wr) all (λ none. wrote_holds w e.level relation wr fits all)
+    write_holds : (user relation : ℕ) (wr : Write) (denial : Option Denial) → Fitting site e.level relation wr
+        → Holds (unless site denial w e user (wrote site w e.level relation wr)).world
+    write_holds user relation wr denial fits = unless_holds denial w e user (wrote site w e.level relation wr) all
+        (λ none. wrote_holds w e.level relation wr fits all)
 
-    call_holds : (user : ℕ) (name : Name) (args : List (Option Value)) (o : Option Stored) → IfSome (certified_of o) (IsReadUnder site.policy site.schemes) → Holds (call_step site w e user name args o).world
+    call_holds : (user : ℕ) (name : Name) (args : List (Option Value)) (o : Option Stored)
+        → IfSome (certified_of o) (IsReadUnder site.policy site.schemes)
+        → Holds (call_step site w e user name args o).world
     call_holds user name args None read = all
     call_holds user name args (Some (Plain tx)) read = all
     call_holds user name args (Some (Certified k)) read =
-        unless_holds (first_denial (call_denials site e.level user k.tx args)) w e user (called site w e user name k.tx args) all
+        unless_holds (first_denial (call_denials site e.level user k.tx args)) w e user
+        (called site w e user name k.tx args) all
         (λ none. keeps.by_call k.tx args w.db read (may_run site e.level user k.tx args none).count all)
 
-    inside_holds : (command : Command) (user : ℕ) → CommandFits site.policy site.schemes command → CallsRead site command → Holds (step_inside site w e command user).world
-    inside_holds (commands.View relation label query counts) user fits read = unless_holds _ w e user _ all (λ none. all)
+    inside_holds : (command : Command) (user : ℕ) → CommandFits site.policy site.schemes command
+        → CallsRead site command → Holds (step_inside site w e command user).world
+    inside_holds (commands.View relation label query counts) user fits read = unless_holds _ w e user _ all
+        (λ none. all)
     inside_holds (commands.Dump relation) user fits read = unless_holds _ w e user _ all (λ none. all)
-    inside_holds (commands.Write relation wr) user fits read = write_holds user relation wr _ (fitting relation wr fits.1)
-    inside_holds (commands.Call name args) user fits read = call_holds user name args (stored_named site.stored name) read
+    inside_holds (commands.Write relation wr) user fits read = write_holds user relation wr _
+        (fitting relation wr fits.1)
+    inside_holds (commands.Call name args) user fits read = call_holds user name args
+        (stored_named site.stored name) read
     inside_holds _ user fits read = all
 
     opened_holds : (r : Result ℕ Denial) → Holds (open_step site w e r).world
@@ -94,18 +115,22 @@ module _ (site : Site) (P : ℕ → Table → Type 0) (keeps : Kept site P) wher
     outside_holds (commands.Open name) = opened_holds (cleared site e.level (user_named site.policy name))
     outside_holds _ = all
 
-    at_holds : (session : Option ℕ) → CommandFits site.policy site.schemes e.command → CallsRead site e.command → Holds (step_at site w e e.command session).world
+    at_holds : (session : Option ℕ) → CommandFits site.policy site.schemes e.command → CallsRead site e.command
+        → Holds (step_at site w e e.command session).world
     at_holds (Some user) fits read = inside_holds e.command user fits read
     at_holds None fits read = outside_holds e.command
 
-  pub step_holds : (w : World) (e : Event) → Holds w → EventFits site.policy site.schemes e → CallsRead site e.command → Holds (step site w e).world
+  pub step_holds : (w : World) (e : Event) → Holds w → EventFits site.policy site.schemes e → CallsRead site e.command
+      → Holds (step site w e).world
   unfolding step
   step_holds w e all fits read = at_holds w e all fits.level (w.sessions e.level e.session) fits.command read
 
-  pub run_holds : (w : World) (es : List Event) → Holds w → EventsFit site es → AllByRecursion (λ e. CallsRead site e.command) es → Holds (end_of site w es)
+  pub run_holds : (w : World) (es : List Event) → Holds w → EventsFit site es
+      → AllByRecursion (λ e. CallsRead site e.command) es → Holds (end_of site w es)
   unfolding end_of
   run_holds w [] all fits read = all
-  run_holds w (e ∷ es) all fits read = run_holds (step site w e).world es (step_holds w e all fits.0 read.0) fits.1 read.1
+  run_holds w (e ∷ es) all fits read = run_holds (step site w e).world es
+      (step_holds w e all fits.0 read.0) fits.1 read.1
 
 -- ---- the stored form
 
@@ -116,14 +141,18 @@ module _ (site : Site) (distinct : AreDistinct (site_labels site)) where
   form_kept : Kept site InForm
   form_kept = record {
     by_write = λ relation level wr T fits stored.
-        keep_form (site_labels site) distinct (site_scheme site relation) (length (site_scheme site relation).others) level T stored wr fits.numbers;
-    by_call = λ tx args db read count stored. call_form site.policy distinct site.schemes tx read (fitted tx.params args) db stored;
+        keep_form (site_labels site) distinct (site_scheme site relation)
+        (length (site_scheme site relation).others) level T stored wr fits.numbers;
+    by_call = λ tx args db read count stored. call_form site.policy distinct site.schemes tx read
+        (fitted tx.params args) db stored;
   }
 
-  pub step_stored : (w : World) (e : Event) → AreStored site w.db → EventFits site.policy site.schemes e → CallsRead site e.command → AreStored site (step site w e).world.db
+  pub step_stored : (w : World) (e : Event) → AreStored site w.db → EventFits site.policy site.schemes e
+      → CallsRead site e.command → AreStored site (step site w e).world.db
   step_stored = step_holds site InForm form_kept
 
-  pub run_stored : (w : World) (es : List Event) → AreStored site w.db → EventsFit site es → AllByRecursion (λ e. CallsRead site e.command) es → AreStored site (end_of site w es).db
+  pub run_stored : (w : World) (es : List Event) → AreStored site w.db → EventsFit site es
+      → AllByRecursion (λ e. CallsRead site e.command) es → AreStored site (end_of site w es).db
   run_stored = run_holds site InForm form_kept
 
   -- with kinds and intervals too
@@ -132,13 +161,17 @@ module _ (site : Site) (distinct : AreDistinct (site_labels site)) where
 
   content_kept : Kept site Contained
   content_kept = record {
-    by_write = λ relation level wr T fits content. keep_content (site_labels site) distinct (site_scheme site relation) level T content wr fits.numbers fits.kinds;
-    by_call = λ tx args db read count content. call_content site.policy distinct site.schemes tx read (fitted tx.params args) (fitted_fit tx args count) db content;
+    by_write = λ relation level wr T fits content. keep_content (site_labels site) distinct
+        (site_scheme site relation) level T content wr fits.numbers fits.kinds;
+    by_call = λ tx args db read count content. call_content site.policy distinct site.schemes tx read
+        (fitted tx.params args) (fitted_fit tx args count) db content;
   }
 
   module _ (read : AreRead site) where
-    pub step_content : (w : World) (e : Event) → AreContent (site_labels site) site.schemes w.db → EventFits site.policy site.schemes e → AreContent (site_labels site) site.schemes (step site w e).world.db
-    step_content w e content fits = step_holds site Contained content_kept w e content fits (all_read site read e.command)
+    pub step_content : (w : World) (e : Event) → AreContent (site_labels site) site.schemes w.db
+        → EventFits site.policy site.schemes e → AreContent (site_labels site) site.schemes (step site w e).world.db
+    step_content w e content fits = step_holds site Contained content_kept w e content fits
+        (all_read site read e.command)
 
     pub all_calls_read : (es : List Event) → AllByRecursion (λ e. CallsRead site e.command) es
     all_calls_read [] = tt
@@ -151,21 +184,26 @@ first_fit site zero es fits = tt
 first_fit site (suc n) [] fits = tt
 first_fit site (suc n) (e ∷ es) fits = (fits.0, first_fit site n es fits.1)
 
-module _ (site : Site) (distinct : AreDistinct (site_labels site)) (read : AreRead site) (w : World) (es : List Event) (stored : AreStored site w.db) (fits : EventsFit site es) where
+module _ (site : Site) (distinct : AreDistinct (site_labels site)) (read : AreRead site) (w : World) (es : List Event)
+    (stored : AreStored site w.db) (fits : EventsFit site es) where
   stored_after : (n : ℕ) → AreStored site (end_of site w (take n es)).db
-  stored_after n = run_stored site distinct w (take n es) stored (first_fit site n es fits) (all_calls_read site distinct read (take n es))
+  stored_after n = run_stored site distinct w (take n es) stored (first_fit site n es fits)
+      (all_calls_read site distinct read (take n es))
 
   whole : (db : Database) → AreStored site db → AreWhole site db
   whole db h relation = has_integrity (site_labels site) _ _ (h relation)
 
-  read_named : (name : Name) (s : Stored) → stored_named site.stored name ≡ Some s → IsReadUnder site.policy site.schemes (tx_of s)
-  read_named name s e = subst (λ o. IfSome o (λ x. IsReadUnder site.policy site.schemes (tx_of x))) e (found_holds _ _ site.stored read)
+  read_named : (name : Name) (s : Stored) → stored_named site.stored name ≡ Some s
+      → IsReadUnder site.policy site.schemes (tx_of s)
+  read_named name s e = subst (λ o. IfSome o (λ x. IsReadUnder site.policy site.schemes (tx_of x))) e
+      (found_holds _ _ site.stored read)
 
   integrity_kept : KeepsIntegrity site w es
   integrity_kept = record {
     after = λ n. whole _ (stored_after n);
     within = λ n name args s e.
-        form_throughout site.policy distinct site.schemes (tx_of s) (read_named name s e) (fitted (tx_of s).params args) (end_of site w (take n es)).db (stored_after n) (AreWhole site) whole;
+        form_throughout site.policy distinct site.schemes (tx_of s) (read_named name s e) (fitted (tx_of s).params args)
+        (end_of site w (take n es)).db (stored_after n) (AreWhole site) whole;
   }
 
 pub keep_integrity : RunsKeepIntegrity

@@ -24,6 +24,7 @@ tuples-true n (t ∷ ts) h =
 
 pub tuples-again : (n : ℕ) (ts : List Tuple) → AllByRecursion (HasClassesBelow n) ts → tuples_known n ts ≡ true
 tuples-again n [] h = refl
-tuples-again n (t ∷ ts) h = and_from _ _ (and_from _ _ (lt-ltb t.key_class n h.0.key_class) (elements-again n t.elements h.0.elements)) (tuples-again n ts h.1)
+tuples-again n (t ∷ ts) h = and_from _ _ (and_from _ _ (lt-ltb t.key_class n h.0.key_class)
+    (elements-again n t.elements h.0.elements)) (tuples-again n ts h.1)
 
 pub ruleset known_steps = (tuples-true, tuples-again)

@@ -18,24 +18,38 @@ pub lows_same : (ls : Labels) (c : ℕ) (v : World) → LowAgree ls c v v
 lows_same ls c v = record { tables = λ r. refl; sessions = λ l n b. refl; entries = refl }
 
 pub lows_sym : {ls : Labels} {c : ℕ} {v w : World} → LowAgree ls c v w → LowAgree ls c w v
-lows_sym h = record { tables = λ r. sym (h.tables r); sessions = λ l n b. sym (h.sessions l n b); entries = sym h.entries }
+lows_sym h = record {
+  tables = λ r. sym (h.tables r);
+  sessions = λ l n b. sym (h.sessions l n b);
+  entries =
+      sym h.entries;
+}
 
 pub lows_trans : {ls : Labels} {c : ℕ} {u v w : World} → LowAgree ls c u v → LowAgree ls c v w → LowAgree ls c u w
-lows_trans h k = record { tables = λ r. h.tables r ∙ k.tables r; sessions = λ l n b. h.sessions l n b ∙ k.sessions l n b; entries = h.entries ∙ k.entries }
+lows_trans h k = record {
+  tables = λ r. h.tables r ∙ k.tables r;
+  sessions = λ l n b. h.sessions l n b
+      ∙ k.sessions l n b;
+  entries = h.entries ∙ k.entries;
+}
 
 -- ---- the views tell the low tuples, and these tell the views
 
-pub to_low : (site : Site) → AreDistinct (site_labels site) → (c : ℕ) (v w : World) → AreStored site v.db → AreStored site w.db
+pub to_low : (site : Site) → AreDistinct (site_labels site) → (c : ℕ) (v w : World) → AreStored site v.db
+    → AreStored site w.db
     → AgreeAt (site_labels site) c v w → LowAgree (site_labels site) c v w
 to_low site distinct c v w sv sw h = record {
-  tables = λ relation. low_from_views (site_labels site) distinct _ _ (v.db relation) (w.db relation) (sv relation) (sw relation) c (h.views relation);
+  tables = λ relation. low_from_views (site_labels site) distinct _ _ (v.db relation) (w.db relation) (sv relation)
+      (sw relation) c (h.views relation);
   sessions = h.sessions;
   entries = h.entries;
 }
 
-pub from_low : (site : Site) (c : ℕ) (v w : World) → AreStored site v.db → AreStored site w.db → LowAgree (site_labels site) c v w → AgreeAt (site_labels site) c v w
+pub from_low : (site : Site) (c : ℕ) (v w : World) → AreStored site v.db → AreStored site w.db
+    → LowAgree (site_labels site) c v w → AgreeAt (site_labels site) c v w
 from_low site c v w sv sw h = record {
-  views = λ relation. views_from_low (site_labels site) _ _ (v.db relation) (w.db relation) (sv relation) (sw relation) c (h.tables relation);
+  views = λ relation. views_from_low (site_labels site) _ _ (v.db relation) (w.db relation) (sv relation)
+      (sw relation) c (h.tables relation);
   sessions = h.sessions;
   entries = h.entries;
 }

@@ -26,13 +26,15 @@ one_line-append xs ys p q = list_any-append is_line_feed xs ys ∙ neither _ _ p
 pub one_line-cons : (b : ℕ) (xs : List ℕ) → 10 < b → IsOneLine xs → IsOneLine (b ∷ xs)
 one_line-cons b xs p q = neither (is_line_feed b) _ (grind (arith, nat_tests)) q
 
-pub one_line-flat_map : {A : Type 0} (f : A → List ℕ) (xs : List A) → AllByRecursion (λ x. IsOneLine (f x)) xs → IsOneLine (flat_map f xs)
+pub one_line-flat_map : {A : Type 0} (f : A → List ℕ) (xs : List A) → AllByRecursion (λ x. IsOneLine (f x)) xs
+    → IsOneLine (flat_map f xs)
 one_line-flat_map f [] h = refl
 one_line-flat_map f (x ∷ xs) h = one_line-append (f x) (flat_map f xs) h.0 (one_line-flat_map f xs h.1)
 
 -- ---- names by number
 
-pub one_line-at : {A : Type 0} (f : A → List ℕ) (xs : List A) (n : ℕ) → AllByRecursion (λ x. IsOneLine (f x)) xs → IsOneLine (unwrap_or (option_map f (slice_get xs n)) [])
+pub one_line-at : {A : Type 0} (f : A → List ℕ) (xs : List A) (n : ℕ) → AllByRecursion (λ x. IsOneLine (f x)) xs
+    → IsOneLine (unwrap_or (option_map f (slice_get xs n)) [])
 one_line-at f [] n h = refl
 one_line-at f (x ∷ xs) zero h = h.0
 one_line-at f (x ∷ xs) (suc n) h = one_line-at f xs n h.1
@@ -42,8 +44,10 @@ one_line-at f (x ∷ xs) (suc n) h = one_line-at f xs n h.1
 hex_line : (n : ℕ) (xs : List ℕ) → IsOneLine xs → IsOneLine (hex_digit n ∷ xs)
 hex_line n xs h =
     elim (cases_Bool (nat_lt n 10)) [
-      | inl e ↦ subst (λ t. IsOneLine (t ∷ xs)) (sym (ap (λ t. cond t (48 + n) (87 + n)) e)) (one_line-cons (48 + n) xs (omega arith) h)
-      | inr e ↦ subst (λ t. IsOneLine (t ∷ xs)) (sym (ap (λ t. cond t (48 + n) (87 + n)) e)) (one_line-cons (87 + n) xs (omega arith) h)
+      | inl e ↦ subst (λ t. IsOneLine (t ∷ xs)) (sym (ap (λ t. cond t (48 + n) (87 + n)) e)) (one_line-cons (48 + n) xs
+          (omega arith) h)
+      | inr e ↦ subst (λ t. IsOneLine (t ∷ xs)) (sym (ap (λ t. cond t (48 + n) (87 + n)) e)) (one_line-cons (87 + n) xs
+          (omega arith) h)
     ]
 
 hex_escape_line : (b : ℕ) → IsOneLine (hex_escape b)
@@ -53,7 +57,8 @@ printable_byte_line : (b : ℕ) → IsOneLine (printable_byte b)
 printable_byte_line b =
     elim (cases_Bool (is_control b)) [
       | inl e ↦ subst (λ t. IsOneLine (cond t (hex_escape b) (b ∷ []))) (sym e) (hex_escape_line b)
-      | inr e ↦ subst (λ t. IsOneLine (cond t (hex_escape b) (b ∷ []))) (sym e) (one_line-cons b [] (grind (arith, nat_tests)) refl)
+      | inr e ↦ subst (λ t. IsOneLine (cond t (hex_escape b) (b ∷ []))) (sym e)
+          (one_line-cons b [] (grind (arith, nat_tests)) refl)
     ]
 
 escaped_mark : (b : ℕ) → is_escaped b ≡ true → 10 < b
@@ -62,23 +67,28 @@ escaped_mark b e = grind (arith, nat_tests)
 quoted_byte_line : (b : ℕ) → IsOneLine (quoted_byte b)
 quoted_byte_line b =
     elim (cases_Bool (is_escaped b)) [
-      | inl e ↦ subst (λ t. IsOneLine (cond t (92 ∷ b ∷ []) (printable_byte b))) (sym e) (one_line-cons b [] (escaped_mark b e) refl)
+      | inl e ↦ subst (λ t. IsOneLine (cond t (92 ∷ b ∷ []) (printable_byte b))) (sym e)
+          (one_line-cons b [] (escaped_mark b e) refl)
       | inr e ↦ subst (λ t. IsOneLine (cond t (92 ∷ b ∷ []) (printable_byte b))) (sym e) (printable_byte_line b)
     ]
 
 pub one_line-printable : (text : List ℕ) → IsOneLine (printable text)
-one_line-printable text = one_line-flat_map printable_byte text (all (λ b. IsOneLine (printable_byte b)) printable_byte_line text)
+one_line-printable text = one_line-flat_map printable_byte text
+    (all (λ b. IsOneLine (printable_byte b)) printable_byte_line text)
 
 pub one_line-quoted : (text : List ℕ) → IsOneLine (quoted text)
-one_line-quoted text = one_line-append (flat_map quoted_byte text) (34 ∷ []) (one_line-flat_map quoted_byte text (all (λ b. IsOneLine (quoted_byte b)) quoted_byte_line text)) refl
+one_line-quoted text = one_line-append (flat_map quoted_byte text) (34 ∷ []) (one_line-flat_map quoted_byte text
+    (all (λ b. IsOneLine (quoted_byte b)) quoted_byte_line text)) refl
 
 -- ---- numbers
 
 glyph_line : (d : ℕ) (xs : List ℕ) → IsOneLine xs → IsOneLine (digit_glyph false d ∷ xs)
 glyph_line d xs h =
     elim (cases_Bool (nat_lt d 10)) [
-      | inl e ↦ subst (λ t. IsOneLine (t ∷ xs)) (sym (ap (λ t. cond t (48 + d) (87 + d)) e)) (one_line-cons (48 + d) xs (omega arith) h)
-      | inr e ↦ subst (λ t. IsOneLine (t ∷ xs)) (sym (ap (λ t. cond t (48 + d) (87 + d)) e)) (one_line-cons (87 + d) xs (omega arith) h)
+      | inl e ↦ subst (λ t. IsOneLine (t ∷ xs)) (sym (ap (λ t. cond t (48 + d) (87 + d)) e)) (one_line-cons (48 + d) xs
+          (omega arith) h)
+      | inr e ↦ subst (λ t. IsOneLine (t ∷ xs)) (sym (ap (λ t. cond t (48 + d) (87 + d)) e)) (one_line-cons (87 + d) xs
+          (omega arith) h)
     ]
 
 digits_line : (k n : ℕ) (xs : List ℕ) → IsOneLine xs → IsOneLine (digits_onto k 10 false n xs)
@@ -115,15 +125,17 @@ pair_escape_line a b =
 
 shown_line : (a b c : ℕ) → is_line_feed a ≡ false → IsOneLine (shown a b c)
 shown_line a b c h =
-    elim (is_hidden a) as (λ t. IsOneLine (cond t (hex_escape a) (cond (is_hidden_pair a b) (pair_escape a b) (cond (is_hidden_triple a b c) (unicode_escape a b c) (a ∷ []))))) [
+    elim (is_hidden a) as (λ t. IsOneLine (cond t (hex_escape a) (cond (is_hidden_pair a b) (pair_escape a b)
+    (cond (is_hidden_triple a b c) (unicode_escape a b c) (a ∷ []))))) [
       | true ↦ hex_escape_line a
-      | false ↦ elim (is_hidden_pair a b) as (λ t. IsOneLine (cond t (pair_escape a b) (cond (is_hidden_triple a b c) (unicode_escape a b c) (a ∷ [])))) [
-        | true ↦ pair_escape_line a b
-        | false ↦ elim (is_hidden_triple a b c) as (λ t. IsOneLine (cond t (unicode_escape a b c) (a ∷ []))) [
-          | true ↦ unicode_escape_line a b c
-          | false ↦ neither (is_line_feed a) false h refl
-        ]
-      ]
+      | false ↦ elim (is_hidden_pair a b) as (λ t. IsOneLine (cond t (pair_escape a b) (cond (is_hidden_triple a b c)
+          (unicode_escape a b c) (a ∷ [])))) [
+            | true ↦ pair_escape_line a b
+            | false ↦ elim (is_hidden_triple a b c) as (λ t. IsOneLine (cond t (unicode_escape a b c) (a ∷ []))) [
+              | true ↦ unicode_escape_line a b c
+              | false ↦ neither (is_line_feed a) false h refl
+            ]
+          ]
     ]
 
 -- of two that are both false
@@ -153,22 +165,26 @@ replicate_line : (n b : ℕ) → is_line_feed b ≡ false → IsOneLine (replica
 replicate_line zero b h = refl
 replicate_line (suc n) b h = neither (is_line_feed b) _ h (replicate_line n b h)
 
-pub one_line-padded : (widths : List ℕ) (k : ℕ) (cells : List (List ℕ)) → AllByRecursion IsOneLine cells → IsOneLine (padded widths k cells)
+pub one_line-padded : (widths : List ℕ) (k : ℕ) (cells : List (List ℕ)) → AllByRecursion IsOneLine cells
+    → IsOneLine (padded widths k cells)
 one_line-padded widths k [] h = refl
 one_line-padded widths k (cell ∷ cells) h =
     let width = slice_index widths k in
     one_line-append (cell ++ padding width cell ++ codes " | ") (padded widths (k + 1) cells)
-    (one_line-append (cell ++ padding width cell) (codes " | ") (one_line-append cell (padding width cell) h.0 (replicate_line (width - columns cell) 32 refl)) refl)
+    (one_line-append (cell ++ padding width cell) (codes " | ") (one_line-append cell (padding width cell) h.0
+    (replicate_line (width - columns cell) 32 refl)) refl)
     (one_line-padded widths (k + 1) cells h.1)
 
 pub one_line-ruled : (widths : List ℕ) → IsOneLine (flat_map ruled widths)
-one_line-ruled widths = one_line-flat_map ruled widths (all (λ w. IsOneLine (ruled w)) (λ w. one_line-append (replicate w 45) (codes "-+-") (replicate_line w 45 refl) refl) widths)
+one_line-ruled widths = one_line-flat_map ruled widths (all (λ w. IsOneLine (ruled w))
+    (λ w. one_line-append (replicate w 45) (codes "-+-") (replicate_line w 45 refl) refl) widths)
 
 -- ---- names
 
 name_bytes_line : (text : List ℕ) → list_all is_name_byte text ≡ true → IsOneLine text
 name_bytes_line [] h = refl
-name_bytes_line (b ∷ text) h = let p = and_parts (is_name_byte b) _ h in neither (is_line_feed b) _ (grind (arith, nat_tests)) (name_bytes_line text p.1)
+name_bytes_line (b ∷ text) h = let p = and_parts (is_name_byte b) _ h
+    in neither (is_line_feed b) _ (grind (arith, nat_tests)) (name_bytes_line text p.1)
 
 pub one_line-name : (text : List ℕ) → is_name text ≡ true → IsOneLine text
 one_line-name text h = name_bytes_line text (name_bytes text h)

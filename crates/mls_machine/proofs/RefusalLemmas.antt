@@ -24,38 +24,53 @@ record Leaves (site : Site) (w : World) (e : Event) (command : Command) (session
   pub audit : s.world.audit ≡ w.audit ++ entries_added site e command session s.reply
 
 module _ (site : Site) (w : World) (e : Event) where
-  all_left : (command : Command) (session : Option ℕ) (s : Step) → s.world ≡ w → entries_added site e command session s.reply ≡ [] → Leaves site w e command session s
+  all_left : (command : Command) (session : Option ℕ) (s : Step) → s.world ≡ w
+      → entries_added site e command session s.reply ≡ [] → Leaves site w e command session s
   all_left command session s same none = record {
     db = λ h. ap (λ v. v.db) same;
     sessions = λ h. ap (λ v. v.sessions) same;
     audit = ap (λ v. v.audit) same ∙ sym (append-nil w.audit) ∙ ap (λ es. w.audit ++ es) (sym none);
   }
 
-  denied_left : (command : Command) (user : ℕ) (denial : Denial) → Leaves site w e command (Some user) (denied site w e user denial)
+  denied_left : (command : Command) (user : ℕ) (denial : Denial) → Leaves site w e command (Some user)
+      (denied site w e user denial)
   denied_left command user denial = record { db = λ h. refl; sessions = λ h. refl; audit = refl }
 
-  wrote_left : (command : Command) (user relation : ℕ) (wr : Write) → entries_added site e command (Some user) (wrote site w e.level relation wr).reply ≡ [] → Leaves site w e command (Some user) (wrote site w e.level relation wr)
+  wrote_left : (command : Command) (user relation : ℕ) (wr : Write) → entries_added site e command (Some user)
+      (wrote site w e.level relation wr).reply ≡ [] → Leaves site w e command (Some user)
+      (wrote site w e.level relation wr)
   wrote_left command user relation wr none = record {
-    db = λ h. (let same = same_relation w.db relation _ (table_left (site_labels site) (site_scheme site relation) e.level (w.db relation) wr h) in λ i r. same r i);
+    db = λ h. (let same = same_relation w.db relation _ (table_left (site_labels site)
+        (site_scheme site relation) e.level (w.db relation) wr h) in λ i r. same r i);
     sessions = λ h. refl;
     audit = sym (append-nil w.audit) ∙ ap (λ es. w.audit ++ es) (sym none);
   }
 
-  unless_left : (command : Command) (denial : Option Denial) (user : ℕ) (effect : Step) → Leaves site w e command (Some user) effect → Leaves site w e command (Some user) (unless site denial w e user effect)
+  unless_left : (command : Command) (denial : Option Denial) (user : ℕ) (effect : Step)
+      → Leaves site w e command (Some user) effect → Leaves site w e command (Some user)
+      (unless site denial w e user effect)
   unless_left command None user effect h = h
   unless_left command (Some denial) user effect h = denied_left command user denial
 
-  call_left : (user : ℕ) (name : Name) (args : List (Option Value)) (o : Option Stored) → Leaves site w e (commands.Call name args) (Some user) (call_step site w e user name args o)
+  call_left : (user : ℕ) (name : Name) (args : List (Option Value)) (o : Option Stored)
+      → Leaves site w e (commands.Call name args) (Some user) (call_step site w e user name args o)
   call_left user name args None = denied_left _ user _
   call_left user name args (Some (Plain tx)) = denied_left _ user _
   call_left user name args (Some (Certified k)) =
-      unless_left (commands.Call name args) (first_denial (call_denials site e.level user k.tx args)) user (called site w e user name k.tx args) (record { db = λ h. absurd h; sessions = λ h. absurd h; audit = refl })
+      unless_left (commands.Call name args) (first_denial (call_denials site e.level user k.tx args)) user
+      (called site w e user name k.tx args) (record { db = λ h. absurd h; sessions = λ h. absurd h; audit = refl })
 
   inside_left : (command : Command) (user : ℕ) → Leaves site w e command (Some user) (step_inside site w e command user)
   inside_left (commands.Open name) user = denied_left _ user _
-  inside_left commands.Close user = record { db = λ h. absurd h; sessions = λ h. absurd h; audit = sym (append-nil w.audit) }
+  inside_left commands.Close user = record {
+    db = λ h. absurd h;
+    sessions = λ h. absurd h;
+    audit =
+        sym (append-nil w.audit);
+  }
   inside_left commands.Audit user = all_left _ (Some user) _ refl refl
-  inside_left (commands.View relation label query counts) user = unless_left _ _ user _ (all_left _ (Some user) _ refl refl)
+  inside_left (commands.View relation label query counts) user = unless_left _ _ user _
+      (all_left _ (Some user) _ refl refl)
   inside_left (commands.Dump relation) user = unless_left _ _ user _ (all_left _ (Some user) _ refl refl)
   inside_left (commands.Write relation wr) user = unless_left _ _ user _ (wrote_left _ user relation wr refl)
   inside_left (commands.Call name args) user = call_left user name args (stored_named site.stored name)

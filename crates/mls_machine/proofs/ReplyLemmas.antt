@@ -46,7 +46,8 @@ use Rattle.mls_machine.proofs.CalledLemmas.{certified_of, all_read}
 
 -- ---- rows
 
-all_below : (n : ℕ) (es : List Element) → ((i : ℕ) → i < length es → (at es i).class < n) → AllByRecursion (λ e. e.class < n) es
+all_below : (n : ℕ) (es : List Element) → ((i : ℕ) → i < length es → (at es i).class < n)
+    → AllByRecursion (λ e. e.class < n) es
 all_below n [] h = tt
 all_below n (e ∷ es) h = (h 0 (omega arith), all_below n es (λ i l. h (suc i) (omega arith)))
 
@@ -59,7 +60,8 @@ module _ (ls : Labels) (n : ℕ) (T : Table) (stored : IsStored ls n T) where
         elements = all_below (length ls) es (λ i l. s.declared (at es i).class (inr (i, l, refl)));
       }
 
-  tuples_below : (es : List (Place × List Element)) → AllByRecursion (λ e. get T e.0 ≡ Some e.1) es → AllByRecursion (HasClassesBelow (length ls)) (map (λ e. tuple_at e.0 e.1) es)
+  tuples_below : (es : List (Place × List Element)) → AllByRecursion (λ e. get T e.0 ≡ Some e.1) es
+      → AllByRecursion (HasClassesBelow (length ls)) (map (λ e. tuple_at e.0 e.1) es)
   tuples_below [] h = tt
   tuples_below (e ∷ es) h = (tuple_below e.0 e.1 h.0, tuples_below es h.1)
 
@@ -67,8 +69,11 @@ module _ (ls : Labels) (n : ℕ) (T : Table) (stored : IsStored ls n T) where
   unfolding low_tuples
   low_below c =
       let es = entries (low ls c T) in
-      let has = each_among (λ e. get T e.0 ≡ Some e.1) es (λ e i. (from_low ls c T (tuple_at e.0 e.1) e.0.class (among_entries (low ls c T) e i)).0) in
-      each_flat (HasClassesBelow (length ls)) (of_class es) (upward ls) (all _ (λ m. (let p = (λ (e : Place × List Element). nat_eq e.0.class m) in tuples_below (filter p es) (all_filter (λ e. get T e.0 ≡ Some e.1) p es has))) (upward ls))
+      let has = each_among (λ e. get T e.0 ≡ Some e.1) es (λ e i. (from_low ls c T (tuple_at e.0 e.1) e.0.class
+      (among_entries (low ls c T) e i)).0) in
+      each_flat (HasClassesBelow (length ls)) (of_class es) (upward ls)
+      (all _ (λ m. (let p = (λ (e : Place × List Element). nat_eq e.0.class m)
+      in tuples_below (filter p es) (all_filter (λ e. get T e.0 ≡ Some e.1) p es has))) (upward ls))
 
   rows_below : AreDistinct ls → (c : ℕ) → AllByRecursion (HasClassesBelow (length ls)) (rows ls c T)
   rows_below distinct c =
@@ -90,16 +95,25 @@ module _ (P : Tuple → Type 0) (ls : Labels) (ts : List Tuple) (h : AllByRecurs
   found_all q =
       let highest = highest_of ls q.highest ts in
       let classed = filter (has_class ls q.class) highest in
-      first_all q.first (filter (meets q.test) classed) (all_filter P (meets q.test) classed (all_filter P (has_class ls q.class) highest (highest_all q.highest)))
+      first_all q.first (filter (meets q.test) classed) (all_filter P (meets q.test) classed
+      (all_filter P (has_class ls q.class) highest (highest_all q.highest)))
 
 -- ---- entries
 
-filter_known : (p : Entry → Bool) (policy : Policy) (es : List Entry) → EntriesAreKnown policy es → EntriesAreKnown policy (filter p es)
+filter_known : (p : Entry → Bool) (policy : Policy) (es : List Entry) → EntriesAreKnown policy es
+    → EntriesAreKnown policy (filter p es)
 filter_known p policy [] h = tt
 filter_known p policy (e ∷ es) h =
-    elim (p e) as (λ b. EntriesAreKnown policy (cond b (e ∷ filter p es) (filter p es))) [ true ↦ (h.0, filter_known p policy es h.1) | false ↦ filter_known p policy es h.1 ]
+    elim (p e) as (λ b. EntriesAreKnown policy (cond b (e ∷ filter p es) (filter p es))) [
+      | true ↦ (
+        h.0,
+        filter_known p policy es h.1,
+      )
+      | false ↦ filter_known p policy es h.1
+    ]
 
-append_known : (policy : Policy) (es fs : List Entry) → EntriesAreKnown policy es → EntriesAreKnown policy fs → EntriesAreKnown policy (es ++ fs)
+append_known : (policy : Policy) (es fs : List Entry) → EntriesAreKnown policy es → EntriesAreKnown policy fs
+    → EntriesAreKnown policy (es ++ fs)
 append_known policy [] fs h k = k
 append_known policy (e ∷ es) fs h k = (h.0, append_known policy es fs h.1 k)
 
@@ -110,64 +124,99 @@ pub record IsKnown (site : Site) (s : Step) : Type 0 where
   pub reply : ReplyIsKnown site.policy s.reply
   pub audit : EntriesAreKnown site.policy s.world.audit
 
-module _ (site : Site) (distinct : AreDistinct (site_labels site)) (read : AreRead site) (w : World) (stored : AreStored site w.db) (known : EntriesAreKnown site.policy w.audit) (e : Event) (declared : e.level < length site.policy.labels) where
-  denied_known : (user : ℕ) (denial : Denial) → EntriesAreKnown site.policy (w.audit ++ denial_entry site e user denial ∷ [])
-  denied_known user denial = append_known site.policy w.audit (denial_entry site e user denial ∷ []) known (declared, tt)
+module _ (site : Site) (distinct : AreDistinct (site_labels site)) (read : AreRead site) (w : World)
+    (stored : AreStored site w.db) (known : EntriesAreKnown site.policy w.audit) (e : Event) (declared : e.level
+    < length site.policy.labels) where
+  denied_known : (user : ℕ) (denial : Denial) → EntriesAreKnown site.policy (w.audit ++ denial_entry site e user denial
+      ∷ [])
+  denied_known user denial = append_known site.policy w.audit (denial_entry site e user denial ∷ []) known (
+    declared,
+    tt,
+  )
 
-  unless_known : (denial : Option Denial) (user : ℕ) (effect : Step) → IsKnown site effect → IsKnown site (unless site denial w e user effect)
+  unless_known : (denial : Option Denial) (user : ℕ) (effect : Step) → IsKnown site effect
+      → IsKnown site (unless site denial w e user effect)
   unless_known None user effect h = h
   unless_known (Some denial) user effect h = record { reply = tt; audit = denied_known user denial }
 
-  seen_known : (relation label : ℕ) → AllByRecursion (HasClassesBelow (length site.policy.labels)) (rows (site_labels site) label (w.db relation))
+  seen_known : (relation label : ℕ) → AllByRecursion (HasClassesBelow (length site.policy.labels))
+      (rows (site_labels site) label (w.db relation))
   seen_known relation label =
-      subst (λ n. AllByRecursion (HasClassesBelow n) (rows (site_labels site) label (w.db relation))) (length-map site.policy.labels (λ l. l.value))
-      (rows_below (site_labels site) (length (site_scheme site relation).others) (w.db relation) (stored relation) distinct label)
+      subst (λ n. AllByRecursion (HasClassesBelow n) (rows (site_labels site) label (w.db relation)))
+      (length-map site.policy.labels (λ l. l.value))
+      (rows_below (site_labels site) (length (site_scheme site relation).others) (w.db relation)
+      (stored relation) distinct label)
 
-  viewed_known : (relation label : ℕ) (query : Query) → AllByRecursion (HasClassesBelow (length site.policy.labels)) (found (site_labels site) query (rows (site_labels site) label (w.db relation)))
-  viewed_known relation label query = found_all (HasClassesBelow (length site.policy.labels)) (site_labels site) (rows (site_labels site) label (w.db relation)) (seen_known relation label) query
+  viewed_known : (relation label : ℕ) (query : Query) → AllByRecursion (HasClassesBelow (length site.policy.labels))
+      (found (site_labels site) query (rows (site_labels site) label (w.db relation)))
+  viewed_known relation label query = found_all (HasClassesBelow (length site.policy.labels)) (site_labels site)
+      (rows (site_labels site) label (w.db relation)) (seen_known relation label) query
 
-  dumped_known : (relation level : ℕ) → AllByRecursion (HasClassesBelow (length site.policy.labels)) (low_tuples (site_labels site) level (w.db relation))
+  dumped_known : (relation level : ℕ) → AllByRecursion (HasClassesBelow (length site.policy.labels))
+      (low_tuples (site_labels site) level (w.db relation))
   dumped_known relation level =
-      subst (λ n. AllByRecursion (HasClassesBelow n) (low_tuples (site_labels site) level (w.db relation))) (length-map site.policy.labels (λ l. l.value))
+      subst (λ n. AllByRecursion (HasClassesBelow n) (low_tuples (site_labels site) level (w.db relation)))
+      (length-map site.policy.labels (λ l. l.value))
       (low_below (site_labels site) (length (site_scheme site relation).others) (w.db relation) (stored relation) level)
 
-  wrote_known : (denial : Option Denial) (user relation : ℕ) (wr : Write) → IsKnown site (unless site denial w e user (wrote site w e.level relation wr))
-  wrote_known denial user relation wr = unless_known denial user (wrote site w e.level relation wr) (record { reply = tt; audit = known })
+  wrote_known : (denial : Option Denial) (user relation : ℕ) (wr : Write)
+      → IsKnown site (unless site denial w e user (wrote site w e.level relation wr))
+  wrote_known denial user relation wr = unless_known denial user (wrote site w e.level relation wr)
+      (record { reply = tt; audit = known })
 
-  releases_known : (user : ℕ) (items : List Item) → ItemsAreKnown site.policy items → EntriesAreKnown site.policy (map (release_entry site e user) items)
+  releases_known : (user : ℕ) (items : List Item) → ItemsAreKnown site.policy items
+      → EntriesAreKnown site.policy (map (release_entry site e user) items)
   releases_known user [] h = tt
   releases_known user (item ∷ items) h = (h.0, releases_known user items h.1)
 
-  called_known : (user : ℕ) (name : Name) (tx : Tx) (args : List (Option Value)) → IsReadUnder site.policy site.schemes tx → IsKnown site (called site w e user name tx args)
+  called_known : (user : ℕ) (name : Name) (tx : Tx) (args : List (Option Value))
+      → IsReadUnder site.policy site.schemes tx → IsKnown site (called site w e user name tx args)
   called_known user name tx args r =
       let labelled = call_labelled site.policy site.schemes tx r (fitted tx.params args) w.db in
       let released = (run_tx (site_labels site) site.schemes tx (fitted tx.params args) w.db).released in
       record {
         reply = (labelled.emitted, labelled.released);
-        audit = append_known site.policy w.audit (call_entries site e user name released) known (declared, releases_known user released labelled.released);
+        audit = append_known site.policy w.audit (call_entries site e user name released) known (
+          declared,
+          releases_known user released labelled.released,
+        );
       }
 
-  call_known : (user : ℕ) (name : Name) (args : List (Option Value)) (o : Option Stored) → IfSome (certified_of o) (IsReadUnder site.policy site.schemes) → IsKnown site (call_step site w e user name args o)
+  call_known : (user : ℕ) (name : Name) (args : List (Option Value)) (o : Option Stored)
+      → IfSome (certified_of o) (IsReadUnder site.policy site.schemes)
+      → IsKnown site (call_step site w e user name args o)
   call_known user name args None r = record { reply = tt; audit = denied_known user UnknownTransaction }
   call_known user name args (Some (Plain tx)) r = record { reply = tt; audit = denied_known user NotCertified }
-  call_known user name args (Some (Certified k)) r = unless_known (first_denial (call_denials site e.level user k.tx args)) user (called site w e user name k.tx args) (called_known user name k.tx args r)
+  call_known user name args (Some (Certified k)) r =
+      unless_known (first_denial (call_denials site e.level user k.tx args)) user (called site w e user name k.tx args)
+      (called_known user name k.tx args r)
 
   inside_known : (command : Command) (user : ℕ) → IsKnown site (step_inside site w e command user)
   inside_known (commands.Open name) user = record { reply = tt; audit = denied_known user AlreadyOpen }
   inside_known commands.Close user = record { reply = tt; audit = known }
-  inside_known commands.Audit user = record { reply = filter_known (λ x. below (site_labels site) (label_of x) e.level) site.policy w.audit known; audit = known }
-  inside_known (commands.View relation label query counts) user = unless_known _ user (viewed site w relation label query) (record { reply = viewed_known relation label query; audit = known })
-  inside_known (commands.Dump relation) user = unless_known _ user (dumped site w relation e.level) (record { reply = dumped_known relation e.level; audit = known })
+  inside_known commands.Audit user = record {
+    reply = filter_known (λ x. below (site_labels site)
+        (label_of x) e.level) site.policy w.audit known;
+    audit = known;
+  }
+  inside_known (commands.View relation label query counts) user = unless_known _ user
+      (viewed site w relation label query) (record { reply = viewed_known relation label query; audit = known })
+  inside_known (commands.Dump relation) user = unless_known _ user (dumped site w relation e.level)
+      (record { reply = dumped_known relation e.level; audit = known })
   inside_known (commands.Write relation wr) user = wrote_known _ user relation wr
-  inside_known (commands.Call name args) user = call_known user name args (stored_named site.stored name) (all_read site read (commands.Call name args))
+  inside_known (commands.Call name args) user = call_known user name args (stored_named site.stored name)
+      (all_read site read (commands.Call name args))
 
-  cleared_known : (user : ℕ) (b : Bool) (denial : Denial) → user < length site.policy.users → IsKnown site (open_step site w e (cond b (Err denial) (Ok user)))
+  cleared_known : (user : ℕ) (b : Bool) (denial : Denial) → user < length site.policy.users
+      → IsKnown site (open_step site w e (cond b (Err denial) (Ok user)))
   cleared_known user true denial h = record { reply = tt; audit = known }
   cleared_known user false denial h = record { reply = h; audit = known }
 
-  opened_known : (o : Option ℕ) → ((user : ℕ) → o ≡ Some user → user < length site.policy.users) → IsKnown site (open_step site w e (cleared site e.level o))
+  opened_known : (o : Option ℕ) → ((user : ℕ) → o ≡ Some user → user < length site.policy.users)
+      → IsKnown site (open_step site w e (cleared site e.level o))
   opened_known None h = record { reply = tt; audit = known }
-  opened_known (Some user) h = cleared_known user (exceed site (clearance_of site.policy user) (e.level ∷ [])) _ (h user refl)
+  opened_known (Some user) h = cleared_known user (exceed site (clearance_of site.policy user) (e.level ∷ [])) _
+      (h user refl)
 
   outside_known : (command : Command) → IsKnown site (step_outside site w e command)
   outside_known (commands.Open name) = opened_known (user_named site.policy name) (user_below site.policy name)

@@ -32,7 +32,8 @@ cell_line None = refl
 cell_line (Some v) = value_line v
 
 -- a relation by its number
-pub scheme_line : (schemes : Schemes) (relation : ℕ) → AllByRecursion HasPlainNames schemes → HasPlainNames (scheme_of schemes relation)
+pub scheme_line : (schemes : Schemes) (relation : ℕ) → AllByRecursion HasPlainNames schemes
+    → HasPlainNames (scheme_of schemes relation)
 scheme_line [] relation h = record { name = refl; keys = tt; others = tt }
 scheme_line (s ∷ schemes) zero h = h.0
 scheme_line (s ∷ schemes) (suc relation) h = scheme_line schemes relation h.1
@@ -58,14 +59,21 @@ module _ (p : Policy) (labels : AllByRecursion (λ l. IsOneLine l.name) p.labels
 
   pub row_line : (t : Tuple) → IsOneLine (row_text p t)
   row_line t =
-      let keys = one_line-flat_map (λ v. cell_entry p.labels t.key_class (Some v)) t.key (all (λ v. IsOneLine (cell_entry p.labels t.key_class (Some v))) (λ v. entry_cell_line t.key_class (Some v)) t.key) in
-      let others = one_line-flat_map (λ e. cell_entry p.labels e.class e.value) t.elements (all (λ e. IsOneLine (cell_entry p.labels e.class e.value)) (λ e. entry_cell_line e.class e.value) t.elements) in
+      let keys = one_line-flat_map (λ v. cell_entry p.labels t.key_class (Some v)) t.key
+      (all (λ v. IsOneLine (cell_entry p.labels t.key_class (Some v))) (λ v. entry_cell_line t.key_class
+      (Some v)) t.key) in
+      let others = one_line-flat_map (λ e. cell_entry p.labels e.class e.value) t.elements
+      (all (λ e. IsOneLine (cell_entry p.labels e.class e.value)) (λ e. entry_cell_line e.class e.value) t.elements)
+      in
       simp (list_any-append, keys, others, class_line t)
 
-  spaced_line : (s : Scheme) → HasPlainNames s → IsOneLine (flat_map (λ a. codes " " ++ a.0) s.keys) × IsOneLine (flat_map (λ a. codes " " ++ a.0) s.others)
+  spaced_line : (s : Scheme) → HasPlainNames s → IsOneLine (flat_map (λ a. codes " " ++ a.0) s.keys)
+      × IsOneLine (flat_map (λ a. codes " " ++ a.0) s.others)
   spaced_line s h = (
-    one_line-flat_map (λ a. codes " " ++ a.0) s.keys (all_if (λ a. IsOneLine a.0) (λ a. IsOneLine (codes " " ++ a.0)) (λ a k. k) s.keys h.keys),
-    one_line-flat_map (λ a. codes " " ++ a.0) s.others (all_if (λ a. IsOneLine a.0) (λ a. IsOneLine (codes " " ++ a.0)) (λ a k. k) s.others h.others),
+    one_line-flat_map (λ a. codes " " ++ a.0) s.keys (all_if (λ a. IsOneLine a.0) (λ a. IsOneLine (codes " " ++ a.0))
+        (λ a k. k) s.keys h.keys),
+    one_line-flat_map (λ a. codes " " ++ a.0) s.others (all_if (λ a. IsOneLine a.0) (λ a. IsOneLine (codes " " ++ a.0))
+        (λ a k. k) s.others h.others),
   )
 
   -- ---- what was asked
@@ -76,48 +84,70 @@ module _ (p : Policy) (labels : AllByRecursion (λ l. IsOneLine l.name) p.labels
 
   words_line : (q : Query) → IsOneLine (query_words q)
   words_line q =
-      simp (list_any-append, word_line q.highest (codes "highest") refl, word_line (is_some q.class) (codes "class") refl, word_line (is_some q.first) (codes "first") refl, word_line (is_some q.test) (codes "where") refl)
+      simp (
+        list_any-append,
+        word_line q.highest (codes "highest") refl,
+        word_line (is_some q.class)
+            (codes "class") refl,
+        word_line (is_some q.first) (codes "first") refl,
+        word_line (is_some q.test)
+            (codes "where") refl,
+      )
 
-  asked_line : (verb : List ℕ) (s : Scheme) (label : ℕ) (q : Query) → IsOneLine verb → HasPlainNames s → IsOneLine (asked p verb s label q)
+  asked_line : (verb : List ℕ) (s : Scheme) (label : ℕ) (q : Query) → IsOneLine verb → HasPlainNames s
+      → IsOneLine (asked p verb s label q)
   asked_line verb s label q v h =
       let whole = verb ++ codes " " ++ s.name ++ codes " at " ++ label_name p.labels label in
       let named : IsOneLine whole = simp (list_any-append, v, h.name, label_line label) in
-      one_line-append (whole ++ query_words q) (codes ":") (one_line-append whole (query_words q) named (words_line q)) refl
+      one_line-append (whole ++ query_words q) (codes ":") (one_line-append whole (query_words q) named
+      (words_line q)) refl
 
   pub heading_line : (s : Scheme) (label : ℕ) (q : Query) → HasPlainNames s → IsOneLine (heading p s label q)
   heading_line s label q h =
       let k = spaced_line s h in
       let keys = flat_map (λ a. codes " " ++ a.0) s.keys in
       let front = asked p (codes "view") s label q ++ keys in
-      one_line-append front (flat_map (λ a. codes " " ++ a.0) s.others) (one_line-append (asked p (codes "view") s label q) keys (asked_line (codes "view") s label q refl h) k.0) k.1
+      one_line-append front (flat_map (λ a. codes " " ++ a.0) s.others)
+      (one_line-append (asked p (codes "view") s label q) keys (asked_line (codes "view") s label q refl h) k.0) k.1
 
   pub count_line : (s : Scheme) (label : ℕ) (q : Query) (n : ℕ) → HasPlainNames s → IsOneLine (count_text p s label q n)
   count_line s label q n h =
       let front = asked p (codes "count") s label q in
-      one_line-append (front ++ codes " ") (decimal n) (one_line-append front (codes " ") (asked_line (codes "count") s label q refl h) refl) (one_line-decimal n)
+      one_line-append (front ++ codes " ") (decimal n) (one_line-append front (codes " ")
+      (asked_line (codes "count") s label q refl h) refl) (one_line-decimal n)
 
   -- ---- rows as a table
 
   table_cell_line : (class : ℕ) (v : Option Value) → IsOneLine (table_cell p.labels class v)
-  table_cell_line class v = one_line-escaped (cell_text v ++ codes " " ++ label_name p.labels class) (simp (list_any-append, cell_line v, label_line class))
+  table_cell_line class v = one_line-escaped (cell_text v ++ codes " " ++ label_name p.labels class)
+      (simp (list_any-append, cell_line v, label_line class))
 
   tuple_cells_line : (t : Tuple) → AllByRecursion IsOneLine (tuple_cells p t)
   tuple_cells_line t =
-      all_append IsOneLine (map (λ v. table_cell p.labels t.key_class (Some v)) t.key) (map (λ e. table_cell p.labels e.class e.value) t.elements)
-      (all_map IsOneLine (λ v. table_cell p.labels t.key_class (Some v)) t.key (all (λ v. IsOneLine (table_cell p.labels t.key_class (Some v))) (λ v. table_cell_line t.key_class (Some v)) t.key))
-      (all_map IsOneLine (λ e. table_cell p.labels e.class e.value) t.elements (all (λ e. IsOneLine (table_cell p.labels e.class e.value)) (λ e. table_cell_line e.class e.value) t.elements))
+      all_append IsOneLine (map (λ v. table_cell p.labels t.key_class (Some v)) t.key)
+      (map (λ e. table_cell p.labels e.class e.value) t.elements)
+      (all_map IsOneLine (λ v. table_cell p.labels t.key_class (Some v)) t.key
+      (all (λ v. IsOneLine (table_cell p.labels t.key_class (Some v))) (λ v. table_cell_line t.key_class
+      (Some v)) t.key))
+      (all_map IsOneLine (λ e. table_cell p.labels e.class e.value) t.elements
+      (all (λ e. IsOneLine (table_cell p.labels e.class e.value))
+      (λ e. table_cell_line e.class e.value) t.elements))
 
   name_cells_line : (s : Scheme) → HasPlainNames s → AllByRecursion IsOneLine (name_cells s)
   name_cells_line s h =
       all_append IsOneLine (map (λ a. a.0) s.keys) (map (λ a. a.0) s.others)
       (all_map IsOneLine (λ a. a.0) s.keys h.keys) (all_map IsOneLine (λ a. a.0) s.others h.others)
 
-  pub table_lines : (s : Scheme) (label : ℕ) (q : Query) (widths : List ℕ) (tuples : List Tuple) → HasPlainNames s → AllByRecursion IsOneLine (table_of p s label q widths tuples)
+  pub table_lines : (s : Scheme) (label : ℕ) (q : Query) (widths : List ℕ) (tuples : List Tuple) → HasPlainNames s
+      → AllByRecursion IsOneLine (table_of p s label q widths tuples)
   table_lines s label q widths tuples h =
-      let row = λ (t : Tuple). one_line-append (padded widths 0 (tuple_cells p t)) (name_of p.labels (tuple_class (labels_of p) t)) (one_line-padded widths 0 (tuple_cells p t) (tuple_cells_line t)) (class_line t) in (
+      let row = λ (t : Tuple). one_line-append (padded widths 0 (tuple_cells p t))
+      (name_of p.labels (tuple_class (labels_of p) t)) (one_line-padded widths 0 (tuple_cells p t)
+      (tuple_cells_line t)) (class_line t) in (
         asked_line (codes "view") s label q refl h,
         (
-          one_line-append (padded widths 0 (name_cells s)) (codes "class") (one_line-padded widths 0 (name_cells s) (name_cells_line s h)) refl,
+          one_line-append (padded widths 0 (name_cells s)) (codes "class") (one_line-padded widths 0 (name_cells s)
+              (name_cells_line s h)) refl,
           (
             one_line-append (flat_map ruled widths) (codes "-----") (one_line-ruled widths) refl,
             all_map IsOneLine (table_row p widths) tuples (all (λ t. IsOneLine (table_row p widths t)) row tuples),
@@ -127,10 +157,23 @@ module _ (p : Policy) (labels : AllByRecursion (λ l. IsOneLine l.name) p.labels
 
   -- ---- entries
 
-  front_line : (label : ℕ) (deed : List ℕ) (user session : Name) → IsOneLine deed → IsOneLine (entry_front p label deed user session)
-  front_line label deed user session h = simp (list_any-append, label_line label, h, one_line-printable user, one_line-printable session)
+  front_line : (label : ℕ) (deed : List ℕ) (user session : Name) → IsOneLine deed
+      → IsOneLine (entry_front p label deed user session)
+  front_line label deed user session h = simp (
+    list_any-append,
+    label_line label,
+    h,
+    one_line-printable user,
+    one_line-printable session,
+  )
 
   pub entry_line : (e : Entry) → IsOneLine (entry_text p e)
-  entry_line (entries.Called label user session transaction) = one_line-append (entry_front p label (codes " called ") user session) (printable transaction) (front_line label (codes " called ") user session refl) (one_line-printable transaction)
-  entry_line (entries.Denied label user session code) = one_line-append (entry_front p label (codes " denied ") user session) (decimal code) (front_line label (codes " denied ") user session refl) (one_line-decimal code)
-  entry_line (entries.Released label user session value) = one_line-append (entry_front p label (codes " released ") user session) (cell_text value) (front_line label (codes " released ") user session refl) (cell_line value)
+  entry_line (entries.Called label user session transaction) =
+      one_line-append (entry_front p label (codes " called ") user session) (printable transaction)
+      (front_line label (codes " called ") user session refl) (one_line-printable transaction)
+  entry_line (entries.Denied label user session code) =
+      one_line-append (entry_front p label (codes " denied ") user session) (decimal code)
+      (front_line label (codes " denied ") user session refl) (one_line-decimal code)
+  entry_line (entries.Released label user session value) =
+      one_line-append (entry_front p label (codes " released ") user session) (cell_text value)
+      (front_line label (codes " released ") user session refl) (cell_line value)

@@ -77,16 +77,20 @@ module _ (site : Site) (distinct : AreDistinct (site_labels site)) (c : ℕ) whe
   abbrev out_of : Form → World → List Event → List Line
   out_of form w es = out (site_labels site) c (run_lines form site w es)
 
-  out_next : (form : Form) (w : World) (e : Event) (es : List Event) → out_of form w (e ∷ es) ≡ out (site_labels site) c (reply_lines_in form site e (step site w e).reply) ++ out_of form (next w e) es
+  out_next : (form : Form) (w : World) (e : Event) (es : List Event) → out_of form w (e ∷ es) ≡ out (site_labels site) c
+      (reply_lines_in form site e (step site w e).reply) ++ out_of form (next w e) es
   unfolding run_lines
-  out_next form w e es = filter-append (λ l. below (site_labels site) l.label c) (reply_lines_in form site e (step site w e).reply) (run_lines form site (next w e) es)
+  out_next form w e es = filter-append (λ l. below (site_labels site) l.label c) (reply_lines_in form site e
+      (step site w e).reply) (run_lines form site (next w e) es)
 
   abbrev released_of : World → List Event → List Item
   released_of w es = released_to site c w es
 
-  released_next : (w : World) (e : Event) (es : List Event) → released_of w (e ∷ es) ≡ seen_items (site_labels site) c (released_in (step site w e).reply) ++ released_of (next w e) es
+  released_next : (w : World) (e : Event) (es : List Event) → released_of w (e ∷ es) ≡ seen_items (site_labels site) c
+      (released_in (step site w e).reply) ++ released_of (next w e) es
   unfolding run_released
-  released_next w e es = filter-append (λ i. below (site_labels site) i.0 c) (released_in (step site w e).reply) (run_released site (next w e) es)
+  released_next w e es = filter-append (λ i. below (site_labels site) i.0 c) (released_in (step site w e).reply)
+      (run_released site (next w e) es)
 
   end_next : (w : World) (e : Event) (es : List Event) → end_of site w (e ∷ es) ≡ end_of site (next w e) es
   unfolding end_of
@@ -96,30 +100,39 @@ module _ (site : Site) (distinct : AreDistinct (site_labels site)) (c : ℕ) whe
   replies_of w es = replies_shown site c w es
 
   -- the reply to an event at a level that c sees, and at another none
-  replies_next : (w : World) (e : Event) (es : List Event) (b : Bool) → Sees e b → replies_of w (e ∷ es) ≡ cond b (reply_shown (site_labels site) c (step site w e).reply ∷ []) [] ++ replies_of (next w e) es
+  replies_next : (w : World) (e : Event) (es : List Event) (b : Bool) → Sees e b → replies_of w (e ∷ es)
+      ≡ cond b (reply_shown (site_labels site) c (step site w e).reply ∷ []) [] ++ replies_of (next w e) es
   unfolding replies_shown
-  replies_next w e es b h = ap (λ x. cond x (reply_shown (site_labels site) c (step site w e).reply ∷ []) [] ++ replies_of (next w e) es) h
+  replies_next w e es b h = ap (λ x. cond x (reply_shown (site_labels site) c (step site w e).reply ∷ []) []
+      ++ replies_of (next w e) es) h
 
   abbrev sees : List Event → List Event
   sees es = seen site c es
 
-  sees_next : (e : Event) (es : List Event) (b : Bool) → Sees e b → sees (e ∷ es) ≡ cond b (glimpse site c e ∷ sees es) (sees es)
+  sees_next : (e : Event) (es : List Event) (b : Bool) → Sees e b → sees (e ∷ es) ≡ cond b (glimpse site c e ∷ sees es)
+      (sees es)
   sees_next e es b h = by_test b h
     where
       by_test : (b : Bool) → Sees e b → sees (e ∷ es) ≡ cond b (glimpse site c e ∷ sees es) (sees es)
-      by_test true h = ap (λ x. map (glimpse site c) (cond x (e ∷ filter (λ f. below (site_labels site) f.level c) es) (filter (λ f. below (site_labels site) f.level c) es))) h
-      by_test false h = ap (λ x. map (glimpse site c) (cond x (e ∷ filter (λ f. below (site_labels site) f.level c) es) (filter (λ f. below (site_labels site) f.level c) es))) h
+      by_test true h = ap (λ x. map (glimpse site c) (cond x (e ∷ filter (λ f. below (site_labels site) f.level c) es)
+          (filter (λ f. below (site_labels site) f.level c) es))) h
+      by_test false h = ap (λ x. map (glimpse site c) (cond x (e ∷ filter (λ f. below (site_labels site) f.level c) es)
+          (filter (λ f. below (site_labels site) f.level c) es))) h
 
   -- ---- an event that c does not see
 
   hush : (w : World) (e : Event) → Sees e false → AreStored site w.db → IsGood e → Silent site c w e (step site w e)
   hush w e h sw good = hidden_step site distinct c w sw e h good.safe
 
-  out_hidden : (form : Form) (w : World) (e : Event) (es : List Event) → Sees e false → AreStored site w.db → IsGood e → out_of form w (e ∷ es) ≡ out_of form (next w e) es
-  out_hidden form w e es h sw good = out_next form w e es ∙ ap (λ xs. xs ++ out_of form (next w e) es) (hidden_in site c e h (step site w e).reply (hush w e h sw good).lines form)
+  out_hidden : (form : Form) (w : World) (e : Event) (es : List Event) → Sees e false → AreStored site w.db → IsGood e
+      → out_of form w (e ∷ es) ≡ out_of form (next w e) es
+  out_hidden form w e es h sw good = out_next form w e es ∙ ap (λ xs. xs ++ out_of form (next w e) es)
+      (hidden_in site c e h (step site w e).reply (hush w e h sw good).lines form)
 
-  released_hidden : (w : World) (e : Event) (es : List Event) → Sees e false → AreStored site w.db → IsGood e → released_of w (e ∷ es) ≡ released_of (next w e) es
-  released_hidden w e es h sw good = released_next w e es ∙ ap (λ xs. xs ++ released_of (next w e) es) (hush w e h sw good).released
+  released_hidden : (w : World) (e : Event) (es : List Event) → Sees e false → AreStored site w.db → IsGood e
+      → released_of w (e ∷ es) ≡ released_of (next w e) es
+  released_hidden w e es h sw good = released_next w e es ∙ ap (λ xs. xs ++ released_of (next w e) es)
+      (hush w e h sw good).released
 
   -- ---- two runs that end alike
 
@@ -132,14 +145,16 @@ module _ (site : Site) (distinct : AreDistinct (site_labels site)) (c : ℕ) whe
   abbrev Released_alike : World → World → List Event → List Event → Type 0
   Released_alike v w es fs = (released_of v es ≡ released_of w fs) ⊎ AreBelowCeiling site c es
 
-  hidden_first : (v w : World) (e : Event) (es fs : List Event) → Sees e false → AreStored site v.db → IsGood e → Ends (next v e) w es fs → Ends v w (e ∷ es) fs
+  hidden_first : (v w : World) (e : Event) (es fs : List Event) → Sees e false → AreStored site v.db → IsGood e
+      → Ends (next v e) w es fs → Ends v w (e ∷ es) fs
   hidden_first v w e es fs h sv good r = record {
     out = λ form. out_hidden form v e es h sv good ∙ r.out form;
     replies = replies_next v e es false h ∙ r.replies;
     world = subst (λ x. LowAgree (site_labels site) c x (end_of site w fs)) (sym (end_next v e es)) r.world;
   }
 
-  hidden_second : (v w : World) (e : Event) (es fs : List Event) → Sees e false → AreStored site w.db → IsGood e → Ends v (next w e) es fs → Ends v w es (e ∷ fs)
+  hidden_second : (v w : World) (e : Event) (es fs : List Event) → Sees e false → AreStored site w.db → IsGood e
+      → Ends v (next w e) es fs → Ends v w es (e ∷ fs)
   hidden_second v w e es fs h sw good r = record {
     out = λ form. r.out form ∙ sym (out_hidden form w e fs h sw good);
     replies = r.replies ∙ sym (replies_next w e fs false h);
@@ -147,25 +162,31 @@ module _ (site : Site) (distinct : AreDistinct (site_labels site)) (c : ℕ) whe
   }
 
   -- the second world after an event that c does not see
-  still_low : (v w : World) (e : Event) → Sees e false → AreStored site w.db → IsGood e → LowAgree (site_labels site) c v w → LowAgree (site_labels site) c v (next w e)
+  still_low : (v w : World) (e : Event) → Sees e false → AreStored site w.db → IsGood e
+      → LowAgree (site_labels site) c v w → LowAgree (site_labels site) c v (next w e)
   still_low v w e h sw good k = lows_trans k (hush w e h sw good).world
 
   -- only hidden events
-  hidden_rest : (v w : World) (fs : List Event) → AreGood fs → AreStored site w.db → LowAgree (site_labels site) c v w → [] ≡ sees fs → Ends v w [] fs
+  hidden_rest : (v w : World) (fs : List Event) → AreGood fs → AreStored site w.db → LowAgree (site_labels site) c v w
+      → [] ≡ sees fs → Ends v w [] fs
   unfolding run_lines replies_shown end_of
   hidden_rest v w [] gf sw h none = record { out = λ form. refl; replies = refl; world = h }
   hidden_rest v w (x ∷ fs) gf sw h none =
       elim (cases_Bool (below (site_labels site) x.level c)) [
         | inl b ↦ absurd (not_nil (glimpse site c x) (sees fs) (sym (none ∙ sees_next x fs true b)))
-        | inr b ↦ hidden_second v w x [] fs b sw gf.0 (hidden_rest v (next w x) fs gf.1 (stored_next w x sw gf.0) (still_low v w x b sw gf.0 h) (none ∙ sees_next x fs false b))
+        | inr b ↦ hidden_second v w x [] fs b sw gf.0 (hidden_rest v (next w x) fs gf.1 (stored_next w x sw gf.0)
+            (still_low v w x b sw gf.0 h) (none ∙ sees_next x fs false b))
       ]
 
   Claim : List Event → Type 0
-  Claim es = (fs : List Event) (v w : World) → AreGood es → AreGood fs → AreStored site v.db → AreStored site w.db → LowAgree (site_labels site) c v w → sees es ≡ sees fs → Released_alike v w es fs → Ends v w es fs
+  Claim es = (fs : List Event) (v w : World) → AreGood es → AreGood fs → AreStored site v.db → AreStored site w.db
+      → LowAgree (site_labels site) c v w → sees es ≡ sees fs → Released_alike v w es fs → Ends v w es fs
 
   -- what is asked of the calls that c sees, at the first of them and at the others
-  ceiling_at : (e : Event) (es : List Event) → Sees e true → AreBelowCeiling site c (e ∷ es) → IsBelowCeiling site c e.command × AreBelowCeiling site c es
-  ceiling_at e es b k = let both = subst (AllByRecursion (λ f. IsBelowCeiling site c f.command)) (sees_next e es true b) k in (plain_ceiling e.command both.0, both.1)
+  ceiling_at : (e : Event) (es : List Event) → Sees e true → AreBelowCeiling site c (e ∷ es)
+      → IsBelowCeiling site c e.command × AreBelowCeiling site c es
+  ceiling_at e es b k = let both = subst (AllByRecursion (λ f. IsBelowCeiling site c f.command))
+      (sees_next e es true b) k in (plain_ceiling e.command both.0, both.1)
     where
       plain_ceiling : (a : Command) → IsBelowCeiling site c (shown site c a) → IsBelowCeiling site c a
       plain_ceiling (commands.Open name) h = tt
@@ -176,58 +197,75 @@ module _ (site : Site) (distinct : AreDistinct (site_labels site)) (c : ℕ) whe
       plain_ceiling (commands.Write relation wr) h = tt
       plain_ceiling (commands.Call name args) h = h
 
-  ceiling_past : (e : Event) (es : List Event) → Sees e false → AreBelowCeiling site c (e ∷ es) → AreBelowCeiling site c es
+  ceiling_past : (e : Event) (es : List Event) → Sees e false → AreBelowCeiling site c (e ∷ es)
+      → AreBelowCeiling site c es
   ceiling_past e es b k = subst (AllByRecursion (λ f. IsBelowCeiling site c f.command)) (sees_next e es false b) k
 
   -- releases that tell two runs apart are not alike
   no_split : (v w : World) (e x : Event) (es fs : List Event) → Released_alike v w (e ∷ es) (x ∷ fs) → Sees e true
-      → Split (seen_items (site_labels site) c (released_in (step site v e).reply)) (seen_items (site_labels site) c (released_in (step site w x).reply)) × (IsBelowCeiling site c e.command → ⊥) → ⊥
+      → Split (seen_items (site_labels site) c (released_in (step site v e).reply)) (seen_items (site_labels site) c
+      (released_in (step site w x).reply)) × (IsBelowCeiling site c e.command → ⊥) → ⊥
   no_split v w e x es fs (inl same) b s =
       not_from_itself _
-      (subst (Split (seen_items (site_labels site) c (released_in (step site v e).reply) ++ released_of (next v e) es)) (sym (sym (released_next v e es) ∙ same ∙ released_next w x fs))
+      (subst (Split (seen_items (site_labels site) c (released_in (step site v e).reply) ++ released_of (next v e) es))
+      (sym (sym (released_next v e es) ∙ same ∙ released_next w x fs))
       (split_more _ _ (released_of (next v e) es) (released_of (next w x) fs) s.0))
   no_split v w e x es fs (inr ceiling) b s = s.1 (ceiling_at e es b ceiling).0
 
-  rest_alike : (v w : World) (e x : Event) (es fs : List Event) → Sees e true → StepsAlike site c e x (step site v e) (step site w x) → Released_alike v w (e ∷ es) (x ∷ fs) → Released_alike (next v e) (next w x) es fs
+  rest_alike : (v w : World) (e x : Event) (es fs : List Event) → Sees e true → StepsAlike site c e x (step site v e)
+      (step site w x) → Released_alike v w (e ∷ es) (x ∷ fs) → Released_alike (next v e) (next w x) es fs
   rest_alike v w e x es fs b a (inl same) =
-      inl (append_cancel_left (seen_items (site_labels site) c (released_in (step site v e).reply)) (released_of (next v e) es) (released_of (next w x) fs)
-      (sym (released_next v e es) ∙ same ∙ released_next w x fs ∙ ap (λ xs. xs ++ released_of (next w x) fs) (sym a.released)))
+      inl (append_cancel_left (seen_items (site_labels site) c (released_in (step site v e).reply))
+      (released_of (next v e) es) (released_of (next w x) fs)
+      (sym (released_next v e es) ∙ same ∙ released_next w x fs ∙ ap (λ xs. xs ++ released_of (next w x) fs)
+      (sym a.released)))
   rest_alike v w e x es fs b a (inr ceiling) = inr (ceiling_at e es b ceiling).1
 
   -- both runs at an event that c sees
-  both_seen : (e x : Event) (es fs : List Event) → Claim es → (v w : World) → IsGood e → IsGood x → AreGood es → AreGood fs → Sees e true → glimpse site c e ≡ glimpse site c x → sees es ≡ sees fs
-      → AreStored site v.db → AreStored site w.db → LowAgree (site_labels site) c v w → Released_alike v w (e ∷ es) (x ∷ fs) → Ends v w (e ∷ es) (x ∷ fs)
+  both_seen : (e x : Event) (es fs : List Event) → Claim es → (v w : World) → IsGood e → IsGood x → AreGood es
+      → AreGood fs → Sees e true → glimpse site c e ≡ glimpse site c x → sees es ≡ sees fs
+      → AreStored site v.db → AreStored site w.db → LowAgree (site_labels site) c v w
+      → Released_alike v w (e ∷ es) (x ∷ fs) → Ends v w (e ∷ es) (x ∷ fs)
   unfolding Claim end_of
   both_seen e x es fs claim v w ge gx ges gfs b g same sv sw h relation =
       elim (seen_steps site distinct c v w sv sw h e b x ge.safe g) [
         | inl s ↦ absurd (no_split v w e x es fs relation b s)
         | inr a ↦
             let also = ap (λ y. below (site_labels site) y.level c) (sym g) ∙ b in
-            let r = claim fs (next v e) (next w x) ges gfs (stored_next v e sv ge) (stored_next w x sw gx) a.world same (rest_alike v w e x es fs b a relation) in
+            let r = claim fs (next v e) (next w x) ges gfs (stored_next v e sv ge) (stored_next w x sw gx) a.world same
+            (rest_alike v w e x es fs b a relation) in
             record {
               out = λ form. out_next form v e es
-                  ∙ (λ i. (seen_in site c e b (step site v e).reply form ∙ (λ j. reply_lines_in form site (g j) (a.reply j)) ∙ sym (seen_in site c x also (step site w x).reply form)) i ++ r.out form i)
+                  ∙ (λ i. (seen_in site c e b (step site v e).reply form ∙ (λ j. reply_lines_in form site (g j)
+                  (a.reply j)) ∙ sym (seen_in site c x also (step site w x).reply form)) i ++ r.out form i)
                   ∙ sym (out_next form w x fs);
-              replies = replies_next v e es true b ∙ (λ i. a.reply i ∷ r.replies i) ∙ sym (replies_next w x fs true also);
+              replies = replies_next v e es true b ∙ (λ i. a.reply i ∷ r.replies i)
+                  ∙ sym (replies_next w x fs true also);
               world = r.world;
             }
       ]
 
   -- the first run is at an event that c sees, and the second goes on to one
-  meet : (e : Event) (es : List Event) → Claim es → (v : World) → IsGood e → AreGood es → Sees e true → AreStored site v.db
-      → (fs : List Event) (w : World) → AreGood fs → AreStored site w.db → LowAgree (site_labels site) c v w → glimpse site c e ∷ sees es ≡ sees fs → Released_alike v w (e ∷ es) fs → Ends v w (e ∷ es) fs
+  meet : (e : Event) (es : List Event) → Claim es → (v : World) → IsGood e → AreGood es → Sees e true
+      → AreStored site v.db
+      → (fs : List Event) (w : World) → AreGood fs → AreStored site w.db → LowAgree (site_labels site) c v w
+      → glimpse site c e ∷ sees es ≡ sees fs → Released_alike v w (e ∷ es) fs → Ends v w (e ∷ es) fs
   meet e es claim v ge ges b sv [] w gf sw h same relation = absurd (not_nil (glimpse site c e) (sees es) same)
-  meet e es claim v ge ges b sv (x ∷ fs) w gf sw h same relation = at_x (cases_Bool (below (site_labels site) x.level c)) (meet e es claim v ge ges b sv fs)
+  meet e es claim v ge ges b sv (x ∷ fs) w gf sw h same relation =
+      at_x (cases_Bool (below (site_labels site) x.level c)) (meet e es claim v ge ges b sv fs)
     where
       at_x : (Sees x true) ⊎ (Sees x false)
-          → ((u : World) → AreGood fs → AreStored site u.db → LowAgree (site_labels site) c v u → glimpse site c e ∷ sees es ≡ sees fs → Released_alike v u (e ∷ es) fs → Ends v u (e ∷ es) fs)
+          → ((u : World) → AreGood fs → AreStored site u.db → LowAgree (site_labels site) c v u → glimpse site c e
+          ∷ sees es ≡ sees fs → Released_alike v u (e ∷ es) fs → Ends v u (e ∷ es) fs)
           → Ends v w (e ∷ es) (x ∷ fs)
       at_x (inl q) go =
           let k = same ∙ sees_next x fs true q in
-          both_seen e x es fs claim v w ge gf.0 ges gf.1 b (parts_head (glimpse site c e) (glimpse site c x) (sees es) (sees fs) k) (parts_tail (glimpse site c e) (glimpse site c x) (sees es) (sees fs) k) sv sw h relation
+          both_seen e x es fs claim v w ge gf.0 ges gf.1 b (parts_head (glimpse site c e) (glimpse site c x) (sees es)
+          (sees fs) k) (parts_tail (glimpse site c e) (glimpse site c x) (sees es) (sees fs) k) sv sw h relation
       at_x (inr q) go =
           hidden_second v w x (e ∷ es) fs q sw gf.0
-          (go (next w x) gf.1 (stored_next w x sw gf.0) (still_low v w x q sw gf.0 h) (same ∙ sees_next x fs false q) (past relation))
+          (go (next w x) gf.1 (stored_next w x sw gf.0) (still_low v w x q sw gf.0 h) (same ∙ sees_next x fs false q)
+          (past relation))
         where
           past : Released_alike v w (e ∷ es) (x ∷ fs) → Released_alike v (next w x) (e ∷ es) fs
           past (inl eq) = inl (eq ∙ released_hidden w x fs q sw gf.0)
@@ -240,32 +278,49 @@ module _ (site : Site) (distinct : AreDistinct (site_labels site)) (c : ℕ) whe
       elim (cases_Bool (below (site_labels site) e.level c)) [
         | inl b ↦ meet e es (interleaved es) v ge.0 ge.1 b sv fs w gf sw h (sym (sees_next e es true b) ∙ same) relation
         | inr b ↦ hidden_first v w e es fs b sv ge.0
-            (interleaved es fs (next v e) w ge.1 gf (stored_next v e sv ge.0) sw (lows_trans (lows_sym (hush v e b sv ge.0).world) h) (sym (sees_next e es false b) ∙ same)
-            (elim relation [ inl eq ↦ inl (sym (released_hidden v e es b sv ge.0) ∙ eq) | inr ceiling ↦ inr (ceiling_past e es b ceiling) ]))
+            (interleaved es fs (next v e) w ge.1 gf (stored_next v e sv ge.0) sw
+            (lows_trans (lows_sym (hush v e b sv ge.0).world) h) (sym (sees_next e es false b) ∙ same)
+            (elim relation [
+              | inl eq ↦ inl (sym (released_hidden v e es b sv ge.0) ∙ eq)
+              | inr ceiling ↦ inr
+                  (ceiling_past e es b ceiling)
+            ]))
       ]
 
-  ends_alike : (v w : World) (es fs : List Event) → AreGood es → AreGood fs → AreStored site v.db → AreStored site w.db → AgreeAt (site_labels site) c v w → sees es ≡ sees fs → Released_alike v w es fs
+  ends_alike : (v w : World) (es fs : List Event) → AreGood es → AreGood fs → AreStored site v.db → AreStored site w.db
+      → AgreeAt (site_labels site) c v w → sees es ≡ sees fs → Released_alike v w es fs
       → EndAlike site c v w es fs
   unfolding Claim
   ends_alike v w es fs ge gf sv sw agree same relation =
       let r = interleaved es fs v w ge gf sv sw (to_low site distinct c v w sv sw agree) same relation in
-      record { out = r.out; replies = r.replies; worlds = from_low site c (end_of site v es) (end_of site w fs) (stored_end v es sv ge) (stored_end w fs sw gf) r.world }
+      record {
+        out = r.out;
+        replies = r.replies;
+        worlds = from_low site c (end_of site v es) (end_of site w fs)
+            (stored_end v es sv ge) (stored_end w fs sw gf) r.world;
+      }
 
 -- ---- the laws
 
-all_good : (site : Site) (distinct : AreDistinct (site_labels site)) (c : ℕ) → AreRead site → AreSecure site → (es : List Event) → EventsFit site es → AreGood site distinct c es
+all_good : (site : Site) (distinct : AreDistinct (site_labels site)) (c : ℕ) → AreRead site → AreSecure site
+    → (es : List Event) → EventsFit site es → AreGood site distinct c es
 all_good site distinct c read secure [] fits = tt
-all_good site distinct c read secure (e ∷ es) fits = (record { fits = fits.0; safe = all_safe site read secure e.command }, all_good site distinct c read secure es fits.1)
+all_good site distinct c read secure (e ∷ es) fits = (
+  record { fits = fits.0; safe = all_safe site read secure e.command },
+  all_good site distinct c read secure es fits.1,
+)
 
 pub secure_alike : SecureRunsAreAlike
 secure_alike site distinct read secure v es sv fits c w fs sw ff agree same relation =
-    ends_alike site distinct c v w es fs (all_good site distinct c read secure es fits) (all_good site distinct c read secure fs ff) sv sw agree same relation
+    ends_alike site distinct c v w es fs (all_good site distinct c read secure es fits)
+    (all_good site distinct c read secure fs ff) sv sw agree same relation
 
 -- where the rules hold under certificates, the transactions are secure
 pub certified_secure : (site : Site) → AreDistinct (site_labels site) → AreCertified site → AreSecure site
 certified_secure site distinct = each site.stored
   where
-    each : (stored : List Stored) → AllByRecursion (IsCertifiedUnder site.policy) stored → AllByRecursion (WhereCertified (Secure site.policy)) stored
+    each : (stored : List Stored) → AllByRecursion (IsCertifiedUnder site.policy) stored
+        → AllByRecursion (WhereCertified (Secure site.policy)) stored
     each [] h = tt
     each (Certified k ∷ ss) h = (secure_rules site.policy distinct k.tx k.cert h.0, each ss h.1)
     each (Plain tx ∷ ss) h = (tt, each ss h.1)
@@ -274,21 +329,31 @@ pub accepted_alike : AcceptedRunsAreAlike
 accepted_alike site distinct read certified = secure_alike site distinct read (certified_secure site distinct certified)
 
 -- of the first events of a run
-pub first_accepted_alike : (site : Site) → AreDistinct (site_labels site) → AreRead site → AreCertified site → (v : World) (es : List Event) → AreStored site v.db → EventsFit site es → (n : ℕ) → PassesOnlyReleasesDown site v (take n es)
-first_accepted_alike site distinct read certified v es sv fits n = accepted_alike site distinct read certified v (take n es) sv (first_fit site n es fits)
+pub first_accepted_alike : (site : Site) → AreDistinct (site_labels site) → AreRead site → AreCertified site
+    → (v : World) (es : List Event) → AreStored site v.db → EventsFit site es → (n : ℕ) → PassesOnlyReleasesDown site v
+    (take n es)
+first_accepted_alike site distinct read certified v es sv fits n = accepted_alike site distinct read certified v
+    (take n es) sv (first_fit site n es fits)
 
 -- the lines that a level is shown are the same, and so are their bytes
-pub shows_only_releases : (site : Site) (c : ℕ) (v : World) (es : List Event) → PassesOnlyReleasesDown site v es → ShowsOnlyReleases site c v es
-shows_only_releases site c v es passes form w fs sw ff agree same relation = ap printed ((passes c w fs sw ff agree same relation).out form)
+pub shows_only_releases : (site : Site) (c : ℕ) (v : World) (es : List Event) → PassesOnlyReleasesDown site v es
+    → ShowsOnlyReleases site c v es
+shows_only_releases site c v es passes form w fs sw ff agree same relation =
+    ap printed ((passes c w fs sw ff agree same relation).out form)
 
 -- ---- without calls that c sees
 
-calls_good : (site : Site) (distinct : AreDistinct (site_labels site)) (c : ℕ) (es : List Event) → EventsFit site es → AreCallsSecure site es → AreGood site distinct c es
+calls_good : (site : Site) (distinct : AreDistinct (site_labels site)) (c : ℕ) (es : List Event) → EventsFit site es
+    → AreCallsSecure site es → AreGood site distinct c es
 calls_good site distinct c [] fits secure = tt
-calls_good site distinct c (e ∷ es) fits secure = (record { fits = fits.0; safe = secure_call site e.command secure.0 }, calls_good site distinct c es fits.1 secure.1)
+calls_good site distinct c (e ∷ es) fits secure = (
+  record { fits = fits.0; safe = secure_call site e.command secure.0 },
+  calls_good site distinct c es fits.1 secure.1,
+)
 
 -- no call that c sees reads anything
-pub unseen_ceilings : (site : Site) (c : ℕ) (es : List Event) → HaveNoCall es → AllByRecursion (λ e. IsBelowCeiling site c e.command) es
+pub unseen_ceilings : (site : Site) (c : ℕ) (es : List Event) → HaveNoCall es
+    → AllByRecursion (λ e. IsBelowCeiling site c e.command) es
 unseen_ceilings site c [] none = tt
 unseen_ceilings site c (e ∷ es) none = (no_ceiling e.command none.0, unseen_ceilings site c es none.1)
   where
@@ -303,7 +368,8 @@ unseen_ceilings site c (e ∷ es) none = (no_ceiling e.command none.0, unseen_ce
 
 pub runs_alike : LowRunsAreAlike
 runs_alike site distinct v es sv fits secure c w fs sw ff fsecure none agree same =
-    ends_alike site distinct c v w es fs (calls_good site distinct c es fits secure) (calls_good site distinct c fs ff fsecure) sv sw agree same
+    ends_alike site distinct c v w es fs (calls_good site distinct c es fits secure)
+    (calls_good site distinct c fs ff fsecure) sv sw agree same
     (inr (unseen_ceilings site c (seen site c es) none))
 
 -- ---- without calls
@@ -312,7 +378,9 @@ runs_alike site distinct v es sv fits secure c w fs sw ff fsecure none agree sam
 pub none_seen : (site : Site) (c : ℕ) (es : List Event) → HaveNoCall es → SeesNoCall site c es
 none_seen site c [] none = tt
 none_seen site c (e ∷ es) none =
-    elim (below (site_labels site) e.level c) as (λ b. HaveNoCall (map (glimpse site c) (cond b (e ∷ filter (λ f. below (site_labels site) f.level c) es) (filter (λ f. below (site_labels site) f.level c) es)))) [
+    elim (below (site_labels site) e.level c) as
+    (λ b. HaveNoCall (map (glimpse site c) (cond b (e ∷ filter (λ f. below (site_labels site) f.level c) es)
+    (filter (λ f. below (site_labels site) f.level c) es)))) [
       | true ↦ (no_call_shown e.command none.0, none_seen site c es none.1)
       | false ↦ none_seen site c es none.1
     ]

@@ -41,8 +41,13 @@ module _ (u s h : Pair) (rights : List Right) where
     version = One;
     levels = [];
     categories = [];
-    labels = record { name = codes "U"; value = u } ∷ record { name = codes "S"; value = s } ∷ record { name = codes "H"; value = h } ∷ [];
-    users = record { name = codes "tom"; clearance = 2; trusted = None } ∷ record { name = codes "bob"; clearance = 1; trusted = None } ∷ [];
+    labels = record { name = codes "U"; value = u } ∷ record { name = codes "S"; value = s }
+        ∷ record { name = codes "H"; value = h } ∷ [];
+    users = record { name = codes "tom"; clearance = 2; trusted = None } ∷ record {
+      name = codes "bob";
+      clearance = 1;
+      trusted = None;
+    } ∷ [];
     matrix = rights;
   }
 
@@ -94,7 +99,8 @@ module _ (u s h : Pair) (rights : List Right) where
   abbrev viewing : World → Event → ℕ → ℕ → ℕ → Bool → Bool → Step
   viewing w e user label modes a b =
       unless site
-      (first_denial ((not (list_any (λ mode. bit_and modes mode == mode) (read_mode ∷ write_mode ∷ [])), Ds) ∷ (not a || false, Ss) ∷ (not b || false, Star) ∷ []))
+      (first_denial ((not (list_any (λ mode. bit_and modes mode == mode) (read_mode ∷ write_mode ∷ [])), Ds)
+      ∷ (not a || false, Ss) ∷ (not b || false, Star) ∷ []))
       w e user (viewed site w 0 label no_query)
 
   abbrev entry_t : Entry
@@ -110,12 +116,15 @@ module _ (u s h : Pair) (rights : List Right) where
   abbrev auditing : List Entry → Step
   auditing es = record { world = denied_b.world; reply = Entries es }
 
-  next : (w : World) (e : Event) (es : List Event) (s : Step) → step site w e ≡ s → run_lines Lines site w (e ∷ es) ≡ reply_lines site e s.reply ++ run_lines Lines site s.world es
+  next : (w : World) (e : Event) (es : List Event) (s : Step) → step site w e ≡ s → run_lines Lines site w (e ∷ es)
+      ≡ reply_lines site e s.reply ++ run_lines Lines site s.world es
   unfolding run_lines
   next w e es s h = ap (λ (x : Step). reply_lines site e x.reply ++ run_lines Lines site x.world es) h
 
-  module _ (u-u : below ls 0 0 ≡ true) (u-s : below ls 0 1 ≡ true) (u-h : below ls 0 2 ≡ true) (s-u : below ls 1 0 ≡ false) (s-s : below ls 1 1 ≡ true) (s-h : below ls 1 2 ≡ true) (h-s : below ls 2 1 ≡ false)
-      (tom-reads : granted_modes rights 0 (codes "SOD") ≡ 2) (bob-writes : granted_modes rights 1 (codes "SOD") ≡ 8) where
+  module _ (u-u : below ls 0 0 ≡ true) (u-s : below ls 0 1 ≡ true) (u-h : below ls 0 2 ≡ true) (s-u : below ls 1 0
+      ≡ false) (s-s : below ls 1 1 ≡ true) (s-h : below ls 1 2 ≡ true) (h-s : below ls 2 1 ≡ false)
+      (tom-reads : granted_modes rights 0 (codes "SOD") ≡ 2) (bob-writes : granted_modes rights 1 (codes "SOD")
+      ≡ 8) where
     tom_opens : step site start opens_t ≡ record { world = with_tom; reply = Opened 0 }
     unfolding step
     tom_opens = ap (opening start opens_t 0) u-h
@@ -145,9 +154,14 @@ module _ (u s h : Pair) (rights : List Right) where
     unfolding run_lines digits
     each_sees_its_own_denials = ap printed (
         next start opens_t (opens_b ∷ views_t ∷ views_b ∷ audits_t ∷ audits_b ∷ []) _ tom_opens
-        ∙ ap (λ xs. reply_lines site opens_t (Opened 0) ++ xs) (next with_tom opens_b (views_t ∷ views_b ∷ audits_t ∷ audits_b ∷ []) _ bob_opens
-        ∙ ap (λ xs. reply_lines site opens_b (Opened 1) ++ xs) (next with_both views_t (views_b ∷ audits_t ∷ audits_b ∷ []) _ tom_is_denied
-        ∙ ap (λ xs. reply_lines site views_t denied_t.reply ++ xs) (next denied_t.world views_b (audits_t ∷ audits_b ∷ []) _ bob_is_denied
-        ∙ ap (λ xs. reply_lines site views_b denied_b.reply ++ xs) (next denied_b.world audits_t (audits_b ∷ []) _ tom_audits
-        ∙ ap (λ xs. reply_lines site audits_t (auditing (entry_t ∷ [])).reply ++ xs) (next denied_b.world audits_b [] _ bob_audits)))))
+        ∙ ap (λ xs. reply_lines site opens_t (Opened 0) ++ xs) (next with_tom opens_b (views_t ∷ views_b ∷ audits_t
+        ∷ audits_b ∷ []) _ bob_opens
+        ∙ ap (λ xs. reply_lines site opens_b (Opened 1) ++ xs) (next with_both views_t (views_b ∷ audits_t ∷ audits_b
+        ∷ []) _ tom_is_denied
+        ∙ ap (λ xs. reply_lines site views_t denied_t.reply ++ xs) (next denied_t.world views_b (audits_t ∷ audits_b
+        ∷ []) _ bob_is_denied
+        ∙ ap (λ xs. reply_lines site views_b denied_b.reply ++ xs) (next denied_b.world audits_t
+        (audits_b ∷ []) _ tom_audits
+        ∙ ap (λ xs. reply_lines site audits_t (auditing (entry_t ∷ [])).reply ++ xs)
+        (next denied_b.world audits_b [] _ bob_audits)))))
         )

@@ -18,28 +18,37 @@ pub printed-escaped : (lines : List Line) → escaped (printed lines) ≡ printe
 printed-escaped [] = refl
 printed-escaped (l ∷ lines) =
     ap escaped (append_assoc l.text (codes "\n") (printed lines)) ∙ escaped-line l.text (printed lines)
-    ∙ ap (λ rest. escaped l.text ++ (codes "\n" ++ rest)) (printed-escaped lines) ∙ sym (append_assoc (escaped l.text) (codes "\n") (printed (map escaped_line lines)))
+    ∙ ap (λ rest. escaped l.text ++ (codes "\n" ++ rest)) (printed-escaped lines)
+    ∙ sym (append_assoc (escaped l.text) (codes "\n") (printed (map escaped_line lines)))
 
-heard-escaped : (ls : Labels) (reader : Option ℕ) (lines : List Line) → heard ls reader (map escaped_line lines) ≡ map escaped_line (heard ls reader lines)
+heard-escaped : (ls : Labels) (reader : Option ℕ) (lines : List Line) → heard ls reader (map escaped_line lines)
+    ≡ map escaped_line (heard ls reader lines)
 heard-escaped ls None lines = refl
 heard-escaped ls (Some c) lines = filter-map (λ l. below ls l.label c) escaped_line lines
 
-pub shown-escaped : (ls : Labels) (reader : Option ℕ) (lines : List Line) → escaped (printed (heard ls reader lines)) ≡ printed (heard ls reader (map escaped_line lines))
-shown-escaped ls reader lines = printed-escaped (heard ls reader lines) ∙ ap printed (sym (heard-escaped ls reader lines))
+pub shown-escaped : (ls : Labels) (reader : Option ℕ) (lines : List Line) → escaped (printed (heard ls reader lines))
+    ≡ printed (heard ls reader (map escaped_line lines))
+shown-escaped ls reader lines = printed-escaped (heard ls reader lines) ∙ ap printed
+    (sym (heard-escaped ls reader lines))
 
 -- the lines of a run, before they are escaped
 bare : Site → World → List Event → List Line
 bare site w [] = []
-bare site w (e ∷ es) = lines_with site e (texts_in_table site e.session e.command (step site w e).reply) (step site w e).reply ++ bare site (step site w e).world es
+bare site w (e ∷ es) = lines_with site e (texts_in_table site e.session e.command (step site w e).reply)
+    (step site w e).reply ++ bare site (step site w e).world es
 
-bare-escaped : (site : Site) (w : World) (es : List Event) → run_lines Table site w es ≡ map escaped_line (bare site w es)
+bare-escaped : (site : Site) (w : World) (es : List Event) → run_lines Table site w es ≡ map escaped_line
+    (bare site w es)
 unfolding run_lines bare
 bare-escaped site w [] = refl
 bare-escaped site w (e ∷ es) =
-    let first = lines_with site e (texts_in_table site e.session e.command (step site w e).reply) (step site w e).reply in
-    ap (λ l. map escaped_line first ++ l) (bare-escaped site (step site w e).world es) ∙ sym (map-append escaped_line first (bare site (step site w e).world es))
+    let first = lines_with site e (texts_in_table site e.session e.command (step site w e).reply) (step site w e).reply
+    in
+    ap (λ l. map escaped_line first ++ l) (bare-escaped site (step site w e).world es)
+    ∙ sym (map-append escaped_line first (bare site (step site w e).world es))
 
 pub tables_harmless : TablesAreHarmless
 tables_harmless site reader w es =
-    subst IsHarmless (shown-escaped (site_labels site) reader (bare site w es) ∙ ap (λ l. printed (heard (site_labels site) reader l)) (sym (bare-escaped site w es)))
+    subst IsHarmless (shown-escaped (site_labels site) reader (bare site w es)
+    ∙ ap (λ l. printed (heard (site_labels site) reader l)) (sym (bare-escaped site w es)))
     (escaped_harmless (printed (heard (site_labels site) reader (bare site w es))))

@@ -20,12 +20,14 @@ module _ (site : Site) (c : ℕ) where
 
   -- they are those of what c sees of both, if c dominates that level
   seen_answer : (w : World) (e : Event) → below (site_labels site) e.level c ≡ true
-      → answer_to site w e ≡ printed (lines_for (glimpse site c e) (reply_shown (site_labels site) c (step site w e).reply))
+      → answer_to site w e ≡ printed (lines_for (glimpse site c e) (reply_shown (site_labels site) c
+      (step site w e).reply))
   seen_answer w e sees =
       let ls = site_labels site in
       let lines = reply_lines site e (step site w e).reply in
       ap printed
-      (sym (filter_within (λ (l : Line). below ls l.label e.level) (λ (l : Line). below ls l.label c) (λ l k. below-trans ls l.label e.level c k sees) lines)
+      (sym (filter_within (λ (l : Line). below ls l.label e.level) (λ (l : Line). below ls l.label c)
+      (λ l k. below-trans ls l.label e.level c k sees) lines)
       ∙ ap (out ls e.level) (seen_in site c e sees (step site w e).reply Lines))
 
   -- each reply with its event
@@ -52,7 +54,8 @@ module _ (site : Site) (c : ℕ) where
     abbrev told_if : Bool → List (List ℕ)
     told_if b =
         let others = filter (λ (f : Event). below (site_labels site) f.level c) es in
-        answers_of (map (glimpse site c) (cond b (e ∷ others) others)) (cond b (reply ∷ []) [] ++ replies_shown site c now es)
+        answers_of (map (glimpse site c) (cond b (e ∷ others) others)) (cond b (reply ∷ []) []
+        ++ replies_shown site c now es)
 
     served_next : (b : Bool) → below (site_labels site) e.level c ≡ b → Told now es → Told w (e ∷ es)
     unfolding Told served_to replies_shown
@@ -62,7 +65,8 @@ module _ (site : Site) (c : ℕ) where
   served_is : (w : World) (es : List Event) → Told w es
   unfolding Told served_to replies_shown
   served_is w [] = refl
-  served_is w (e ∷ es) = served_next w e es (below (site_labels site) e.level c) refl (served_is (step site w e).world es)
+  served_is w (e ∷ es) = served_next w e es (below (site_labels site) e.level c) refl
+      (served_is (step site w e).world es)
 
 pub served_alike : ServedRunsAreAlike
 unfolding Told

@@ -21,25 +21,32 @@ module _ (site : Site) (e : Event) (reader : Option ℕ) where
   on_level texts = map (line site.policy e e.level) texts
 
   -- lines at the level of the session: all of them, or none
-  texts_heard : (reader : Option ℕ) (b : Bool) → hears ls reader e.level ≡ b → (texts : List (List ℕ)) → heard ls reader (on_level texts) ≡ cond b (on_level texts) []
+  texts_heard : (reader : Option ℕ) (b : Bool) → hears ls reader e.level ≡ b → (texts : List (List ℕ))
+      → heard ls reader (on_level texts) ≡ cond b (on_level texts) []
   texts_heard None true h texts = refl
   texts_heard None false h texts = absurd cc
   texts_heard (Some c) b h texts = texts_seen site e c b h texts
 
-  pub all_heard : hears ls reader e.level ≡ true → (texts : List (List ℕ)) → flat_map (λ t. front site.policy e e.level ++ t ++ codes "\n") texts ≡ printed (heard ls reader (on_level texts))
-  all_heard h texts = sym (ap printed (texts_heard reader true h texts) ∙ flat_map-map (λ (l : Line). l.text ++ codes "\n") (line site.policy e e.level) texts)
+  pub all_heard : hears ls reader e.level ≡ true → (texts : List (List ℕ)) → flat_map (λ t. front site.policy e e.level
+      ++ t ++ codes "\n") texts ≡ printed (heard ls reader (on_level texts))
+  all_heard h texts = sym (ap printed (texts_heard reader true h texts) ∙ flat_map-map (λ (l : Line). l.text
+      ++ codes "\n") (line site.policy e e.level) texts)
 
-  pub none_heard : hears ls reader e.level ≡ false → (texts : List (List ℕ)) → [] ≡ printed (heard ls reader (on_level texts))
+  pub none_heard : hears ls reader e.level ≡ false → (texts : List (List ℕ))
+      → [] ≡ printed (heard ls reader (on_level texts))
   none_heard h texts = sym (ap printed (texts_heard reader false h texts))
 
   pub rows_heard : (r : Reply) (tuples : List Tuple) → r ≡ Rows tuples
-      → printed (heard ls reader (on_level (table_texts site e.command tuples))) ≡ printed (heard ls reader (lines_with site e (texts_in_table site e.session e.command r) r))
+      → printed (heard ls reader (on_level (table_texts site e.command tuples)))
+      ≡ printed (heard ls reader (lines_with site e (texts_in_table site e.session e.command r) r))
   rows_heard r tuples is =
       ap (λ l. printed (heard ls reader l)) (sym (append-nil (on_level (table_texts site e.command tuples))))
       ∙ ap (λ x. printed (heard ls reader (lines_with site e (texts_in_table site e.session e.command x) x))) (sym is)
 
   -- another reply is shown as it is
-  pub others_heard : (r : Reply) → ((tuples : List Tuple) → r ≡ Rows tuples → ⊥) → printed (heard ls reader (reply_lines site e r)) ≡ printed (heard ls reader (lines_with site e (texts_in_table site e.session e.command r) r))
+  pub others_heard : (r : Reply) → ((tuples : List Tuple) → r ≡ Rows tuples → ⊥)
+      → printed (heard ls reader (reply_lines site e r))
+      ≡ printed (heard ls reader (lines_with site e (texts_in_table site e.session e.command r) r))
   others_heard (Rows tuples) other = absurd (other tuples refl)
   others_heard r other = refl
 

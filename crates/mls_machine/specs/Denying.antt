@@ -115,7 +115,8 @@ access_denials site level user relation modes labels =
     ∷ (exceed site level labels, Star) ∷ []
 
 abbrev pub view_denials : Site → ℕ → ℕ → ℕ → ℕ → List (Bool × Denial)
-view_denials site level user relation label = access_denials site level user relation (read_mode ∷ write_mode ∷ []) (label ∷ [])
+view_denials site level user relation label = access_denials site level user relation (read_mode ∷ write_mode ∷ [])
+    (label ∷ [])
 
 abbrev pub write_denials : Site → ℕ → ℕ → ℕ → Write → List (Bool × Denial)
 write_denials site level user relation wr = access_denials site level user relation (modes_for wr) (labels_named wr)

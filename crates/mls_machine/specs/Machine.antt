@@ -89,7 +89,11 @@ module _ (site : Site) where
   -- what a query finds of the view
   abbrev pub viewed : World → ℕ → ℕ → Query → Step
   viewed w relation label query =
-      record { world = w; reply = Rows (found (site_labels site) query (rows (site_labels site) label (w.db relation))) }
+      record {
+        world = w;
+        reply = Rows (found (site_labels site) query (rows (site_labels site) label
+            (w.db relation)));
+      }
 
   -- the tuples whose classes the level of the session dominates, each behind those that it is derived from:
   -- also a root that is subsumed, which has to be there before what is derived from it
@@ -131,16 +135,19 @@ module _ (site : Site) where
 
   abbrev pub view_step : World → Event → ℕ → ℕ → ℕ → Query → Step
   view_step w event user relation label query =
-      unless (first_denial (view_denials site event.level user relation label)) w event user (viewed w relation label query)
+      unless (first_denial (view_denials site event.level user relation label)) w event user
+      (viewed w relation label query)
 
   -- as a view at the level of the session
   abbrev pub dump_step : World → Event → ℕ → ℕ → Step
   dump_step w event user relation =
-      unless (first_denial (view_denials site event.level user relation event.level)) w event user (dumped w relation event.level)
+      unless (first_denial (view_denials site event.level user relation event.level)) w event user
+      (dumped w relation event.level)
 
   abbrev pub write_step : World → Event → ℕ → ℕ → Write → Step
   write_step w event user relation wr =
-      unless (first_denial (write_denials site event.level user relation wr)) w event user (wrote w event.level relation wr)
+      unless (first_denial (write_denials site event.level user relation wr)) w event user
+      (wrote w event.level relation wr)
 
   -- a call of what is stored by the name, if anything is
   abbrev pub call_step : World → Event → ℕ → Name → List (Option Value) → Option Stored → Step

@@ -34,7 +34,8 @@ use Rattle.mls_machine.specs.Output.{Line, reply_lines_in, run_lines, printed}
 
 -- each relation of a database is of the stored form
 abbrev pub AreStored : Site → Database → Type 0
-AreStored site db = (relation : ℕ) → IsStored (site_labels site) (length (site_scheme site relation).others) (db relation)
+AreStored site db = (relation : ℕ) → IsStored (site_labels site) (length (site_scheme site relation).others)
+    (db relation)
 
 abbrev pub EventsFit : Site → List Event → Type 0
 EventsFit site = AllByRecursion (EventFits site.policy site.schemes)

@@ -65,7 +65,8 @@ query_words q =
 
 -- what was asked of a relation at a label, under a verb
 abbrev pub asked : Policy → List ℕ → Scheme → ℕ → Query → List ℕ
-asked p verb s label q = verb ++ codes " " ++ s.name ++ codes " at " ++ label_name p.labels label ++ query_words q ++ codes ":"
+asked p verb s label q = verb ++ codes " " ++ s.name ++ codes " at " ++ label_name p.labels label ++ query_words q
+    ++ codes ":"
 
 abbrev pub heading : Policy → Scheme → ℕ → Query → List ℕ
 heading p s label q =
@@ -257,7 +258,8 @@ printed = flat_map (λ l. l.text ++ codes "\n")
 -- ---- the numbers in a reply are those of the policy and the schemes
 
 abbrev pub CommandIsKnown : Site → Command → Type 0
-CommandIsKnown site (commands.View relation label query counts) = (relation < length site.schemes) × (label < length site.policy.labels)
+CommandIsKnown site (commands.View relation label query counts) = (relation < length site.schemes)
+    × (label < length site.policy.labels)
 CommandIsKnown site (commands.Dump relation) = relation < length site.schemes
 CommandIsKnown site command = ⊤
 

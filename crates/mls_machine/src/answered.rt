@@ -6,7 +6,8 @@ use mls_scheme::Schemes;
 use mls_translang::Event;
 use std::alloc::Global;
 
-/// An event, and what has the names of its numbers. Each line of a reply to it begins with its session, whose level is declared.
+/// An event, and what has the names of its numbers. Each line of a reply to it begins with its session, whose level is
+/// declared.
 #[derive(Clone, Copy)]
 pub(crate) struct Answered<'a> {
     pub alloc: Global,

@@ -21,14 +21,16 @@ pub fn denials_and_calls_are_entered()
     ensures { DenialsAndCallsAreEntered }
 {}
 
-/// Over content of the stored form each database on the way of a run has the four integrity properties: after each event,
+/// Over content of the stored form each database on the way of a run has the four integrity properties: after each
+/// event,
 /// and after each statement of a call.
 pub fn runs_keep_integrity()
     ensures { RunsKeepIntegrity }
 {}
 
 /// No command but a call passes information to a level that does not dominate that of its session. Take two worlds that
-/// look alike to a level, and two lists of events of which it sees the same and no call: then it is shown the same lines
+/// look alike to a level, and two lists of events of which it sees the same and no call: then it is shown the same
+/// lines
 /// and replies, and the worlds look alike to it at the end. What is called where it does not see it is secure.
 pub fn low_runs_are_alike()
     ensures { LowRunsAreAlike }
@@ -45,33 +47,38 @@ pub fn accepted_runs_are_alike()
     ensures { AcceptedRunsAreAlike }
 {}
 
-/// Many sessions, each answered what its own level may see: where information flows down in a run by releases alone, so it
+/// Many sessions, each answered what its own level may see: where information flows down in a run by releases alone, so
+/// it
 /// does by these answers. What the sessions at levels that a level dominates are answered, event by event, is the same.
 pub fn served_runs_are_alike()
     ensures { ServedRunsAreAlike }
 {}
 
-/// Two worlds that look alike to a level look alike to it when the audit list of each is turned, which shows it the same
+/// Two worlds that look alike to a level look alike to it when the audit list of each is turned, which shows it the
+/// same
 /// lines.
 pub fn turnings_are_alike()
     ensures worlds { TurnedWorldsAreAlike }
     ensures lines { TurningsShowTheSame }
 {}
 
-/// So of a history of runs, where users, rights and stored transactions may change from run to run, and the audit list may
+/// So of a history of runs, where users, rights and stored transactions may change from run to run, and the audit list
+/// may
 /// be turned between them: each database on the way of each run has the four integrity properties.
 pub fn histories_keep_integrity()
     ensures { HistoriesKeepIntegrity }
 {}
 
-/// Two histories without calls, at the same sites run by run, from worlds that look alike to a level, over events of which
+/// Two histories without calls, at the same sites run by run, from worlds that look alike to a level, over events of
+/// which
 /// it sees the same, show it the same lines run by run and end in worlds that look alike to it.
 pub fn low_histories_are_alike()
     ensures { LowHistoriesAreAlike }
 {}
 
 /// Where the transactions with certificates are secure, information flows down in a history by releases alone: two
-/// histories show a level the same if run by run they also release the same to it, or if it dominates all that the calls
+/// histories show a level the same if run by run they also release the same to it, or if it dominates all that the
+/// calls
 /// that it sees can read.
 pub fn secure_histories_are_alike()
     ensures { SecureHistoriesAreAlike }
@@ -102,7 +109,8 @@ pub fn lines_have_no_line_feed()
     ensures parts { RunsPartIntoLines }
 {}
 
-/// Who has all lines, and picks those that begin with the name of a label which a level dominates, has what that level is
+/// Who has all lines, and picks those that begin with the name of a label which a level dominates, has what that level
+/// is
 /// shown.
 pub fn lines_are_picked()
     ensures { LinesArePicked }

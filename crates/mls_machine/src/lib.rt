@@ -1,4 +1,5 @@
-//! The machine of sessions: what each command does and is answered, what a level may see of it, and replies as bytes: lines, or a
+//! The machine of sessions: what each command does and is answered, what a level may see of it, and replies as bytes:
+//! lines, or a
 //! view as a table.
 #![tactic(auto)]
 

@@ -24,7 +24,8 @@ pub enum Denial {
     NotCertified,
     /// The user lacks the mode that the command needs on its relation or transaction.
     Ds,
-    /// The user's clearance does not dominate the level to open at, a label that the command names, or the highest label
+    /// The user's clearance does not dominate the level to open at, a label that the command names, or the highest
+    /// label
     /// of what the transaction reads.
     Ss,
     /// The session's level does not dominate a label that the command names, or is not the transaction's lowest one.

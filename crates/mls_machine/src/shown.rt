@@ -86,7 +86,8 @@ fn seen_run(to: &Answered, run: &Run, reader: LabelNo) -> Result<Vec<u8>, AllocE
 
 /// The lines of a reply whose labels the reader dominates, each with its line feed.
 ///
-/// All lines of a reply have the level of the session, but for the items of a transaction, which have labels of their own.
+/// All lines of a reply have the level of the session, but for the items of a transaction, which have labels of their
+/// own.
 pub fn shown_bytes(
     alloc: Global,
     policy: &Policy,

@@ -69,40 +69,51 @@ is_joiner _ = false
 abbrev IsJoiner : Token → Operator → Type 0
 IsJoiner t op = (t ≡ operator_token op) × (is_joiner op ≡ true)
 
-word_joins : (b c : Bool) (op : Operator) → (if b then Some And else (if c then Some Or else None)) ≡ Some op → is_joiner op ≡ true
+word_joins : (b c : Bool) (op : Operator) → (if b then Some And else (if c then Some Or else None)) ≡ Some op
+    → is_joiner op ≡ true
 word_joins true c op e = sym (ap is_joiner (same_Some And op e))
 word_joins false true op e = sym (ap is_joiner (same_Some Or op e))
 word_joins false false op e = absurd cc
 
 joiner_is : (t : Token) (op : Operator) → joiner_of t ≡ Some op → IsJoiner t op
-joiner_is (Word s) op e = (operator_is (Word s) op e, word_joins (bytes_eq s (codes "and")) (bytes_eq s (codes "or")) op e)
+joiner_is (Word s) op e = (
+  operator_is (Word s) op e,
+  word_joins (bytes_eq s (codes "and"))
+      (bytes_eq s (codes "or")) op e,
+)
 joiner_is _ op e = absurd cc
 
-module _ (what : Token → Option Operator) (Is : Operator → Type 0) (is : (t : Token) (op : Operator) → what t ≡ Some op → (t ≡ operator_token op) × Is op) where
+module _ (what : Token → Option Operator) (Is : Operator → Type 0) (is : (t : Token) (op : Operator) → what t ≡ Some op
+    → (t ≡ operator_token op) × Is op) where
   -- such an operator was passed
   abbrev KnownFound : Left → (Operator × ℕ) × Left → Type 0
   KnownFound l x = Is x.0.0 × Passed (operator_token x.0.0 ∷ []) l x.1
 
-  known_first : (p : Placed) (ps : List Placed) (stop : TokenFault) (o : Option Operator) (x : (Operator × ℕ) × Left) → what p.token ≡ o
+  known_first : (p : Placed) (ps : List Placed) (stop : TokenFault) (o : Option Operator) (x : (Operator × ℕ) × Left)
+      → what p.token ≡ o
       → option_map (λ (op : Operator). ((op, p.at), left ps stop)) o ≡ Some x → KnownFound (left (p ∷ ps) stop) x
   known_first p ps stop None x e h = absurd cc
   known_first p ps stop (Some op) x e h =
       subst (KnownFound (left (p ∷ ps) stop)) (same_Some ((op, p.at), left ps stop) x h)
       ((is p.token op e).1, record { tokens = ap (λ t. t ∷ without_places ps) (is p.token op e).0; stop = refl })
 
-  known_of : (ps : List Placed) (stop : TokenFault) (x : (Operator × ℕ) × Left) → take_known what ps stop ≡ Some x → KnownFound (left ps stop) x
+  known_of : (ps : List Placed) (stop : TokenFault) (x : (Operator × ℕ) × Left) → take_known what ps stop ≡ Some x
+      → KnownFound (left ps stop) x
   known_of [] stop x e = absurd cc
   known_of (p ∷ ps) stop x e = known_first p ps stop (what p.token) x refl e
 
-  known_behind : (fs : List PlacedFault) (l : Left) (o : Option ((Operator × ℕ) × Left)) (x : (Operator × ℕ) × State) → taken_as what l ≡ o → option_map (behind_known fs) o ≡ Some x
+  known_behind : (fs : List PlacedFault) (l : Left) (o : Option ((Operator × ℕ) × Left)) (x : (Operator × ℕ) × State)
+      → taken_as what l ≡ o → option_map (behind_known fs) o ≡ Some x
       → Is x.0.0 × Quiet (operator_token x.0.0 ∷ []) (fs, l) x.1
   known_behind fs l None x is e = absurd cc
   known_behind fs l (Some y) x is e =
       let h = known_of l.placed l.stop y is in
-      subst (λ (z : (Operator × ℕ) × State). Is z.0.0 × Quiet (operator_token z.0.0 ∷ []) (fs, l) z.1) (same_Some (behind_known fs y) x e)
+      subst (λ (z : (Operator × ℕ) × State). Is z.0.0 × Quiet (operator_token z.0.0 ∷ []) (fs, l) z.1)
+      (same_Some (behind_known fs y) x e)
       (h.0, record { passed = h.1; faults = refl })
 
-  known_found : (s : State) (x : (Operator × ℕ) × State) → takes_known what s ≡ Some x → Is x.0.0 × Quiet (operator_token x.0.0 ∷ []) s x.1
+  known_found : (s : State) (x : (Operator × ℕ) × State) → takes_known what s ≡ Some x → Is x.0.0
+      × Quiet (operator_token x.0.0 ∷ []) s x.1
   known_found s x e = known_behind s.0 s.1 (taken_as what s.1) x refl e
 
 -- ---- tests
@@ -113,7 +124,8 @@ module _ (p : Context) where
     spells : Spelling g.expr ts
     sound : IsSound p g.gives g.expr
 
-  part_made : (A B : Expr → List Token → Type 0) → ((e : Expr) (ts : List Token) → A e ts → B e ts) → (s : State) (x : Given × State) → Found (IsPart A) s x → Found (IsPart B) s x
+  part_made : (A B : Expr → List Token → Type 0) → ((e : Expr) (ts : List Token) → A e ts → B e ts)
+      → (s : State) (x : Given × State) → Found (IsPart A) s x → Found (IsPart B) s x
   part_made A B made s x f = record {
     tokens = f.tokens;
     passed = f.passed;
@@ -134,11 +146,13 @@ module _ (p : Context) where
       }
 
   -- two parts, and an operator between them
-  between_found : (A B : Expr → List Token → Type 0) (op : Operator × ℕ) (s m : State) (a b : Given × State) → Found (IsPart A) s a → Quiet (operator_token op.0 ∷ []) a.1 m → Found (IsPart B) m b
+  between_found : (A B : Expr → List Token → Type 0) (op : Operator × ℕ) (s m : State) (a b : Given × State)
+      → Found (IsPart A) s a → Quiet (operator_token op.0 ∷ []) a.1 m → Found (IsPart B) m b
       → Found (IsPart (SpellsBetween A op.0 B)) s (between a.0 op b.0, note (between_faults a.0 op b.0) b.1)
   between_found A B op s m a b l q r = record {
     tokens = l.tokens ++ operator_token op.0 ∷ r.tokens;
-    passed = passed_more l.tokens (operator_token op.0 ∷ r.tokens) s.1 a.1.1 b.1.1 l.passed (passed_more (operator_token op.0 ∷ []) r.tokens a.1.1 m.1 b.1.1 q.passed r.passed);
+    passed = passed_more l.tokens (operator_token op.0 ∷ r.tokens) s.1 a.1.1 b.1.1 l.passed
+        (passed_more (operator_token op.0 ∷ []) r.tokens a.1.1 m.1 b.1.1 q.passed r.passed);
     right = λ none t.
         let n = neither b.1.0 (between_faults a.0 op b.0) none in
         let parts = split l.tokens (operator_token op.0 ∷ r.tokens) t in
@@ -172,21 +186,30 @@ module _ (p : Context) where
       let a = bind_ok (whole_at p s) (λ a. compared p a.0 a.1 (takes_known comparison_of a.1)) x e in
       behind a.0 (side_found s a.0 a.1) (takes_known comparison_of a.0.1) refl a.2
     where
-      behind : (a : Given × State) → Found (IsPart (SpellsSide p)) s a → (o : Option ((Operator × ℕ) × State)) → takes_known comparison_of a.1 ≡ o → compared p a.0 a.1 o ≡ Ok x
+      behind : (a : Given × State) → Found (IsPart (SpellsSide p)) s a → (o : Option ((Operator × ℕ) × State))
+          → takes_known comparison_of a.1 ≡ o → compared p a.0 a.1 o ≡ Ok x
           → Found (IsPart (SpellsTest p)) s x
       behind a side None is h =
-          subst (Found (IsPart (SpellsTest p)) s) (ok_is {E = PlacedFault} (a.0, a.1) x h) (part_made (SpellsSide p) (SpellsTest p) (λ e ts y. inl y) s a side)
+          subst (Found (IsPart (SpellsTest p)) s) (ok_is {E = PlacedFault} (a.0, a.1) x h) (part_made (SpellsSide p)
+          (SpellsTest p) (λ e ts y. inl y) s a side)
       behind a side (Some op) is h =
-          let next : Given × State → Given × State = λ b. (between a.0 op.0 b.0, note (between_faults a.0 op.0 b.0) b.1) in
+          let next : Given × State → Given × State = λ b. (between a.0 op.0 b.0, note (between_faults a.0 op.0 b.0) b.1)
+          in
           let b = bind_ok (whole_at p op.1) (λ b. Ok (next b)) x h in
           let mark = known_found comparison_of (λ op. is_comparison op ≡ true) comparison_is a.1 op is in
-          let both = between_found (SpellsSide p) (SpellsSide p) op.0 s op.1 a b.0 side mark.1 (side_found op.1 b.0 b.1) in
+          let both = between_found (SpellsSide p) (SpellsSide p) op.0 s op.1 a b.0 side mark.1 (side_found op.1 b.0 b.1)
+          in
           subst (Found (IsPart (SpellsTest p)) s) (ok_is {E = PlacedFault} (next b.0) x b.2)
-          (part_made (SpellsBetween (SpellsSide p) op.0.0 (SpellsSide p)) (SpellsTest p) (λ e ts y. inr (op.0.0, mark.0, y)) s (next b.0) both)
+          (part_made (SpellsBetween (SpellsSide p) op.0.0 (SpellsSide p)) (SpellsTest p) (λ e ts y. inr (
+            op.0.0,
+            mark.0,
+            y,
+          )) s (next b.0) both)
 
   -- ---- one test more
 
-  record MoreFound (room : ℕ) (before : Option Operator) (s : State) (op : Operator × ℕ) (test : Given) (r : State) : Type 0 where
+  record MoreFound (room : ℕ) (before : Option Operator) (s : State) (op : Operator × ℕ) (test : Given)
+      (r : State) : Type 0 where
     some : 0 < room
     unmixed : are_mixed before op.0 ≡ false
     joins : is_joiner op.0 ≡ true
@@ -208,16 +231,20 @@ module _ (p : Context) where
   some_room zero e = absurd cc
   some_room (suc room) e = omega arith
 
-  next_found : (room : ℕ) (before : Option Operator) (s : State) (x : Option ((Operator × ℕ) × Given) × State) → next_test_at p room before s ≡ Ok x → NextFound room before s x
+  next_found : (room : ℕ) (before : Option Operator) (s : State) (x : Option ((Operator × ℕ) × Given) × State)
+      → next_test_at p room before s ≡ Ok x → NextFound room before s x
   unfolding next_test_at
   next_found room before s x e = go (takes_known joiner_of s) refl e
     where
-      go : (o : Option ((Operator × ℕ) × State)) → takes_known joiner_of s ≡ o → joined p room before s o ≡ Ok x → NextFound room before s x
+      go : (o : Option ((Operator × ℕ) × State)) → takes_known joiner_of s ≡ o → joined p room before s o ≡ Ok x
+          → NextFound room before s x
       go None is h = subst (NextFound room before s) (ok_is {E = PlacedFault} (None, s) x h) refl
-      go (Some op) is h = mixed (chosen (are_mixed before op.0.0) (refused_next (fault op.0.1 cause.Expected)) (if room == 0 then refused_next (past_most (token pass_head op.1)) else one_more op) (Ok x) h)
+      go (Some op) is h = mixed (chosen (are_mixed before op.0.0) (refused_next (fault op.0.1 cause.Expected))
+          (if room == 0 then refused_next (past_most (token pass_head op.1)) else one_more op) (Ok x) h)
         where
           last : are_mixed before op.0.0 ≡ false
-              → (((room == 0) ≡ true) × (refused_next (past_most (token pass_head op.1)) ≡ Ok x)) ⊎ (((room == 0) ≡ false) × (one_more op ≡ Ok x)) → NextFound room before s x
+              → (((room == 0) ≡ true) × (refused_next (past_most (token pass_head op.1)) ≡ Ok x))
+              ⊎ (((room == 0) ≡ false) × (one_more op ≡ Ok x)) → NextFound room before s x
           last plain (inl y) = absurd (let bad = y.1 in cc)
           last plain (inr n) =
               let t = bind_ok (test_at p op.1) (λ t. Ok (Some (op.0, t.0), t.1)) x n.1 in
@@ -233,13 +260,16 @@ module _ (p : Context) where
               })
 
           mixed : ((are_mixed before op.0.0 ≡ true) × (refused_next (fault op.0.1 cause.Expected) ≡ Ok x))
-              ⊎ ((are_mixed before op.0.0 ≡ false) × ((if room == 0 then refused_next (past_most (token pass_head op.1)) else one_more op) ≡ Ok x)) → NextFound room before s x
+              ⊎ ((are_mixed before op.0.0 ≡ false) × ((if room == 0 then refused_next
+              (past_most (token pass_head op.1)) else one_more op) ≡ Ok x)) → NextFound room before s x
           mixed (inl y) = absurd (let bad = y.1 in cc)
-          mixed (inr n) = last n.0 (chosen (room == 0) (refused_next (past_most (token pass_head op.1))) (one_more op) (Ok x) n.1)
+          mixed (inr n) = last n.0 (chosen (room == 0) (refused_next (past_most (token pass_head op.1))) (one_more op)
+              (Ok x) n.1)
 
   -- ---- all tests
 
-  between_made : (A B C : Expr → List Token → Type 0) (op : Operator) (e : Expr) (ts : List Token) → ((l : Expr) (us : List Token) → A l us → B l us) → SpellsBetween A op C e ts → SpellsBetween B op C e ts
+  between_made : (A B C : Expr → List Token → Type 0) (op : Operator) (e : Expr) (ts : List Token)
+      → ((l : Expr) (us : List Token) → A l us → B l us) → SpellsBetween A op C e ts → SpellsBetween B op C e ts
   between_made A B C op e ts made b = record {
     left = b.left;
     right = b.right;
@@ -252,19 +282,22 @@ module _ (p : Context) where
   }
 
   -- of so many tests at most
-  spells_more : (op : Operator) (n m : ℕ) (e : Expr) (ts : List Token) → n ≤ m → SpellsTests p op n e ts → SpellsTests p op m e ts
+  spells_more : (op : Operator) (n m : ℕ) (e : Expr) (ts : List Token) → n ≤ m → SpellsTests p op n e ts
+      → SpellsTests p op m e ts
   spells_more op zero m e ts le h = absurd h
   spells_more op (suc n) zero e ts le h = absurd (omega (arith, le))
   spells_more op (suc n) (suc m) e ts le (inl test) = inl test
   spells_more op (suc n) (suc m) e ts le (inr b) =
-      inr (between_made (λ l us. SpellsTests p op n l us) (λ l us. SpellsTests p op m l us) (SpellsTest p) op e ts (λ l us h. spells_more op n m l us (omega (arith, le)) h) b)
+      inr (between_made (λ l us. SpellsTests p op n l us) (λ l us. SpellsTests p op m l us) (SpellsTest p) op e ts
+      (λ l us h. spells_more op n m l us (omega (arith, le)) h) b)
 
   -- one test, or some with one word between each two
   abbrev SpellsSoFar : Option Operator → ℕ → Expr → List Token → Type 0
   SpellsSoFar None n e ts = SpellsTest p e ts
   SpellsSoFar (Some op) n e ts = (is_joiner op ≡ true) × SpellsTests p op n e ts
 
-  spells_whole : (before : Option Operator) (n : ℕ) → n ≤ 16 → (e : Expr) (ts : List Token) → SpellsSoFar before n e ts → SpellsCondition p e ts
+  spells_whole : (before : Option Operator) (n : ℕ) → n ≤ 16 → (e : Expr) (ts : List Token) → SpellsSoFar before n e ts
+      → SpellsCondition p e ts
   spells_whole None n le e ts h = inl (inl h)
   spells_whole (Some And) n le e ts h = inl (spells_more And n 16 e ts le h.1)
   spells_whole (Some Or) n le e ts h = inr (spells_more Or n 16 e ts le h.1)
@@ -276,44 +309,65 @@ module _ (p : Context) where
   mixed_or_same Or Or j k m = refl
   mixed_or_same _ _ j k m = absurd cc
 
-  joined_so_far : (before : Option Operator) (op : Operator) (n : ℕ) → are_mixed before op ≡ false → is_joiner op ≡ true → (e : Expr) (ts : List Token) → SpellsSoFar before (suc n) e ts
+  joined_so_far : (before : Option Operator) (op : Operator) (n : ℕ) → are_mixed before op ≡ false → is_joiner op ≡ true
+      → (e : Expr) (ts : List Token) → SpellsSoFar before (suc n) e ts
       → SpellsTests p op (suc n) e ts
   joined_so_far None op n m j e ts h = inl h
   joined_so_far (Some b) op n m j e ts h = subst (λ o. SpellsTests p o (suc n) e ts) (mixed_or_same b op h.0 j m) h.1
 
   module _ (start : State) (x : Given × State) where
-    ended : (before : Option Operator) (n : ℕ) (g : Given) (s r : State) → n ≤ 16 → Found (IsPart (SpellsSoFar before n)) start (g, s) → r ≡ s → Path (Read Given) (Ok (g, r)) (Ok x) → Found (IsPart (SpellsCondition p)) start x
+    ended : (before : Option Operator) (n : ℕ) (g : Given) (s r : State) → n ≤ 16
+        → Found (IsPart (SpellsSoFar before n)) start (g, s) → r ≡ s → Path (Read Given) (Ok (g, r)) (Ok x)
+        → Found (IsPart (SpellsCondition p)) start x
     ended before n g s r le f same h =
         subst (Found (IsPart (SpellsCondition p)) start) (ok_is {E = PlacedFault} (g, r) x h)
-        (subst (λ (m : State). Found (IsPart (SpellsCondition p)) start (g, m)) (sym same) (part_made (SpellsSoFar before n) (SpellsCondition p) (spells_whole before n le) start (g, s) f))
+        (subst (λ (m : State). Found (IsPart (SpellsCondition p)) start (g, m)) (sym same)
+        (part_made (SpellsSoFar before n) (SpellsCondition p) (spells_whole before n le) start (g, s) f))
 
     -- one test more, behind those before
-    more_found : (before : Option Operator) (n room : ℕ) (g : Given) (s : State) (op : Operator × ℕ) (test : Given) (r : State) → Found (IsPart (SpellsSoFar before (suc n))) start (g, s) → MoreFound room before s op test r
-        → Found (IsPart (SpellsSoFar (Some op.0) (suc (suc n)))) start (between g op test, note (between_faults g op test) r)
+    more_found : (before : Option Operator) (n room : ℕ) (g : Given) (s : State) (op : Operator × ℕ) (test : Given)
+        (r : State) → Found (IsPart (SpellsSoFar before (suc n))) start (g, s) → MoreFound room before s op test r
+        → Found (IsPart (SpellsSoFar (Some op.0) (suc (suc n)))) start (
+          between g op test,
+          note (between_faults g op test) r,
+        )
     more_found before n room g s op test r f m =
-        part_made (SpellsBetween (SpellsSoFar before (suc n)) op.0 (SpellsTest p)) (SpellsSoFar (Some op.0) (suc (suc n)))
-        (λ e ts b. (m.joins, inr (between_made (SpellsSoFar before (suc n)) (λ l us. SpellsTests p op.0 (suc n) l us) (SpellsTest p) op.0 e ts (joined_so_far before op.0 n m.unmixed m.joins) b)))
+        part_made (SpellsBetween (SpellsSoFar before (suc n)) op.0 (SpellsTest p))
+        (SpellsSoFar (Some op.0) (suc (suc n)))
+        (λ e ts b. (
+          m.joins,
+          inr (between_made (SpellsSoFar before (suc n)) (λ l us. SpellsTests p op.0 (suc n) l us)
+              (SpellsTest p) op.0 e ts (joined_so_far before op.0 n m.unmixed m.joins) b),
+        ))
         start (between g op test, note (between_faults g op test) r)
         (between_found (SpellsSoFar before (suc n)) (SpellsTest p) op start m.behind (g, s) (test, r) f m.word m.found)
 
-    tests_found : (room n : ℕ) (before : Option Operator) (g : Given) (s : State) → suc n + room ≡ 16 → Found (IsPart (SpellsSoFar before (suc n))) start (g, s) → tests_from p room before g s ≡ Ok x
+    tests_found : (room n : ℕ) (before : Option Operator) (g : Given) (s : State) → suc n + room ≡ 16
+        → Found (IsPart (SpellsSoFar before (suc n))) start (g, s) → tests_from p room before g s ≡ Ok x
         → Found (IsPart (SpellsCondition p)) start x
     unfolding tests_from
     tests_found zero n before g s full f h =
         let y = bind_ok (next_test_at p zero before s) (λ y. Ok (g, y.1)) x h in
         go y.0 (next_found zero before s y.0 y.1) y.2
       where
-        go : (y : Option ((Operator × ℕ) × Given) × State) → NextFound zero before s y → Path (Read Given) (Ok (g, y.1)) (Ok x) → Found (IsPart (SpellsCondition p)) start x
+        go : (y : Option ((Operator × ℕ) × Given) × State) → NextFound zero before s y → Path (Read Given) (Ok (g, y.1))
+            (Ok x) → Found (IsPart (SpellsCondition p)) start x
         go (None, r) found k = ended before (suc n) g s r (omega (arith, full)) f found k
         go (Some (op, test), r) found k = absurd (let some = found.some in omega (arith, some))
     tests_found (suc room) n before g s full f h =
-        let y = bind_ok (next_test_at p (suc room) before s) (with_next (λ op whole r. tests_from p room (Some op) whole r) g) x h in
-        go (λ op whole r found k. tests_found room (suc n) (Some op) whole r (omega (arith, full)) found k) y.0 (next_found (suc room) before s y.0 y.1) y.2
+        let y = bind_ok (next_test_at p (suc room) before s)
+        (with_next (λ op whole r. tests_from p room (Some op) whole r) g) x h in
+        go (λ op whole r found k. tests_found room (suc n) (Some op) whole r (omega (arith, full)) found k) y.0
+        (next_found (suc room) before s y.0 y.1) y.2
       where
-        go : ((op : Operator) (whole : Given) (r : State) → Found (IsPart (SpellsSoFar (Some op) (suc (suc n)))) start (whole, r) → tests_from p room (Some op) whole r ≡ Ok x → Found (IsPart (SpellsCondition p)) start x)
-            → (y : Option ((Operator × ℕ) × Given) × State) → NextFound (suc room) before s y → with_next (λ op whole r. tests_from p room (Some op) whole r) g y ≡ Ok x → Found (IsPart (SpellsCondition p)) start x
+        go : ((op : Operator) (whole : Given) (r : State) → Found (IsPart (SpellsSoFar (Some op) (suc (suc n)))) start
+            (whole, r) → tests_from p room (Some op) whole r ≡ Ok x → Found (IsPart (SpellsCondition p)) start x)
+            → (y : Option ((Operator × ℕ) × Given) × State) → NextFound (suc room) before s y
+            → with_next (λ op whole r. tests_from p room (Some op) whole r) g y ≡ Ok x
+            → Found (IsPart (SpellsCondition p)) start x
         go more (None, r) found k = ended before (suc n) g s r (omega (arith, full)) f found k
-        go more (Some (op, test), r) found k = more op.0 (between g op test) (note (between_faults g op test) r) (more_found before n (suc room) g s op test r f found) k
+        go more (Some (op, test), r) found k = more op.0 (between g op test) (note (between_faults g op test) r)
+            (more_found before n (suc room) g s op test r f found) k
 
   tests_at_found : (s : State) (x : Given × State) → tests_at p s ≡ Ok x → Found (IsPart (SpellsCondition p)) s x
   unfolding tests_at
@@ -327,10 +381,12 @@ module _ (policy : Policy) (schemes : Schemes) (relation : ℕ) where
   abbrev place : Context
   place = written_place policy schemes relation
 
-  pub condition_found : (s : State) (y : Expr × State) → condition_at policy schemes relation s ≡ Ok y → Found (λ ts e. TellsCondition policy schemes relation e ts) s y
+  pub condition_found : (s : State) (y : Expr × State) → condition_at policy schemes relation s ≡ Ok y
+      → Found (λ ts e. TellsCondition policy schemes relation e ts) s y
   unfolding condition_at
   condition_found s =
-      found_noted (λ ts e. TellsCondition policy schemes relation e ts) s (tests_at place s) (λ g. as_fields g.expr) (λ g. tested (may_be_truth g.gives) g) (tests_at_found place s)
+      found_noted (λ ts e. TellsCondition policy schemes relation e ts) s (tests_at place s) (λ g. as_fields g.expr)
+      (λ g. tested (may_be_truth g.gives) g) (tests_at_found place s)
       (λ g ts none r. record {
         written = g.expr;
         is = refl;
@@ -343,20 +399,24 @@ module _ (policy : Policy) (schemes : Schemes) (relation : ℕ) where
   -- ---- what the reader returned
 
   module _ (s t : State) where
-    pub told_kept : (x : Result Expr PlacedFault) → GivesPlaced (λ e. (e, t)) x (condition_at policy schemes relation s) → AreSpelled (without_places s.1.placed) → t.0 ≡ [] → IfOk x (IsCondition policy schemes relation s.1 t.1)
+    pub told_kept : (x : Result Expr PlacedFault) → GivesPlaced (λ e. (e, t)) x (condition_at policy schemes relation s)
+        → AreSpelled (without_places s.1.placed) → t.0 ≡ [] → IfOk x (IsCondition policy schemes relation s.1 t.1)
     told_kept (Err f) g all none = tt
     told_kept (Ok e) g all none =
         let found = condition_found s (e, t) g in
         record {
           tokens = found.tokens;
-          tells = (found.right none (split found.tokens (without_places t.1.placed) (subst AreSpelled found.passed.tokens all)).0).1;
+          tells = (found.right none (split found.tokens (without_places t.1.placed)
+              (subst AreSpelled found.passed.tokens all)).0).1;
           passed = found.passed.tokens;
           stop = found.passed.stop;
         }
 
-    of_row : (x : Result Expr PlacedFault) → IfOk x (IsCondition policy schemes relation s.1 t.1) → IfOk x (IsConditionOf schemes relation)
+    of_row : (x : Result Expr PlacedFault) → IfOk x (IsCondition policy schemes relation s.1 t.1)
+        → IfOk x (IsConditionOf schemes relation)
     of_row (Err f) h = tt
     of_row (Ok e) h = told_of_row schemes relation policy e h.tokens h.tells
 
-    pub fits_kept : (x : Result Expr PlacedFault) → GivesPlaced (λ e. (e, t)) x (condition_at policy schemes relation s) → AreSpelled (without_places s.1.placed) → t.0 ≡ [] → IfOk x (IsConditionOf schemes relation)
+    pub fits_kept : (x : Result Expr PlacedFault) → GivesPlaced (λ e. (e, t)) x (condition_at policy schemes relation s)
+        → AreSpelled (without_places s.1.placed) → t.0 ≡ [] → IfOk x (IsConditionOf schemes relation)
     fits_kept x g all none = of_row x (told_kept x g all none)

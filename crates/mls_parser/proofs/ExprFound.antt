@@ -62,7 +62,8 @@ module _ (p : Context) (d : ℕ) where
 -- ---- names
 
 module _ (p : Context) (d : ℕ) (t : Token) where
-  name_spelled : (n : Bytes) (a b : Option ℕ) → variable_named p n ≡ a → parameter_named p n ≡ b → is_some (referent_or a b) ≡ true
+  name_spelled : (n : Bytes) (a b : Option ℕ) → variable_named p n ≡ a → parameter_named p n ≡ b
+      → is_some (referent_or a b) ≡ true
       → Word n ∷ [] ≡ expr_tokens p (refer (referent_or a b))
   name_spelled n (Some i) b is other e = sym (λ j. Word (variable_there p n i is j) ∷ [])
   name_spelled n None (Some i) is other e = sym (λ j. Word (parameter_there p n i other j) ∷ [])
@@ -73,11 +74,13 @@ module _ (p : Context) (d : ℕ) (t : Token) where
   refer_flat (Some (Variable i)) = omega arith
   refer_flat (Some (Param i)) = omega arith
 
-  field_spelled : (row attribute : PlacedName) (o : Option ℕ) → row_named p row.0 ≡ o → field_faults p row attribute o ≡ []
+  field_spelled : (row attribute : PlacedName) (o : Option ℕ) → row_named p row.0 ≡ o → field_faults p row attribute o
+      ≡ []
       → Word row.0 ∷ Sign sign.Dot ∷ Word attribute.0 ∷ [] ≡ expr_tokens p (field_given p row attribute o).expr
   field_spelled row attribute None is h = absurd cc
   field_spelled row attribute (Some i) is h =
-      let name = of_known (attribute_named (row_scheme p i) attribute.0) attribute.1 (λ k. (field_of (row_scheme p i) k).0 ≡ attribute.0) h
+      let name = of_known (attribute_named (row_scheme p i) attribute.0) attribute.1
+      (λ k. (field_of (row_scheme p i) k).0 ≡ attribute.0) h
       (attribute_there (row_scheme p i) attribute.0) in
       sym (λ j. Word (row_there p row.0 i is j) ∷ Sign sign.Dot ∷ Word (name j) ∷ [])
 
@@ -85,7 +88,8 @@ module _ (p : Context) (d : ℕ) (t : Token) where
   field_flat row attribute None = omega arith
   field_flat row attribute (Some i) = omega arith
 
-  dotted_found : (s : Bytes) (at : ℕ) → t ≡ Word s → (l : State) (o : Option (ℕ × State)) (x : Given × State) → takes_sign sign.Dot l ≡ o → dotted p (s, at) l o ≡ Ok x → Behind p d t l x
+  dotted_found : (s : Bytes) (at : ℕ) → t ≡ Word s → (l : State) (o : Option (ℕ × State)) (x : Given × State)
+      → takes_sign sign.Dot l ≡ o → dotted p (s, at) l o ≡ Ok x → Behind p d t l x
   dotted_found s at word l None x is e =
       let faults = known (referent p s) at in
       subst (Behind p d t l) (same_ok (dotted p (s, at) l None) (name_given p (s, at), note faults l) x refl e)
@@ -105,11 +109,17 @@ module _ (p : Context) (d : ℕ) (t : Token) where
   dotted_found s at word l (Some dot) x is e =
       let row : PlacedName = (s, at) in
       let depth = row_named p s in
-      let a = bind_ok (name_at dot.1) (λ a. Ok (field_given p row a.0 depth, note (field_faults p row a.0 depth) a.1)) x e in
+      let a = bind_ok (name_at dot.1) (λ a. Ok (
+        field_given p row a.0 depth,
+        note (field_faults p row a.0 depth) a.1,
+      )) x e in
       let name = name_found dot.1 a.0 a.1 in
       let mark = sign_taken sign.Dot l dot is in
       let done : Read Given = Ok (field_given p row a.0.0 depth, note (field_faults p row a.0.0 depth) a.0.1) in
-      subst (Behind p d t l) (same_ok done (field_given p row a.0.0 depth, note (field_faults p row a.0.0 depth) a.0.1) x refl a.2)
+      subst (Behind p d t l) (same_ok done (
+        field_given p row a.0.0 depth,
+        note (field_faults p row a.0.0 depth) a.0.1,
+      ) x refl a.2)
       (record {
         more = Sign sign.Dot ∷ Word a.0.0.0 ∷ [];
         passed = passed_more (Sign sign.Dot ∷ []) (Word a.0.0.0 ∷ []) l.1 dot.1.1 a.0.1.1 mark.passed name.name.passed;
@@ -131,8 +141,10 @@ value_literal (values.Text s) h = h.0.1.1
 
 module _ (p : Context) (d : ℕ) (negated operated : ℕ → State → Read Given)
     (by_not : (at : ℕ) (s : State) (x : Given × State) → negated at s ≡ Ok x → Behind p d (Word (codes "not")) s x)
-    (by_paren : (at : ℕ) (s : State) (x : Given × State) → operated at s ≡ Ok x → Behind p d (Sign sign.LeftParen) s x) where
-  behind_found : (t : Token) (h : Head) (at : ℕ) (s : State) (x : Given × State) → HeadIs t h → behind_head p negated operated h at s ≡ Ok x → Behind p d t s x
+    (by_paren : (at : ℕ) (s : State) (x : Given × State) → operated at s ≡ Ok x
+    → Behind p d (Sign sign.LeftParen) s x) where
+  behind_found : (t : Token) (h : Head) (at : ℕ) (s : State) (x : Given × State) → HeadIs t h
+      → behind_head p negated operated h at s ≡ Ok x → Behind p d t s x
   behind_found t (heads.Literal v) at s x is e =
       let g = given (Known v) (inferred.Value (kind_of v)) at in
       subst (Behind p d t s) (same_ok (behind_head p negated operated (heads.Literal v) at s) (g, s) x refl e)
@@ -141,14 +153,29 @@ module _ (p : Context) (d : ℕ) (negated operated : ℕ → State → Read Give
         passed = passed_none s.1;
         right = λ none a.
             let l = value_literal v (subst (λ u. AreSpelled (u ∷ [])) is a) in
-            record { clean = none; tokens = ap (λ y. y ∷ []) is; nesting = omega arith; sound = record { own = l; fits = tt; gives = literal_kind p v l } };
+            record {
+              clean = none;
+              tokens = ap (λ y. y ∷ []) is;
+              nesting = omega arith;
+              sound =
+                  record { own = l; fits = tt; gives = literal_kind p v l };
+            };
       })
   behind_found t heads.Null at s x is e =
-      subst (Behind p d t s) (same_ok (behind_head p negated operated heads.Null at s) (given Null inferred.Null at, s) x refl e)
+      subst (Behind p d t s) (same_ok (behind_head p negated operated heads.Null at s) (
+        given Null inferred.Null at,
+        s,
+      ) x refl e)
       (record {
         more = [];
         passed = passed_none s.1;
-        right = λ none a. record { clean = none; tokens = ap (λ y. y ∷ []) is; nesting = omega arith; sound = record { own = tt; fits = tt; gives = λ k. tt } };
+        right = λ none a. record {
+          clean = none;
+          tokens = ap (λ y. y ∷ []) is;
+          nesting = omega arith;
+          sound =
+              record { own = tt; fits = tt; gives = λ k. tt };
+        };
       })
   behind_found t (heads.Name n) at s x is e = dotted_found p d t n at is.0 s (takes_sign sign.Dot s) x refl e
   behind_found t heads.Not at s x is e = subst (λ u. Behind p d u s x) (sym is) (by_not at s x e)
@@ -174,8 +201,10 @@ record SecondFound (p : Context) (d : ℕ) (s : State) (x : ((Operator × ℕ) �
   passed : Passed (operator_token x.0.0.0 ∷ (right ++ Sign sign.RightParen ∷ [])) s.1 x.1.1
   operand : x.1.0 ≡ [] → AreSpelled right → IsRight p d s.0 right x.0.1
 
-module _ (p : Context) (d : ℕ) (operand : State → Read Given) (sound : (s : State) (x : Given × State) → operand s ≡ Ok x → ExprFound p d s x) where
-  negation_found : (at : ℕ) (s : State) (x : Given × State) → negation operand at s ≡ Ok x → Behind p (suc d) (Word (codes "not")) s x
+module _ (p : Context) (d : ℕ) (operand : State → Read Given) (sound : (s : State) (x : Given × State)
+    → operand s ≡ Ok x → ExprFound p d s x) where
+  negation_found : (at : ℕ) (s : State) (x : Given × State) → negation operand at s ≡ Ok x
+      → Behind p (suc d) (Word (codes "not")) s x
   negation_found at s x e =
       let next : Given × State → Given × State =
       λ y. (given (No y.0.expr) inferred.Truth at, note (unless (may_be_truth y.0.gives) at cause.Kind) y.1) in
@@ -196,14 +225,19 @@ module _ (p : Context) (d : ℕ) (operand : State → Read Given) (sound : (s : 
               sound = record {
                 own = r.sound.own;
                 fits = r.sound.fits;
-                gives = (refl, as_truth p o.0.0.gives o.0.0.expr (holds (may_be_truth o.0.0.gives) at _ n.1) r.sound.gives);
+                gives = (
+                  refl,
+                  as_truth p o.0.0.gives o.0.0.expr
+                      (holds (may_be_truth o.0.0.gives) at _ n.1) r.sound.gives,
+                );
               };
             };
       })
 
   second_found : (s : State) (x : ((Operator × ℕ) × Given) × State) → second operand s ≡ Ok x → SecondFound p d s x
   second_found s x e =
-      let o = bind_ok (token (pass_known operator_of) s) (λ o. operand o.1 >>= λ b. sign_at sign.RightParen b.1 >>= λ q. Ok ((o.0, b.0), q.1)) x e in
+      let o = bind_ok (token (pass_known operator_of) s) (λ o. operand o.1 >>= λ b. sign_at sign.RightParen b.1 >>=
+      λ q. Ok ((o.0, b.0), q.1)) x e in
       let b = bind_ok (operand o.0.1) (λ b. sign_at sign.RightParen b.1 >>= λ q. Ok ((o.0.0, b.0), q.1)) x o.2 in
       let q = bind_ok (sign_at sign.RightParen b.0.1) (λ q. Ok ((o.0.0, b.0.0), q.1)) x b.2 in
       let op = known_found operator_of s o.0 o.1 in
@@ -217,13 +251,18 @@ module _ (p : Context) (d : ℕ) (operand : State → Read Given) (sound : (s : 
         passed = passed_more (operator_token o.0.0.0 ∷ []) (right.tokens ++ close) s.1 o.0.1.1 q.0.1.1
             (subst (λ t. Passed (t ∷ []) s.1 o.0.1.1) (operator_is op.0 o.0.0.0 op.1) op.2.passed)
             (passed_more right.tokens close o.0.1.1 b.0.1.1 q.0.1.1 right.passed end.passed);
-        operand = λ none a. subst (λ fs. IsRight p d fs right.tokens b.0.0) op.2.faults (right.right (sym end.faults ∙ none) a);
+        operand = λ none a. subst (λ fs. IsRight p d fs right.tokens b.0.0) op.2.faults
+            (right.right (sym end.faults ∙ none) a);
       })
 
-  operation_found : (at : ℕ) (s : State) (x : Given × State) → operation operand at s ≡ Ok x → Behind p (suc d) (Sign sign.LeftParen) s x
+  operation_found : (at : ℕ) (s : State) (x : Given × State) → operation operand at s ≡ Ok x
+      → Behind p (suc d) (Sign sign.LeftParen) s x
   operation_found at s x e =
       let next : Given × State → ((Operator × ℕ) × Given) × State → Given × State =
-      λ a r. (given (Op r.0.0.0 a.0.expr r.0.1.expr) (given_by_operator r.0.0.0) at, note (unless (operands_fit r.0.0.0 a.0.gives r.0.1.gives) r.0.0.1 cause.Kind) r.1) in
+      λ a r. (
+        given (Op r.0.0.0 a.0.expr r.0.1.expr) (given_by_operator r.0.0.0) at,
+        note (unless (operands_fit r.0.0.0 a.0.gives r.0.1.gives) r.0.0.1 cause.Kind) r.1,
+      ) in
       let a = bind_ok (operand s) (λ a. second operand a.1 >>= λ r. Ok (next a r)) x e in
       let r = bind_ok (second operand a.0.1) (λ r. Ok (next a.0 r)) x a.2 in
       let left = sound s a.0 a.1 in
@@ -249,20 +288,24 @@ module _ (p : Context) (d : ℕ) (operand : State → Read Given) (sound : (s : 
               sound = record {
                 own = (l.sound.own, b.sound.own);
                 fits = (l.sound.fits, b.sound.fits);
-                gives = operator_gives p op a.0.0.gives r.0.0.1.gives a.0.0.expr r.0.0.1.expr (holds (operands_fit op a.0.0.gives r.0.0.1.gives) r.0.0.0.1 _ n.1) l.sound.gives b.sound.gives;
+                gives = operator_gives p op a.0.0.gives r.0.0.1.gives a.0.0.expr r.0.0.1.expr
+                    (holds (operands_fit op a.0.0.gives r.0.0.1.gives) r.0.0.0.1 _ n.1) l.sound.gives b.sound.gives;
               };
             };
       })
 
-never : {p : Context} {d : ℕ} (t : Token) (at : ℕ) (s : State) (x : Given × State) → too_deep at s ≡ Ok x → Behind p d t s x
+never : {p : Context} {d : ℕ} (t : Token) (at : ℕ) (s : State) (x : Given × State) → too_deep at s ≡ Ok x
+    → Behind p d t s x
 never t at s x e = absurd cc
 
 pub expr_found : (p : Context) (d : ℕ) (s : State) (x : Given × State) → expr_at p d s ≡ Ok x → ExprFound p d s x
 unfolding expr_at
-expr_found p zero s x e = term_found p zero too_deep too_deep (never (Word (codes "not"))) (never (Sign sign.LeftParen)) s x e
+expr_found p zero s x e = term_found p zero too_deep too_deep (never (Word (codes "not")))
+    (never (Sign sign.LeftParen)) s x e
 expr_found p (suc d) s x e =
     term_found p (suc d) (λ at r. negation (λ t. expr_at p d t) at r) (λ at r. operation (λ t. expr_at p d t) at r)
-    (negation_found p d (λ t. expr_at p d t) (λ t y h. expr_found p d t y h)) (operation_found p d (λ t. expr_at p d t) (λ t y h. expr_found p d t y h)) s x e
+    (negation_found p d (λ t. expr_at p d t) (λ t y h. expr_found p d t y h)) (operation_found p d (λ t. expr_at p d t)
+    (λ t y h. expr_found p d t y h)) s x e
 
 -- ---- expressions of statements
 
@@ -270,5 +313,6 @@ pub whole_found : (p : Context) (s : State) (x : Given × State) → whole_at p 
 unfolding whole_at
 whole_found p s x e = expr_found p 16 s x e
 
-pub whole_shorter : (p : Context) (s : State) (x : Given × State) → whole_at p s ≡ Ok x → length x.1.1.placed < length s.1.placed
+pub whole_shorter : (p : Context) (s : State) (x : Given × State) → whole_at p s ≡ Ok x → length x.1.1.placed
+    < length s.1.placed
 whole_shorter p s x e = let h = whole_found p s x e in omega (arith, passed_shorter h.tokens s.1 x.1.1 h.passed, h.some)

@@ -13,7 +13,8 @@ module _ (p : Context) where
   expr_is (suc d) s =
       let some : (suc d == 0) ≡ false = ne_eqb (suc d) 0 (λ e. omega arith) in
       let less : suc d - 1 ≡ d = omega arith in
-      sym (λ i. term_at p (λ at r. if some i then too_deep at r else negation (λ t. expr_at p (less i) t) at r) (λ at r. if some i then too_deep at r else operation (λ t. expr_at p (less i) t) at r) s)
+      sym (λ i. term_at p (λ at r. if some i then too_deep at r else negation (λ t. expr_at p (less i) t) at r)
+      (λ at r. if some i then too_deep at r else operation (λ t. expr_at p (less i) t) at r) s)
 
   pub expr_gives : {X : Type 0} (view : X → Given × State) (r : Result X PlacedFault) (d : ℕ) (s : State)
       → GivesPlaced view r (term_at p (negation_at p d) (operation_at p d) s) → GivesPlaced view r (expr_at p d s)

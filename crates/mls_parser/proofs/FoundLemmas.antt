@@ -28,7 +28,8 @@ use Rattle.mls_parser.specs.Names.{label_named, relation_named, variable_named, 
 
 module _ {X : Type 0} (name_of : X → Name) where
   -- a name is in a list where a thing in it has the name
-  pub named_any : (xs : List X) (name : Name) → list_any (bytes_eq name) (map name_of xs) ≡ list_any (λ x. bytes_eq (name_of x) name) xs
+  pub named_any : (xs : List X) (name : Name) → list_any (bytes_eq name) (map name_of xs)
+      ≡ list_any (λ x. bytes_eq (name_of x) name) xs
   named_any [] name = refl
   named_any (x ∷ xs) name = λ i. nat_list_eq_equiv.symm name (name_of x) i || named_any xs name i
 
@@ -43,19 +44,24 @@ module _ {K : Type 0} (eq : K → K → Bool) where
   none_any x (y ∷ ys) h = λ i. h.0 i || none_any x ys h.1 i
 
   -- none in the front is one of those behind
-  pub apart_behind : (xs ys : List K) (n : ℕ) (d : K) → IsDistinct eq (xs ++ ys) → n < length xs → list_any (eq (get_or xs n d)) ys ≡ false
+  pub apart_behind : (xs ys : List K) (n : ℕ) (d : K) → IsDistinct eq (xs ++ ys) → n < length xs
+      → list_any (eq (get_or xs n d)) ys ≡ false
   apart_behind [] ys n d h within = absurd (omega arith)
-  apart_behind (x ∷ xs) ys zero d h within = none_any x ys (every_back (λ y. eq x y ≡ false) _ xs ys (IsDistinct-head eq x (xs ++ ys) h) refl)
+  apart_behind (x ∷ xs) ys zero d h within = none_any x ys (every_back (λ y. eq x y ≡ false) _ xs ys
+      (IsDistinct-head eq x (xs ++ ys) h) refl)
   apart_behind (x ∷ xs) ys (suc n) d h within = apart_behind xs ys n d (IsDistinct-tail eq x (xs ++ ys) h) (omega arith)
 
   -- none behind is one of those in the front
-  pub apart_front : IsEquivalence eq → (xs ys : List K) (n : ℕ) (d : K) → IsDistinct eq (xs ++ ys) → n < length ys → list_any (eq (get_or ys n d)) xs ≡ false
+  pub apart_front : IsEquivalence eq → (xs ys : List K) (n : ℕ) (d : K) → IsDistinct eq (xs ++ ys) → n < length ys
+      → list_any (eq (get_or ys n d)) xs ≡ false
   apart_front q [] ys n d h within = refl
   apart_front q (x ∷ xs) ys n d h within =
-      let first = All-from_recursion (λ z. eq x z ≡ false) ys (every_back (λ z. eq x z ≡ false) _ xs ys (IsDistinct-head eq x (xs ++ ys) h) refl) n d within in
+      let first = All-from_recursion (λ z. eq x z ≡ false) ys (every_back (λ z. eq x z ≡ false) _ xs ys
+      (IsDistinct-head eq x (xs ++ ys) h) refl) n d within in
       λ i. (q.symm (get_or ys n d) x ∙ first) i || apart_front q xs ys n d (IsDistinct-tail eq x (xs ++ ys) h) within i
 
-  pub new_behind : IsEquivalence eq → (xs : List K) (y : K) (ys : List K) → IsDistinct eq (xs ++ y ∷ ys) → list_any (eq y) xs ≡ false
+  pub new_behind : IsEquivalence eq → (xs : List K) (y : K) (ys : List K) → IsDistinct eq (xs ++ y ∷ ys)
+      → list_any (eq y) xs ≡ false
   new_behind q xs y ys h = apart_front q xs (y ∷ ys) 0 y h (omega arith)
 
 pub none_of : {X : Type 0} (o : Option X) → is_some o ≡ false → o ≡ None
@@ -64,11 +70,13 @@ none_of (Some x) e = absurd cc
 
 -- ---- labels and relations
 
-pub label_again : (policy : Policy) → IsPolicy policy → (n : ℕ) → n < length policy.labels → label_named policy (label_name policy.labels n) ≡ Some n
+pub label_again : (policy : Policy) → IsPolicy policy → (n : ℕ) → n < length policy.labels
+    → label_named policy (label_name policy.labels n) ≡ Some n
 unfolding label_named
 label_again = named.label_again
 
-pub relation_again : (schemes : Schemes) → AreSchemes schemes → (n : ℕ) → n < length schemes → relation_named schemes (scheme_of schemes n).name ≡ Some n
+pub relation_again : (schemes : Schemes) → AreSchemes schemes → (n : ℕ) → n < length schemes
+    → relation_named schemes (scheme_of schemes n).name ≡ Some n
 unfolding relation_named
 relation_again = schemed.relation_again
 
@@ -85,22 +93,29 @@ module _ (scheme : Scheme) (valid : IsScheme scheme) where
   unfolding other_named
   other_again = schemed.other_again scheme valid
 
-  key_again : (n : ℕ) → n < length scheme.keys → position (λ a. bytes_eq a.0 (get_or scheme.keys n no_attribute).0) scheme.keys ≡ Some n
-  key_again n within = found_again name_of scheme.keys no_attribute (distinct_front bytes_eq (map name_of scheme.keys) (map name_of scheme.others) apart) n within
+  key_again : (n : ℕ) → n < length scheme.keys
+      → position (λ a. bytes_eq a.0 (get_or scheme.keys n no_attribute).0) scheme.keys ≡ Some n
+  key_again n within = found_again name_of scheme.keys no_attribute (distinct_front bytes_eq (map name_of scheme.keys)
+      (map name_of scheme.others) apart) n within
 
   -- no key attribute has the name of another attribute
   no_key : (n : ℕ) → n < length scheme.others → position (λ a. bytes_eq a.0 (other_of scheme n).0) scheme.keys ≡ None
   no_key n within =
       let name = (other_of scheme n).0 in
-      let far = apart_front bytes_eq nat_list_eq_equiv (map name_of scheme.keys) (map name_of scheme.others) n [] apart (omega (arith, within, length-map scheme.others name_of)) in
-      let same : get_or (map name_of scheme.others) n [] ≡ name = get_or-map name_of scheme.others n no_attribute [] within in
+      let far = apart_front bytes_eq nat_list_eq_equiv (map name_of scheme.keys) (map name_of scheme.others) n [] apart
+      (omega (arith, within, length-map scheme.others name_of)) in
+      let same : get_or (map name_of scheme.others) n [] ≡ name =
+      get_or-map name_of scheme.others n no_attribute [] within in
       none_of (position (λ a. bytes_eq a.0 name) scheme.keys)
-      (is_some-position (λ a. bytes_eq a.0 name) scheme.keys ∙ sym (named_any name_of scheme.keys name) ∙ subst (λ x. list_any (bytes_eq x) (map name_of scheme.keys) ≡ false) same far)
+      (is_some-position (λ a. bytes_eq a.0 name) scheme.keys ∙ sym (named_any name_of scheme.keys name)
+      ∙ subst (λ x. list_any (bytes_eq x) (map name_of scheme.keys) ≡ false) same far)
 
   abbrev found : Name → Option ℕ
-  found name = or_behind (position (λ a. bytes_eq a.0 name) scheme.keys) (length scheme.keys) (position (λ a. bytes_eq a.0 name) scheme.others)
+  found name = or_behind (position (λ a. bytes_eq a.0 name) scheme.keys) (length scheme.keys)
+      (position (λ a. bytes_eq a.0 name) scheme.others)
 
-  found_other : (n : ℕ) → length scheme.keys ≤ n → n < width scheme → found (other_of scheme (n - length scheme.keys)).0 ≡ Some n
+  found_other : (n : ℕ) → length scheme.keys ≤ n → n < width scheme → found (other_of scheme (n - length scheme.keys)).0
+      ≡ Some n
   found_other n le lt =
       let m = n - length scheme.keys in
       let within : m < length scheme.others = omega (arith, le, lt) in
@@ -112,8 +127,10 @@ module _ (scheme : Scheme) (valid : IsScheme scheme) where
   unfolding attribute_named
   attribute_again n lt =
       elim (cases_lt n (length scheme.keys)) [
-        | inl key ↦ ap (λ a. found a.0) (as_key scheme n key) ∙ ap (λ o. or_behind o (length scheme.keys) (position (λ a. bytes_eq a.0 (get_or scheme.keys n no_attribute).0) scheme.others)) (key_again n key)
-        | inr other ↦ let le : length scheme.keys ≤ n = omega (arith, other) in ap (λ a. found a.0) (as_other scheme n le) ∙ found_other n le lt
+        | inl key ↦ ap (λ a. found a.0) (as_key scheme n key) ∙ ap (λ o. or_behind o (length scheme.keys)
+            (position (λ a. bytes_eq a.0 (get_or scheme.keys n no_attribute).0) scheme.others)) (key_again n key)
+        | inr other ↦ let le : length scheme.keys ≤ n = omega (arith, other)
+            in ap (λ a. found a.0) (as_other scheme n le) ∙ found_other n le lt
       ]
 
 -- ---- variables, parameters and rows
@@ -131,16 +148,21 @@ module _ {T : Type 0} (xs : List (Name × T)) where
   pub name_is : (n : ℕ) (d : Name × T) → n < length xs → name_at xs n ≡ (get_or xs n d).0
   name_is n d within = name_there (λ x. x.0) xs d n within
 
-pub pair_again : {T : Type 0} (xs : List (Name × T)) (n : ℕ) → IsDistinct bytes_eq (map (λ x. x.0) xs) → n < length xs → position (λ x. bytes_eq x.0 (name_at xs n)) xs ≡ Some n
+pub pair_again : {T : Type 0} (xs : List (Name × T)) (n : ℕ) → IsDistinct bytes_eq (map (λ x. x.0) xs) → n < length xs
+    → position (λ x. bytes_eq x.0 (name_at xs n)) xs ≡ Some n
 pair_again [] n apart within = absurd (omega arith)
 pair_again (x ∷ xs) n apart within =
-    subst (λ name. position (λ y. bytes_eq y.0 name) (x ∷ xs) ≡ Some n) (sym (name_is (x ∷ xs) n x within)) (found_again (λ y. y.0) (x ∷ xs) x apart n within)
+    subst (λ name. position (λ y. bytes_eq y.0 name) (x ∷ xs) ≡ Some n) (sym (name_is (x ∷ xs) n x within))
+    (found_again (λ y. y.0) (x ∷ xs) x apart n within)
 
-pair_apart : {T : Type 0} (xs : List (Name × T)) (ys : List Name) (n : ℕ) → IsDistinct bytes_eq (map (λ x. x.0) xs ++ ys) → n < length xs → list_any (bytes_eq (name_at xs n)) ys ≡ false
+pair_apart : {T : Type 0} (xs : List (Name × T)) (ys : List Name) (n : ℕ)
+    → IsDistinct bytes_eq (map (λ x. x.0) xs ++ ys) → n < length xs → list_any (bytes_eq (name_at xs n)) ys ≡ false
 pair_apart [] ys n apart within = absurd (omega arith)
 pair_apart (x ∷ xs) ys n apart within =
-    subst (λ name. list_any (bytes_eq name) ys ≡ false) (get_or-map (λ y. y.0) (x ∷ xs) n x [] within ∙ sym (name_is (x ∷ xs) n x within))
-    (apart_behind bytes_eq (map (λ y. y.0) (x ∷ xs)) ys n [] apart (omega (arith, within, length-map (x ∷ xs) (λ y. y.0))))
+    subst (λ name. list_any (bytes_eq name) ys ≡ false) (get_or-map (λ y. y.0) (x ∷ xs) n x [] within
+    ∙ sym (name_is (x ∷ xs) n x within))
+    (apart_behind bytes_eq (map (λ y. y.0) (x ∷ xs)) ys n [] apart
+    (omega (arith, within, length-map (x ∷ xs) (λ y. y.0))))
 
 module _ (p : Context) (h : HasNames p) where
   abbrev row_names : List Name
@@ -160,28 +182,33 @@ module _ (p : Context) (h : HasNames p) where
   variable_again n within = pair_again p.scope.vars n (distinct_behind bytes_eq param_names var_names h.apart) within
 
   pub variable_is_name : (n : ℕ) → n < length p.scope.vars → is_name (name_at p.scope.vars n) ≡ true
-  variable_is_name n within = is_name_there (λ x. x.0) p.scope.vars (every_back (λ x. is_name x ≡ true) _ param_names var_names inner_names refl) n within
+  variable_is_name n within = is_name_there (λ x. x.0) p.scope.vars
+      (every_back (λ x. is_name x ≡ true) _ param_names var_names inner_names refl) n within
 
   pub parameter_again : (n : ℕ) → n < length p.scope.params → parameter_named p (name_at p.scope.params n) ≡ Some n
   unfolding parameter_named
   parameter_again n within = pair_again p.scope.params n (distinct_front bytes_eq param_names var_names h.apart) within
 
   pub parameter_is_name : (n : ℕ) → n < length p.scope.params → is_name (name_at p.scope.params n) ≡ true
-  parameter_is_name n within = is_name_there (λ x. x.0) p.scope.params (every_front (λ x. is_name x ≡ true) _ param_names var_names inner_names refl) n within
+  parameter_is_name n within = is_name_there (λ x. x.0) p.scope.params
+      (every_front (λ x. is_name x ≡ true) _ param_names var_names inner_names refl) n within
 
   pub no_variable : (n : ℕ) → n < length p.scope.params → variable_named p (name_at p.scope.params n) ≡ None
   unfolding variable_named
   no_variable n within =
       let name = name_at p.scope.params n in
       none_of (position (λ v. bytes_eq v.0 name) p.scope.vars)
-      (is_some-position (λ v. bytes_eq v.0 name) p.scope.vars ∙ sym (named_any (λ v. v.0) p.scope.vars name) ∙ pair_apart p.scope.params var_names n h.apart within)
+      (is_some-position (λ v. bytes_eq v.0 name) p.scope.vars ∙ sym (named_any (λ v. v.0) p.scope.vars name)
+      ∙ pair_apart p.scope.params var_names n h.apart within)
 
   pub row_again : (n : ℕ) → n < length p.scope.rows → row_named p (row_at p.scope n).name ≡ Some n
   unfolding row_named
   row_again n within = found_again (λ r. r.name) p.scope.rows no_row h.row_apart n within
 
   pub row_is_name : (n : ℕ) → n < length p.scope.rows → is_name (row_at p.scope n).name ≡ true
-  row_is_name n within = is_name_at (λ r. r.name) p.scope.rows no_row (every_front (λ x. is_name x ≡ true) _ row_names (param_names ++ var_names) h.names refl) n within
+  row_is_name n within = is_name_at (λ r. r.name) p.scope.rows no_row (every_front (λ x. is_name x ≡ true) _ row_names
+      (param_names ++ var_names) h.names refl) n within
 
   pub row_valid : (n : ℕ) → n < length p.scope.rows → IsScheme (row_scheme p n)
-  row_valid n within = scheme_is p.schemes h.schemes (row_at p.scope n).relation (All-from_recursion (λ r. r.relation < length p.schemes) p.scope.rows h.rows n no_row within)
+  row_valid n within = scheme_is p.schemes h.schemes (row_at p.scope n).relation (All-from_recursion (λ r. r.relation
+      < length p.schemes) p.scope.rows h.rows n no_row within)

@@ -25,9 +25,11 @@ pub found_none : {X : Type 0} (R : List Token → X → Type 0) (x : X) (s : Sta
 found_none R x s h = record { tokens = []; passed = passed_none s.1; right = λ none a. (none, h) }
 
 -- one reading behind another
-pub found_next : {A B : Type 0} {R : List Token → A → Type 0} (S : List Token → B → Type 0) (Q : A → List Token → B → Type 0) (s : State) (r : Read A) (f : A × State → Read B)
+pub found_next : {A B : Type 0} {R : List Token → A → Type 0} (S : List Token → B → Type 0) (Q : A → List Token → B
+    → Type 0) (s : State) (r : Read A) (f : A × State → Read B)
     → ((x : A × State) → r ≡ Ok x → Found R s x) → ((x : A × State) (y : B × State) → f x ≡ Ok y → Found (Q x.0) x.1 y)
-    → ((x : A) (y : B) (ts us : List Token) → R ts x → Q x us y → S (ts ++ us) y) → (y : B × State) → (r >>= f) ≡ Ok y → Found S s y
+    → ((x : A) (y : B) (ts us : List Token) → R ts x → Q x us y → S (ts ++ us) y) → (y : B × State) → (r >>= f) ≡ Ok y
+    → Found S s y
 found_next S Q s r f one other both y e =
     let x = bind_ok r f y e in
     let a = one x.0 x.1 in
@@ -43,7 +45,8 @@ found_next S Q s r f one other both y e =
     }
 
 -- what is made of a reading, with faults that are noted
-pub found_noted : {A B : Type 0} {R : List Token → A → Type 0} (S : List Token → B → Type 0) (s : State) (r : Read A) (g : A → B) (faults : A → List PlacedFault)
+pub found_noted : {A B : Type 0} {R : List Token → A → Type 0} (S : List Token → B → Type 0) (s : State) (r : Read A)
+    (g : A → B) (faults : A → List PlacedFault)
     → ((x : A × State) → r ≡ Ok x → Found R s x) → ((x : A) (ts : List Token) → faults x ≡ [] → R ts x → S ts (g x))
     → (y : B × State) → (r >>= λ x. Ok (g x.0, note (faults x.0) x.1)) ≡ Ok y → Found S s y
 found_noted S s r g faults one made y e =
@@ -59,16 +62,24 @@ found_noted S s r g faults one made y e =
           (first.0, made x.0.0 a.tokens n.1 first.1);
     })
 
-pub found_made : {A B : Type 0} {R : List Token → A → Type 0} (S : List Token → B → Type 0) (s : State) (r : Read A) (g : A → B)
-    → ((x : A × State) → r ≡ Ok x → Found R s x) → ((x : A) (ts : List Token) → R ts x → S ts (g x)) → (y : B × State) → (r >>= λ x. Ok (g x.0, x.1)) ≡ Ok y → Found S s y
+pub found_made : {A B : Type 0} {R : List Token → A → Type 0} (S : List Token → B → Type 0) (s : State) (r : Read A)
+    (g : A → B)
+    → ((x : A × State) → r ≡ Ok x → Found R s x) → ((x : A) (ts : List Token) → R ts x → S ts (g x)) → (y : B × State)
+    → (r >>= λ x. Ok (g x.0, x.1)) ≡ Ok y → Found S s y
 found_made S s r g one made y e =
     let x = bind_ok r (λ x. Ok (g x.0, x.1)) y e in
     let a = one x.0 x.1 in
     subst (Found S s) (ok_is (g x.0.0, x.0.1) y x.2)
-    (record { tokens = a.tokens; passed = a.passed; right = λ none t. let first = a.right none t in (first.0, made x.0.0 a.tokens first.1) })
+    (record {
+      tokens = a.tokens;
+      passed = a.passed;
+      right = λ none t. let first = a.right none t
+          in (first.0, made x.0.0 a.tokens first.1);
+    })
 
 -- behind tokens that were passed, with nothing noted
-pub found_after : {X : Type 0} (R : List Token → X → Type 0) (ts : List Token) (s m : State) (x : X × State) → Quiet ts s m → Found (λ us y. R (ts ++ us) y) m x → Found R s x
+pub found_after : {X : Type 0} (R : List Token → X → Type 0) (ts : List Token) (s m : State) (x : X × State)
+    → Quiet ts s m → Found (λ us y. R (ts ++ us) y) m x → Found R s x
 found_after R ts s m x q rest = record {
   tokens = ts ++ rest.tokens;
   passed = passed_more ts rest.tokens s.1 m.1 x.1.1 q.passed rest.passed;
@@ -93,18 +104,36 @@ abbrev pub IsNamed : (Name → List Token) → List Token → PlacedName → Typ
 IsNamed front ts n = (ts ≡ front n.0) × (is_name n.0 ≡ true)
 
 pub name_read : (s : State) (x : PlacedName × State) → name_at s ≡ Ok x → Found (IsNamed (λ n. Word n ∷ [])) s x
-name_read s x e = let h = name_found s x e in record { tokens = Word x.0.0 ∷ []; passed = h.name.passed; right = λ none a. (sym h.faults ∙ none, (refl, h.name.name)) }
+name_read s x e = let h = name_found s x e in record {
+  tokens = Word x.0.0 ∷ [];
+  passed = h.name.passed;
+  right =
+      λ none a. (sym h.faults ∙ none, (refl, h.name.name));
+}
 
-pub behind_read : (w : Name) (s : State) (x : PlacedName × State) → name_behind w s ≡ Ok x → Found (IsNamed (λ n. Word w ∷ Word n ∷ [])) s x
-behind_read w s x e = let h = behind_found w s x e in record { tokens = Word w ∷ Word x.0.0 ∷ []; passed = h.passed; right = λ none a. (sym h.faults ∙ none, (refl, h.name)) }
+pub behind_read : (w : Name) (s : State) (x : PlacedName × State) → name_behind w s ≡ Ok x
+    → Found (IsNamed (λ n. Word w ∷ Word n ∷ [])) s x
+behind_read w s x e = let h = behind_found w s x e in record {
+  tokens = Word w ∷ Word x.0.0 ∷ [];
+  passed = h.passed;
+  right = λ none a. (sym h.faults ∙ none, (refl, h.name));
+}
 
 -- the next token as one of them, and the spelling of it
 module _ {X : Type 0} (what : Token → Option X) where
   abbrev pub IsKnown : List Token → X × ℕ → Type 0
   IsKnown ts x = (t : Token) × (what t ≡ Some x.0) × (ts ≡ t ∷ []) × IsSpelled t
 
-  one_read : (s : State) (x : (X × ℕ) × State) → (t : Token) × (what t ≡ Some x.0.0) × Quiet (t ∷ []) s x.1 → Found IsKnown s x
-  one_read s x (t, is, q) = record { tokens = t ∷ []; passed = q.passed; right = λ none a. (sym q.faults ∙ none, (t, is, refl, a.0)) }
+  one_read : (s : State) (x : (X × ℕ) × State) → (t : Token) × (what t ≡ Some x.0.0) × Quiet (t ∷ []) s x.1
+      → Found IsKnown s x
+  one_read s x (t, is, q) = record {
+    tokens = t ∷ [];
+    passed = q.passed;
+    right = λ none a. (
+      sym q.faults ∙ none,
+      (t, is, refl, a.0),
+    );
+  }
 
   pub known_read : (s : State) (x : (X × ℕ) × State) → token (pass_known what) s ≡ Ok x → Found IsKnown s x
   known_read s x e = one_read s x (known_found what s x e)

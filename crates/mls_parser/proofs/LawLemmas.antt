@@ -1,4 +1,5 @@
--- What a text tells is read from it: so a text tells one list of transactions at most, and a printed transaction is read as it is.
+-- What a text tells is read from it: so a text tells one list of transactions at most, and a printed transaction is
+-- read as it is.
 use Rattle.std.proofs.Common.{◌≡◌, ℕ, List, [], ◌∷◌, map, Option, Some, None, Result, Ok, Err, refl, ap, subst, ◌∙◌}
 use Rattle.mls_lattice.specs.Policy.{Policy, IsPolicy}
 use Rattle.mls_scheme.specs.Scheme.{Schemes, AreSchemes}
@@ -21,20 +22,25 @@ use Rattle.mls_parser.proofs.TextAgain.{text_gets}
 use Rattle.mls_parser.proofs.TxFound.{text_told}
 
 module _ (policy : Policy) (schemes : Schemes) where
-  gets_parsed : (bytes : List ℕ) (txs : List Tx) → Gets (noted policy schemes bytes) ([], tokens_at bytes) (λ ds. map tx_of ds ≡ txs) [] → parsed policy schemes bytes ≡ Ok txs
+  gets_parsed : (bytes : List ℕ) (txs : List Tx) → Gets (noted policy schemes bytes) ([], tokens_at bytes)
+      (λ ds. map tx_of ds ≡ txs) [] → parsed policy schemes bytes ≡ Ok txs
   unfolding parsed least_from
   gets_parsed bytes txs g = ap judged g.is ∙ ap (λ (l : List Tx). Ok l) g.holds
 
-  told_read : IsPolicy policy → AreSchemes schemes → (bytes : List ℕ) (txs : List Tx) → Tells policy schemes bytes txs → parse_at policy schemes bytes ≡ Ok txs
+  told_read : IsPolicy policy → AreSchemes schemes → (bytes : List ℕ) (txs : List Tx) → Tells policy schemes bytes txs
+      → parse_at policy schemes bytes ≡ Ok txs
   told_read p s bytes txs t = ap (placed_in bytes) (gets_parsed bytes txs (text_gets policy schemes p s bytes txs t))
 
-  answered : (bytes : List ℕ) (x : List Draft × State) (txs : List Tx) (o : Option PlacedFault) → noted policy schemes bytes ≡ Ok x → least x.1.0 ≡ o → placed_in bytes (answer o (map tx_of x.0)) ≡ Ok txs → Tells policy schemes bytes txs
+  answered : (bytes : List ℕ) (x : List Draft × State) (txs : List Tx) (o : Option PlacedFault)
+      → noted policy schemes bytes ≡ Ok x → least x.1.0 ≡ o → placed_in bytes (answer o (map tx_of x.0)) ≡ Ok txs
+      → Tells policy schemes bytes txs
   answered bytes x txs None is none e =
       let same : map tx_of x.0 ≡ txs = cc in
       subst (Tells policy schemes bytes) same (text_told policy schemes bytes x is (none_at_all x.1.0 none))
   answered bytes x txs (Some f) is none e = absurd cc
 
-  behind : (bytes : List ℕ) (r : Read (List Draft)) (txs : List Tx) → noted policy schemes bytes ≡ r → placed_in bytes (judged r) ≡ Ok txs → Tells policy schemes bytes txs
+  behind : (bytes : List ℕ) (r : Read (List Draft)) (txs : List Tx) → noted policy schemes bytes ≡ r
+      → placed_in bytes (judged r) ≡ Ok txs → Tells policy schemes bytes txs
   behind bytes (Err f) txs is e = absurd cc
   behind bytes (Ok x) txs is e = answered bytes x txs (least x.1.0) is refl e
 
@@ -46,17 +52,24 @@ same_read : (txs us : List Tx) (r : Result (List Tx) TextFault) → r ≡ Ok txs
 same_read txs us r e f = cc
 
 -- a text that is refused tells none
-pub never_told : (policy : Policy) (schemes : Schemes) → IsPolicy policy → AreSchemes schemes → (bytes : List ℕ) (e : TextFault) → parse_at policy schemes bytes ≡ Err e → TellsNone policy schemes bytes
-never_told policy schemes p s bytes e is = λ txs t. refused (parse_at policy schemes bytes) txs is (told_read policy schemes p s bytes txs t)
+pub never_told : (policy : Policy) (schemes : Schemes) → IsPolicy policy → AreSchemes schemes
+    → (bytes : List ℕ) (e : TextFault) → parse_at policy schemes bytes ≡ Err e → TellsNone policy schemes bytes
+never_told policy schemes p s bytes e is = λ txs t. refused (parse_at policy schemes bytes) txs is
+    (told_read policy schemes p s bytes txs t)
   where
     refused : (r : Result (List Tx) TextFault) (txs : List Tx) → r ≡ Err e → r ≡ Ok txs → ⊥
     refused r txs a b = absurd cc
 
 pub texts_are_read_as_told : Under TextsAreReadAsTold
-texts_are_read_as_told policy schemes p s bytes txs = (read_told policy schemes bytes txs, told_read policy schemes p s bytes txs)
+texts_are_read_as_told policy schemes p s bytes txs = (
+  read_told policy schemes bytes txs,
+  told_read policy schemes p s bytes txs,
+)
 
 pub transactions_are_read_once : Under TransactionsAreReadOnce
-transactions_are_read_once policy schemes p s bytes txs us a b = same_read txs us (parse_at policy schemes bytes) (told_read policy schemes p s bytes txs a) (told_read policy schemes p s bytes us b)
+transactions_are_read_once policy schemes p s bytes txs us a b = same_read txs us (parse_at policy schemes bytes)
+    (told_read policy schemes p s bytes txs a) (told_read policy schemes p s bytes us b)
 
 pub prints_are_read : Under PrintsAreRead
-prints_are_read policy schemes p s tx is read = told_read policy schemes p s (printed policy schemes tx) (tx ∷ []) (prints_are_told policy schemes tx p s is read)
+prints_are_read policy schemes p s tx is read = told_read policy schemes p s (printed policy schemes tx) (tx ∷ [])
+    (prints_are_told policy schemes tx p s is read)

@@ -65,7 +65,8 @@ module _ (f g x : PlacedFault) (gs : List PlacedFault) where
     first = (l.first.0, (is_further g f x l.first.0 e, l.first.1));
   }
 
-least_of : (f : PlacedFault) (fs : List PlacedFault) (x : PlacedFault) → least_from (Some f) fs ≡ Some x → IsLeast (f ∷ fs) x
+least_of : (f : PlacedFault) (fs : List PlacedFault) (x : PlacedFault) → least_from (Some f) fs ≡ Some x
+    → IsLeast (f ∷ fs) x
 unfolding least_from
 least_of f [] x e =
     let is : f ≡ x = cc in
@@ -108,8 +109,10 @@ module _ {X : Type 0} (fs : List PlacedFault) (x : X) where
 
 -- ---- texts
 
-module _ (policy : Policy) (schemes : Schemes) (bytes : List ℕ) (x : List Draft × State) (right : noted policy schemes bytes ≡ Ok x) where
-  is_judged : {r : Result (List Tx) PlacedFault} → parsed policy schemes bytes ≡ r → answer (least x.1.0) (map tx_of x.0) ≡ r
+module _ (policy : Policy) (schemes : Schemes) (bytes : List ℕ) (x : List Draft × State)
+    (right : noted policy schemes bytes ≡ Ok x) where
+  is_judged : {r : Result (List Tx) PlacedFault} → parsed policy schemes bytes ≡ r
+      → answer (least x.1.0) (map tx_of x.0) ≡ r
   unfolding parsed
   is_judged e = ap judged (sym right) ∙ e
 

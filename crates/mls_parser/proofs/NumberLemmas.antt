@@ -14,14 +14,16 @@ use Rattle.mls_parser.specs.Noted.{known}
 use Rattle.mls_parser.proofs.FaultLemmas.{is_known}
 
 -- what is found has the name
-got_there : {X : Type 0} (name_of : X → Name) (xs : List X) (n : Name) (i : ℕ) (d : X) → position (λ x. bytes_eq (name_of x) n) xs ≡ Some i → unwrap_or (option_map name_of (slice_get xs i)) [] ≡ n
+got_there : {X : Type 0} (name_of : X → Name) (xs : List X) (n : Name) (i : ℕ) (d : X)
+    → position (λ x. bytes_eq (name_of x) n) xs ≡ Some i → unwrap_or (option_map name_of (slice_get xs i)) [] ≡ n
 got_there name_of xs n i d e = let there = named_there name_of xs d n i e in name_there name_of xs d i there.0 ∙ there.1
 
 pub label_there : (policy : Policy) (n : Name) (i : ℕ) → label_named policy n ≡ Some i → label_name policy.labels i ≡ n
 unfolding label_named
 label_there policy n i e = (label_found policy.labels n i e).1
 
-pub relation_there : (schemes : Schemes) (n : Name) (i : ℕ) → relation_named schemes n ≡ Some i → (scheme_of schemes i).name ≡ n
+pub relation_there : (schemes : Schemes) (n : Name) (i : ℕ) → relation_named schemes n ≡ Some i
+    → (scheme_of schemes i).name ≡ n
 unfolding relation_named
 relation_there schemes n i e = (relation_found schemes n i e).1
 
@@ -52,7 +54,8 @@ module _ (p : Context) (n : Name) where
 
 -- ---- attributes of rows
 
-behind_there : (scheme : Scheme) (n : Name) (a b : Option ℕ) (i : ℕ) → position (λ x. bytes_eq x.0 n) scheme.keys ≡ a → position (λ x. bytes_eq x.0 n) scheme.others ≡ b
+behind_there : (scheme : Scheme) (n : Name) (a b : Option ℕ) (i : ℕ) → position (λ x. bytes_eq x.0 n) scheme.keys ≡ a
+    → position (λ x. bytes_eq x.0 n) scheme.others ≡ b
     → or_behind a (length scheme.keys) b ≡ Some i → (field_of scheme i).0 ≡ n
 behind_there scheme n (Some j) b i is other e =
     let same : j ≡ i = cc in
@@ -67,18 +70,25 @@ behind_there scheme n None (Some j) i is other e =
     rw there (subst (λ k. (get_or scheme.others k no_attribute).0 ≡ n) back t.1)
 behind_there scheme n None None i is other e = absurd cc
 
-pub attribute_there : (scheme : Scheme) (n : Name) (i : ℕ) → attribute_named scheme n ≡ Some i → (field_of scheme i).0 ≡ n
+pub attribute_there : (scheme : Scheme) (n : Name) (i : ℕ) → attribute_named scheme n ≡ Some i → (field_of scheme i).0
+    ≡ n
 unfolding attribute_named
-attribute_there scheme n i e = behind_there scheme n (position (λ x. bytes_eq x.0 n) scheme.keys) (position (λ x. bytes_eq x.0 n) scheme.others) i refl refl e
+attribute_there scheme n i e = behind_there scheme n (position (λ x. bytes_eq x.0 n) scheme.keys)
+    (position (λ x. bytes_eq x.0 n) scheme.others) i refl refl e
 
 -- ---- known names
 
 -- where a name stands for a number, what holds of the number holds
-pub of_known : (o : Option ℕ) (at : ℕ) (F : ℕ → Type 0) → known o at ≡ [] → ((i : ℕ) → o ≡ Some i → F i) → F (numbered o)
+pub of_known : (o : Option ℕ) (at : ℕ) (F : ℕ → Type 0) → known o at ≡ [] → ((i : ℕ) → o ≡ Some i → F i)
+    → F (numbered o)
 of_known o at F h f = let i = is_known o at h in subst (λ m. F (numbered m)) (sym i.1) (f i.0 i.1)
 
-pub label_spelled : (policy : Policy) (n : Name) (at : ℕ) → known (label_named policy n) at ≡ [] → label_name policy.labels (numbered (label_named policy n)) ≡ n
-label_spelled policy n at h = of_known (label_named policy n) at (λ i. label_name policy.labels i ≡ n) h (label_there policy n)
+pub label_spelled : (policy : Policy) (n : Name) (at : ℕ) → known (label_named policy n) at ≡ []
+    → label_name policy.labels (numbered (label_named policy n)) ≡ n
+label_spelled policy n at h = of_known (label_named policy n) at (λ i. label_name policy.labels i ≡ n) h
+    (label_there policy n)
 
-pub relation_spelled : (schemes : Schemes) (n : Name) (at : ℕ) → known (relation_named schemes n) at ≡ [] → (scheme_of schemes (numbered (relation_named schemes n))).name ≡ n
-relation_spelled schemes n at h = of_known (relation_named schemes n) at (λ i. (scheme_of schemes i).name ≡ n) h (relation_there schemes n)
+pub relation_spelled : (schemes : Schemes) (n : Name) (at : ℕ) → known (relation_named schemes n) at ≡ []
+    → (scheme_of schemes (numbered (relation_named schemes n))).name ≡ n
+relation_spelled schemes n at h = of_known (relation_named schemes n) at (λ i. (scheme_of schemes i).name ≡ n) h
+    (relation_there schemes n)

@@ -15,10 +15,12 @@ use Rattle.mls_parser.proofs.TxFound.{text_told}
 
 module _ (policy : Policy) (schemes : Schemes) (bytes : List ℕ) where
   -- what is read with no fault is told
-  pub found_told : (ds : List Draft) (s : State) → transactions_at policy schemes ([], tokens_at bytes) ≡ Ok (ds, s) → None ≡ least_from None s.0 → Tells policy schemes bytes (map tx_of ds)
+  pub found_told : (ds : List Draft) (s : State) → transactions_at policy schemes ([], tokens_at bytes) ≡ Ok (ds, s)
+      → None ≡ least_from None s.0 → Tells policy schemes bytes (map tx_of ds)
   found_told ds s e none = text_told policy schemes bytes (ds, s) e (none_at_all s.0 (sym none))
 
-  pub found_each : (ds : List Draft) (s : State) → transactions_at policy schemes ([], tokens_at bytes) ≡ Ok (ds, s) → None ≡ least_from None s.0 → AllByRecursion IsTx (map tx_of ds)
+  pub found_each : (ds : List Draft) (s : State) → transactions_at policy schemes ([], tokens_at bytes) ≡ Ok (ds, s)
+      → None ≡ least_from None s.0 → AllByRecursion IsTx (map tx_of ds)
   found_each ds s e none = (found_told ds s e none).each
 
 pub ruleset parsed_steps = (found_told, found_each)

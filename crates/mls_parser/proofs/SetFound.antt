@@ -28,7 +28,8 @@ module _ (p : Context) (scheme : Scheme) where
     pub fits : SetsFit p.schemes p.scope scheme xs
     pub kinds : AllByRecursion (λ x. HasKind p.schemes p.scope (other_of scheme x.0).1.kind x.1) xs
 
-  are_new : (ts : List Token) (xs : List (ℕ × Expr)) → AreAssigned (expr_tokens p) (IsRightExpr p) scheme ts xs → AreNew ts xs
+  are_new : (ts : List Token) (xs : List (ℕ × Expr)) → AreAssigned (expr_tokens p) (IsRightExpr p) scheme ts xs
+      → AreNew ts xs
   are_new ts xs r = record {
     tokens = r.tokens;
     own = all_if IsNewRight _ (λ x h. h.1.own) xs r.each;
@@ -39,5 +40,11 @@ module _ (p : Context) (scheme : Scheme) where
   pub sets_read : (s : State) (x : List (ℕ × Expr) × State) → sets_at p scheme s ≡ Ok x → Found AreNew s x
   unfolding set_at sets_at
   sets_read s x e =
-      let h = values.sets_read (whole_at p) (λ g. g.expr) (λ g. g.at) (λ a g. fits_item a g.gives) (expr_tokens p) (IsRightExpr p) _ (right_read p) (right_expr p) scheme s x e in
-      record { tokens = h.tokens; passed = h.passed; right = λ none a. let r = h.right none a in (r.0, are_new h.tokens x.0 r.1) }
+      let h = values.sets_read (whole_at p) (λ g. g.expr) (λ g. g.at) (λ a g. fits_item a g.gives) (expr_tokens p)
+      (IsRightExpr p) _ (right_read p) (right_expr p) scheme s x e in
+      record {
+        tokens = h.tokens;
+        passed = h.passed;
+        right = λ none a. let r = h.right none a
+            in (r.0, are_new h.tokens x.0 r.1);
+      }

@@ -33,20 +33,25 @@ word_is : (w s : Bytes) → bytes_eq w s ≡ true → Word w ≡ Word s
 word_is w s e = ap (λ (x : Bytes). Word x) ((bytes_eq-Decides w s).0 e)
 
 head_word : (w : Bytes) (h : Head) → head_of_word w ≡ Some h → HeadIs (Word w) h
-head_word w h e = first (chosen (bytes_eq w (codes "null")) (Some heads.Null) (if bytes_eq w (codes "not") then Some heads.Not else (if is_name w then Some (heads.Name w) else None)) (Some h) e)
+head_word w h e = first (chosen (bytes_eq w (codes "null")) (Some heads.Null)
+    (if bytes_eq w (codes "not") then Some heads.Not else (if is_name w then Some (heads.Name w) else None)) (Some h) e)
   where
-    third : ((is_name w ≡ true) × (Some (heads.Name w) ≡ Some h)) ⊎ ((is_name w ≡ false) × (None ≡ Some h)) → HeadIs (Word w) h
+    third : ((is_name w ≡ true) × (Some (heads.Name w) ≡ Some h)) ⊎ ((is_name w ≡ false) × (None ≡ Some h))
+        → HeadIs (Word w) h
     third (inl y) = subst (HeadIs (Word w)) (same_Some (heads.Name w) h y.1) (refl, y.0)
     third (inr n) = absurd (let bad = n.1 in cc)
 
-    second : ((bytes_eq w (codes "not") ≡ true) × (Some heads.Not ≡ Some h)) ⊎ ((bytes_eq w (codes "not") ≡ false) × ((if is_name w then Some (heads.Name w) else None) ≡ Some h)) → HeadIs (Word w) h
+    second : ((bytes_eq w (codes "not") ≡ true) × (Some heads.Not ≡ Some h)) ⊎ ((bytes_eq w (codes "not") ≡ false)
+        × ((if is_name w then Some (heads.Name w) else None) ≡ Some h)) → HeadIs (Word w) h
     second (inl y) = subst (HeadIs (Word w)) (same_Some heads.Not h y.1) (word_is w (codes "not") y.0)
     second (inr n) = third (chosen (is_name w) (Some (heads.Name w)) None (Some h) n.1)
 
     first : ((bytes_eq w (codes "null") ≡ true) × (Some heads.Null ≡ Some h))
-        ⊎ ((bytes_eq w (codes "null") ≡ false) × ((if bytes_eq w (codes "not") then Some heads.Not else (if is_name w then Some (heads.Name w) else None)) ≡ Some h)) → HeadIs (Word w) h
+        ⊎ ((bytes_eq w (codes "null") ≡ false) × ((if bytes_eq w (codes "not") then Some heads.Not else
+        (if is_name w then Some (heads.Name w) else None)) ≡ Some h)) → HeadIs (Word w) h
     first (inl y) = subst (HeadIs (Word w)) (same_Some heads.Null h y.1) (word_is w (codes "null") y.0)
-    first (inr n) = second (chosen (bytes_eq w (codes "not")) (Some heads.Not) (if is_name w then Some (heads.Name w) else None) (Some h) n.1)
+    first (inr n) = second (chosen (bytes_eq w (codes "not")) (Some heads.Not)
+        (if is_name w then Some (heads.Name w) else None) (Some h) n.1)
 
 head_sign : (s : Mark) (h : Head) → head_of_sign s ≡ Some h → HeadIs (Sign s) h
 head_sign sign.LeftParen h e = subst (HeadIs (Sign sign.LeftParen)) (same_Some heads.Paren h e) refl
@@ -59,14 +64,17 @@ head_is (Text s) h e = subst (HeadIs (Text s)) (same_Some _ h e) refl
 head_is (Sign s) h e = head_sign s h e
 
 operator_word : (w : Bytes) (op : Operator) → operator_of_word w ≡ Some op → Word w ≡ operator_token op
-operator_word w op e = first (chosen (bytes_eq w (codes "and")) (Some operators.And) (if bytes_eq w (codes "or") then Some operators.Or else None) (Some op) e)
+operator_word w op e = first (chosen (bytes_eq w (codes "and")) (Some operators.And)
+    (if bytes_eq w (codes "or") then Some operators.Or else None) (Some op) e)
   where
-    second : ((bytes_eq w (codes "or") ≡ true) × (Some operators.Or ≡ Some op)) ⊎ ((bytes_eq w (codes "or") ≡ false) × (None ≡ Some op)) → Word w ≡ operator_token op
+    second : ((bytes_eq w (codes "or") ≡ true) × (Some operators.Or ≡ Some op)) ⊎ ((bytes_eq w (codes "or") ≡ false)
+        × (None ≡ Some op)) → Word w ≡ operator_token op
     second (inl y) = word_is w (codes "or") y.0 ∙ ap operator_token (same_Some operators.Or op y.1)
     second (inr n) = absurd (let bad = n.1 in cc)
 
     first : ((bytes_eq w (codes "and") ≡ true) × (Some operators.And ≡ Some op))
-        ⊎ ((bytes_eq w (codes "and") ≡ false) × ((if bytes_eq w (codes "or") then Some operators.Or else None) ≡ Some op)) → Word w ≡ operator_token op
+        ⊎ ((bytes_eq w (codes "and") ≡ false) × ((if bytes_eq w (codes "or") then Some operators.Or else None)
+        ≡ Some op)) → Word w ≡ operator_token op
     first (inl y) = word_is w (codes "and") y.0 ∙ ap operator_token (same_Some operators.And op y.1)
     first (inr n) = second (chosen (bytes_eq w (codes "or")) (Some operators.Or) None (Some op) n.1)
 
@@ -98,10 +106,12 @@ PlainIs t plains.Delete = t ≡ Word (codes "delete")
 PlainIs t plains.Release = t ≡ Word (codes "release")
 PlainIs t plains.Emit = t ≡ Word (codes "emit")
 
-test_word : {X : Type 0} (w k : Bytes) (x y : X) (more : Option X) → (if bytes_eq w k then Some x else more) ≡ Some y → ((Word w ≡ Word k) × (x ≡ y)) ⊎ (more ≡ Some y)
+test_word : {X : Type 0} (w k : Bytes) (x y : X) (more : Option X) → (if bytes_eq w k then Some x else more) ≡ Some y
+    → ((Word w ≡ Word k) × (x ≡ y)) ⊎ (more ≡ Some y)
 test_word w k x y more e = go (chosen (bytes_eq w k) (Some x) more (Some y) e)
   where
-    go : ((bytes_eq w k ≡ true) × (Some x ≡ Some y)) ⊎ ((bytes_eq w k ≡ false) × (more ≡ Some y)) → ((Word w ≡ Word k) × (x ≡ y)) ⊎ (more ≡ Some y)
+    go : ((bytes_eq w k ≡ true) × (Some x ≡ Some y)) ⊎ ((bytes_eq w k ≡ false) × (more ≡ Some y))
+        → ((Word w ≡ Word k) × (x ≡ y)) ⊎ (more ≡ Some y)
     go (inl h) = inl (ap (λ (s : Bytes). Word s) ((bytes_eq-Decides w k).0 h.0), same_Some x y h.1)
     go (inr h) = inr h.1
 
@@ -126,7 +136,8 @@ or_update w = if bytes_eq w (codes "update") then Some plains.Update else or_del
 plain_word : (w : Bytes) (p : Plain) → plain_of_word w ≡ Some p → PlainOf w p
 plain_word w p e = first (test_word w (codes "insert") plains.Insert p (or_update w) e)
   where
-    sixth : ((is_name w ≡ true) × (Some (plains.Assign w) ≡ Some p)) ⊎ ((is_name w ≡ false) × (None ≡ Some p)) → PlainOf w p
+    sixth : ((is_name w ≡ true) × (Some (plains.Assign w) ≡ Some p)) ⊎ ((is_name w ≡ false) × (None ≡ Some p))
+        → PlainOf w p
     sixth (inl h) = subst (PlainOf w) (same_Some (plains.Assign w) p h.1) refl
     sixth (inr h) = absurd (let bad = h.1 in cc)
 
@@ -155,7 +166,8 @@ OpeningIs t openings.If = t ≡ Word (codes "if")
 OpeningIs t openings.For = t ≡ Word (codes "for")
 OpeningIs t (openings.Plain p) = PlainIs t p
 
-mapped : (w : Bytes) (m : Option Plain) (o : Opening) → plain_of_word w ≡ m → option_map openings.Plain m ≡ Some o → OpeningIs (Word w) o
+mapped : (w : Bytes) (m : Option Plain) (o : Opening) → plain_of_word w ≡ m → option_map openings.Plain m ≡ Some o
+    → OpeningIs (Word w) o
 mapped w None o is e = absurd cc
 mapped w (Some p) o is e = subst (OpeningIs (Word w)) (same_Some (openings.Plain p) o e) (plain_word w p is)
 
@@ -183,13 +195,15 @@ opening_is _ o e = absurd cc
 -- ---- kinds
 
 kind_word : (w : Bytes) (k : Kind) → kind_of_word w ≡ Some k → Word w ≡ kind_token k
-kind_word w k e = first (test_word w (codes "int") kinds.Int k (if bytes_eq w (codes "text") then Some kinds.Text else None) e)
+kind_word w k e = first (test_word w (codes "int") kinds.Int k
+    (if bytes_eq w (codes "text") then Some kinds.Text else None) e)
   where
     second : ((Word w ≡ Word (codes "text")) × (kinds.Text ≡ k)) ⊎ (None ≡ Some k) → Word w ≡ kind_token k
     second (inl h) = h.0 ∙ ap kind_token h.1
     second (inr h) = absurd cc
 
-    first : ((Word w ≡ Word (codes "int")) × (kinds.Int ≡ k)) ⊎ ((if bytes_eq w (codes "text") then Some kinds.Text else None) ≡ Some k) → Word w ≡ kind_token k
+    first : ((Word w ≡ Word (codes "int")) × (kinds.Int ≡ k))
+        ⊎ ((if bytes_eq w (codes "text") then Some kinds.Text else None) ≡ Some k) → Word w ≡ kind_token k
     first (inl h) = h.0 ∙ ap kind_token h.1
     first (inr h) = second (test_word w (codes "text") kinds.Text k None h)
 

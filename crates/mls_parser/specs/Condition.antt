@@ -106,5 +106,6 @@ EndsCondition (t ∷ ts) = goes_on t ≡ false
 abbrev pub ConditionsAreRead : Type 0
 ConditionsAreRead =
     (policy : Policy) (schemes : Schemes) → IsPolicy policy → AreSchemes schemes
-    → (relation : ℕ) (s : State) (test : Expr) (ts us : List Token) → relation < length schemes → TellsCondition policy schemes relation test ts
+    → (relation : ℕ) (s : State) (test : Expr) (ts us : List Token) → relation < length schemes
+    → TellsCondition policy schemes relation test ts
     → EndsCondition us → without_places s.1.placed ≡ ts ++ us → IsConditionRead policy schemes relation s test us

@@ -15,15 +15,18 @@ TellsNone policy schemes bytes = (txs : List Tx) → Tells policy schemes bytes 
 module _ (policy : Policy) (schemes : Schemes) where
   -- a text is read as the transactions that it tells
   abbrev pub TextsAreReadAsTold : Type 0
-  TextsAreReadAsTold = (bytes : List ℕ) (txs : List Tx) → (parse_at policy schemes bytes ≡ Ok txs) ↔ Tells policy schemes bytes txs
+  TextsAreReadAsTold = (bytes : List ℕ) (txs : List Tx) → (parse_at policy schemes bytes ≡ Ok txs)
+      ↔ Tells policy schemes bytes txs
 
   -- it tells one list of them at most
   abbrev pub TransactionsAreReadOnce : Type 0
-  TransactionsAreReadOnce = (bytes : List ℕ) (txs us : List Tx) → Tells policy schemes bytes txs → Tells policy schemes bytes us → txs ≡ us
+  TransactionsAreReadOnce = (bytes : List ℕ) (txs us : List Tx) → Tells policy schemes bytes txs
+      → Tells policy schemes bytes us → txs ≡ us
 
   -- the printed text of a transaction is read as it alone
   abbrev pub PrintsAreRead : Type 0
-  PrintsAreRead = (tx : Tx) → IsTx tx → IsReadUnder policy schemes tx → parse_at policy schemes (printed policy schemes tx) ≡ Ok (tx ∷ [])
+  PrintsAreRead = (tx : Tx) → IsTx tx → IsReadUnder policy schemes tx
+      → parse_at policy schemes (printed policy schemes tx) ≡ Ok (tx ∷ [])
 
 -- under policies and schemes
 abbrev pub Under : (Policy → Schemes → Type 0) → Type 0

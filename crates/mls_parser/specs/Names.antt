@@ -34,13 +34,15 @@ or_behind None count other = option_map (λ i. count + i) other
 -- an attribute of a row: first those of the key, and behind them the others
 unfoldable pub attribute_named : Scheme → Name → Option ℕ
 attribute_named scheme name =
-    or_behind (position (λ a. bytes_eq a.0 name) scheme.keys) (length scheme.keys) (position (λ a. bytes_eq a.0 name) scheme.others)
+    or_behind (position (λ a. bytes_eq a.0 name) scheme.keys) (length scheme.keys)
+    (position (λ a. bytes_eq a.0 name) scheme.others)
 
 -- an attribute outside the key
 unfoldable pub other_named : Scheme → Name → Option ℕ
 other_named scheme name = position (λ a. bytes_eq a.0 name) scheme.others
 
--- An unknown name counts as the first of what it may name. The fault at the name stands before any that follows from it.
+-- An unknown name counts as the first of what it may name. The fault at the name stands before any that follows from
+-- it.
 abbrev pub numbered : Option ℕ → ℕ
 numbered number = unwrap_or number 0
 

@@ -41,9 +41,11 @@ parse_at policy schemes bytes = placed_in bytes (parsed policy schemes bytes)
 abbrev pub IsParsed : Result (List Tx) TextFault → Result (List Tx) TextFault → Type 0
 IsParsed = GivesUnless (λ e. e.cause ≡ Memory) (λ txs. txs)
 
--- Where the form of a text is right: what is read has no fault; the fault that is answered is one of those that were noted, and none of
+-- Where the form of a text is right: what is read has no fault; the fault that is answered is one of those that were
+-- noted, and none of
 -- them stands before it.
 abbrev pub IsJudged : Policy → Schemes → List ℕ → Result (List Tx) TextFault → Type 0
 IsJudged policy schemes bytes (Ok xs) = (x : List Draft × State) → noted policy schemes bytes ≡ Ok x → x.1.0 ≡ []
 IsJudged policy schemes bytes (Err e) =
-    (x : List Draft × State) → noted policy schemes bytes ≡ Ok x → (e.cause ≡ Memory → ⊥) → (f : PlacedFault) × IsLeast x.1.0 f × (e ≡ in_text bytes f)
+    (x : List Draft × State) → noted policy schemes bytes ≡ Ok x → (e.cause ≡ Memory → ⊥) → (f : PlacedFault)
+    × IsLeast x.1.0 f × (e ≡ in_text bytes f)

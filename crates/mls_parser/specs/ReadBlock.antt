@@ -133,7 +133,11 @@ module _ (p : Context) where
   unfoldable pub lower_behind : List ℕ → State → Read ℕ
   lower_behind word s = do
     n ← name_behind word s
-    Ok (label p n.0, note (known (label_named p.policy n.0.0) n.0.1 ++ unless (below (labels_of p.policy) (label p n.0) p.hi) n.0.1 cause.LabelOrder) n.1)
+    Ok (
+      label p n.0,
+      note (known (label_named p.policy n.0.0) n.0.1 ++ unless (below (labels_of p.policy)
+          (label p n.0) p.hi) n.0.1 cause.LabelOrder) n.1,
+    )
 
   -- an expression that gives a value
   unfoldable pub value_at : State → Read Given
@@ -222,7 +226,8 @@ module _ (inner : Context → ℕ → State → Counted Block) (p : Context) whe
 
   -- one statement more, if the transaction has no more than 1,000 with it
   abbrev pub opened : Opening → ℕ → ℕ → State → Counted Stmt
-  opened opening at count s = if nat_lt count 1000 then content_at opening at (count + 1) s else Err (fault at cause.TooLong)
+  opened opening at count s = if nat_lt count 1000 then content_at opening at (count + 1) s else Err
+      (fault at cause.TooLong)
 
   abbrev pub stmt_with : ℕ → State → Counted Stmt
   stmt_with count s = token (pass_known opening_of) s >>= λ o. opened o.0.0 o.0.1 count o.1
@@ -235,7 +240,8 @@ deep_stmt count s = token (pass_known opening_of) s >>= λ o. Err (fault o.0.1 c
 
 module _ (stmt : ℕ → State → Counted Stmt) where
   -- the end, or a statement more
-  abbrev pub end_or : (List Stmt → ℕ → State → Counted Block) → List Stmt → ℕ → State → Option (ℕ × State) → Counted Block
+  abbrev pub end_or : (List Stmt → ℕ → State → Counted Block) → List Stmt → ℕ → State → Option (ℕ × State)
+      → Counted Block
   end_or more front count s (Some end) = Ok ((block_of front, count), end.1)
   end_or more front count s None = stmt count s >>= λ x. more (front ++ x.0.0 ∷ []) x.0.1 x.1
 
@@ -256,4 +262,5 @@ stmts_at (suc d) p count s = stmts_with (stmt_with (λ q c r. stmts_at d q c r) 
 -- one of them
 unfoldable pub stmt_at : ℕ → Context → ℕ → State → Counted Stmt
 stmt_at d p count s =
-    token (pass_known opening_of) s >>= λ o. if d == 0 then Err (fault o.0.1 cause.Depth) else opened (λ q c r. stmts_at (d - 1) q c r) p o.0.0 o.0.1 count o.1
+    token (pass_known opening_of) s >>= λ o. if d == 0 then Err (fault o.0.1 cause.Depth) else opened
+    (λ q c r. stmts_at (d - 1) q c r) p o.0.0 o.0.1 count o.1

@@ -92,7 +92,8 @@ abbrev pub past_most : Read (Head × ℕ) → PlacedFault
 past_most (Ok h) = fault h.0.1 Depth
 past_most (Err f) = f
 
-abbrev pub with_next : (Operator → Given → State → Read Given) → Given → Option ((Operator × ℕ) × Given) × State → Read Given
+abbrev pub with_next : (Operator → Given → State → Read Given) → Given → Option ((Operator × ℕ) × Given) × State
+    → Read Given
 with_next more g (None, s) = Ok (g, s)
 with_next more g (Some (op, test), s) = more op.0 (between g op test) (note (between_faults g op test) s)
 
@@ -106,11 +107,15 @@ module _ (p : Context) where
   unfoldable pub test_at : State → Read Given
   test_at s = whole_at p s >>= λ left. compared left.0 left.1 (takes_known comparison_of left.1)
 
-  abbrev pub joined : ℕ → Option Operator → State → Option ((Operator × ℕ) × State) → Read (Option ((Operator × ℕ) × Given))
+  abbrev pub joined : ℕ → Option Operator → State → Option ((Operator × ℕ) × State)
+      → Read (Option ((Operator × ℕ) × Given))
   joined room before s None = Ok (None, s)
   joined room before s (Some op) =
       if are_mixed before op.0.0 then Err (fault op.0.1 Expected)
-      else (if room == 0 then Err (past_most (token pass_head op.1)) else (test_at op.1 >>= λ t. Ok (Some (op.0, t.0), t.1)))
+      else (if room == 0 then Err (past_most (token pass_head op.1)) else (test_at op.1 >>= λ t. Ok (
+        Some (op.0, t.0),
+        t.1,
+      )))
 
   -- one test more, if a word joins it to those before: there is room for so many, and one word stands between those
   unfoldable pub next_test_at : ℕ → Option Operator → State → Read (Option ((Operator × ℕ) × Given))
@@ -136,11 +141,22 @@ abbrev pub row_vars : Scheme → List (Name × Kind)
 row_vars scheme = map attribute_var (scheme.keys ++ scheme.others)
 
 abbrev pub written_scope : Schemes → ℕ → Scope
-written_scope schemes relation = record { params = []; vars = row_vars (scheme_of schemes relation); rows = row_of schemes relation ∷ [] }
+written_scope schemes relation = record {
+  params = [];
+  vars = row_vars (scheme_of schemes relation);
+  rows =
+      row_of schemes relation ∷ [];
+}
 
 -- the ceiling is not looked at
 abbrev pub written_place : Policy → Schemes → ℕ → Context
-written_place policy schemes relation = record { policy = policy; schemes = schemes; hi = 0; scope = written_scope schemes relation }
+written_place policy schemes relation = record {
+  policy = policy;
+  schemes = schemes;
+  hi = 0;
+  scope =
+      written_scope schemes relation;
+}
 
 -- and are those of the row
 abbrev pub as_fields : Expr → Expr

@@ -43,7 +43,8 @@ module _ (p : Context) where
 
   abbrev pub field_given : PlacedName → PlacedName → Option ℕ → Given
   field_given row attribute None = given Null inferred.Unknown row.1
-  field_given row attribute (Some depth) = attribute_given row.1 depth (attribute_named (row_scheme p depth) attribute.0)
+  field_given row attribute (Some depth) = attribute_given row.1 depth
+      (attribute_named (row_scheme p depth) attribute.0)
 
   abbrev pub field_faults : PlacedName → PlacedName → Option ℕ → List PlacedFault
   field_faults row attribute None = unless false row.1 cause.UnknownName

@@ -28,7 +28,8 @@ module _ {A : Type 0} (next : A → State → Read A) where
   -- n items at most, behind those before
   abbrev pub items_from : ℕ → A → State → Read A
   items_from zero items s = Err (lifted (refused s.1))
-  items_from (suc n) items s = next items s >>= λ x. after_item (λ xs r. items_from n xs r) x.0 x.1 (takes_sign Comma x.1)
+  items_from (suc n) items s = next items s >>= λ x. after_item (λ xs r. items_from n xs r) x.0 x.1
+      (takes_sign Comma x.1)
 
   -- no more of them than there are tokens
   abbrev pub items_at : A → State → Read A
@@ -83,7 +84,8 @@ abbrev fit_faults : {V : Type 0} → (V → ℕ) → (Option Attribute → V →
 fit_faults place fits attribute v = unless (fits attribute v) (place v) cause.Kind
 
 -- by what reads one, and the value of it
-module _ {V X : Type 0} (value_at : State → Read V) (item : V → X) (place : V → ℕ) (fits : Option Attribute → V → Bool) where
+module _ {V X : Type 0} (value_at : State → Read V) (item : V → X) (place : V → ℕ) (fits : Option Attribute → V
+    → Bool) where
   -- one more, of the attributes in their order
   abbrev pub item_of : (ℕ → Option Attribute) → List X → State → Read (List X)
   item_of attribute front s = do
@@ -111,7 +113,8 @@ fits_item (Some a) gives = may_be gives a.1.kind
 module _ (p : Context) where
   -- an expression more, behind those before
   unfoldable pub item_at : List Attribute → List Expr → State → Read (List Expr)
-  item_at attributes front s = item_of (whole_at p) (λ g. g.expr) (λ g. g.at) (λ a g. fits_item a g.gives) (slice_get attributes) front s
+  item_at attributes front s = item_of (whole_at p) (λ g. g.expr) (λ g. g.at) (λ a g. fits_item a g.gives)
+      (slice_get attributes) front s
 
   -- one for each attribute
   unfoldable pub list_at : List Attribute → State → Read (List Expr)

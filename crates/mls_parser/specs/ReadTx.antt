@@ -61,12 +61,16 @@ param_behind policy front name s = do
   label ← name_behind (codes "at") kind.1
   Ok (
     kept front (name.0, record { kind = kind.0.0; label = numbered (label_named policy label.0.0) }),
-    note (unless (not (has_name front name.0)) name.1 cause.Repeated ++ known (label_named policy label.0.0) label.0.1) label.1,
+    note (unless (not (has_name front name.0)) name.1 cause.Repeated
+        ++ known (label_named policy label.0.0) label.0.1) label.1,
   )
 
 unfoldable pub next_param : Policy → Declared Parameter → State → Read (Declared Parameter)
 next_param policy front s =
-    name_at s >>= λ n. if nat_lt front.1 64 then (param_behind policy front.0 n.0 n.1 >>= λ ps. Ok ((ps.0, front.1 + 1), ps.1)) else too_many n.0.1
+    name_at s >>= λ n. if nat_lt front.1 64 then (param_behind policy front.0 n.0 n.1 >>= λ ps. Ok (
+      (ps.0, front.1 + 1),
+      ps.1,
+    )) else too_many n.0.1
 
 abbrev pub params_behind : Policy → State → Option (ℕ × State) → Read (List (Name × Parameter))
 params_behind policy s (Some end) = Ok ([], end.1)
@@ -87,12 +91,19 @@ var_behind params front s = do
   colon ← sign_at Colon name.1
   kind ← token (pass_known kind_of) colon.1
   end ← sign_at Semicolon kind.1
-  Ok (kept front (name.0.0, kind.0.0), note (unless (not (has_name params name.0.0 || has_name front name.0.0)) name.0.1 cause.Repeated) end.1)
+  Ok (
+    kept front (name.0.0, kind.0.0),
+    note
+        (unless (not (has_name params name.0.0 || has_name front name.0.0)) name.0.1 cause.Repeated) end.1,
+  )
 
 abbrev pub var_if : List (Name × Parameter) → Declared Kind → State → Option (ℕ × State) → Read (Option (Declared Kind))
 var_if params front s None = Ok (None, s)
 var_if params front s (Some word) =
-    if nat_lt front.1 64 then (var_behind params front.0 word.1 >>= λ vs. Ok (Some (vs.0, front.1 + 1), vs.1)) else too_many word.0
+    if nat_lt front.1 64 then (var_behind params front.0 word.1 >>= λ vs. Ok (
+      Some (vs.0, front.1 + 1),
+      vs.1,
+    )) else too_many word.0
 
 -- none, where no more stands here
 unfoldable pub next_var : List (Name × Parameter) → Declared Kind → State → Read (Option (Declared Kind))
@@ -106,13 +117,15 @@ vars_at params s = things_from (next_var params) 65 ([], 0) s >>= λ vs. Ok (vs.
 -- a name that a relation or one of these transactions has
 abbrev pub name_faults : Schemes → List Draft → PlacedName → List PlacedFault
 name_faults schemes earlier name =
-    unless (not (is_some (relation_named schemes name.0) || list_any (bytes_eq name.0) (map (λ t. t.name) earlier))) name.1 cause.Repeated
+    unless (not (is_some (relation_named schemes name.0) || list_any (bytes_eq name.0)
+    (map (λ t. t.name) earlier))) name.1 cause.Repeated
 
 abbrev pub levels_faults : Policy → PlacedName → PlacedName → List PlacedFault
 levels_faults policy lo hi =
     known (label_named policy lo.0) lo.1
     ++ (known (label_named policy hi.0) hi.1
-    ++ unless (below (labels_of policy) (numbered (label_named policy lo.0)) (numbered (label_named policy hi.0))) hi.1 cause.LabelOrder)
+    ++ unless (below (labels_of policy) (numbered (label_named policy lo.0))
+    (numbered (label_named policy hi.0))) hi.1 cause.LabelOrder)
 
 module _ (policy : Policy) (schemes : Schemes) where
   -- its name, and the labels that it runs between
@@ -121,11 +134,23 @@ module _ (policy : Policy) (schemes : Schemes) where
     name ← name_at s
     lo ← name_behind (codes "levels") (note (name_faults schemes earlier name.0) name.1)
     hi ← name_behind (codes "to") lo.1
-    Ok ((name.0.0, numbered (label_named policy lo.0.0), numbered (label_named policy hi.0.0)), note (levels_faults policy lo.0 hi.0) hi.1)
+    Ok (
+      (name.0.0, numbered (label_named policy lo.0.0), numbered (label_named policy hi.0.0)),
+      note (levels_faults policy lo.0 hi.0) hi.1,
+    )
 
   -- where its statements stand
   abbrev pub outermost : ℕ → List (Name × Parameter) → List (Name × Kind) → Context
-  outermost hi params vars = record { policy = policy; schemes = schemes; hi = hi; scope = record { params = params; vars = vars; rows = [] } }
+  outermost hi params vars = record {
+    policy = policy;
+    schemes = schemes;
+    hi = hi;
+    scope = record {
+      params = params;
+      vars = vars;
+      rows = [];
+    };
+  }
 
   -- its variables and its statements
   unfoldable pub body_at : ℕ → List (Name × Parameter) → State → Read (List (Name × Kind) × Block)
@@ -141,13 +166,17 @@ module _ (policy : Policy) (schemes : Schemes) where
     head ← heading_at earlier s
     params ← params_at policy head.1
     body ← body_at head.0.2 params.0 params.1
-    Ok (record { name = head.0.0; lo = head.0.1; hi = head.0.2; params = params.0; vars = body.0.0; body = body.0.1 }, body.1)
+    Ok (
+      record { name = head.0.0; lo = head.0.1; hi = head.0.2; params = params.0; vars = body.0.0; body = body.0.1 },
+      body.1,
+    )
 
   -- none at the end
   unfoldable pub next_transaction : List Draft → State → Read (Option (List Draft))
   next_transaction front s =
       if has_ended s.1 then Ok (None, s)
-      else (word_at (codes "transaction") s >>= λ word. if nat_lt (length front) 64 then (transaction_at front word.1 >>= λ t. Ok (Some (front ++ t.0 ∷ []), t.1)) else too_many word.0)
+      else (word_at (codes "transaction") s >>= λ word. if nat_lt (length front) 64 then
+      (transaction_at front word.1 >>= λ t. Ok (Some (front ++ t.0 ∷ []), t.1)) else too_many word.0)
 
   unfoldable pub transactions_at : State → Read (List Draft)
   transactions_at s = things_from next_transaction 65 [] s

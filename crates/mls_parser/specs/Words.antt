@@ -79,7 +79,8 @@ operator_of_sign signs.AtLeast = Some operators.AtLeast
 operator_of_sign _ = None
 
 abbrev pub operator_of_word : List ℕ → Option Operator
-operator_of_word s = if bytes_eq s (codes "and") then Some operators.And else (if bytes_eq s (codes "or") then Some operators.Or else None)
+operator_of_word s = if bytes_eq s (codes "and") then Some operators.And else
+    (if bytes_eq s (codes "or") then Some operators.Or else None)
 
 abbrev pub operator_of : Token → Option Operator
 operator_of (Word s) = operator_of_word s
@@ -88,7 +89,8 @@ operator_of (Text s) = None
 operator_of (Sign_token s) = operator_of_sign s
 
 abbrev pub kind_of_word : List ℕ → Option Kind
-kind_of_word s = if bytes_eq s (codes "int") then Some kinds.Int else (if bytes_eq s (codes "text") then Some kinds.Text else None)
+kind_of_word s = if bytes_eq s (codes "int") then Some kinds.Int else
+    (if bytes_eq s (codes "text") then Some kinds.Text else None)
 
 abbrev pub kind_of : Token → Option Kind
 kind_of (Word s) = kind_of_word s

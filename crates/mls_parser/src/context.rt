@@ -35,9 +35,21 @@ impl<'a> Model for Context<'a> {
 
     ghost use Rattle.mls_parser.specs.Names.{IsContext};
 
-    ghost view = { λ a. record { policy = a.policy.now; schemes = a.schemes.now; hi = a.hi; scope = record { params = a.params.now; vars = a.vars.now; rows = a.rows.now } } };
+    ghost view = { λ a. record {
+      policy = a.policy.now;
+      schemes = a.schemes.now;
+      hi = a.hi;
+      scope =
+          record { params = a.params.now; vars = a.vars.now; rows = a.rows.now };
+    } };
 
-    ghost invariant = { λ a. IsContext (record { policy = a.policy.now; schemes = a.schemes.now; hi = a.hi; scope = record { params = a.params.now; vars = a.vars.now; rows = a.rows.now } }) };
+    ghost invariant = { λ a. IsContext (record {
+      policy = a.policy.now;
+      schemes = a.schemes.now;
+      hi = a.hi;
+      scope =
+          record { params = a.params.now; vars = a.vars.now; rows = a.rows.now };
+    }) };
 }
 
 /// The number of the label of a name.

@@ -82,7 +82,10 @@ fn some_params(
     policy: &Policy,
     reader: &mut Reader,
 ) -> Result<(Named<Parameter>, usize), PlacedFault>
-    ensures exact { GivesPlaced (λ x. ((x.0, x.1), reader.new)) result (items_at (next_param policy.now) ([], 0) reader.old) }
+    ensures exact { GivesPlaced (λ x. ((x.0, x.1), reader.new)) result (items_at (next_param policy.now) (
+      [],
+      0,
+    ) reader.old) }
     ensures few { IfOk result (λ x. length x.0 ≤ 64) }
 {
     let mut params = Named::new(alloc);

@@ -58,11 +58,15 @@ fn placed(
     }
 }
 
-/// The transactions of a text, in order; or its first fault by its form: 21 Token where no token stands, 22 Expected at the first
-/// token that nothing goes on with (the end is one), 26 Depth at the first token of a statement inside 16 others and at a `(` or
+/// The transactions of a text, in order; or its first fault by its form: 21 Token where no token stands, 22 Expected at
+/// the first
+/// token that nothing goes on with (the end is one), 26 Depth at the first token of a statement inside 16 others and at
+/// a `(` or
 /// `not` of an expression inside 16 others, and 27 TooLong at a long text between quotes, at the first token of the 1,001st
-/// statement of a transaction, of its 65th parameter or variable, and of the 65th transaction. Where its form is right, the least
-/// fault, by place and then by number: 23 UnknownName, 24 Kind, 25 Repeated and 28 LabelOrder. 29 Memory may stand in place of any answer.
+/// statement of a transaction, of its 65th parameter or variable, and of the 65th transaction. Where its form is right,
+/// the least
+/// fault, by place and then by number: 23 UnknownName, 24 Kind, 25 Repeated and 28 LabelOrder. 29 Memory may stand in
+/// place of any answer.
 pub fn parse(
     alloc: Global,
     policy: &Policy,

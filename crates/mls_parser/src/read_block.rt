@@ -28,7 +28,8 @@ impl Context<'_> {
     ) -> Result<Vec<LoopRow>, AllocError>
         requires room { length self.now.scope.rows + 1 ≤ 16 }
         requires known { relation < length self.now.schemes }
-        ensures rows { IfOk result (λ rows. rows.items ≡ record { name = row.now; relation = relation } ∷ self.now.scope.rows) }
+        ensures rows { IfOk result (λ rows. rows.items ≡ record { name = row.now; relation = relation }
+            ∷ self.now.scope.rows) }
         ensures place { IfOk result (λ rows. IsContext (with_rows self.now rows.items)) }
     {
         let mut rows = Vec::new(alloc);

@@ -260,7 +260,8 @@ pub fn condition(
 ) -> Result<Expr, PlacedFault>
     requires { relation < length schemes.now }
     // The condition, what is left behind it, and the faults that are noted; or the fault of its form.
-    ensures exact { GivesPlaced (λ e. (e, reader.new)) result (condition_at policy.now schemes.now relation reader.old) }
+    ensures exact { GivesPlaced (λ e. (e, reader.new)) result
+        (condition_at policy.now schemes.now relation reader.old) }
     // What was passed tells what is read, where no fault was noted and the tokens are those of a text.
     ensures told { AreOfText (without_places reader.old.1.placed) → reader.new.0 ≡ []
         → IfOk result (IsCondition policy.now schemes.now relation reader.old.1 reader.new.1) }

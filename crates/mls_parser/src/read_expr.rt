@@ -162,7 +162,8 @@ impl Context<'_> {
         reader: &mut Reader,
         depth: usize,
     ) -> Result<((Operator, usize), Given), PlacedFault>
-        ensures { GivesPlaced (λ x. (((x.0.0, x.0.1), x.1), reader.new)) result (second (expr_at self.now depth) reader.old) }
+        ensures { GivesPlaced (λ x. (((x.0.0, x.0.1), x.1), reader.new)) result
+            (second (expr_at self.now depth) reader.old) }
     {
         let operator = reader.operator()?;
         let right = self.expr(alloc, reader, depth)?;

@@ -107,7 +107,8 @@ impl Context<'_> {
         reader: &mut Reader,
         attributes: &Attributes,
     ) -> Result<Vec<Expr>, PlacedFault>
-        ensures { GivesPlaced (λ v. (v.items, reader.new)) result (items_at (item_at self.now attributes.now) [] reader.old) }
+        ensures { GivesPlaced (λ v. (v.items, reader.new)) result
+            (items_at (item_at self.now attributes.now) [] reader.old) }
     {
         let mut items = Vec::new(alloc);
         loop {

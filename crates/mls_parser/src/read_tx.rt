@@ -90,7 +90,8 @@ fn body(
 ) -> Result<(Named<Kind>, Block), PlacedFault>
     requires hi { hi < length policy.now.labels }
     requires few { length params.now ≤ 64 }
-    ensures { GivesPlaced (λ x. ((x.0, x.1), reader.new)) result (body_at policy.now schemes.now hi params.now reader.old) }
+    ensures { GivesPlaced (λ x. ((x.0, x.1), reader.new)) result
+        (body_at policy.now schemes.now hi params.now reader.old) }
 {
     reader.sign(Sign::LeftBrace)?;
     let vars = vars(alloc, params, reader)?;

@@ -12,12 +12,14 @@ append_one : (xs ys : List Value) (y : Value) → xs ++ y ∷ ys ≡ (xs ++ y �
 append_one [] ys y = refl
 append_one (x ∷ xs) ys y = ap (λ zs. x ∷ zs) (append_one xs ys y)
 
-pub demands_more : (e : Expr) (n a : ℕ) (v : Value) (key : List Value) → a < n → Some v ≡ demanded a e → Demands e n a key → Demands e n (a + 1) (key ++ v ∷ [])
+pub demands_more : (e : Expr) (n a : ℕ) (v : Value) (key : List Value) → a < n → Some v ≡ demanded a e
+    → Demands e n a key → Demands e n (a + 1) (key ++ v ∷ [])
 demands_more e n a v key l d h = record {
   way = λ vs k.
       let left : n - a ≡ suc (n - (a + 1)) = omega (arith, l) in
       let next : a + 1 ≡ suc a = omega arith in
-      h.way (v ∷ vs) (ap (λ m. demanded_from a m e) left ∙ (λ i. put_first (sym d i) ((ap (λ b. demanded_from b (n - (a + 1)) e) (sym next) ∙ k) i)))
+      h.way (v ∷ vs) (ap (λ m. demanded_from a m e) left
+      ∙ (λ i. put_first (sym d i) ((ap (λ b. demanded_from b (n - (a + 1)) e) (sym next) ∙ k) i)))
       ∙ ap Some (append_one key vs v);
 }
 

@@ -22,9 +22,11 @@ use Rattle.mls_queries.specs.Demanded.{demanded_by, of_key}
 use Rattle.mls_queries.proofs.QueryLemmas.{keys_are_looked_up}
 
 -- each row has as many values in its key as its scheme has key attributes
-pub key_lengths : (ls : Labels) (scheme : Scheme) (T : Table) → IsContent ls scheme T → (c : ℕ) → AllByRecursion (λ t. length t.key ≡ length scheme.keys) (rows ls c T)
+pub key_lengths : (ls : Labels) (scheme : Scheme) (T : Table) → IsContent ls scheme T → (c : ℕ)
+    → AllByRecursion (λ t. length t.key ≡ length scheme.keys) (rows ls c T)
 unfolding rows
-key_lengths ls scheme T content c = each_among (λ t. length t.key ≡ length scheme.keys) (map (λ (e : Entry). tuple_at e.0 e.1) tops) long
+key_lengths ls scheme T content c = each_among (λ t. length t.key ≡ length scheme.keys)
+    (map (λ (e : Entry). tuple_at e.0 e.1) tops) long
   where
     L : Table
     L = low ls c T
@@ -40,10 +42,13 @@ key_lengths ls scheme T content c = each_among (λ t. length t.key ≡ length sc
         let held = (from_low ls c T (tuple_at e.0 e.1) e.0.class has).0 in
         ap (λ (x : Tuple). length x.key) m.2 ∙ AllZip-long _ scheme.keys e.0.key (content.fits e.0 e.1 held).key
 
-pub looked_up : (ls : Labels) (scheme : Scheme) (T : Table) → IsContent ls scheme T → (c : ℕ) (q : Query) (key : List Value) → demanded_by (length scheme.keys) q.test ≡ Some key
+pub looked_up : (ls : Labels) (scheme : Scheme) (T : Table) → IsContent ls scheme T
+    → (c : ℕ) (q : Query) (key : List Value) → demanded_by (length scheme.keys) q.test ≡ Some key
     → found ls q (rows ls c (of_key key T)) ≡ found ls q (rows ls c T)
 looked_up ls scheme T content c q key demands = by_test q.test refl demands
   where
-    by_test : (o : Option Expr) → q.test ≡ o → demanded_by (length scheme.keys) o ≡ Some key → found ls q (rows ls c (of_key key T)) ≡ found ls q (rows ls c T)
+    by_test : (o : Option Expr) → q.test ≡ o → demanded_by (length scheme.keys) o ≡ Some key
+        → found ls q (rows ls c (of_key key T)) ≡ found ls q (rows ls c T)
     by_test None e d = absurd (none-some key d)
-    by_test (Some test) e d = sym (keys_are_looked_up ls T c (length scheme.keys) q test key e d (key_lengths ls scheme T content c))
+    by_test (Some test) e d = sym (keys_are_looked_up ls T c (length scheme.keys) q test key e d
+        (key_lengths ls scheme T content c))

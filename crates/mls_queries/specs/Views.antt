@@ -88,11 +88,13 @@ HasRoom (Some c) = c.cap ≡ most_views
 
 -- with one view more, as the first: it takes the place of one of its key, and else of the last where there are most
 abbrev pub put_view : ℕ → ℕ → List Tuple → Kept → Kept
-put_view relation label tuples es = put_entries same_key (lru_cache es most_views) (key_of relation label) (fresh tuples)
+put_view relation label tuples es = put_entries same_key (lru_cache es most_views) (key_of relation label)
+    (fresh tuples)
 
 -- ---- bases
 
--- what is kept over a base: no more views than most, at declared labels, and, over a clean base, as they are now but for
+-- what is kept over a base: no more views than most, at declared labels, and, over a clean base, as they are now but
+-- for
 -- the entities that were written
 pub record AreViews {B : Type 0} (policy : Policy) (seen : B → Seen) (base : B) (es : Kept) : Type 0 where
   pub most : length es ≤ most_views
@@ -113,7 +115,8 @@ module _ (ls : Labels) (relation w : ℕ) (p : Place) where
   -- a view that a write of the entity of p can't have changed stays; in another the entity is noted, or it is given up
   pub record IsFollowedBy (e : ViewKey × KeptView) (left new : Kept) : Type 0 where
     pub stays : outlives ls relation w e ≡ true → new ≡ e ∷ left
-    pub noted : outlives ls relation w e ≡ false → (IsSpelledKey p.key × (new ≡ (e.0, noted p e.1) ∷ left)) ⊎ (new ≡ left)
+    pub noted : outlives ls relation w e ≡ false → (IsSpelledKey p.key × (new ≡ (e.0, noted p e.1) ∷ left))
+        ⊎ (new ≡ left)
 
   -- so each of them, in their order
   abbrev pub AreFollowed : Kept → Kept → Type 0

@@ -13,7 +13,8 @@ use mls_scheme::{Place, RelNo, Tuple, copy_key};
 use std::alloc::{AllocError, Global};
 use std::marker::Model;
 
-/// How many entities are noted in a view at most. To look up more of them costs about as much as to resolve the view anew.
+/// How many entities are noted in a view at most. To look up more of them costs about as much as to resolve the view
+/// anew.
 const MOST_WRITTEN: usize = 16;
 
 /// A view as it was resolved, and places of the entities that were written since.
@@ -153,7 +154,8 @@ fn resolved<B: Base>(
     Ok(shared)
 }
 
-/// What a level sees of a relation: a view that was kept, with the entities that were written since as they are now, and else
+/// What a level sees of a relation: a view that was kept, with the entities that were written since as they are now,
+/// and else
 /// resolved.
 pub(crate) fn look<B: Base>(
     alloc: Global,

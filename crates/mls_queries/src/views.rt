@@ -106,7 +106,8 @@ impl Views {
     }
 
     /// What a level sees of a relation: taken from what is kept, else resolved; it is kept then, as the view that was
-    /// asked for last, and shared with it. Of a view that was kept, the entities that were written since are read anew, and
+    /// asked for last, and shared with it. Of a view that was kept, the entities that were written since are read anew,
+    /// and
     /// nothing else. Where there is no memory to keep it, it is not kept. After a fault nothing is kept.
     pub fn view<B: Base>(
         &mut self,
@@ -130,7 +131,8 @@ impl Views {
     }
 
     /// Notes a write of a relation at a label, by its outcome, in the views that it may have changed, or gives
-    /// them up. The others stay, all in their order. A view is given up where too many entities were written since it was
+    /// them up. The others stay, all in their order. A view is given up where too many entities were written since it
+    /// was
     /// resolved, and where there is no memory to note one.
     pub fn follow(
         &mut self,
@@ -154,7 +156,8 @@ impl Views {
         }
     }
 
-    /// What a level sees of a relation: taken out of what is kept, and mended, else resolved. After a fault nothing is kept.
+    /// What a level sees of a relation: taken out of what is kept, and mended, else resolved. After a fault nothing is
+    /// kept.
     fn resolved<B: Base>(
         &mut self,
         alloc: Global,

@@ -20,11 +20,14 @@ use Rattle.mls_replicas.proofs.AgainLemmas.{writes_again}
 abbrev written_db : Labels → Scheme → ℕ → Write → ℕ → Database → Database
 written_db ls scheme w wr relation db = with_table db relation (left ls scheme w wr (db relation))
 
-written_again : (ls : Labels) (scheme : Scheme) (w : ℕ) (wr : Write) (relation : ℕ) (db : Database) → written_db ls scheme w wr relation (written_db ls scheme w wr relation db) ≡ written_db ls scheme w wr relation db
+written_again : (ls : Labels) (scheme : Scheme) (w : ℕ) (wr : Write) (relation : ℕ) (db : Database)
+    → written_db ls scheme w wr relation (written_db ls scheme w wr relation db) ≡ written_db ls scheme w wr relation db
 written_again ls scheme w wr relation db =
     let new = written_db ls scheme w wr relation db in
-    let there : new relation ≡ left ls scheme w wr (db relation) = ap (λ b. cond b (left ls scheme w wr (db relation)) (db relation)) (eq-eqb relation relation refl) in
-    let same = same_relation new relation _ (ap (left ls scheme w wr) there ∙ writes_again ls scheme w wr (db relation) ∙ sym there) in
+    let there : new relation ≡ left ls scheme w wr (db relation) = ap (λ b. cond b (left ls scheme w wr (db relation))
+    (db relation)) (eq-eqb relation relation refl) in
+    let same = same_relation new relation _ (ap (left ls scheme w wr) there ∙ writes_again ls scheme w wr (db relation)
+    ∙ sym there) in
     λ i r. same r i
 
 module _ (site : Site) (v w : World) (e : Event) where
@@ -35,20 +38,24 @@ module _ (site : Site) (v w : World) (e : Event) where
   module _ (relation : ℕ) (wr : Write) where
     done_inside : (user : ℕ) (denial : Option Denial)
         → (v.db ≡ w.db) ⊎ (v.db ≡ (unless site denial w e user (wrote site w e.level relation wr)).world.db)
-        → (unless site denial v e user (wrote site v e.level relation wr)).world.db ≡ (unless site denial w e user (wrote site w e.level relation wr)).world.db
+        → (unless site denial v e user (wrote site v e.level relation wr)).world.db
+        ≡ (unless site denial w e user (wrote site w e.level relation wr)).world.db
     done_inside user (Some denial) (inl same) = same
     done_inside user (Some denial) (inr same) = same
-    done_inside user None (inl before) = ap (written_db (site_labels site) (site_scheme site relation) e.level wr relation) before
+    done_inside user None (inl before) = ap (written_db (site_labels site)
+        (site_scheme site relation) e.level wr relation) before
     done_inside user None (inr after) =
         ap (written_db (site_labels site) (site_scheme site relation) e.level wr relation) after
         ∙ written_again (site_labels site) (site_scheme site relation) e.level wr relation w.db
 
-    done_by : (user : Option ℕ) → (v.db ≡ w.db) ⊎ (v.db ≡ (step_at site w e (commands.Write relation wr) user).world.db) → IsDone (commands.Write relation wr) user
+    done_by : (user : Option ℕ) → (v.db ≡ w.db) ⊎ (v.db ≡ (step_at site w e (commands.Write relation wr) user).world.db)
+        → IsDone (commands.Write relation wr) user
     done_by (Some user) h = done_inside user (first_denial (write_denials site e.level user relation wr)) h
     done_by None (inl same) = same
     done_by None (inr same) = same
 
-  done_at : (command : Command) → IsWrite command → (user : Option ℕ) → (v.db ≡ w.db) ⊎ (v.db ≡ (step_at site w e command user).world.db) → IsDone command user
+  done_at : (command : Command) → IsWrite command → (user : Option ℕ) → (v.db ≡ w.db)
+      ⊎ (v.db ≡ (step_at site w e command user).world.db) → IsDone command user
   done_at (commands.Write relation wr) is user h = done_by relation wr user h
   done_at (commands.Open name) is user h = absurd is
   done_at commands.Close is user h = absurd is
@@ -60,5 +67,6 @@ module _ (site : Site) (v w : World) (e : Event) where
 pub recovered : WritesAgainRecover
 unfolding step
 recovered site v w e is same stands =
-    subst (λ user. (step_at site v e e.command user).world.db ≡ (step_at site w e e.command (w.sessions e.level e.session)).world.db) (sym same)
+    subst (λ user. (step_at site v e e.command user).world.db
+    ≡ (step_at site w e e.command (w.sessions e.level e.session)).world.db) (sym same)
     (done_at site v w e e.command is (w.sessions e.level e.session) stands)

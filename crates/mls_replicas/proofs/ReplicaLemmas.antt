@@ -15,7 +15,8 @@ replicas_alike site v log secret c w own sw fits agree fed released =
     (secret c w own sw fits agree same released, served_alike site c v log secret w own sw fits agree same released)
 
 pub accepted_replicas : AcceptedReplicasAgree
-accepted_replicas site distinct read certified v log sv fits = replicas_alike site v log (accepted_alike site distinct read certified v log sv fits)
+accepted_replicas site distinct read certified v log sv fits = replicas_alike site v log
+    (accepted_alike site distinct read certified v log sv fits)
 
 pub feeds_fed : FeedsAreFed
 feeds_fed site c log =

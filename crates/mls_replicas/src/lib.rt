@@ -14,7 +14,8 @@ pub fn replicas_agree()
     ensures feeds { FeedsAreFed }
 {}
 
-/// A write that is done again changes nothing. So after a stop it may be done once more, whether the store has its change
+/// A write that is done again changes nothing. So after a stop it may be done once more, whether the store has its
+/// change
 /// or not: it then has it, once.
 pub fn writes_again_change_nothing()
     ensures tables { WritesAgainChangeNothing }

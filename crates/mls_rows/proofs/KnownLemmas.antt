@@ -44,17 +44,20 @@ no_key : (P : Attribute → Value → Type 0) (key : List Value) → AllZip P []
 no_key P [] h l = omega (arith, l)
 no_key P (v ∷ key) h l = h
 
-module _ (ls : Labels) (few : length ls ≤ 256) (schemes : Schemes) (t : Tables) (rows : AllRows) (all : AreAll t rows) (c : Content) (holds : Holds t c) (content : AreContent ls schemes c.db) where
+module _ (ls : Labels) (few : length ls ≤ 256) (schemes : Schemes) (t : Tables) (rows : AllRows) (all : AreAll t rows)
+    (c : Content) (holds : Holds t c) (content : AreContent ls schemes c.db) where
   -- ---- each row reads
 
   bytes : HasByteClasses c
   bytes = content_bytes ls schemes c few content
 
   pub node_rows_read : AllByRecursion IsNodeRow rows.nodes.items
-  node_rows_read = each_among IsNodeRow rows.nodes.items (λ r i. reads_node t c holds bytes r ((among_permutation t.nodes rows.nodes.items all.0 r).1 i))
+  node_rows_read = each_among IsNodeRow rows.nodes.items (λ r i. reads_node t c holds bytes r
+      ((among_permutation t.nodes rows.nodes.items all.0 r).1 i))
 
   pub cell_rows_read : AllByRecursion IsCellRow rows.cells.items
-  cell_rows_read = each_among IsCellRow rows.cells.items (λ r i. reads_cell t c holds bytes r ((among_permutation t.cells rows.cells.items all.1.0 r).1 i))
+  cell_rows_read = each_among IsCellRow rows.cells.items (λ r i. reads_cell t c holds bytes r
+      ((among_permutation t.cells rows.cells.items all.1.0 r).1 i))
 
   -- ---- what is put together is the table
 
@@ -66,20 +69,25 @@ module _ (ls : Labels) (few : length ls ≤ 256) (schemes : Schemes) (t : Tables
     held = holds.tables relation
 
     nodes_spelled : AllByRecursion IsSpelledNode (nodes_in T)
-    nodes_spelled = all-map IsSpelledNode node_of (entries T) (each_among (λ e. IsSpelledKey e.0.key) (entries T) (λ e i. spelled_keys t relation T held e i))
+    nodes_spelled = all-map IsSpelledNode node_of (entries T) (each_among (λ e. IsSpelledKey e.0.key) (entries T)
+        (λ e i. spelled_keys t relation T held e i))
 
     cells_spelled : AllByRecursion IsSpelledCell (cells_in T)
     cells_spelled = each_among IsSpelledCell (cells_in T) (λ d k. (cell_reads t c holds bytes relation d k).0)
 
     same_nodes : IsPermutation (nodes_in T) made.ns
-    same_nodes = reflects IsSpelledNode (node_row relation) (same_node relation) (nodes_in T) made.ns nodes_spelled made.nodes_spelled
+    same_nodes = reflects IsSpelledNode (node_row relation) (same_node relation)
+        (nodes_in T) made.ns nodes_spelled made.nodes_spelled
         (subst (IsPermutation (map (node_row relation) (nodes_in T))) (sym made.nodes_are)
-        (IsPermutation-trans _ _ _ held.nodes (IsPermutation-filter (λ r. nat_eq r.rel relation) t.nodes rows.nodes.items all.0)))
+        (IsPermutation-trans _ _ _ held.nodes (IsPermutation-filter
+        (λ r. nat_eq r.rel relation) t.nodes rows.nodes.items all.0)))
 
     same_cells : IsPermutation (cells_in T) made.cs
-    same_cells = reflects IsSpelledCell (cell_row relation) (same_cell relation) (cells_in T) made.cs cells_spelled made.cells_spelled
+    same_cells = reflects IsSpelledCell (cell_row relation) (same_cell relation)
+        (cells_in T) made.cs cells_spelled made.cells_spelled
         (subst (IsPermutation (map (cell_row relation) (cells_in T))) (sym made.cells_are)
-        (IsPermutation-trans _ _ _ held.cells (IsPermutation-filter (λ r. nat_eq r.rel relation) t.cells rows.cells.items all.1.0)))
+        (IsPermutation-trans _ _ _ held.cells (IsPermutation-filter
+        (λ r. nat_eq r.rel relation) t.cells rows.cells.items all.1.0)))
 
     abbrev n : ℕ
     n = length (scheme_of schemes relation).others
@@ -97,12 +105,16 @@ module _ (ls : Labels) (few : length ls ≤ 256) (schemes : Schemes) (t : Tables
   nothing_beyond relation l = none (entries (c.db relation)) (λ e i.
       let there = among_entries (c.db relation) e i in
       let key = (holds.tables relation).shared e.0 e.1 there in
-      let fits = subst (λ s. Fits ls s e.0 e.1) (no_scheme_at schemes relation l) ((content relation).fits e.0 e.1 there) in
-      no_key (λ a v. (is_kind v a.1.kind ≡ true) × (in_interval ls e.0.key_class a ≡ true)) e.0.key fits.key key.key.count.some)
+      let fits = subst (λ s. Fits ls s e.0 e.1) (no_scheme_at schemes relation l)
+      ((content relation).fits e.0 e.1 there) in
+      no_key (λ a v. (is_kind v a.1.kind ≡ true) × (in_interval ls e.0.key_class a
+      ≡ true)) e.0.key fits.key key.key.count.some)
 
-  module _ (tables : List Entries) (count : length tables ≡ length schemes) (made : AreAssembled rows.nodes.items rows.cells.items tables) where
+  module _ (tables : List Entries) (count : length tables ≡ length schemes)
+      (made : AreAssembled rows.nodes.items rows.cells.items tables) where
     pub tables_are : AreTables ls schemes tables
-    tables_are relation l = subst (IsContent ls (scheme_of schemes relation)) (sym (table_made relation (slice_index_or tables relation []) (made relation l))) (content relation)
+    tables_are relation l = subst (IsContent ls (scheme_of schemes relation))
+        (sym (table_made relation (slice_index_or tables relation []) (made relation l))) (content relation)
 
     entries_of : (relation : ℕ) → slice_index_or tables relation [] ≡ entries (c.db relation)
     entries_of relation = elim (within relation tables) [
@@ -110,12 +122,20 @@ module _ (ls : Labels) (few : length ls ≤ 256) (schemes : Schemes) (t : Tables
       | inr h ↦ h.1 ∙ sym (nothing_beyond relation (omega (arith, h.0, count)))
     ]
 
-    pub same_node_rows : (relation : ℕ) → IsPermutation (filter (λ r. nat_eq r.rel relation) (node_rows 0 tables)) (filter (λ r. nat_eq r.rel relation) rows.nodes.items)
+    pub same_node_rows : (relation : ℕ) → IsPermutation (filter (λ r. nat_eq r.rel relation) (node_rows 0 tables))
+        (filter (λ r. nat_eq r.rel relation) rows.nodes.items)
     same_node_rows relation =
-        subst (λ xs. IsPermutation xs (filter (λ r. nat_eq r.rel relation) rows.nodes.items)) (sym (nodes_of_rel tables relation ∙ ap (λ es. map (node_row relation) (map node_of es)) (entries_of relation)))
-        (IsPermutation-trans _ _ _ (holds.tables relation).nodes (IsPermutation-filter (λ r. nat_eq r.rel relation) t.nodes rows.nodes.items all.0))
+        subst (λ xs. IsPermutation xs (filter (λ r. nat_eq r.rel relation) rows.nodes.items))
+        (sym (nodes_of_rel tables relation ∙ ap (λ es. map (node_row relation) (map node_of es))
+        (entries_of relation)))
+        (IsPermutation-trans _ _ _ (holds.tables relation).nodes
+        (IsPermutation-filter (λ r. nat_eq r.rel relation) t.nodes rows.nodes.items all.0))
 
-    pub same_cell_rows : (relation : ℕ) → IsPermutation (filter (λ r. nat_eq r.rel relation) (cell_rows 0 tables)) (filter (λ r. nat_eq r.rel relation) rows.cells.items)
+    pub same_cell_rows : (relation : ℕ) → IsPermutation (filter (λ r. nat_eq r.rel relation) (cell_rows 0 tables))
+        (filter (λ r. nat_eq r.rel relation) rows.cells.items)
     same_cell_rows relation =
-        subst (λ xs. IsPermutation xs (filter (λ r. nat_eq r.rel relation) rows.cells.items)) (sym (cells_of_rel tables relation ∙ ap (λ es. map (cell_row relation) (flat_map cells_of es)) (entries_of relation)))
-        (IsPermutation-trans _ _ _ (holds.tables relation).cells (IsPermutation-filter (λ r. nat_eq r.rel relation) t.cells rows.cells.items all.1.0))
+        subst (λ xs. IsPermutation xs (filter (λ r. nat_eq r.rel relation) rows.cells.items))
+        (sym (cells_of_rel tables relation ∙ ap (λ es. map (cell_row relation) (flat_map cells_of es))
+        (entries_of relation)))
+        (IsPermutation-trans _ _ _ (holds.tables relation).cells
+        (IsPermutation-filter (λ r. nat_eq r.rel relation) t.cells rows.cells.items all.1.0))

@@ -31,9 +31,11 @@ module _ {X : Type 0} (cmp : X → X → Ordering) (total : IsTotalOrder cmp) (e
   rises xs s i d l = sorted_far (λ x y. is_lt (cmp x y)) (ranks_by total (λ x. x)) xs s 0 i d (omega arith) l
 
   later : (x : X) (xs : List X) → IsSorted cmp (x ∷ xs) → IsSorted cmp xs
-  later x xs s k d a b = subst (λ n. is_lt (cmp (get_or (x ∷ xs) n d) (get_or (x ∷ xs) (suc k) d)) ≡ false) {x = suc k + 1} {y = suc (k + 1)} (omega arith) (s (suc k) d (omega arith) (omega (arith, b)))
+  later x xs s k d a b = subst (λ n. is_lt (cmp (get_or (x ∷ xs) n d) (get_or (x ∷ xs) (suc k) d)) ≡ false) {x =
+      suc k + 1} {y = suc (k + 1)} (omega arith) (s (suc k) d (omega arith) (omega (arith, b)))
 
-  not_less : (x y : X) (xs : List X) → IsSorted cmp (y ∷ xs) → cmp x y ≡ Less → (i : ℕ) (d : X) → i < length (y ∷ xs) → ties x (get_or (y ∷ xs) i d) ≡ false
+  not_less : (x y : X) (xs : List X) → IsSorted cmp (y ∷ xs) → cmp x y ≡ Less → (i : ℕ) (d : X) → i < length (y ∷ xs)
+      → ties x (get_or (y ∷ xs) i d) ≡ false
   not_less x y xs s e i d l = go (cmp x z) refl
     where
       z : X
@@ -49,7 +51,8 @@ module _ {X : Type 0} (cmp : X → X → Ordering) (total : IsTotalOrder cmp) (e
 
   none_tie : (x : X) (xs : List X) → ((i : ℕ) (d : X) → i < length xs → ties x (get_or xs i d) ≡ false) → count x xs ≡ 0
   none_tie x [] h = refl
-  none_tie x (y ∷ xs) h = ap (λ b. length (cond b (y ∷ filter (ties x) xs) (filter (ties x) xs))) (h 0 y (omega arith)) ∙ none_tie x xs (λ i d l. h (suc i) d (omega (arith, l)))
+  none_tie x (y ∷ xs) h = ap (λ b. length (cond b (y ∷ filter (ties x) xs) (filter (ties x) xs))) (h 0 y (omega arith))
+      ∙ none_tie x xs (λ i d l. h (suc i) d (omega (arith, l)))
 
   same_sorted : (xs ys : List X) → IsSorted cmp xs → IsSorted cmp ys → ((k : X) → count k xs ≡ count k ys) → xs ≡ ys
   same_sorted [] [] s t alike = refl
@@ -57,20 +60,29 @@ module _ {X : Type 0} (cmp : X → X → Ordering) (total : IsTotalOrder cmp) (e
   same_sorted (x ∷ xs) [] s t alike = absurd (let a = alike x in omega (arith, a, count_head x xs))
   same_sorted (x ∷ xs) (y ∷ ys) s t alike = go (same_sorted xs ys (later x xs s) (later y ys t)) (cmp x y) refl
     where
-      without : (k : X) (b : Bool) → length (cond b (x ∷ filter (ties k) xs) (filter (ties k) xs)) ≡ length (cond b (x ∷ filter (ties k) ys) (filter (ties k) ys)) → count k xs ≡ count k ys
+      without : (k : X) (b : Bool) → length (cond b (x ∷ filter (ties k) xs) (filter (ties k) xs))
+          ≡ length (cond b (x ∷ filter (ties k) ys) (filter (ties k) ys)) → count k xs ≡ count k ys
       without k true h = omega (arith, h)
       without k false h = h
 
       go : (((k : X) → count k xs ≡ count k ys) → xs ≡ ys) → (o : Ordering) → cmp x y ≡ o → x ∷ xs ≡ y ∷ ys
-      go same Less e = absurd (let a = alike x in omega (arith, a, count_head x xs, none_tie x (y ∷ ys) (not_less x y ys t e)))
-      go same Greater e = absurd (let a = alike y in let less : cmp y x ≡ Less = total.antisymm y x ∙ ap ordering_reverse e in omega (arith, a, count_head y ys, none_tie y (x ∷ xs) (not_less y x xs s less)))
+      go same Less e = absurd (let a = alike x in omega (
+        arith,
+        a,
+        count_head x xs,
+        none_tie x (y ∷ ys) (not_less x y ys t e),
+      ))
+      go same Greater e = absurd (let a = alike y in let less : cmp y x ≡ Less = total.antisymm y x
+          ∙ ap ordering_reverse e in omega (arith, a, count_head y ys, none_tie y (x ∷ xs) (not_less y x xs s less)))
       go same Equal e =
           let head : x ≡ y = exact x y e in
-          let rest : xs ≡ ys = same (λ k. without k (ties k x) (subst (λ z. count k (x ∷ xs) ≡ count k (z ∷ ys)) (sym head) (alike k))) in
+          let rest : xs ≡ ys = same (λ k. without k (ties k x) (subst (λ z. count k (x ∷ xs) ≡ count k (z ∷ ys))
+          (sym head) (alike k))) in
           λ i. head i ∷ rest i
 
   same_count : (k : X) (xs ys : List X) → IsPermutation xs ys → count k xs ≡ count k ys
-  same_count k xs ys same = sym (length_permutation (filter (ties k) xs) (filter (ties k) ys) (IsPermutation-filter (ties k) xs ys same))
+  same_count k xs ys same = sym (length_permutation (filter (ties k) xs) (filter (ties k) ys)
+      (IsPermutation-filter (ties k) xs ys same))
 
   -- sorted lists with the same elements are one list
   pub one_sorted : (xs ys : List X) → IsSorted cmp xs → IsSorted cmp ys → IsPermutation xs ys → xs ≡ ys
@@ -79,17 +91,26 @@ module _ {X : Type 0} (cmp : X → X → Ordering) (total : IsTotalOrder cmp) (e
   module _ (rel_of : X → ℕ) where
     -- those that tie with an element are of its relation
     of_one : (k : X) (xs : List X) → count k xs ≡ count k (filter (λ r. nat_eq (rel_of r) (rel_of k)) xs)
-    of_one k xs = ap length (sym (filter-filter (ties k) (λ r. nat_eq (rel_of r) (rel_of k)) (λ r h. eq-eqb (rel_of r) (rel_of k) (ap rel_of (sym (exact k r (is_eq-true (cmp k r) h))))) xs))
+    of_one k xs = ap length (sym (filter-filter (ties k) (λ r. nat_eq (rel_of r) (rel_of k)) (λ r h. eq-eqb (rel_of r)
+        (rel_of k) (ap rel_of (sym (exact k r (is_eq-true (cmp k r) h))))) xs))
 
     -- sorted lists with the same elements of each relation are one list
-    alike_sorted : (xs ys us vs : List X) → IsPermutation xs us → IsPermutation ys vs → IsSorted cmp us → IsSorted cmp vs → AreAlike rel_of xs ys → us ≡ vs
+    alike_sorted : (xs ys us vs : List X) → IsPermutation xs us → IsPermutation ys vs → IsSorted cmp us
+        → IsSorted cmp vs → AreAlike rel_of xs ys → us ≡ vs
     alike_sorted xs ys us vs left right s t alike = same_sorted us vs s t (λ k.
-        sym (same_count k xs us left) ∙ of_one k xs ∙ same_count k _ _ (alike (rel_of k)) ∙ sym (of_one k ys) ∙ same_count k ys vs right)
+        sym (same_count k xs us left) ∙ of_one k xs ∙ same_count k _ _ (alike (rel_of k)) ∙ sym (of_one k ys)
+        ∙ same_count k ys vs right)
 
 -- two lists are sorted and compared
-module _ {X : Type 0} (xs ys us vs left right : List X) (r : Bool) (sorted_left : IsPermutation xs us) (sorted_right : IsPermutation ys vs) (as_left : left ≡ us) (as_right : right ≡ vs) (decides : Decides r (left ≡ right)) where
+module _ {X : Type 0} (xs ys us vs left right : List X) (r : Bool) (sorted_left : IsPermutation xs us)
+    (sorted_right : IsPermutation ys vs) (as_left : left ≡ us) (as_right : right ≡ vs)
+    (decides : Decides r (left ≡ right)) where
   pub same_sorted_rows : r ≡ true → IsPermutation xs ys
-  same_sorted_rows t = IsPermutation-trans xs us ys sorted_left (subst (λ l. IsPermutation l ys) (sym (sym as_left ∙ decides.0 t ∙ as_right)) (IsPermutation-sym ys vs sorted_right))
+  same_sorted_rows t = IsPermutation-trans xs us ys sorted_left (subst (λ l. IsPermutation l ys)
+      (sym (sym as_left ∙ decides.0 t ∙ as_right)) (IsPermutation-sym ys vs sorted_right))
 
-  pub alike_sorted_rows : (cmp : X → X → Ordering) → IsTotalOrder cmp → IsAntisymmetric cmp → IsSorted cmp us → IsSorted cmp vs → (rel_of : X → ℕ) → AreAlike rel_of xs ys → r ≡ true
-  alike_sorted_rows cmp total exact s t rel_of alike = decides.1 (as_left ∙ alike_sorted cmp total exact rel_of xs ys us vs sorted_left sorted_right s t alike ∙ sym as_right)
+  pub alike_sorted_rows : (cmp : X → X → Ordering) → IsTotalOrder cmp → IsAntisymmetric cmp → IsSorted cmp us
+      → IsSorted cmp vs → (rel_of : X → ℕ) → AreAlike rel_of xs ys → r ≡ true
+  alike_sorted_rows cmp total exact s t rel_of alike =
+      decides.1 (as_left ∙ alike_sorted cmp total exact rel_of xs ys us vs sorted_left sorted_right s t alike
+      ∙ sym as_right)

@@ -13,7 +13,10 @@ use Rattle.mls_filterview.specs.Content.{Content, no_content, with_table}
 
 abbrev pub with_tuple : Content → ℕ → Node → List Cell → Content
 with_tuple c relation n cells =
-    record c { db = with_table c.db relation (insert (c.db relation) (place_of_node n) (made_of (get (c.db relation)) n cells)) }
+    record c {
+      db = with_table c.db relation (insert (c.db relation) (place_of_node n)
+          (made_of (get (c.db relation)) n cells));
+    }
 
 abbrev pub with_value : Content → ℕ → Place → ℕ → Option Value → Content
 with_value c relation p attr v = record c { db = with_table c.db relation (change (set_in p attr v) (c.db relation)) }

@@ -57,7 +57,8 @@ pub record IsCellRow (r : CellRow) : Type 0 where
 -- the classes of all tuples are numbers of one byte, so a row that does not read shows that its store is not
 -- clean
 abbrev pub HasByteClasses : Content → Type 0
-HasByteClasses c = (relation : ℕ) (p : Place) (es : List Element) → get (c.db relation) p ≡ Some es → (p.key_class < 256)
+HasByteClasses c = (relation : ℕ) (p : Place) (es : List Element) → get (c.db relation) p ≡ Some es
+    → (p.key_class < 256)
     × (p.class < 256)
 
 -- the rows are those of content, and each can be read

@@ -28,7 +28,8 @@ fn nothing(alloc: Global) -> Fragment
     }
 }
 
-/// What the class of a place holds of the place's entity. Where it has no node, it has no cells, and none are asked for.
+/// What the class of a place holds of the place's entity. Where it has no node, it has no cells, and none are asked
+/// for.
 pub fn read_entity<S: Alter>(
     store: &mut TableStore<S>,
     alloc: Global,

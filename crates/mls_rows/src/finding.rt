@@ -1,4 +1,5 @@
-//! What the rows of a store hold: the tuples of each relation, put together and asked for the stored form, and the entries.
+//! What the rows of a store hold: the tuples of each relation, put together and asked for the stored form, and the
+//! entries.
 ghost use Rattle.std.specs.Prelude.{◌≡◌, ◌↔◌, ◌≤◌, ℕ, List, length, map, nat_lt, IsTrue, IfOk, IfErr, OnOk};
 ghost use Rattle.std.specs.Prelude.{IsPermutation, IsSorted, false, pos};
 ghost use Rattle.std.specs.List.{AllByRecursion, list_all};
@@ -206,7 +207,8 @@ pub struct Found {
     pub last: i64,
 }
 
-/// What rows hold, where that is content of the stored form whose classes are among the first labels, and entries of such
+/// What rows hold, where that is content of the stored form whose classes are among the first labels, and entries of
+/// such
 /// labels. Where it is not, the judging stands at a row of it, which is bad where it is judged alone.
 pub fn find(
     alloc: Global,

@@ -28,7 +28,8 @@ pub enum Step {
     Entry,
 }
 
-/// Where the judging of a store's rows stands: a step of it, and the place of a row among the sorted ones of its table. Nothing
+/// Where the judging of a store's rows stands: a step of it, and the place of a row among the sorted ones of its table.
+/// Nothing
 /// else depends on it.
 #[derive(Clone, Copy)]
 pub struct Where {
@@ -62,7 +63,8 @@ impl Where {
         self.row = self.row.saturating_add(1);
     }
 
-    /// At the first row that is not one of those wanted, or before which one of those is missing. Both lists are sorted.
+    /// At the first row that is not one of those wanted, or before which one of those is missing. Both lists are
+    /// sorted.
     pub(crate) fn compare<T: PartialOrd>(
         &mut self,
         loose: Step,

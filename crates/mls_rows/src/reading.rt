@@ -50,7 +50,8 @@ pub(crate) fn abandon_for_memory<S: Alter>(store: &mut TableStore<S>) -> StoreFa
     StoreFault::Memory
 }
 
-/// Ends the change, if one is begun, after a row that can't be read or made. A row that can't be read is a failure of a store
+/// Ends the change, if one is begun, after a row that can't be read or made. A row that can't be read is a failure of a
+/// store
 /// that gives back other rows than were written.
 pub(crate) fn abandon_at_row<S: Alter>(store: &mut TableStore<S>, fault: RowFault) -> StoreFault
     requires { (fault ≡ Memory → ⊥) → IsClean store.old → ⊥ }
@@ -113,7 +114,8 @@ pub(crate) fn nodes_of_relation(
     rows: &[NodeRow],
     at: &mut Where,
 ) -> Result<Items<Node>, RowFault>
-    ensures shown { IfOk result (λ nodes. map (node_row relation) nodes ≡ filter (λ r. nat_eq r.rel relation) rows.now) }
+    ensures shown { IfOk result (λ nodes. map (node_row relation) nodes
+        ≡ filter (λ r. nat_eq r.rel relation) rows.now) }
     ensures spelled { IfOk result (AllByRecursion IsSpelledNode) }
     ensures only { AllByRecursion IsNodeRow rows.now → IfErr result IsMemory }
     ensures condemned { IfErr result (λ e. ¬ IsMemory e
@@ -165,7 +167,8 @@ pub(crate) fn cells_of_relation(
     rows: &[CellRow],
     at: &mut Where,
 ) -> Result<Items<Cell>, RowFault>
-    ensures shown { IfOk result (λ cells. map (cell_row relation) cells ≡ filter (λ r. nat_eq r.rel relation) rows.now) }
+    ensures shown { IfOk result (λ cells. map (cell_row relation) cells
+        ≡ filter (λ r. nat_eq r.rel relation) rows.now) }
     ensures spelled { IfOk result (AllByRecursion IsSpelledCell) }
     ensures only { AllByRecursion IsCellRow rows.now → IfErr result IsMemory }
     ensures condemned { IfErr result (λ e. ¬ IsMemory e

@@ -27,7 +27,8 @@ module _ (site : Site) (w : World) where
   pub shown_one : (e : Event) → run_shows site (reader_of e.level Lines) w (e ∷ []) ≡ answers_to site w (e ∷ [])
   unfolding answers_to run_lines
   shown_one e =
-      ap (λ (l : List Line). printed (heard (site_labels site) (Some e.level) l)) (append-nil (reply_lines_in Lines site e (step site w e).reply))
+      ap (λ (l : List Line). printed (heard (site_labels site) (Some e.level) l))
+      (append-nil (reply_lines_in Lines site e (step site w e).reply))
       ∙ sym (append-nil (answer_to site w e))
 
   -- before the first event nothing is shown
@@ -40,7 +41,9 @@ module _ (site : Site) (w : World) where
   kept_one e false n one = ap (λ n. take (n - 1) (e ∷ [])) one
 
   module _ (e : Event) (was is : Option (List ℕ)) (new : World) where
-    answered_one : (r : Result (Unit {0}) RunFault) → OnOk r (IsWhole site (reader_of e.level Lines) w (e ∷ []) was is new) → IfErr r (IsStopped site (reader_of e.level Lines) w (e ∷ []) was is new)
+    answered_one : (r : Result (Unit {0}) RunFault)
+        → OnOk r (IsWhole site (reader_of e.level Lines) w (e ∷ []) was is new)
+        → IfErr r (IsStopped site (reader_of e.level Lines) w (e ∷ []) was is new)
         → IfErr r (IsFaultOf (e ∷ [])) → IsDeskFollowed site w (e ∷ []) [] was is new r
     answered_one (Ok u) ok err fault = record {
       stands = true;
@@ -62,7 +65,8 @@ module _ (site : Site) (w : World) where
           part = printed_to site (reader_of e.level Lines) w (e ∷ []) (f.event - 1) ++ err.part;
           rest = err.rest;
           bytes = err.bytes;
-          whole = err.reply ∙ ap (printed_to site (reader_of e.level Lines) w (e ∷ [])) one ∙ shown_one e ∙ sym (append-nil answers);
+          whole = err.reply ∙ ap (printed_to site (reader_of e.level Lines) w (e ∷ [])) one ∙ shown_one e
+              ∙ sym (append-nil answers);
           all = tt;
           cut = record {
             write = fault.write;
@@ -76,8 +80,11 @@ module _ (site : Site) (w : World) where
   alone e (x ∷ xs) h = absurd (let k = h in omega (arith, k))
 
   -- of a line with an event, which is answered for the level of its session alone
-  pub done_one : (e : Event) (rest es : List Event) → es ≡ e ∷ rest → length es ≤ 1 → (was is : Option (List ℕ)) (new : World) (r : Result (Unit {0}) RunFault)
-      → OnOk r (IsWhole site (reader_of e.level Lines) w es was is new) → IfErr r (IsStopped site (reader_of e.level Lines) w es was is new) → IfErr r (IsFaultOf es) → IsDeskFollowed site w es [] was is new r
+  pub done_one : (e : Event) (rest es : List Event) → es ≡ e ∷ rest → length es ≤ 1
+      → (was is : Option (List ℕ)) (new : World) (r : Result (Unit {0}) RunFault)
+      → OnOk r (IsWhole site (reader_of e.level Lines) w es was is new)
+      → IfErr r (IsStopped site (reader_of e.level Lines) w es was is new) → IfErr r (IsFaultOf es)
+      → IsDeskFollowed site w es [] was is new r
   done_one e rest es first one was is new r ok err fault =
       let same : es ≡ e ∷ [] = first ∙ alone e rest (subst (λ (l : List Event). length l ≤ 1) first one) in
       subst (λ (l : List Event). IsDeskFollowed site w l [] was is new r) (sym same)
@@ -87,16 +94,29 @@ module _ (site : Site) (w : World) where
       (subst (λ (l : List Event). IfErr r (IsFaultOf l)) same fault))
 
   -- of a line with a first event
-  pub done_first : (e d : Event) (es : List Event) → 1 ≤ length es → e ≡ get_or es 0 d → length es ≤ 1 → (was is : Option (List ℕ)) (new : World) (r : Result (Unit {0}) RunFault)
-      → OnOk r (IsWhole site (reader_of e.level Lines) w es was is new) → IfErr r (IsStopped site (reader_of e.level Lines) w es was is new) → IfErr r (IsFaultOf es) → IsDeskFollowed site w es [] was is new r
+  pub done_first : (e d : Event) (es : List Event) → 1 ≤ length es → e ≡ get_or es 0 d → length es ≤ 1
+      → (was is : Option (List ℕ)) (new : World) (r : Result (Unit {0}) RunFault)
+      → OnOk r (IsWhole site (reader_of e.level Lines) w es was is new)
+      → IfErr r (IsStopped site (reader_of e.level Lines) w es was is new) → IfErr r (IsFaultOf es)
+      → IsDeskFollowed site w es [] was is new r
   done_first e d [] some h one was is new r ok err fault = absurd (let k = some in omega (arith, k))
-  done_first e d (x ∷ xs) some h one was is new r ok err fault = done_one e xs (x ∷ xs) (ap (λ y. y ∷ xs) (sym h)) one was is new r ok err fault
+  done_first e d (x ∷ xs) some h one was is new r ok err fault = done_one e xs (x ∷ xs)
+      (ap (λ y. y ∷ xs) (sym h)) one was is new r ok err fault
 
   -- ---- none
 
   none_done : (a : Option (List ℕ)) (r : Result (Unit {0}) RunFault) → IsDeskFollowed site w [] [] a a w r
   unfolding answers_to end_of
-  none_done a (Ok u) = record { stands = true; part = []; rest = []; bytes = Appends-nil a; whole = refl; all = (refl, refl); cut = tt; world = refl }
+  none_done a (Ok u) = record {
+    stands = true;
+    part = [];
+    rest = [];
+    bytes = Appends-nil a;
+    whole = refl;
+    all = (refl, refl);
+    cut = tt;
+    world = refl;
+  }
   none_done a (Err f) = record {
     stands = true;
     part = [];
@@ -108,14 +128,17 @@ module _ (site : Site) (w : World) where
     world = refl;
   }
 
-  pub done_none : (es : List Event) → es ≡ [] → (a : Option (List ℕ)) (r : Result (Unit {0}) RunFault) → IsDeskFollowed site w es [] a a w r
+  pub done_none : (es : List Event) → es ≡ [] → (a : Option (List ℕ)) (r : Result (Unit {0}) RunFault)
+      → IsDeskFollowed site w es [] a a w r
   done_none es none a r = subst (λ (l : List Event). IsDeskFollowed site w l [] a a w r) (sym none) (none_done a r)
 
-  pub done_without : (es : List Event) → length es < 1 → (a : Option (List ℕ)) (r : Result (Unit {0}) RunFault) → IsDeskFollowed site w es [] a a w r
+  pub done_without : (es : List Event) → length es < 1 → (a : Option (List ℕ)) (r : Result (Unit {0}) RunFault)
+      → IsDeskFollowed site w es [] a a w r
   done_without [] none a r = none_done a r
   done_without (e ∷ es) none a r = absurd (let k = none in omega (arith, k))
 
-  pub done_default : (fate : Fate) → ((events : List Event) → fate ≡ fates.Said events → ⊥) → (a : Option (List ℕ)) (r : Result (Unit {0}) RunFault) → IsDeskFollowed site w (events_of fate) [] a a w r
+  pub done_default : (fate : Fate) → ((events : List Event) → fate ≡ fates.Said events → ⊥)
+      → (a : Option (List ℕ)) (r : Result (Unit {0}) RunFault) → IsDeskFollowed site w (events_of fate) [] a a w r
   done_default fate h a r = done_none (events_of fate) (no_events fate h) a r
 
   -- ---- and its mark
@@ -137,14 +160,16 @@ module _ (site : Site) (w : World) where
       part = h.part;
       rest = h.rest ++ mark_of fate;
       bytes = h.bytes;
-      whole = sym (append_assoc h.part h.rest (mark_of fate)) ∙ ap (λ l. l ++ mark_of fate) (h.whole ∙ append-nil answers);
+      whole = sym (append_assoc h.part h.rest (mark_of fate)) ∙ ap (λ l. l ++ mark_of fate)
+          (h.whole ∙ append-nil answers);
       all = tt;
       cut = h.cut;
       world = h.world;
     }
 
     -- at the exit of a `?`
-    pub followed_given_up : (r s : Result (Unit {0}) RunFault) (f : RunFault) → r ≡ Err f → IsErrAnd s (λ e. e ≡ f) → Done r → Followed mid s
+    pub followed_given_up : (r s : Result (Unit {0}) RunFault) (f : RunFault) → r ≡ Err f → IsErrAnd s (λ e. e ≡ f)
+        → Done r → Followed mid s
     followed_given_up r (Ok u) f is same h = absurd same
     followed_given_up r (Err e) f is same h =
         subst (λ (x : RunFault). Followed mid (Err x)) (sym same) (followed_cut f (subst Done is h))
@@ -177,11 +202,17 @@ module _ (site : Site) (w : World) where
         part = h.part ++ k.cut.part;
         rest = k.cut.rest;
         bytes = Appends-trans was mid is h.part k.cut.part h.bytes k.cut.appends;
-        whole = append_assoc h.part k.cut.part k.cut.rest ∙ ap (λ l. h.part ++ l) k.cut.whole ∙ ap (λ l. l ++ mark_of fate) answers_there;
+        whole = append_assoc h.part k.cut.part k.cut.rest ∙ ap (λ l. h.part ++ l) k.cut.whole
+            ∙ ap (λ l. l ++ mark_of fate) answers_there;
         all = tt;
         cut = record {
           write = λ is. h.all.1;
-          other = λ n. inr (for_memory fault.cause n k.no_store, ap (λ l. h.part ++ l) (k.none n) ∙ append-nil h.part ∙ answers_there, h.all.1);
+          other = λ n. inr (
+            for_memory fault.cause n k.no_store,
+            ap (λ l. h.part ++ l) (k.none n) ∙ append-nil h.part
+                ∙ answers_there,
+            h.all.1,
+          );
         };
         world = h.world;
       }

@@ -31,15 +31,18 @@ use Rattle.mls_runs.specs.DeskRun.{IsDeskRun}
 use Rattle.mls_runs.specs.Work.{IsOverStore}
 
 -- lines that are answered over a content, which is left as another
-pub desk_at : (echo : List ℕ → List ℕ) (site : Site) (sessions : Sessions) (first left : Content) (before after : Option (List ℕ)) (Broken : Type 0) (Wrote : List ℕ → Type 0) (end : Result Ending RunFault)
-    → AreDistinct (site_labels site) → AreRead site → AreCertified site → IsSoundContent site.policy site.schemes first → IsSoundContent site.policy site.schemes left
+pub desk_at : (echo : List ℕ → List ℕ) (site : Site) (sessions : Sessions) (first left : Content)
+    (before after : Option (List ℕ)) (Broken : Type 0) (Wrote : List ℕ → Type 0) (end : Result Ending RunFault)
+    → AreDistinct (site_labels site) → AreRead site → AreCertified site → IsSoundContent site.policy site.schemes first
+    → IsSoundContent site.policy site.schemes left
     → IsService echo site before after Broken Wrote end (first_world site first) (world_at site sessions left)
     → IsDesk echo site before after Broken Wrote end first left
 desk_at echo site sessions first left before after Broken Wrote end distinct read certified sound sound_left k =
     let w = first_world site first in
     let es = events_in k.service.turns in
     let stored : AreStored site w.db = λ relation. (sound.content relation).stored in
-    let secret : (n : ℕ) → PassesOnlyReleasesDown site w (take n es) = first_accepted_alike site distinct read certified w es stored k.fits in
+    let secret : (n : ℕ) → PassesOnlyReleasesDown site w (take n es) =
+    first_accepted_alike site distinct read certified w es stored k.fits in
     record {
       service = k.service;
       left_by = (sessions, k.world);
@@ -52,10 +55,19 @@ desk_at echo site sessions first left before after Broken Wrote end distinct rea
 -- ---- tasks
 
 -- a read of the lines has failed only where the host says that it may
-read_only_so : (echo : List ℕ → List ℕ) (site : Site) (before after : Option (List ℕ)) (Broken May : Type 0) (Wrote : List ℕ → Type 0) (end : Result Ending RunFault) (first left : Content)
-    → (Broken → May) → IsDesk echo site before after Broken Wrote end first left → IsDesk echo site before after May Wrote end first left
+read_only_so : (echo : List ℕ → List ℕ) (site : Site) (before after : Option (List ℕ)) (Broken May : Type 0)
+    (Wrote : List ℕ → Type 0) (end : Result Ending RunFault) (first left : Content)
+    → (Broken → May) → IsDesk echo site before after Broken Wrote end first left
+    → IsDesk echo site before after May Wrote end first left
 read_only_so echo site before after Broken May Wrote end first left f k = record {
-  service = record { turns = k.service.turns; kept = k.service.kept; lines = k.service.lines; broken = λ b. f (k.service.broken b); written = k.service.written };
+  service = record {
+    turns = k.service.turns;
+    kept = k.service.kept;
+    lines = k.service.lines;
+    broken =
+        λ b. f (k.service.broken b);
+    written = k.service.written;
+  };
   left_by = k.left_by;
   sound = k.sound;
   integrity = k.integrity;
@@ -76,7 +88,8 @@ module _ (h : Hosted) (inputs : Inputs) (store : Option (List ℕ)) (Wrote : Lis
   desk_before r is wrote = carried Ends r (Before Memory) is (no_memory refl, wrote)
 
   module _ (stored : List Stored) (before after : Option (List ℕ)) (Broken : Type 0)
-      (stored_are : AreStoredWith inputs.setting.policy inputs.certificates inputs.transactions stored) (typed : h.before.types before) (broken : Broken → h.before.breaks)
+      (stored_are : AreStoredWith inputs.setting.policy inputs.certificates inputs.transactions stored)
+      (typed : h.before.types before) (broken : Broken → h.before.breaks)
       (Still : Type 0) (still : Still → Wrote []) where
     abbrev at : Site
     at = site_of inputs.setting.policy inputs.setting.file.schemes stored

@@ -21,11 +21,13 @@ both false b h = absurd (true≢false (sym h))
 module _ (site : Site) (session : ShellSession) (plain : session.has_prompt ≡ false) where
   one : (w : World) (e : Event) → is_own session e ≡ true → answers site session w (e ∷ []) ≡ answers_to site w (e ∷ [])
   one w e own =
-      let level = eqb-true e.level session.level (both (nat_eq e.level session.level) (bytes_eq e.session session.user) own).0 in
+      let level = eqb-true e.level session.level (both (nat_eq e.level session.level)
+      (bytes_eq e.session session.user) own).0 in
       ap (λ b. run_shows site (reader_of session.level (form_of b)) w (e ∷ [])) plain
       ∙ ap (λ l. run_shows site (reader_of l Lines) w (e ∷ [])) (sym level) ∙ shown_one site w e
 
-  all : (w : World) (es : List Event) → list_all (is_own session) es ≡ true → answers site session w es ≡ answers_to site w es
+  all : (w : World) (es : List Event) → list_all (is_own session) es ≡ true → answers site session w es
+      ≡ answers_to site w es
   unfolding answers_to end_of
   all w [] h = prints-none site (audience_at session) w
   all w (e ∷ es) h =

@@ -25,16 +25,20 @@ empty [] h = refl
 empty (x ∷ xs) h = absurd (let e = eqb-true _ _ h in omega arith)
 
 module _ (policy : Policy) (schemes : Schemes) (line : List ℕ) where
-  events_are : line ≢ [] → (events : List Event) → ReadsScript policy schemes line events → (b : Bool) → list_any opens_other events ≡ b
+  events_are : line ≢ [] → (events : List Event) → ReadsScript policy schemes line events → (b : Bool)
+      → list_any opens_other events ≡ b
       → IsDeskFate policy schemes line (cond b (fates.Refused (other_name line)) (fates.Said events))
   events_are some events reads true h = other events some reads h refl
   events_are some events reads false h = said events some reads h refl
 
-  read_is : line ≢ [] → (r : Result (List Event) ScriptFault) → script_at policy schemes line ≡ r → IsDeskFate policy schemes line (fate_read line r)
-  read_is some (Ok events) e = events_are some events (script_found policy schemes line events e) (list_any opens_other events) refl
+  read_is : line ≢ [] → (r : Result (List Event) ScriptFault) → script_at policy schemes line ≡ r
+      → IsDeskFate policy schemes line (fate_read line r)
+  read_is some (Ok events) e = events_are some events (script_found policy schemes line events e)
+      (list_any opens_other events) refl
   read_is some (Err fault) e = refused fault some e refl
 
-  over_is : (b : Bool) → nat_eq (length line) 0 ≡ b → (rest : Fate) → (line ≢ [] → IsDeskFate policy schemes line rest) → IsDeskFate policy schemes line (cond b fates.Over rest)
+  over_is : (b : Bool) → nat_eq (length line) 0 ≡ b → (rest : Fate) → (line ≢ [] → IsDeskFate policy schemes line rest)
+      → IsDeskFate policy schemes line (cond b fates.Over rest)
   over_is true e rest f = over (empty line e) refl
   over_is false e rest f = f (λ h. true≢false (sym (ap (λ l. nat_eq (length l) 0) h) ∙ e))
 
@@ -46,21 +50,27 @@ module _ (policy : Policy) (schemes : Schemes) (line : List ℕ) where
   over_is_empty : (fate : Fate) → IsDeskFate policy schemes line fate → fate ≡ fates.Over → line ≡ []
   over_is_empty fate (over e f) h = e
   over_is_empty fate (said events c r n f) h = absurd (let bad : fates.Said events ≡ fates.Over = sym f ∙ h in cc)
-  over_is_empty fate (other events c r n f) h = absurd (let bad : fates.Refused (other_name line) ≡ fates.Over = sym f ∙ h in cc)
+  over_is_empty fate (other events c r n f) h = absurd (let bad : fates.Refused (other_name line) ≡ fates.Over =
+      sym f ∙ h in cc)
   over_is_empty fate (refused fault c r f) h = absurd (let bad : fates.Refused fault ≡ fates.Over = sym f ∙ h in cc)
 
   was_read : (fate : Fate) → IsDeskFate policy schemes line fate → fate ≡ fates.Unreadable → ⊥
   was_read fate (over e f) h = let bad : fates.Over ≡ fates.Unreadable = sym f ∙ h in absurd cc
   was_read fate (said events c r n f) h = let bad : fates.Said events ≡ fates.Unreadable = sym f ∙ h in absurd cc
-  was_read fate (other events c r n f) h = let bad : fates.Refused (other_name line) ≡ fates.Unreadable = sym f ∙ h in absurd cc
+  was_read fate (other events c r n f) h = let bad : fates.Refused (other_name line) ≡ fates.Unreadable = sym f ∙ h
+      in absurd cc
   was_read fate (refused fault c r f) h = let bad : fates.Refused fault ≡ fates.Unreadable = sym f ∙ h in absurd cc
 
-  pub read_whole : (echo : List ℕ → List ℕ) (before after was is : Option (List ℕ)) (Broken : Type 0) (n : IsNext before after line) → length n.text < 1048576 → Appends was is (echo line) → (fate : Fate)
-      → Becomes (fate_of policy schemes line) fate → IsLineRead echo (IsDeskFate policy schemes) before after was is Broken fate
+  pub read_whole : (echo : List ℕ → List ℕ) (before after was is : Option (List ℕ)) (Broken : Type 0)
+      (n : IsNext before after line) → length n.text < 1048576 → Appends was is (echo line) → (fate : Fate)
+      → Becomes (fate_of policy schemes line) fate
+      → IsLineRead echo (IsDeskFate policy schemes) before after was is Broken fate
   read_whole echo before after was is Broken n short w fate (inl e) =
       let found = subst (IsDeskFate policy schemes line) (sym e) fate_is in
-      read_line echo (IsDeskFate policy schemes) before after was is Broken line n short w fate found (over_is_empty fate found) (was_read fate found)
-  read_whole echo before after was is Broken n short w fate (inr e) = read_in_vain echo (IsDeskFate policy schemes) before after was is Broken line n w fate e
+      read_line echo (IsDeskFate policy schemes) before after was is Broken line n short w fate found
+      (over_is_empty fate found) (was_read fate found)
+  read_whole echo before after was is Broken n short w fate (inr e) =
+      read_in_vain echo (IsDeskFate policy schemes) before after was is Broken line n w fate e
 
 -- ---- a line tells one event at most
 
@@ -98,7 +108,8 @@ feeds-lines (l ∷ ls) =
     let more = feeds-lines ls in
     let front = feeds-append l.text (10 ∷ []) in
     let all = feeds-append (l.text ++ 10 ∷ []) rest in
-    more_by (length ls) (feeds l.text) (feeds rest) (feeds (l.text ++ 10 ∷ [])) (feeds ((l.text ++ 10 ∷ []) ++ rest)) more front all
+    more_by (length ls) (feeds l.text) (feeds rest) (feeds (l.text ++ 10 ∷ []))
+    (feeds ((l.text ++ 10 ∷ []) ++ rest)) more front all
   where
     more_by : (n a r f t : ℕ) → n ≤ r → f ≡ a + 1 → t ≡ f + r → suc n ≤ t
     more_by n a r f t h k l = omega (arith, h, k, l)
@@ -127,19 +138,25 @@ one_feed before after line n = by_end n.whole
     by_end (inl h) = with_feed (feeds n.text) (feeds line) none (ap feeds h ∙ feeds-append n.text (10 ∷ []))
     by_end (inr h) = without (feeds n.text) (feeds line) none (ap feeds h.0)
 
-one_told : (policy : Policy) (schemes : Schemes) (line : List ℕ) (events : List Event) → feeds line ≤ 1 → ReadsScript policy schemes line events → length events ≤ 1
+one_told : (policy : Policy) (schemes : Schemes) (line : List ℕ) (events : List Event) → feeds line ≤ 1
+    → ReadsScript policy schemes line events → length events ≤ 1
 one_told policy schemes line events few r =
-    least (length events) (length (filter_map (λ (line : Line). line.event) r.lines)) (length r.lines) (feeds (flat_map (λ (line : Line). line.text ++ 10 ∷ []) r.lines)) (feeds line)
+    least (length events) (length (filter_map (λ (line : Line). line.event) r.lines)) (length r.lines)
+    (feeds (flat_map (λ (line : Line). line.text ++ 10 ∷ []) r.lines)) (feeds line)
     (ap length r.told) (fewer (λ (line : Line). line.event) r.lines) (feeds-lines r.lines) (ap feeds r.text) few
   where
     least : (n m l f t : ℕ) → n ≡ m → m ≤ l → l ≤ f → t ≡ f → t ≤ 1 → n ≤ 1
     least n m l f t a b c d e = omega (arith, a, b, c, d, e)
 
-fate_one : (policy : Policy) (schemes : Schemes) (line : List ℕ) (fate : Fate) → feeds line ≤ 1 → IsDeskFate policy schemes line fate → length (events_of fate) ≤ 1
+fate_one : (policy : Policy) (schemes : Schemes) (line : List ℕ) (fate : Fate) → feeds line ≤ 1
+    → IsDeskFate policy schemes line fate → length (events_of fate) ≤ 1
 fate_one policy schemes line fate few (over e f) = subst (λ (x : Fate). length (events_of x) ≤ 1) (sym f) (omega arith)
-fate_one policy schemes line fate few (said events c r n f) = subst (λ (x : Fate). length (events_of x) ≤ 1) (sym f) (one_told policy schemes line events few r)
-fate_one policy schemes line fate few (other events c r n f) = subst (λ (x : Fate). length (events_of x) ≤ 1) (sym f) (omega arith)
-fate_one policy schemes line fate few (refused fault c r f) = subst (λ (x : Fate). length (events_of x) ≤ 1) (sym f) (omega arith)
+fate_one policy schemes line fate few (said events c r n f) = subst (λ (x : Fate). length (events_of x) ≤ 1) (sym f)
+    (one_told policy schemes line events few r)
+fate_one policy schemes line fate few (other events c r n f) = subst (λ (x : Fate). length (events_of x) ≤ 1) (sym f)
+    (omega arith)
+fate_one policy schemes line fate few (refused fault c r f) = subst (λ (x : Fate). length (events_of x) ≤ 1) (sym f)
+    (omega arith)
 
 cut_one : (fate : Fate) → IsCut fate → length (events_of fate) ≤ 1
 cut_one fates.Unreadable h = omega arith
@@ -147,9 +164,11 @@ cut_one (fates.Lost cause) h = omega arith
 cut_one _ h = absurd h
 
 -- of a line that is read one event is told at most
-pub one_event : (echo : List ℕ → List ℕ) (policy : Policy) (schemes : Schemes) (before after was is : Option (List ℕ)) (Broken : Type 0) (fate : Fate)
+pub one_event : (echo : List ℕ → List ℕ) (policy : Policy) (schemes : Schemes) (before after was is : Option (List ℕ))
+    (Broken : Type 0) (fate : Fate)
     → IsLineRead echo (IsDeskFate policy schemes) before after was is Broken fate → length (events_of fate) ≤ 1
-one_event echo policy schemes before after was is Broken fate h = subst (λ (x : Fate). length (events_of x) ≤ 1) h.same (of_turn h.is_turn)
+one_event echo policy schemes before after was is Broken fate h = subst (λ (x : Fate). length (events_of x) ≤ 1) h.same
+    (of_turn h.is_turn)
   where
     of_turn : IsShellTurn echo (IsDeskFate policy schemes) before after h.turn → length (events_of h.turn.fate) ≤ 1
     of_turn (whole n s e f) = fate_one policy schemes h.turn.line h.turn.fate (one_feed before after h.turn.line n) f

@@ -35,20 +35,25 @@ use Rattle.mls_runs.specs.Running.{first_world, IsRun}
 use Rattle.mls_runs.specs.Work.{IsOverStore}
 
 -- what an engine's run comes to: its lines, its last world, and what is proved of it
-pub record IsEngineRun (site : Site) (audience : Audience) (v : World) (es : List Event) (before after : Option (List ℕ)) (new : World) (r : Result (Unit {0}) RunFault) : Type 0 where
+pub record IsEngineRun (site : Site) (audience : Audience) (v : World) (es : List Event)
+    (before after : Option (List ℕ)) (new : World) (r : Result (Unit {0}) RunFault) : Type 0 where
   pub ok : OnOk r (IsWhole site audience v es before after new)
   pub err : IfErr r (IsHalted site audience v es before after new)
   pub fault : IfErr r (IsFaultOf es)
   pub integrity : KeepsIntegrity site v es
   pub secret : (n : ℕ) → PassesOnlyReleasesDown site v (take n es)
 
-shown_to : (site : Site) (reader : Option ℕ) (v : World) (es : List Event) → ((n : ℕ) → PassesOnlyReleasesDown site v (take n es)) → IfSome reader (λ c. (n : ℕ) → ShowsOnlyReleases site c v (take n es))
+shown_to : (site : Site) (reader : Option ℕ) (v : World) (es : List Event)
+    → ((n : ℕ) → PassesOnlyReleasesDown site v (take n es)) → IfSome reader (λ c. (n : ℕ)
+    → ShowsOnlyReleases site c v (take n es))
 shown_to site None v es secret = tt
 shown_to site (Some c) v es secret = λ n. shows_only_releases site c v (take n es) (secret n)
 
 -- over a base that holds a content at first and another at last
-pub run_at : (site : Site) (audience : Audience) (sessions : Sessions) (first left : Content) (es : List Event) (before after : Option (List ℕ)) (r : Result (Unit {0}) RunFault)
-    → IsSoundContent site.policy site.schemes left → IsEngineRun site audience (first_world site first) es before after (world_at site sessions left) r
+pub run_at : (site : Site) (audience : Audience) (sessions : Sessions) (first left : Content) (es : List Event)
+    (before after : Option (List ℕ)) (r : Result (Unit {0}) RunFault)
+    → IsSoundContent site.policy site.schemes left → IsEngineRun site audience (first_world site first) es before after
+    (world_at site sessions left) r
     → IsRun site audience es (Appends before after) r first left
 run_at site audience sessions first left es before after (Ok u) sound h = record {
   written = h.ok.bytes;
@@ -59,7 +64,15 @@ run_at site audience sessions first left es before after (Ok u) sound h = record
   shown = shown_to site audience.reader (first_world site first) es h.secret;
 }
 run_at site audience sessions first left es before after (Err fault) sound h = record {
-  written = record { part = h.err.part; rest = h.err.rest; written = h.err.bytes; whole = h.err.reply; none = h.err.none; is = h.fault };
+  written = record {
+    part = h.err.part;
+    rest = h.err.rest;
+    written = h.err.bytes;
+    whole = h.err.reply;
+    none =
+        h.err.none;
+    is = h.fault;
+  };
   left_by = (sessions, h.err.world);
   sound = sound;
   integrity = h.integrity;
@@ -70,20 +83,30 @@ run_at site audience sessions first left es before after (Err fault) sound h = r
 -- ---- what may be served
 
 -- what is stored of transactions, with certificates
-pub may_serve : (s : Setting) (blocks : List Block) (txs : List Tx) (stored : List Stored) → AllByRecursion (IsReadUnder s.policy s.file.schemes) txs → AreStoredWith s.policy blocks txs stored → MayServe (site_of s.policy s.file.schemes stored)
-may_serve s blocks txs stored read h = record { under = s.under; read = stored_read s.policy s.file.schemes blocks txs stored read h; certified = stored_certified s.policy s.file.schemes blocks txs stored h }
+pub may_serve : (s : Setting) (blocks : List Block) (txs : List Tx) (stored : List Stored)
+    → AllByRecursion (IsReadUnder s.policy s.file.schemes) txs → AreStoredWith s.policy blocks txs stored
+    → MayServe (site_of s.policy s.file.schemes stored)
+may_serve s blocks txs stored read h = record {
+  under = s.under;
+  read =
+      stored_read s.policy s.file.schemes blocks txs stored read h;
+  certified =
+      stored_certified s.policy s.file.schemes blocks txs stored h;
+}
 
 -- ---- how runs and shells end
 
 module _ {A : Type 0} (Ends : Result A RunFault → Type 0) (Nothing : Reason → Type 0) where
   -- one that ended, or stopped, over a store that was closed, or not
-  pub ended_so : (outcome : Result A RunFault) (closed : Result (Unit {0}) CloseFault) → Ends outcome → IsEnd Ends Nothing (ended outcome closed)
+  pub ended_so : (outcome : Result A RunFault) (closed : Result (Unit {0}) CloseFault) → Ends outcome
+      → IsEnd Ends Nothing (ended outcome closed)
   ended_so (Err fault) (Err e) h = h
   ended_so (Err fault) (Ok v) h = h
   ended_so (Ok end) (Err e) h = (end, h)
   ended_so (Ok end) (Ok v) h = h
 
-  pub end_weaker : (More : Result A RunFault → Type 0) (Less : Reason → Type 0) → ((end : Result A RunFault) → Ends end → More end) → ((reason : Reason) → Nothing reason → Less reason)
+  pub end_weaker : (More : Result A RunFault → Type 0) (Less : Reason → Type 0) → ((end : Result A RunFault) → Ends end
+      → More end) → ((reason : Reason) → Nothing reason → Less reason)
       → (r : Result A Stop) → IsEnd Ends Nothing r → IsEnd More Less r
   end_weaker More Less f g (Ok end) h = f (Ok end) h
   end_weaker More Less f g (Err (Before reason)) h = g reason h
@@ -93,7 +116,8 @@ module _ {A : Type 0} (Ends : Result A RunFault → Type 0) (Nothing : Reason �
 
 -- ---- where they begin
 
-module _ {A : Type 0} (h : Hosted) (file : SchemesFile) (policy : Policy) (Leads : Result A RunFault → Content → Content → Type 0) where
+module _ {A : Type 0} (h : Hosted) (file : SchemesFile) (policy : Policy) (Leads : Result A RunFault → Content → Content
+    → Type 0) where
   abbrev From : Option (List ℕ) → Result A RunFault → Type 0
   From store = IsOverStore h policy file store Leads
 
@@ -106,8 +130,11 @@ module _ {A : Type 0} (h : Hosted) (file : SchemesFile) (policy : Policy) (Leads
     from_memory none run =
         let f : (end : Result A RunFault) → Fresh end → From None end
         = λ end k. λ clean. record { first = no_content; left = k.0; begins = refl; kept = tt; leads = k.1 } in
-        subst (λ (s : Option (Bor (List ℕ))). IsEnd (From (named s)) (Nothing (named s)) r) (sym none) (end_weaker Fresh (Nothing None) (From None) (Nothing None) f (λ _ k. k) r run)
+        subst (λ (s : Option (Bor (List ℕ))). IsEnd (From (named s)) (Nothing (named s)) r) (sym none)
+        (end_weaker Fresh (Nothing None) (From None) (Nothing None) f (λ _ k. k) r run)
 
     -- with what a store kept
-    pub from_store : (path : Bor (List ℕ)) → store ≡ Some path → IsEnd (From (Some path.now)) (Nothing (Some path.now)) r → IsEnd (From (named store)) (Nothing (named store)) r
-    from_store path some run = subst (λ (s : Option (Bor (List ℕ))). IsEnd (From (named s)) (Nothing (named s)) r) (sym some) run
+    pub from_store : (path : Bor (List ℕ)) → store ≡ Some path → IsEnd (From (Some path.now))
+        (Nothing (Some path.now)) r → IsEnd (From (named store)) (Nothing (named store)) r
+    from_store path some run = subst (λ (s : Option (Bor (List ℕ))). IsEnd (From (named s)) (Nothing (named s)) r)
+        (sym some) run

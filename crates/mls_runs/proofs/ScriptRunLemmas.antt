@@ -30,17 +30,31 @@ module _ (h : Hosted) (inputs : Inputs) (store : Option (List ℕ)) (is_table : 
 
   module _ (stored : List Stored) (stored_are : AreStoredWith inputs.setting.policy inputs.certificates inputs.transactions stored) (Still : Type 0) (still : Still → Wrote []) where
     abbrev Runs : Form → List Event → Result (Unit {0}) RunFault → Type 0
-    Runs form events = IsOverStore h inputs.setting.policy inputs.setting.file store (IsRun (site_of_setting inputs.setting stored) (record { reader = inputs.setting.reader; form = form }) events Wrote)
+    Runs form events = IsOverStore h inputs.setting.policy inputs.setting.file store
+        (IsRun (site_of_setting inputs.setting stored) (record {
+          reader = inputs.setting.reader;
+          form =
+              form;
+        }) events Wrote)
 
     -- the events of a script, over what is stored; where none is answered, all is still as it was
-    pub script_run : (form : Form) (events : List Event) → form ≡ form_of is_table → events ≡ inputs.events → (r : Result (Unit {0}) Stop)
-        → IsEnd (Runs form events) (λ reason. IsBarred h.after inputs.setting.policy inputs.setting.file store reason × Still) r → Ends r
+    pub script_run : (form : Form) (events : List Event) → form ≡ form_of is_table → events ≡ inputs.events
+        → (r : Result (Unit {0}) Stop)
+        → IsEnd (Runs form events) (λ reason. IsBarred h.after inputs.setting.policy inputs.setting.file store reason
+        × Still) r → Ends r
     script_run form events is are r run =
-        let f : (end : Result (Unit {0}) RunFault) → Runs form events end → IsScriptRun h inputs store is_table Wrote end
-        = λ end k. record { stored = stored; stored_are = stored_are; run = subst (λ es. Runs (form_of is_table) es end) are (subst (λ (x : Form). Runs x events end) is k) } in
-        let g : (reason : Reason) → (IsBarred h.after inputs.setting.policy inputs.setting.file store reason × Still) → NotBegun reason
+        let f : (end : Result (Unit {0}) RunFault) → Runs form events end
+        → IsScriptRun h inputs store is_table Wrote end
+        = λ end k. record {
+          stored = stored;
+          stored_are = stored_are;
+          run = subst (λ es. Runs (form_of is_table) es end) are (subst (λ (x : Form). Runs x events end) is k);
+        } in
+        let g : (reason : Reason) → (IsBarred h.after inputs.setting.policy inputs.setting.file store reason × Still)
+        → NotBegun reason
         = λ reason k. (no_store k.0, still k.1) in
-        end_weaker (Runs form events) (λ reason. IsBarred h.after inputs.setting.policy inputs.setting.file store reason × Still) (IsScriptRun h inputs store is_table Wrote) NotBegun f g r run
+        end_weaker (Runs form events) (λ reason. IsBarred h.after inputs.setting.policy inputs.setting.file store reason
+        × Still) (IsScriptRun h inputs store is_table Wrote) NotBegun f g r run
 
   -- at the exit of a `?`
   pub not_begun : (r : Result (Unit {0}) Stop) → IsErrAnd r (λ e. e ≡ Before Memory) → Wrote [] → Ends r

@@ -43,7 +43,8 @@ WriteTheSame h W k V =
 -- ---- shells and desks
 
 -- What was written and told of one shell, and what of another over a second content, of these lines: standard output is
--- the same; standard error is the same where nobody reads it at a terminal, and where somebody does, what was told there
+-- the same; standard error is the same where nobody reads it at a terminal, and where somebody does, what was told
+-- there
 -- may be told here; and so is the status.
 pub record ShowTheSame (x : Explaining) (site : Site) (session : ShellSession) (turns : List Turn) (second : Content)
     (W T V U : List ℕ → Type 0) (end other : Ending) : Type 0 where
@@ -53,9 +54,11 @@ pub record ShowTheSame (x : Explaining) (site : Site) (session : ShellSession) (
       (last_told site session (first_world site second) turns (Ok other)) T
   pub status : end ≡ other
 
--- Two shells of one user, at one label, read the same lines to their ends. Where what the second begins with looks alike to
+-- Two shells of one user, at one label, read the same lines to their ends. Where what the second begins with looks
+-- alike to
 -- the label they show the user the same.
-abbrev pub TellTheSame : Explaining → (h : Hosted) → (W T : List ℕ → Type 0) → (k : Hosted) → (V U : List ℕ → Type 0) → Type 0
+abbrev pub TellTheSame : Explaining → (h : Hosted) → (W T : List ℕ → Type 0) → (k : Hosted) → (V U : List ℕ → Type 0)
+    → Type 0
 TellTheSame x h W T k V U =
     (i j : Inputs) (store other : Option (List ℕ)) (label user : List ℕ) (e f : Ending) → j.setting ≡ i.setting
     → k.before.is_terminal ≡ h.before.is_terminal → k.before.is_watched ≡ h.before.is_watched
@@ -66,7 +69,8 @@ TellTheSame x h W T k V U =
     → let session = shell_session_of label user a.level h.before.is_terminal h.before.is_watched in
     let es = opening session ∷ events_in (a.shell was).leads.talk.turns in
     LooksAlike (site_of_setting i.setting a.stored) a.level (a.shell was).first es (b.shell is).first es
-    → ShowTheSame x (site_of_setting i.setting a.stored) session (a.shell was).leads.talk.turns (b.shell is).first W T V U e f
+    → ShowTheSame x (site_of_setting i.setting a.stored) session (a.shell was).leads.talk.turns
+    (b.shell is).first W T V U e f
 
 -- Two desks read the same lines to their ends, of sessions whose levels c dominates. Where what the second begins with
 -- looks alike to c they write the same bytes, and end with the same status.

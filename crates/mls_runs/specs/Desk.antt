@@ -91,7 +91,8 @@ module _ (site : Site) where
 -- ---- how a desk ends
 
 -- A line shows a text and is answered with another, and a first part of both and of a mark is written. A part of the
--- answer is written where the writer failed, alone; or all of it, where there was no memory for the mark. Where any of it
+-- answer is written where the writer failed, alone; or all of it, where there was no memory for the mark. Where any of
+-- it
 -- is written its event stands.
 pub record IsCutShort (shown answer part : List ℕ) (stands : Bool) (fault : RunFault) : Type 0 where
   pub write : fault.cause ≡ Write → stands ≡ true
@@ -117,7 +118,8 @@ module _ (site : Site) (w : World) (turns : List Turn) (Wrote : List ℕ → Typ
     pub all : turns ≡ front ++ last ∷ []
     pub written : Wrote (desk site w front ++ part)
     pub whole : part ++ rest ≡ answer_of site (end_of site w (events_in front)) last ++ mark_of last.fate
-    pub cut : IsCutShort last.shown (answers_to site (end_of site w (events_in front)) (events_of last.fate)) part stands
+    pub cut : IsCutShort last.shown (answers_to site (end_of site w (events_in front))
+        (events_of last.fate)) part stands
         fault
     pub kept_are : kept ≡ events_in front ++ (if stands then events_of last.fate else [])
 

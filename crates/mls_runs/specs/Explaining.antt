@@ -7,7 +7,8 @@ use Rattle.mls_runs.specs.declared.shell_session.ShellSession.{ShellSession}
 use Rattle.mls_runs.specs.declared.shell_session.Fate.{Fate}
 use Rattle.mls_runs.specs.declared.shell_session.Fate.TheVariants.{TooLong, Unreadable, Lost}
 
--- Which texts may be told, at a site, in a session. Each is told of what the session itself has said and of why that was
+-- Which texts may be told, at a site, in a session. Each is told of what the session itself has said and of why that
+-- was
 -- not done, and of nothing else: of no content.
 pub record Explaining : Type 1 where
   -- behind the first event, with why it was not done, if it was not

@@ -1,4 +1,5 @@
--- The definitions of runs over a host: `Running` says what a run writes, `ScriptRun`, `DeskRun` and `TurnRun` what each does,
+-- The definitions of runs over a host: `Running` says what a run writes, `ScriptRun`, `DeskRun` and `TurnRun` what each
+-- does,
 -- and `History` what several leave.
 pub mod Running
 pub mod ScriptRun

@@ -74,7 +74,12 @@ pub record MayTalk (site : Site) (session : ShellSession) (events : List Event) 
 -- events, all of the session
 abbrev pub fate_of_events : ShellSession → List Event → Fate
 fate_of_events session events =
-    if list_all (is_own session) events then Said events else Refused (record { line = 1; column = 1; cause = Expected })
+    if list_all (is_own session) events then Said events else Refused (record {
+      line = 1;
+      column = 1;
+      cause =
+          Expected;
+    })
 
 -- at a terminal a line asks what is declared, all of it or something, or for help with something
 abbrev pub is_asked : ShellSession → List ℕ → Bool
@@ -86,7 +91,8 @@ is_asked session line =
 -- at a terminal `quit` and `exit` mean `close`
 abbrev pub meant : ShellSession → List ℕ → List ℕ
 meant session line =
-    if session.has_prompt && (bytes_eq line (codes "quit\n") || bytes_eq line (codes "exit\n")) then codes "close\n" else line
+    if session.has_prompt && (bytes_eq line (codes "quit\n") || bytes_eq line
+    (codes "exit\n")) then codes "close\n" else line
 
 -- it is no end, and asks for no help
 abbrev pub IsCommand : ShellSession → List ℕ → Type 0
@@ -259,7 +265,8 @@ module _ (site : Site) (session : ShellSession) where
 -- what is said of it
 unfoldable pub told_from : ShellSession → ℕ → List Turn → List ℕ
 told_from session number [] = []
-told_from session number (t ∷ ts) = (prompt_of session ++ told_of session number t.fate) ++ told_from session (number + 1) ts
+told_from session number (t ∷ ts) = (prompt_of session ++ told_of session number t.fate) ++ told_from session
+    (number + 1) ts
 
 -- what is told beside that
 module _ (x : Explaining) (site : Site) (session : ShellSession) where
@@ -284,7 +291,8 @@ module _ (x : Explaining) (site : Site) (session : ShellSession) where
 
 -- where nobody reads it, what is told of lines is what stands above
 abbrev pub PipesAreToldNoMore : Explaining → Type 0
-PipesAreToldNoMore x = (site : Site) (session : ShellSession) (w : World) (number : ℕ) (turns : List Turn) (text : List ℕ)
+PipesAreToldNoMore x = (site : Site) (session : ShellSession) (w : World) (number : ℕ) (turns : List Turn)
+    (text : List ℕ)
     → session.is_watched ≡ false → AreTold x site session w number turns text → text ≡ told_from session number turns
 
 -- no line is shown
@@ -310,7 +318,8 @@ module _ (site : Site) (session : ShellSession) (w : World) (turns : List Turn) 
     pub part : List ℕ
     pub rest : List ℕ
     pub written : Wrote (shown_to site session w turns fault.event ++ part)
-    pub whole : (shown_to site session w turns fault.event ++ part) ++ rest ≡ shown_to site session w turns (suc fault.event)
+    pub whole : (shown_to site session w turns fault.event ++ part) ++ rest ≡ shown_to site session w turns
+        (suc fault.event)
 
   -- how the run of the events ends, by how the shell does
   abbrev pub IsEndOf : Option (List ℕ) → Result (Unit {0}) RunFault → Result Ending RunFault → Type 0
@@ -331,7 +340,8 @@ module _ (echo : List ℕ → List ℕ) (site : Site) (session : ShellSession) w
       × (ts ≢ [] → is_last t.fate ≡ false) × AreTurns (end_of site w (events_of t.fate)) left after ts
 
 module _ (x : Explaining) (echo : List ℕ → List ℕ) (site : Site) (session : ShellSession)
-    (before after : Option (List ℕ)) (Broken : Type 0) (Wrote Told : List ℕ → Type 0) (end : Result Ending RunFault) where
+    (before after : Option (List ℕ)) (Broken : Type 0) (Wrote Told : List ℕ → Type 0)
+    (end : Result Ending RunFault) where
   -- What is typed is answered from a world on, of lines of which a read has failed where one is told as unreadable.
   pub record IsTalk (w : World) : Type 0 where
     pub turns : List Turn
@@ -389,7 +399,8 @@ noticed_by fate notice = None
 
 -- a talk from a world to another
 pub record IsConversation (x : Explaining) (echo : List ℕ → List ℕ) (site : Site) (session : ShellSession)
-    (before after was is : Option (List ℕ)) (Broken : Type 0) (Told : List ℕ → Type 0) (end : Result Ending RunFault) (w new : World) : Type 0 where
+    (before after was is : Option (List ℕ)) (Broken : Type 0) (Told : List ℕ → Type 0) (end : Result Ending RunFault)
+    (w new : World) : Type 0 where
   pub talk : IsTalk x echo site session before after Broken (Appends was is) Told end w
   pub fits : EventsFit site (opening session ∷ events_in talk.turns)
   pub run : IsSilent echo

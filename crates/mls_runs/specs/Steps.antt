@@ -1,4 +1,5 @@
--- Calls of the program over one store, one after another: each is a step of a history, a run, a shell, a desk or a turning
+-- Calls of the program over one store, one after another: each is a step of a history, a run, a shell, a desk or a
+-- turning
 -- of the audit list alike; and before a call the store may be opened under later files, which is a step too.
 use Rattle.std.specs.Prelude.{◌≡◌, ◌⊎◌, ℕ, Bool, true, List, [], ◌∷◌, Option, Some, Result, Ok, Err}
 use Rattle.mls_lattice.specs.Labels.{AreDistinct}
@@ -27,7 +28,8 @@ use Rattle.mls_runs.specs.ShellRun.{shell_session_of, IsShellRun}
 use Rattle.mls_runs.specs.DeskRun.{IsDeskRun}
 use Rattle.mls_runs.specs.TurnRun.{IsTurnRun}
 
--- from a content to another, as a run leads of the events whose changes stand: integrity is kept, and no information flows
+-- from a content to another, as a run leads of the events whose changes stand: integrity is kept, and no information
+-- flows
 -- down but what is released
 pub record StoreStep (policy : Policy) (schemes : Schemes) (r : RunAt) (first left : Content) : Type 0 where
   pub site : IsSiteUnder (labels_of policy) schemes r.site

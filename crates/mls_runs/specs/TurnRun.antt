@@ -17,7 +17,8 @@ use Rattle.mls_host.specs.Causes.{IsBarred}
 use Rattle.mls_host.specs.Hosting.{Hosting, Hosted, IsClean, LeadsOverStore}
 use Rattle.mls_runs.specs.History.{world_of}
 
--- a turning passes nothing down: of any other world that looks alike to a level it shows that the same entries, and leaves
+-- a turning passes nothing down: of any other world that looks alike to a level it shows that the same entries, and
+-- leaves
 -- a world that looks alike to it
 abbrev pub TurnPassesNothingDown : Policy → World → Type 0
 TurnPassesNothingDown policy v =

@@ -14,7 +14,8 @@ pub fn runs_write_the_same<H: Host, K: Host, W: Write, V: Write>()
         (hosted K.hosting K.Lines.echo before after) (IsAppended V.contents second over) }
 {}
 
-/// Two shells of `act` for one user at one label show the user the same, where what they begin with looks alike to the label: on standard
+/// Two shells of `act` for one user at one label show the user the same, where what they begin with looks alike to the
+/// label: on standard
 /// output, on standard error and in the status.
 pub fn shells_show_the_same<X: Explains, H: Host, K: Host, W: Write, E: Write, V: Write, F: Write>()
     ensures { (old new : H) (before after : K) (first written : W) (asked told : SpecErrors E) (second over : V)
@@ -24,7 +25,8 @@ pub fn shells_show_the_same<X: Explains, H: Host, K: Host, W: Write, E: Write, V
         (IsTold F.contents begun ended) }
 {}
 
-/// Two desks of `act` write the same bytes and have the same status, where all sessions of their lines are at levels that a label dominates
+/// Two desks of `act` write the same bytes and have the same status, where all sessions of their lines are at levels
+/// that a label dominates
 /// to which what they begin with looks alike.
 pub fn desks_write_the_same<H: Host, K: Host, W: Write, V: Write>()
     ensures { (old new : H) (before after : K) (first written : W) (second over : V)

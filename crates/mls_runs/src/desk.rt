@@ -50,7 +50,8 @@ fn answer<B: Base, W: Write>(
     }
 }
 
-/// Does what becomes of a line, without its mark. The number of a fault is no line's: it is 0, or that of an event among those of the line.
+/// Does what becomes of a line, without its mark. The number of a fault is no line's: it is 0, or that of an event
+/// among those of the line.
 fn perform<B: Base, W: Write>(
     engine: &mut Engine<B>,
     fate: &Fate,
@@ -140,10 +141,12 @@ fn serve<B: Base, L: TypedLines, W: Write>(
     })
 }
 
-/// A desk over a base, which is given back: line by line the events that each tells, as a script's line does, each answered for the level
+/// A desk over a base, which is given back: line by line the events that each tells, as a script's line does, each
+/// answered for the level
 /// of its session alone, and behind each answer its mark. Of a line that tells none nothing is done.
 ///
-/// Each answer stands before the next line is read: a host that shows each line among what is written shows it right before its answer.
+/// Each answer stands before the next line is read: a host that shows each line among what is written shows it right
+/// before its answer.
 /// What sessions are answered whose levels a level dominates passes nothing down to that level but what is released.
 pub(crate) fn desk_over_base<B: Base, L: TypedLines, W: Write>(
     alloc: Global,

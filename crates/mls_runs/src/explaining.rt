@@ -48,19 +48,22 @@ pub struct Listener<'a> {
 
 /// What is told beside all else where somebody reads standard error at a terminal.
 ///
-/// Whoever tells it is given what a session has said and why that was not done, and has nothing else to tell of: no content, and nothing
+/// Whoever tells it is given what a session has said and why that was not done, and has nothing else to tell of: no
+/// content, and nothing
 /// that is kept from one call to the next.
 pub trait Explains {
     // What may be told.
     ghost explaining: { Explaining };
 
-    /// What is told behind the opening of a session: why it was not done, or, to who types at a terminal, what can be typed.
+    /// What is told behind the opening of a session: why it was not done, or, to who types at a terminal, what can be
+    /// typed.
     fn greeting(
         to: &Listener<'_>,
         events: &[Event],
         notice: Option<Notice>,
     ) -> Result<String, AllocError>
-        ensures { IfOk result (λ text. explaining.greets (site_of to.now.policy.now to.now.schemes.now to.now.stored.now)
+        ensures { IfOk result (λ text. explaining.greets
+            (site_of to.now.policy.now to.now.schemes.now to.now.stored.now)
             to.now.session.now events.now notice (string_bytes text)) };
 
     /// What is told behind what is said of a line: why nothing was done of it, or what it asks for.

@@ -1,4 +1,5 @@
-//! What runs and shells do over a host: scripts that are run over a database of the host, in memory, and one after another over the files
+//! What runs and shells do over a host: scripts that are run over a database of the host, in memory, and one after
+//! another over the files
 //! of a store; shells, line by line; desks; and audit lists that are turned.
 #![tactic(auto)]
 
@@ -42,12 +43,14 @@ pub use crate::steps::{
 };
 pub use crate::turning::turn_store;
 
-/// A shell is a desk of one session: where nobody types at a terminal, it answers to events of its session what a desk answers to them.
+/// A shell is a desk of one session: where nobody types at a terminal, it answers to events of its session what a desk
+/// answers to them.
 pub fn shells_are_desks()
     ensures { ShellsAreDesks }
 {}
 
-/// Where nobody reads standard error at a terminal, nothing is told of the lines of a shell but the prompts and what is said of each.
+/// Where nobody reads standard error at a terminal, nothing is told of the lines of a shell but the prompts and what is
+/// said of each.
 pub fn pipes_are_told_no_more<X: Explains>()
     ensures { PipesAreToldNoMore X.explaining }
 {}

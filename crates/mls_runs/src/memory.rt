@@ -19,7 +19,8 @@ pub struct HeldFile {
     pub bytes: Result<Items<u8>, HostFault>,
 }
 
-/// A machine in memory. Its one store is opened at each path; there is none while it is open, or where it was given none. A store that is
+/// A machine in memory. Its one store is opened at each path; there is none while it is open, or where it was given
+/// none. A store that is
 /// looked at is the file of that name, without a log.
 /// Its store is a connection to the kit's store in memory, since its contents are given as one. It is in this crate,
 /// since a law speaks of it.

@@ -92,7 +92,8 @@ pub fn run_script<H: Host, W: Write>(
     out: &mut W,
 ) -> Result<(), Stop>
     requires { FitSetting inputs.setting inputs.transactions inputs.events }
-    ensures run { IsEnd (IsScriptRun (hosted H.hosting H.Lines.echo host.old host.new) inputs (named store.entry) is_table
+    ensures run { IsEnd (IsScriptRun (hosted H.hosting H.Lines.echo host.old host.new) inputs
+        (named store.entry) is_table
         (IsAppended W.contents out.old out.new))
         (λ reason. IsNotBegun (H.hosting host.new) inputs.setting.policy inputs.setting.file (named store.entry) reason
         × IsAppended W.contents out.old out.new []) result }

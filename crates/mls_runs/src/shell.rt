@@ -7,7 +7,15 @@ ghost use Rattle.mls_host.specs.Ending.{ending_if};
 ghost use Rattle.mls_host.specs.Hosting.{IsAppended, IsTold};
 ghost use Rattle.mls_certcheck.specs.Site.{site_of};
 ghost use Rattle.mls_runs.specs.Shell.{opening, audience_at, events_of, is_short, end_told, is_last};
-ghost use Rattle.mls_runs.specs.Shell.{is_lost, noticed_by, FateFits, MayTalk, IsShellFollowed, IsConversation, IsShell};
+ghost use Rattle.mls_runs.specs.Shell.{
+  is_lost,
+  noticed_by,
+  FateFits,
+  MayTalk,
+  IsShellFollowed,
+  IsConversation,
+  IsShell,
+};
 
 use crate::explaining::{Explains, Listener};
 use crate::form::form_of;
@@ -150,7 +158,8 @@ fn finish<E: Write>(
     ending_if(!was_opened || is_short(tally))
 }
 
-/// Opens the session, and answers each line before it reads the next, as long as the session is open and there are lines. What is
+/// Opens the session, and answers each line before it reads the next, as long as the session is open and there are
+/// lines. What is
 /// refused is explained where somebody reads that.
 fn converse<X: Explains, B: Base, L: TypedLines, W: Write, E: Write>(
     alloc: Global,
@@ -171,7 +180,8 @@ fn converse<X: Explains, B: Base, L: TypedLines, W: Write, E: Write>(
     requires level { session.now.level < length policy.now.labels }
     ensures continues { Continues B.seen engine.old engine.new result }
     ensures conversation { (B.seen engine.new.base).is_clean → IsConversation X.explaining L.echo (site engine.old)
-        session.now (L.remaining lines.old) (L.remaining lines.new) (W.contents out.old) (W.contents out.new) (L.breaks lines.new)
+        session.now (L.remaining lines.old) (L.remaining lines.new) (W.contents out.old) (W.contents out.new)
+        (L.breaks lines.new)
         (IsTold E.contents err.old err.new) result (world_of B.seen engine.old) (world_of B.seen engine.new) }
 {
     answer(engine, session, 0, first, out)?;
@@ -205,10 +215,12 @@ fn converse<X: Explains, B: Base, L: TypedLines, W: Write, E: Write>(
     })
 }
 
-/// A shell over a base, which is given back: the opening, and then line by line the events that each tells. A line that tells none is
+/// A shell over a base, which is given back: the opening, and then line by line the events that each tells. A line that
+/// tells none is
 /// refused on standard error, and nothing of it is done.
 ///
-/// What is written is what a run writes of these events for the level of the session alone, and each answer stands before the next line
+/// What is written is what a run writes of these events for the level of the session alone, and each answer stands
+/// before the next line
 /// is read: a host that shows each line among what is written shows it right before its answer.
 pub(crate) fn shell_over_base<X: Explains, B: Base, L: TypedLines, W: Write, E: Write>(
     alloc: Global,
@@ -226,7 +238,8 @@ pub(crate) fn shell_over_base<X: Explains, B: Base, L: TypedLines, W: Write, E: 
     requires rest { IsAtRest B.seen policy.now schemes.now base }
     ensures leaves { Leaves B.seen base result.1 result.0 }
     ensures shell { (B.seen result.1).is_clean → IsShell X.explaining L.echo (site_of policy.now schemes.now stored)
-        session.now (L.remaining lines.old) (L.remaining lines.new) (L.breaks lines.new) (IsAppended W.contents out.old out.new)
+        session.now (L.remaining lines.old) (L.remaining lines.new) (L.breaks lines.new)
+        (IsAppended W.contents out.old out.new)
         (IsTold E.contents err.old err.new) result.0 (B.seen base).state.now (B.seen result.1).state.now }
 {
     let mut engine = Engine::new(alloc, base, policy, schemes, stored);

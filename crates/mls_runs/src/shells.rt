@@ -43,7 +43,8 @@ impl<'s, 'f, 'l, 'o, 'e, X: Explains, L: TypedLines, W: Write, E: Write> Work
     ghost may = { λ w site. MayTalk site w.session.now w.first.now };
 
     ghost leads = { λ old new site end first left. IsShell X.explaining L.echo site old.session.now
-        (L.remaining old.lines.now) (L.remaining new.lines.now) (L.breaks new.lines.now) (IsAppended W.contents old.out.now new.out.now)
+        (L.remaining old.lines.now) (L.remaining new.lines.now) (L.breaks new.lines.now)
+        (IsAppended W.contents old.out.now new.out.now)
         (IsTold E.contents old.err.now new.err.now) end first left };
 
     ghost is_same = { λ old new. (new.lines.ghost_name ≡ old.lines.ghost_name)
@@ -104,7 +105,8 @@ pub fn run_shell<X: Explains, H: Host, W: Write, E: Write>(
     requires fit { FitSetting inputs.setting inputs.transactions inputs.events }
     requires user { is_name user.now ≡ true }
     ensures shell { IsEnd (IsShellRun X.explaining (hosted H.hosting H.Lines.echo host.old host.new) inputs
-        (named store.entry) label.now user.now (IsAppended W.contents out.old out.new) (IsTold E.contents err.old err.new))
+        (named store.entry) label.now user.now (IsAppended W.contents out.old out.new)
+        (IsTold E.contents err.old err.new))
         (λ reason. IsShellRefused (H.hosting host.new) inputs.setting (named store.entry) reason
         × IsAppended W.contents out.old out.new [] × IsTold E.contents err.old err.new []) result }
     ensures caused { IsCaused (hosted H.hosting H.Lines.echo host.old host.new) (named store.entry) result }

@@ -56,7 +56,8 @@ fn turn_in_store<H: Host, W: Write>(
     ended(outcome, closed)
 }
 
-/// Prints the audit list of a store, for its reader alone where there is one, and empties it. Without a store there is no entry.
+/// Prints the audit list of a store, for its reader alone where there is one, and empties it. Without a store there is
+/// no entry.
 pub fn turn_store<H: Host, W: Write>(
     alloc: Global,
     host: &mut H,

@@ -17,7 +17,8 @@ use mls_translang::{Command, Event};
 use std::alloc::{AllocError, Global};
 use std::io::Write;
 
-/// The event that opens the session. It is made from the words and never from a text, of which an LF in a word would make two lines.
+/// The event that opens the session. It is made from the words and never from a text, of which an LF in a word would
+/// make two lines.
 pub(crate) fn opening(alloc: Global, session: &ShellSession) -> Result<Vec<Event>, AllocError>
     ensures { IfOk result (λ v. v.items ≡ opening session.now ∷ []) }
 {
@@ -183,7 +184,8 @@ fn fate_of(
     }
 }
 
-/// Reads the next line, when all that was written is there, and says what becomes of it. Its bytes are put into `heard`.
+/// Reads the next line, when all that was written is there, and says what becomes of it. Its bytes are put into
+/// `heard`.
 pub(crate) fn next_fate<L: TypedLines, W: Write>(
     alloc: Global,
     policy: &Policy,

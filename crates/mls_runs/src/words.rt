@@ -111,7 +111,8 @@ fn is_unseen(character: char) -> bool {
     }
 }
 
-/// Appends a character of a text between quotes. No control character is one of a screen, nor is one that is not seen there.
+/// Appends a character of a text between quotes. No control character is one of a screen, nor is one that is not seen
+/// there.
 fn char_to(text: &mut String, character: char) -> Result<(), AllocError> {
     match character {
         '"' | '\\' => {

@@ -18,13 +18,15 @@ abbrev pub Each : {A : Type 0} → (List A → A → Type 0) → List A → List
 Each Follows before [] = ⊤
 Each Follows before (a ∷ new) = Follows before a × Each Follows (before ++ a ∷ []) new
 
-pub record Step {A : Type 0} (Says : Members → A → Type 0) (Follows : List A → A → Type 0) (before : List A) (d : Data) (a : A) : Type 0 where
+pub record Step {A : Type 0} (Says : Members → A → Type 0) (Follows : List A → A → Type 0) (before : List A) (d : Data)
+    (a : A) : Type 0 where
   pub fields : Members
   pub text : d ≡ table fields
   pub says : Says fields a
   pub follows : Follows before a
 
-pub record Gathered {A : Type 0} (Says : Members → A → Type 0) (Follows : List A → A → Type 0) (before : List A) (ds : Items) (all : List A) : Type 0 where
+pub record Gathered {A : Type 0} (Says : Members → A → Type 0) (Follows : List A → A → Type 0) (before : List A)
+    (ds : Items) (all : List A) : Type 0 where
   pub new : List A
   pub tables : List Members
   pub parts : all ≡ before ++ new
@@ -32,9 +34,11 @@ pub record Gathered {A : Type 0} (Says : Members → A → Type 0) (Follows : Li
   pub says : AllZip Says tables new
   pub follow : Each Follows before new
 
-module _ {A : Type 0} (step : List A → Data → Result A FileFault) (Says : Members → A → Type 0) (Follows : List A → A → Type 0) where
+module _ {A : Type 0} (step : List A → Data → Result A FileFault) (Says : Members → A → Type 0) (Follows : List A → A
+    → Type 0) where
   pub gather_found : ((before : List A) (d : Data) (a : A) → step before d ≡ Ok a → Step Says Follows before d a)
-      → (before : List A) (ds : Items) (all : List A) → gather step before ds ≡ Ok all → Gathered Says Follows before ds all
+      → (before : List A) (ds : Items) (all : List A) → gather step before ds ≡ Ok all
+      → Gathered Says Follows before ds all
   gather_found one before no_items all e =
       let same : before ≡ all = cc in
       record { new = []; tables = []; parts = sym same ∙ sym (append-nil before); text = refl; says = tt; follow = tt }
@@ -51,31 +55,38 @@ module _ {A : Type 0} (step : List A → Data → Result A FileFault) (Says : Me
         follow = (b.follows, more.follow);
       }
 
-  pub gather_again : ((before : List A) (t : Members) (a : A) → Says t a → Follows before a → step before (table t) ≡ Ok a)
-      → (before : List A) (ts : List Members) (new : List A) → AllZip Says ts new → Each Follows before new → gather step before (tables_of ts) ≡ Ok (before ++ new)
+  pub gather_again : ((before : List A) (t : Members) (a : A) → Says t a → Follows before a → step before (table t)
+      ≡ Ok a)
+      → (before : List A) (ts : List Members) (new : List A) → AllZip Says ts new → Each Follows before new
+      → gather step before (tables_of ts) ≡ Ok (before ++ new)
   gather_again one before [] [] says follow = ap (λ (xs : List A). Ok xs) (sym (append-nil before))
   gather_again one before [] (a ∷ new) says follow = absurd says
   gather_again one before (t ∷ ts) [] says follow = absurd says
   gather_again one before (t ∷ ts) (a ∷ new) says follow =
-      rw (one before t a says.0 follow.0) (gather_again one (before ++ a ∷ []) ts new says.1 follow.1 ∙ ap (λ (xs : List A). Ok xs) (append_assoc before (a ∷ []) new))
+      rw (one before t a says.0 follow.0) (gather_again one (before ++ a ∷ []) ts new says.1 follow.1
+      ∙ ap (λ (xs : List A). Ok xs) (append_assoc before (a ∷ []) new))
 
 -- as many items as tables
-pub items_len-tables_of : {A : Type 0} (Says : Members → A → Type 0) (ts : List Members) (xs : List A) → AllZip Says ts xs → items_len (tables_of ts) ≡ length xs
+pub items_len-tables_of : {A : Type 0} (Says : Members → A → Type 0) (ts : List Members) (xs : List A)
+    → AllZip Says ts xs → items_len (tables_of ts) ≡ length xs
 items_len-tables_of Says [] [] says = refl
 items_len-tables_of Says [] (x ∷ xs) says = absurd says
 items_len-tables_of Says (t ∷ ts) [] says = absurd says
 items_len-tables_of Says (t ∷ ts) (x ∷ xs) says = ap suc (items_len-tables_of Says ts xs says.1)
 
 -- of two demands, each
-pub Each-left : {A : Type 0} (E F : List A → A → Type 0) (before new : List A) → Each (λ b a. E b a × F b a) before new → Each E before new
+pub Each-left : {A : Type 0} (E F : List A → A → Type 0) (before new : List A) → Each (λ b a. E b a × F b a) before new
+    → Each E before new
 Each-left E F before [] h = tt
 Each-left E F before (a ∷ new) h = (h.0.0, Each-left E F (before ++ a ∷ []) new h.1)
 
-pub Each-right : {A : Type 0} (E F : List A → A → Type 0) (before new : List A) → Each (λ b a. E b a × F b a) before new → Each F before new
+pub Each-right : {A : Type 0} (E F : List A → A → Type 0) (before new : List A) → Each (λ b a. E b a × F b a) before new
+    → Each F before new
 Each-right E F before [] h = tt
 Each-right E F before (a ∷ new) h = (h.0.1, Each-right E F (before ++ a ∷ []) new h.1)
 
-pub Each-both : {A : Type 0} (E F : List A → A → Type 0) (before new : List A) → Each E before new → Each F before new → Each (λ b a. E b a × F b a) before new
+pub Each-both : {A : Type 0} (E F : List A → A → Type 0) (before new : List A) → Each E before new → Each F before new
+    → Each (λ b a. E b a × F b a) before new
 Each-both E F before [] h k = tt
 Each-both E F before (a ∷ new) h k = ((h.0, k.0), Each-both E F (before ++ a ∷ []) new h.1 k.1)
 
@@ -90,26 +101,39 @@ module _ {A : Type 0} (name_of : A → Name) where
   has-names (x ∷ xs) n = rw (nat_list_eq_equiv.symm (name_of x) n, has-names xs n) refl
 
   -- no name is one of those before it
-  pub distinct_found : (base before new : List A) → IsDistinct bytes_eq (map name_of (base ++ before)) → Each (λ b a. has (base ++ b) (name_of a) ≡ false) before new
+  pub distinct_found : (base before new : List A) → IsDistinct bytes_eq (map name_of (base ++ before))
+      → Each (λ b a. has (base ++ b) (name_of a) ≡ false) before new
       → IsDistinct bytes_eq (map name_of (base ++ (before ++ new)))
   distinct_found base before [] apart each = rw (append-nil before) apart
   distinct_found base before (a ∷ new) apart each =
-      let fresh : list_any (bytes_eq (name_of a)) (map name_of (base ++ before)) ≡ false = sym (has-names (base ++ before) (name_of a)) ∙ each.0 in
-      let pushed : IsDistinct bytes_eq (map name_of (base ++ before) ++ name_of a ∷ []) = IsDistinct-push nat_list_eq_equiv (map name_of (base ++ before)) (name_of a) apart fresh in
-      let here : map name_of (base ++ (before ++ a ∷ [])) ≡ map name_of (base ++ before) ++ name_of a ∷ [] = ap (map name_of) (sym (append_assoc base before (a ∷ []))) ∙ map_push name_of (base ++ before) a in
+      let fresh : list_any (bytes_eq (name_of a)) (map name_of (base ++ before)) ≡ false =
+      sym (has-names (base ++ before) (name_of a)) ∙ each.0 in
+      let pushed : IsDistinct bytes_eq (map name_of (base ++ before) ++ name_of a ∷ []) =
+      IsDistinct-push nat_list_eq_equiv (map name_of (base ++ before)) (name_of a) apart fresh in
+      let here : map name_of (base ++ (before ++ a ∷ [])) ≡ map name_of (base ++ before) ++ name_of a ∷ [] =
+      ap (map name_of) (sym (append_assoc base before (a ∷ []))) ∙ map_push name_of (base ++ before) a in
       rw (← append_assoc before (a ∷ []) new) (distinct_found base (before ++ a ∷ []) new (rw here pushed) each.1)
 
-  past : (s : Name) (a : A) (xs new : List A) → AllByRecursion (λ y. bytes_eq s y ≡ false) (map name_of (xs ++ a ∷ new)) → bytes_eq s (name_of a) ≡ false
+  past : (s : Name) (a : A) (xs new : List A) → AllByRecursion (λ y. bytes_eq s y ≡ false) (map name_of (xs ++ a ∷ new))
+      → bytes_eq s (name_of a) ≡ false
   past s a [] new p = p.0
   past s a (x ∷ xs) new p = past s a xs new p.1
 
-  pub fresh : (xs : List A) (a : A) (new : List A) → IsDistinct bytes_eq (map name_of (xs ++ a ∷ new)) → has xs (name_of a) ≡ false
+  pub fresh : (xs : List A) (a : A) (new : List A) → IsDistinct bytes_eq (map name_of (xs ++ a ∷ new))
+      → has xs (name_of a) ≡ false
   fresh [] a new h = refl
   fresh (x ∷ xs) a new h =
       let head = IsDistinct-head bytes_eq (name_of x) (map name_of (xs ++ a ∷ new)) h in
-      rw (past (name_of x) a xs new head, fresh xs a new (IsDistinct-tail bytes_eq (name_of x) (map name_of (xs ++ a ∷ new)) h)) refl
+      rw (
+        past (name_of x) a xs new head,
+        fresh xs a new (IsDistinct-tail bytes_eq (name_of x)
+            (map name_of (xs ++ a ∷ new)) h),
+      ) refl
 
-  pub distinct_again : (base before new : List A) → IsDistinct bytes_eq (map name_of (base ++ (before ++ new))) → Each (λ b a. has (base ++ b) (name_of a) ≡ false) before new
+  pub distinct_again : (base before new : List A) → IsDistinct bytes_eq (map name_of (base ++ (before ++ new)))
+      → Each (λ b a. has (base ++ b) (name_of a) ≡ false) before new
   distinct_again base before [] apart = tt
-  distinct_again base before (a ∷ new) apart =
-      (fresh (base ++ before) a new (rw (append_assoc base before (a ∷ new)) apart), distinct_again base (before ++ a ∷ []) new (rw (append_assoc before (a ∷ []) new) apart))
+  distinct_again base before (a ∷ new) apart = (
+    fresh (base ++ before) a new (rw (append_assoc base before (a ∷ new)) apart),
+    distinct_again base (before ++ a ∷ []) new (rw (append_assoc before (a ∷ []) new) apart),
+  )

@@ -21,15 +21,19 @@ utf8_at-err bytes h = rw (false_from_ne_true (is_utf8 bytes) (λ e. h (IsUtf8-fr
 one_less : (count i : ℕ) → i < count → count - i ≡ suc (count - (i + 1))
 one_less count i lt = omega arith
 
-pub values_at-more : (front : List Value) (count i : ℕ) (bytes : List ℕ) (v : Value) (after : List ℕ) → i < count → value_at bytes ≡ Ok (v, after) → values_at (front ++ v ∷ []) (count - (i + 1)) after ≡ values_at front (count - i) bytes
+pub values_at-more : (front : List Value) (count i : ℕ) (bytes : List ℕ) (v : Value) (after : List ℕ) → i < count
+    → value_at bytes ≡ Ok (v, after) → values_at (front ++ v ∷ []) (count - (i + 1)) after
+    ≡ values_at front (count - i) bytes
 unfolding values_at
 values_at-more front count i bytes v after lt h = rw (one_less count i lt, h) refl
 
-pub values_at-err : (front : List Value) (count i : ℕ) (bytes : List ℕ) (e : KeyFault) → i < count → value_at bytes ≡ Err e → values_at front (count - i) bytes ≡ Err e
+pub values_at-err : (front : List Value) (count i : ℕ) (bytes : List ℕ) (e : KeyFault) → i < count → value_at bytes
+    ≡ Err e → values_at front (count - i) bytes ≡ Err e
 unfolding values_at
 values_at-err front count i bytes e lt h = rw (one_less count i lt, h) refl
 
-pub values_at-all : (front : List Value) (count i : ℕ) (bytes : List ℕ) → count ≤ i → values_at front (count - i) bytes ≡ Ok (front, bytes)
+pub values_at-all : (front : List Value) (count i : ℕ) (bytes : List ℕ) → count ≤ i → values_at front (count - i) bytes
+    ≡ Ok (front, bytes)
 unfolding values_at
 values_at-all front count i bytes le = let k : count - i ≡ 0 = omega arith in rw k refl
 

@@ -34,7 +34,8 @@ signed-true (negsuc n) h = record { sfits = ltb-true n (2 ^ 63) h }
 
 pub text-true : (s : List ℕ) → is_text s ≡ true → IsUtf8 s × (length s < 2 ^ 32)
 unfolding is_text
-text-true s h = let p = and_parts (is_utf8 s) (nat_lt (length s) (2 ^ 32)) h in (IsUtf8-from_is_utf8 s p.0, ltb-true (length s) (2 ^ 32) p.1)
+text-true s h = let p = and_parts (is_utf8 s) (nat_lt (length s) (2 ^ 32)) h
+    in (IsUtf8-from_is_utf8 s p.0, ltb-true (length s) (2 ^ 32) p.1)
 
 -- what is of a kind has a spelling
 pub kind-spelled : (v : Value) (k : Kind) → is_kind v k ≡ true → HasSpelling v
@@ -49,22 +50,29 @@ fits-spelled (Some v) k h = kind-spelled v k h
 
 -- ---- keys
 
-values-spelled : (ats : List Attribute) (vs : List Value) → AllZip (λ a v. is_kind v a.1.kind ≡ true) ats vs → AllByRecursion HasSpelling vs
+values-spelled : (ats : List Attribute) (vs : List Value) → AllZip (λ a v. is_kind v a.1.kind ≡ true) ats vs
+    → AllByRecursion HasSpelling vs
 values-spelled [] [] h = tt
 values-spelled [] (v ∷ vs) h = absurd h
 values-spelled (a ∷ ats) [] h = absurd h
 values-spelled (a ∷ ats) (v ∷ vs) h = (kind-spelled v a.1.kind h.0, values-spelled ats vs h.1)
 
-kinds-length : (ats : List Attribute) (vs : List Value) → AllZip (λ a v. is_kind v a.1.kind ≡ true) ats vs → length vs ≡ length ats
+kinds-length : (ats : List Attribute) (vs : List Value) → AllZip (λ a v. is_kind v a.1.kind ≡ true) ats vs
+    → length vs ≡ length ats
 kinds-length [] [] h = refl
 kinds-length [] (v ∷ vs) h = absurd h
 kinds-length (a ∷ ats) [] h = absurd h
 kinds-length (a ∷ ats) (v ∷ vs) h = ap suc (kinds-length ats vs h.1)
 
 -- values of the kinds of the key attributes have what the bytes of a key ask, since a scheme has one to four of these
-pub key-spelled : (scheme : Scheme) (key : List Value) → IsScheme scheme → AllZip (λ a v. is_kind v a.1.kind ≡ true) scheme.keys key → IsSpelledKey key
+pub key-spelled : (scheme : Scheme) (key : List Value) → IsScheme scheme
+    → AllZip (λ a v. is_kind v a.1.kind ≡ true) scheme.keys key → IsSpelledKey key
 key-spelled scheme key is kinds =
     let len = kinds-length scheme.keys key kinds in
     let some = is.some_key in
     let few = is.few_keys in
-    record { count = record { some = omega (arith, len, some); few = omega (arith, len, few) }; each = values-spelled scheme.keys key kinds }
+    record {
+      count = record { some = omega (arith, len, some); few = omega (arith, len, few) };
+      each =
+          values-spelled scheme.keys key kinds;
+    }

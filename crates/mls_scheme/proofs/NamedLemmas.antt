@@ -11,24 +11,31 @@ use Rattle.indexmap.specs.IndexMap.{insert_entry}
 use Rattle.mls_scheme.specs.Named.{item_of, has_name}
 
 module _ {Z T : Type 0} where
-  before : (es : List (String Z × T)) (name : Name) → prefix_len (λ k. not (bytes_eq name (string_bytes k))) (keys_of es) ≡ prefix_len (λ (x : Name × T). not (bytes_eq x.0 name)) (map item_of es)
+  before : (es : List (String Z × T)) (name : Name) → prefix_len (λ k. not (bytes_eq name (string_bytes k)))
+      (keys_of es) ≡ prefix_len (λ (x : Name × T). not (bytes_eq x.0 name)) (map item_of es)
   before [] name = refl
   before (e ∷ es) name =
-      let turned : bytes_eq name (string_bytes e.0) ≡ bytes_eq (string_bytes e.0) name = nat_list_eq_equiv.symm name (string_bytes e.0) in
+      let turned : bytes_eq name (string_bytes e.0) ≡ bytes_eq (string_bytes e.0) name = nat_list_eq_equiv.symm name
+      (string_bytes e.0) in
       λ i. cond (not (turned i)) (1 + before es name i) 0
 
   -- the place of a name
-  pub place_of_name : (es : List (String Z × T)) (name : Name) → position (λ k. bytes_eq name (string_bytes k)) (keys_of es) ≡ position (λ (x : Name × T). bytes_eq x.0 name) (map item_of es)
+  pub place_of_name : (es : List (String Z × T)) (name : Name) → position (λ k. bytes_eq name (string_bytes k))
+      (keys_of es) ≡ position (λ (x : Name × T). bytes_eq x.0 name) (map item_of es)
   place_of_name es name =
-      λ i. cond (nat_lt (before es name i) ((length-map es (λ (e : String Z × T). e.0) ∙ sym (length-map es item_of)) i)) (Some (before es name i)) None
+      λ i. cond (nat_lt (before es name i) ((length-map es (λ (e : String Z × T). e.0)
+      ∙ sym (length-map es item_of)) i)) (Some (before es name i)) None
 
   -- a new name goes last
-  pub pushed : (es : List (String Z × T)) (name : String Z) (item : T) → has_name (map item_of es) (string_bytes name) ≡ false
+  pub pushed : (es : List (String Z × T)) (name : String Z) (item : T) → has_name (map item_of es) (string_bytes name)
+      ≡ false
       → map item_of (insert_entry string_eq es name item) ≡ map item_of es ++ item_of (name, item) ∷ []
   pushed [] name item new = refl
   pushed (e ∷ es) name item new =
-      let apart = or_parts (bytes_eq (string_bytes e.0) (string_bytes name)) (has_name (map item_of es) (string_bytes name)) new in
-      let other : string_eq name e.0 ≡ false = nat_list_eq_equiv.symm (string_bytes name) (string_bytes e.0) ∙ apart.0 in
+      let apart = or_parts (bytes_eq (string_bytes e.0) (string_bytes name)) (has_name (map item_of es)
+      (string_bytes name)) new in
+      let other : string_eq name e.0 ≡ false = nat_list_eq_equiv.symm (string_bytes name) (string_bytes e.0) ∙ apart.0
+      in
       rw other (ap (λ xs. item_of e ∷ xs) (pushed es name item apart.1))
 
 -- ---- places
@@ -56,9 +63,11 @@ module _ {X : Type 0} (p : X → Bool) where
 pub ruleset place_steps = (is_some-position)
 
 -- a name in two lists joined
-pub has-append : {T : Type 0} (xs ys : List (Name × T)) (name : Name) → has_name (xs ++ ys) name ≡ (has_name xs name || has_name ys name)
+pub has-append : {T : Type 0} (xs ys : List (Name × T)) (name : Name) → has_name (xs ++ ys) name
+    ≡ (has_name xs name || has_name ys name)
 has-append [] ys name = refl
-has-append (x ∷ xs) ys name = ap (λ b. bytes_eq x.0 name || b) (has-append xs ys name) ∙ sym (grouped (bytes_eq x.0 name) (has_name xs name) (has_name ys name))
+has-append (x ∷ xs) ys name = ap (λ b. bytes_eq x.0 name || b) (has-append xs ys name)
+    ∙ sym (grouped (bytes_eq x.0 name) (has_name xs name) (has_name ys name))
   where
     grouped : (a b c : Bool) → ((a || b) || c) ≡ (a || (b || c))
     grouped true b c = refl

@@ -15,7 +15,8 @@ use Rattle.mls_scheme.proofs.GatherLemmas.{fresh}
 
 -- what holds of a key and others holds of the key and the first of the others
 split_first : {X : Type 0} (keys others : List X) (n : ℕ) → keys ++ others ≡ (keys ++ take n others) ++ drop n others
-split_first keys others n = ap (λ xs. keys ++ xs) (sym (take-append-drop n others)) ∙ sym (append_assoc keys (take n others) (drop n others))
+split_first keys others n = ap (λ xs. keys ++ xs) (sym (take-append-drop n others))
+    ∙ sym (append_assoc keys (take n others) (drop n others))
 
 abbrev name_of : Attribute → Name
 name_of a = a.0
@@ -24,11 +25,13 @@ names_first : (xs ys : List Attribute) → AreNames (map name_of (xs ++ ys)) →
 names_first [] ys h = tt
 names_first (x ∷ xs) ys h = (h.0, names_first xs ys h.1)
 
-apart_first : (name : Name) (xs ys : List Attribute) → AllByRecursion (λ y. bytes_eq name y ≡ false) (map name_of (xs ++ ys)) → AllByRecursion (λ y. bytes_eq name y ≡ false) (map name_of xs)
+apart_first : (name : Name) (xs ys : List Attribute) → AllByRecursion (λ y. bytes_eq name y ≡ false)
+    (map name_of (xs ++ ys)) → AllByRecursion (λ y. bytes_eq name y ≡ false) (map name_of xs)
 apart_first name [] ys h = tt
 apart_first name (x ∷ xs) ys h = (h.0, apart_first name xs ys h.1)
 
-pub distinct_first : (xs ys : List Attribute) → IsDistinct bytes_eq (map name_of (xs ++ ys)) → IsDistinct bytes_eq (map name_of xs)
+pub distinct_first : (xs ys : List Attribute) → IsDistinct bytes_eq (map name_of (xs ++ ys))
+    → IsDistinct bytes_eq (map name_of xs)
 unfolding IsDistinct
 distinct_first [] ys h = tt
 distinct_first (x ∷ xs) ys h = (apart_first (name_of x) xs ys h.0, distinct_first xs ys h.1)
@@ -49,20 +52,26 @@ before_is n s valid =
       some_key = valid.some_key;
       few_keys = valid.few_keys;
       few_others = omega (arith, few, few_others);
-      names = names_first (s.keys ++ take n s.others) (drop n s.others) (subst (λ xs. AreNames (map name_of xs)) (split_first s.keys s.others n) valid.names);
-      distinct = distinct_first (s.keys ++ take n s.others) (drop n s.others) (subst (λ xs. IsDistinct bytes_eq (map name_of xs)) (split_first s.keys s.others n) valid.distinct);
+      names = names_first (s.keys ++ take n s.others) (drop n s.others) (subst (λ xs. AreNames (map name_of xs))
+          (split_first s.keys s.others n) valid.names);
+      distinct = distinct_first (s.keys ++ take n s.others) (drop n s.others)
+          (subst (λ xs. IsDistinct bytes_eq (map name_of xs)) (split_first s.keys s.others n) valid.distinct);
       one_interval = valid.one_interval;
     }
 
 -- the name of an attribute is none of those before it
-pub first_new : (attributes : List Attribute) (k : ℕ) (name : Name) (c : Column) → IsDistinct bytes_eq (map (λ a. a.0) attributes)
-    → option_map (λ a. a.0) (slice_get attributes k) ≡ Some name → option_map column_of (slice_get attributes k) ≡ Some c → has_name (take k attributes) name ≡ false
+pub first_new : (attributes : List Attribute) (k : ℕ) (name : Name) (c : Column)
+    → IsDistinct bytes_eq (map (λ a. a.0) attributes)
+    → option_map (λ a. a.0) (slice_get attributes k) ≡ Some name → option_map column_of (slice_get attributes k)
+    ≡ Some c → has_name (take k attributes) name ≡ false
 first_new attributes k name c apart e g =
     let a : Attribute = (name, c) in
     let there = attribute_there attributes k name c e g in
     let here : attributes ≡ take k attributes ++ a ∷ drop (k + 1) attributes =
-    sym (take-append-drop k attributes) ∙ ap (λ xs. take k attributes ++ xs) (drop_more attributes k a there.1 ∙ ap (λ x. x ∷ drop (k + 1) attributes) (sym there.0)) in
-    fresh name_of (take k attributes) a (drop (k + 1) attributes) (subst (λ xs. IsDistinct bytes_eq (map name_of xs)) here apart)
+    sym (take-append-drop k attributes) ∙ ap (λ xs. take k attributes ++ xs) (drop_more attributes k a there.1
+    ∙ ap (λ x. x ∷ drop (k + 1) attributes) (sym there.0)) in
+    fresh name_of (take k attributes) a (drop (k + 1) attributes)
+    (subst (λ xs. IsDistinct bytes_eq (map name_of xs)) here apart)
 
 -- ---- all relations
 
@@ -73,31 +82,37 @@ module _ (R : ℕ → Scheme → Type 0) where
   counts_long (n ∷ counts) [] h = absurd h
   counts_long (n ∷ counts) (s ∷ schemes) h = ap suc (counts_long counts schemes h.1)
 
-  pub count_there : (counts : List ℕ) (schemes : Schemes) (k : ℕ) (m : ℕ) (d : Scheme) → AllZip R counts schemes → k < length schemes → R (get_or counts k m) (get_or schemes k d)
+  pub count_there : (counts : List ℕ) (schemes : Schemes) (k : ℕ) (m : ℕ) (d : Scheme) → AllZip R counts schemes
+      → k < length schemes → R (get_or counts k m) (get_or schemes k d)
   count_there [] [] k m d h within = absurd (omega (arith, within))
   count_there [] (s ∷ schemes) k m d h within = absurd h
   count_there (n ∷ counts) [] k m d h within = absurd h
   count_there (n ∷ counts) (s ∷ schemes) zero m d h within = h.0
-  count_there (n ∷ counts) (s ∷ schemes) (suc k) m d h within = count_there counts schemes k m d h.1 (omega (arith, within))
+  count_there (n ∷ counts) (s ∷ schemes) (suc k) m d h within = count_there counts schemes k m d h.1
+      (omega (arith, within))
 
-pub before_long : (counts : List ℕ) (schemes : Schemes) → length counts ≡ length schemes → length (schemes_before counts schemes) ≡ length schemes
+pub before_long : (counts : List ℕ) (schemes : Schemes) → length counts ≡ length schemes
+    → length (schemes_before counts schemes) ≡ length schemes
 before_long [] [] e = refl
 before_long [] (s ∷ schemes) e = absurd cc
 before_long (n ∷ counts) [] e = absurd cc
 before_long (n ∷ counts) (s ∷ schemes) e = ap suc (before_long counts schemes (omega (arith, e)))
 
-before_names : (counts : List ℕ) (schemes : Schemes) → length counts ≡ length schemes → map (λ (s : Scheme). s.name) (schemes_before counts schemes) ≡ map (λ (s : Scheme). s.name) schemes
+before_names : (counts : List ℕ) (schemes : Schemes) → length counts ≡ length schemes → map (λ (s : Scheme). s.name)
+    (schemes_before counts schemes) ≡ map (λ (s : Scheme). s.name) schemes
 before_names [] [] e = refl
 before_names [] (s ∷ schemes) e = absurd cc
 before_names (n ∷ counts) [] e = absurd cc
 before_names (n ∷ counts) (s ∷ schemes) e = ap (λ xs. s.name ∷ xs) (before_names counts schemes (omega (arith, e)))
 
-before_each : (counts : List ℕ) (schemes : Schemes) → AllByRecursion IsScheme schemes → AllByRecursion IsScheme (schemes_before counts schemes)
+before_each : (counts : List ℕ) (schemes : Schemes) → AllByRecursion IsScheme schemes
+    → AllByRecursion IsScheme (schemes_before counts schemes)
 before_each [] schemes h = tt
 before_each (n ∷ counts) [] h = tt
 before_each (n ∷ counts) (s ∷ schemes) h = (before_is n s h.0, before_each counts schemes h.1)
 
-pub before_are : (counts : List ℕ) (schemes : Schemes) → length counts ≡ length schemes → AreSchemes schemes → AreSchemes (schemes_before counts schemes)
+pub before_are : (counts : List ℕ) (schemes : Schemes) → length counts ≡ length schemes → AreSchemes schemes
+    → AreSchemes (schemes_before counts schemes)
 before_are counts schemes e valid =
     let long = before_long counts schemes e in
     let some = valid.some in
@@ -110,30 +125,42 @@ before_are counts schemes e valid =
     }
 
 -- labels stay in bounds
-pub before_under : (count : ℕ) (counts : List ℕ) (schemes : Schemes) → AreUnder count schemes → AreUnder count (schemes_before counts schemes)
+pub before_under : (count : ℕ) (counts : List ℕ) (schemes : Schemes) → AreUnder count schemes
+    → AreUnder count (schemes_before counts schemes)
 before_under count [] schemes h = tt
 before_under count (n ∷ counts) [] h = tt
-before_under count (n ∷ counts) (s ∷ schemes) h = (record { keys = h.0.keys; others = all_take (IsAmongLabels count) s.others n h.0.others }, before_under count counts schemes h.1)
+before_under count (n ∷ counts) (s ∷ schemes) h = (
+  record { keys = h.0.keys; others = all_take (IsAmongLabels count) s.others n h.0.others },
+  before_under count counts schemes h.1,
+)
 
 -- a relation by its number
-pub before_at : (counts : List ℕ) (schemes : Schemes) (relation : ℕ) → length counts ≡ length schemes → relation < length schemes
-    → scheme_of (schemes_before counts schemes) relation ≡ scheme_before (get_or counts relation 0) (scheme_of schemes relation)
+pub before_at : (counts : List ℕ) (schemes : Schemes) (relation : ℕ) → length counts ≡ length schemes
+    → relation < length schemes
+    → scheme_of (schemes_before counts schemes) relation ≡ scheme_before (get_or counts relation 0)
+    (scheme_of schemes relation)
 before_at [] [] relation e within = absurd (omega (arith, within))
 before_at [] (s ∷ schemes) relation e within = absurd cc
 before_at (n ∷ counts) [] relation e within = absurd cc
 before_at (n ∷ counts) (s ∷ schemes) zero e within = refl
-before_at (n ∷ counts) (s ∷ schemes) (suc relation) e within = before_at counts schemes relation (omega (arith, e)) (omega (arith, within))
+before_at (n ∷ counts) (s ∷ schemes) (suc relation) e within = before_at counts schemes relation (omega (arith, e))
+    (omega (arith, within))
 
 -- one relation more
-before_next : (counts : List ℕ) (schemes : Schemes) (k : ℕ) (m : ℕ) (d : Scheme) → k < length counts → k < length schemes
-    → schemes_before (take (suc k) counts) (take (suc k) schemes) ≡ schemes_before (take k counts) (take k schemes) ++ scheme_before (get_or counts k m) (get_or schemes k d) ∷ []
+before_next : (counts : List ℕ) (schemes : Schemes) (k : ℕ) (m : ℕ) (d : Scheme) → k < length counts
+    → k < length schemes
+    → schemes_before (take (suc k) counts) (take (suc k) schemes) ≡ schemes_before (take k counts) (take k schemes)
+    ++ scheme_before (get_or counts k m) (get_or schemes k d) ∷ []
 before_next [] schemes k m d c s = absurd (omega (arith, c))
 before_next (n ∷ counts) [] k m d c s = absurd (omega (arith, s))
 before_next (n ∷ counts) (x ∷ schemes) zero m d c s = refl
-before_next (n ∷ counts) (x ∷ schemes) (suc k) m d c s = ap (λ xs. scheme_before n x ∷ xs) (before_next counts schemes k m d (omega (arith, c)) (omega (arith, s)))
+before_next (n ∷ counts) (x ∷ schemes) (suc k) m d c s = ap (λ xs. scheme_before n x ∷ xs)
+    (before_next counts schemes k m d (omega (arith, c)) (omega (arith, s)))
 
-pub before_more : (counts : List ℕ) (schemes : Schemes) (k : ℕ) (m : ℕ) (d : Scheme) → k < length counts → k < length schemes
-    → schemes_before (take (k + 1) counts) (take (k + 1) schemes) ≡ schemes_before (take k counts) (take k schemes) ++ scheme_before (get_or counts k m) (get_or schemes k d) ∷ []
+pub before_more : (counts : List ℕ) (schemes : Schemes) (k : ℕ) (m : ℕ) (d : Scheme) → k < length counts
+    → k < length schemes
+    → schemes_before (take (k + 1) counts) (take (k + 1) schemes) ≡ schemes_before (take k counts) (take k schemes)
+    ++ scheme_before (get_or counts k m) (get_or schemes k d) ∷ []
 before_more counts schemes k m d c s =
     let next : k + 1 ≡ suc k = omega arith in
     ap (λ n. schemes_before (take n counts) (take n schemes)) next ∙ before_next counts schemes k m d c s
@@ -153,5 +180,6 @@ module _ (p : Policy) (schemes : Schemes) (old counts : List ℕ) (extends : Ext
       by (n ∷ ns) [] h = absurd h
       by (n ∷ ns) (s ∷ ss) h = (h.0.0, by ns ss h.1)
 
-  pub extends_at : (relation : ℕ) → relation < length schemes → HadOthers p (get_or counts relation 0) (scheme_of schemes relation)
+  pub extends_at : (relation : ℕ) → relation < length schemes → HadOthers p (get_or counts relation 0)
+      (scheme_of schemes relation)
   extends_at relation within = count_there (HadOthers p) counts schemes relation 0 no_scheme extends.counts_are within

@@ -30,7 +30,8 @@ then_ties Greater q e = absurd (cc)
 pub place_exact : IsAntisymmetric place_cmp
 unfolding place_cmp
 place_exact p r h =
-    let s = then_ties (slice_cmp value_cmp p.key r.key) (ordering_then (nat_cmp p.key_class r.key_class) (nat_cmp p.class r.class)) h in
+    let s = then_ties (slice_cmp value_cmp p.key r.key) (ordering_then (nat_cmp p.key_class r.key_class)
+    (nat_cmp p.class r.class)) h in
     let t = then_ties (nat_cmp p.key_class r.key_class) (nat_cmp p.class r.class) s.1 in
     let x = slice_cmp-IsAntisymmetric value_exact p.key r.key s.0 in
     let y = nat_cmp-IsAntisymmetric p.key_class r.key_class t.0 in
@@ -48,8 +49,12 @@ is_eq-true Equal h = refl
 is_eq-true Greater h = absurd (cc)
 
 -- a total order in which only equal ones tie decides equality
-decides : {K : Type 0} {R : K → K → Ordering} → IsTotalOrder R → IsAntisymmetric R → (x y : K) → (eq_by_cmp R x y ≡ true) ↔ (x ≡ y)
-decides {R = R} total exact x y = (λ h. exact x y (is_eq-true _ h), λ e. ap is_eq (subst (λ z. R x z ≡ Equal) e (tied_itself total x)))
+decides : {K : Type 0} {R : K → K → Ordering} → IsTotalOrder R → IsAntisymmetric R → (x y : K)
+    → (eq_by_cmp R x y ≡ true) ↔ (x ≡ y)
+decides {R = R} total exact x y = (
+  λ h. exact x y (is_eq-true _ h),
+  λ e. ap is_eq (subst (λ z. R x z ≡ Equal) e (tied_itself total x)),
+)
 
 pub value_eq_decides : (v w : Value) → (value_eq v w ≡ true) ↔ (v ≡ w)
 value_eq_decides = decides value_total value_exact

@@ -28,11 +28,13 @@ use Rattle.mls_scheme.proofs.FieldLemmas.{table_found, name_found, name_again, t
 -- ---- attributes
 
 -- what follows a new name
-new_found : {A : Type 0} (taken : Bool) (r : Result A FileFault) (x : A) → (new_name taken >>= λ _. r) ≡ Ok x → (taken ≡ false) × (r ≡ Ok x)
+new_found : {A : Type 0} (taken : Bool) (r : Result A FileFault) (x : A) → (new_name taken >>= λ _. r) ≡ Ok x
+    → (taken ≡ false) × (r ≡ Ok x)
 new_found true r x e = absurd cc
 new_found false r x e = (refl, e)
 
-says_column : (p : Policy) (fields : Members) (name : Name) (c : Column) → name_field (codes "name") fields ≡ Ok name → column_at p fields ≡ Ok c → SaysAttribute p fields (name, c)
+says_column : (p : Policy) (fields : Members) (name : Name) (c : Column) → name_field (codes "name") fields ≡ Ok name
+    → column_at p fields ≡ Ok c → SaysAttribute p fields (name, c)
 unfolding column_at
 says_column p fields name c named e =
     let n = name_found (codes "name") fields name named in
@@ -60,7 +62,8 @@ says_column p fields name c named e =
 abbrev IsNewAfter : List Attribute → List Attribute → Attribute → Type 0
 IsNewAfter base before a = has_name (base ++ before) a.0 ≡ false
 
-attribute_found : (p : Policy) (before : List Attribute) (d : Data) (a : Attribute) → attribute_at p before d ≡ Ok a → Step (SaysAttribute p) (IsNewAfter []) before d a
+attribute_found : (p : Policy) (before : List Attribute) (d : Data) (a : Attribute) → attribute_at p before d ≡ Ok a
+    → Step (SaysAttribute p) (IsNewAfter []) before d a
 unfolding attribute_at
 attribute_found p before d a e =
     let f = bind_ok (lift Field (table_at d)) _ a e in
@@ -78,7 +81,8 @@ attribute_found p before d a e =
     attribute_or (Ok x) = x
     attribute_or (Err e) = no_attribute
 
-attribute_again : (p : Policy) (before : List Attribute) (fields : Members) (a : Attribute) → SaysAttribute p fields a → has_name before a.0 ≡ false → attribute_at p before (table fields) ≡ Ok a
+attribute_again : (p : Policy) (before : List Attribute) (fields : Members) (a : Attribute) → SaysAttribute p fields a
+    → has_name before a.0 ≡ false → attribute_at p before (table fields) ≡ Ok a
 unfolding attribute_at column_at
 attribute_again p before fields a s fresh =
     rw (
@@ -99,47 +103,67 @@ HasKeyInterval before a = has_key_interval before (column_of a) ≡ true
 abbrev FollowsKeys : List Attribute → Attribute → Type 0
 FollowsKeys before a = IsNewAfter [] before a × HasKeyInterval before a
 
-key_step : (p : Policy) (before : List Attribute) (d : Data) (a : Attribute) → key_at p before d ≡ Ok a → Step (SaysAttribute p) FollowsKeys before d a
+key_step : (p : Policy) (before : List Attribute) (d : Data) (a : Attribute) → key_at p before d ≡ Ok a
+    → Step (SaysAttribute p) FollowsKeys before d a
 unfolding key_at
 key_step p before d a e =
     let b = bind_ok (attribute_at p before d) _ a e in
     let c = pass_ok (has_key_interval before (column_of b.0)) KeyIntervals (Ok b.0) a b.2 in
     let same : b.0 ≡ a = let h = c.1 in cc in
     let s = attribute_found p before d a (b.1 ∙ ap (λ (x : Attribute). Ok x) same) in
-    record { fields = s.fields; text = s.text; says = s.says; follows = (s.follows, subst (HasKeyInterval before) same c.0) }
+    record {
+      fields = s.fields;
+      text = s.text;
+      says = s.says;
+      follows =
+          (s.follows, subst (HasKeyInterval before) same c.0);
+    }
 
-key_step_again : (p : Policy) (before : List Attribute) (fields : Members) (a : Attribute) → SaysAttribute p fields a → FollowsKeys before a → key_at p before (table fields) ≡ Ok a
+key_step_again : (p : Policy) (before : List Attribute) (fields : Members) (a : Attribute) → SaysAttribute p fields a
+    → FollowsKeys before a → key_at p before (table fields) ≡ Ok a
 unfolding key_at
 key_step_again p before fields a s follows = rw (attribute_again p before fields a s follows.0, follows.1) refl
 
-interval_found : (k : Attribute) (before new : List Attribute) → Each HasKeyInterval (k ∷ before) new → AllByRecursion (HasInterval k) new
+interval_found : (k : Attribute) (before new : List Attribute) → Each HasKeyInterval (k ∷ before) new
+    → AllByRecursion (HasInterval k) new
 interval_found k before [] each = tt
 interval_found k before (a ∷ new) each =
-    let both = and_parts (nat_eq k.1.low a.1.low) (nat_eq k.1.high a.1.high) each.0 in
-    ((sym (eqb-true k.1.low a.1.low both.0), sym (eqb-true k.1.high a.1.high both.1)), interval_found k (before ++ a ∷ []) new each.1)
+    let both = and_parts (nat_eq k.1.low a.1.low) (nat_eq k.1.high a.1.high) each.0 in (
+      (sym (eqb-true k.1.low a.1.low both.0), sym (eqb-true k.1.high a.1.high both.1)),
+      interval_found k (before ++ a ∷ []) new each.1,
+    )
 
-interval_again : (k : Attribute) (before new : List Attribute) → AllByRecursion (HasInterval k) new → Each HasKeyInterval (k ∷ before) new
+interval_again : (k : Attribute) (before new : List Attribute) → AllByRecursion (HasInterval k) new
+    → Each HasKeyInterval (k ∷ before) new
 interval_again k before [] all = tt
-interval_again k before (a ∷ new) all =
-    (and_from (nat_eq k.1.low a.1.low) (nat_eq k.1.high a.1.high) (eq-eqb k.1.low a.1.low (sym all.0.0)) (eq-eqb k.1.high a.1.high (sym all.0.1)), interval_again k (before ++ a ∷ []) new all.1)
+interval_again k before (a ∷ new) all = (
+  and_from (nat_eq k.1.low a.1.low) (nat_eq k.1.high a.1.high) (eq-eqb k.1.low a.1.low (sym all.0.0))
+      (eq-eqb k.1.high a.1.high (sym all.0.1)),
+  interval_again k (before ++ a ∷ []) new all.1,
+)
 
-one_interval_found : (name : Name) (keys others : List Attribute) → Each HasKeyInterval [] keys → AllByRecursion (HasInterval (first_key (record { name = name; keys = keys; others = others }))) keys
+one_interval_found : (name : Name) (keys others : List Attribute) → Each HasKeyInterval [] keys
+    → AllByRecursion (HasInterval (first_key (record { name = name; keys = keys; others = others }))) keys
 one_interval_found name [] others each = tt
 one_interval_found name (k ∷ keys) others each = ((refl, refl), interval_found k [] keys each.1)
 
-one_interval_again : (name : Name) (keys others : List Attribute) → AllByRecursion (HasInterval (first_key (record { name = name; keys = keys; others = others }))) keys → Each HasKeyInterval [] keys
+one_interval_again : (name : Name) (keys others : List Attribute)
+    → AllByRecursion (HasInterval (first_key (record { name = name; keys = keys; others = others }))) keys
+    → Each HasKeyInterval [] keys
 one_interval_again name [] others all = tt
 one_interval_again name (k ∷ keys) others all = (refl, interval_again k [] keys all.1)
 
 -- ---- attributes outside the key
 
-other_step : (p : Policy) (keys before : List Attribute) (d : Data) (a : Attribute) → other_at p keys before d ≡ Ok a → Step (SaysAttribute p) (IsNewAfter keys) before d a
+other_step : (p : Policy) (keys before : List Attribute) (d : Data) (a : Attribute) → other_at p keys before d ≡ Ok a
+    → Step (SaysAttribute p) (IsNewAfter keys) before d a
 unfolding other_at
 other_step p keys before d a e =
     let s = attribute_found p (keys ++ before) d a e in
     record { fields = s.fields; text = s.text; says = s.says; follows = s.follows }
 
-other_step_again : (p : Policy) (keys before : List Attribute) (fields : Members) (a : Attribute) → SaysAttribute p fields a → IsNewAfter keys before a → other_at p keys before (table fields) ≡ Ok a
+other_step_again : (p : Policy) (keys before : List Attribute) (fields : Members) (a : Attribute)
+    → SaysAttribute p fields a → IsNewAfter keys before a → other_at p keys before (table fields) ≡ Ok a
 unfolding other_at
 other_step_again p keys before fields a s follows = attribute_again p (keys ++ before) fields a s follows
 
@@ -154,7 +178,8 @@ record Parts (p : Policy) (fields : Members) (s : Scheme) : Type 0 where
   other_text : other_items fields ≡ Ok other_ds
   others : gather (other_at p s.keys) [] other_ds ≡ Ok s.others
 
-names_says : (p : Policy) (ts us : List Members) (keys others : List Attribute) → AllZip (SaysAttribute p) ts keys → AllZip (SaysAttribute p) us others → AreNames (map (λ (a : Attribute). a.0) (keys ++ others))
+names_says : (p : Policy) (ts us : List Members) (keys others : List Attribute) → AllZip (SaysAttribute p) ts keys
+    → AllZip (SaysAttribute p) us others → AreNames (map (λ (a : Attribute). a.0) (keys ++ others))
 names_says p [] [] [] [] h g = tt
 names_says p [] [] [] (a ∷ others) h g = absurd g
 names_says p [] (u ∷ us) [] [] h g = absurd g
@@ -163,7 +188,8 @@ names_says p [] us (a ∷ keys) others h g = absurd h
 names_says p (t ∷ ts) us [] others h g = absurd h
 names_says p (t ∷ ts) us (a ∷ keys) others h g = (h.0.named, names_says p ts us keys others h.1 g)
 
-attributes_found : (p : Policy) (fields : Members) (s : Scheme) → attributes_at p fields ≡ Ok (s.keys, s.others) → Parts p fields s
+attributes_found : (p : Policy) (fields : Members) (s : Scheme) → attributes_at p fields ≡ Ok (s.keys, s.others)
+    → Parts p fields s
 unfolding attributes_at
 attributes_found p fields s e =
     let k = bind_ok (key_items fields) _ (s.keys, s.others) e in
@@ -179,27 +205,37 @@ attributes_found p fields s e =
       keys = ks.1 ∙ ap (λ (xs : List Attribute). Ok xs) keys;
       other_ds = o.0;
       other_text = o.1;
-      others = ap (λ (xs : List Attribute). gather (other_at p xs) [] o.0) (sym keys) ∙ os.1 ∙ ap (λ (xs : List Attribute). Ok xs) others;
+      others = ap (λ (xs : List Attribute). gather (other_at p xs) [] o.0) (sym keys) ∙ os.1
+          ∙ ap (λ (xs : List Attribute). Ok xs) others;
     }
 
-parts_says : (p : Policy) (fields : Members) (s : Scheme) → name_field (codes "name") fields ≡ Ok s.name → Parts p fields s → SaysRelation p fields s
+parts_says : (p : Policy) (fields : Members) (s : Scheme) → name_field (codes "name") fields ≡ Ok s.name
+    → Parts p fields s → SaysRelation p fields s
 unfolding IsDistinct
 parts_says p fields s named r =
     let n = name_found (codes "name") fields s.name named in
     let k = key_found fields r.key_ds r.key_text in
     let ks = gather_found (key_at p) (SaysAttribute p) FollowsKeys (key_step p) [] r.key_ds s.keys r.keys in
     let o = other_found fields r.other_ds r.other_text in
-    let os = gather_found (other_at p s.keys) (SaysAttribute p) (IsNewAfter s.keys) (other_step p s.keys) [] r.other_ds s.others r.others in
+    let os = gather_found (other_at p s.keys) (SaysAttribute p) (IsNewAfter s.keys)
+    (other_step p s.keys) [] r.other_ds s.others r.others in
     let same_keys : ks.new ≡ s.keys = sym ks.parts in
     let same_others : os.new ≡ s.others = sym os.parts in
-    let keys : AllZip (SaysAttribute p) ks.tables s.keys = subst (AllZip (SaysAttribute p) ks.tables) same_keys ks.says in
-    let others : AllZip (SaysAttribute p) os.tables s.others = subst (AllZip (SaysAttribute p) os.tables) same_others os.says in
-    let key_len : items_len r.key_ds ≡ length s.keys = ap items_len ks.text ∙ items_len-tables_of (SaysAttribute p) ks.tables s.keys keys in
-    let other_len : items_len r.other_ds ≡ length s.others = ap items_len os.text ∙ items_len-tables_of (SaysAttribute p) os.tables s.others others in
+    let keys : AllZip (SaysAttribute p) ks.tables s.keys = subst (AllZip (SaysAttribute p) ks.tables) same_keys ks.says
+    in
+    let others : AllZip (SaysAttribute p) os.tables s.others =
+    subst (AllZip (SaysAttribute p) os.tables) same_others os.says in
+    let key_len : items_len r.key_ds ≡ length s.keys = ap items_len ks.text ∙ items_len-tables_of
+    (SaysAttribute p) ks.tables s.keys keys in
+    let other_len : items_len r.other_ds ≡ length s.others = ap items_len os.text ∙ items_len-tables_of
+    (SaysAttribute p) os.tables s.others others in
     let follow : Each FollowsKeys [] s.keys = subst (Each FollowsKeys []) same_keys ks.follow in
-    let keys_apart : IsDistinct bytes_eq (map (λ (a : Attribute). a.0) s.keys) = distinct_found (λ (a : Attribute). a.0) [] [] s.keys tt (Each-left (IsNewAfter []) HasKeyInterval [] s.keys follow) in
+    let keys_apart : IsDistinct bytes_eq (map (λ (a : Attribute). a.0) s.keys) =
+    distinct_found (λ (a : Attribute). a.0) [] [] s.keys tt
+    (Each-left (IsNewAfter []) HasKeyInterval [] s.keys follow) in
     let apart : IsDistinct bytes_eq (map (λ (a : Attribute). a.0) (s.keys ++ s.others)) =
-    distinct_found (λ (a : Attribute). a.0) s.keys [] s.others (rw (append-nil s.keys) keys_apart) (subst (Each (IsNewAfter s.keys) []) same_others os.follow) in
+    distinct_found (λ (a : Attribute). a.0) s.keys [] s.others (rw (append-nil s.keys) keys_apart)
+    (subst (Each (IsNewAfter s.keys) []) same_others os.follow) in
     let some = k.some in
     let few = k.few in
     let few_others = o.few in
@@ -218,7 +254,8 @@ parts_says p fields s named r =
         few_keys = omega arith;
         few_others = omega arith;
         distinct = apart;
-        one_interval = one_interval_found s.name s.keys s.others (Each-right (IsNewAfter []) HasKeyInterval [] s.keys follow);
+        one_interval = one_interval_found s.name s.keys s.others
+            (Each-right (IsNewAfter []) HasKeyInterval [] s.keys follow);
       };
     }
   where
@@ -226,14 +263,16 @@ parts_says p fields s named r =
     none_of [] e = refl
     none_of (t ∷ ts) e = absurd cc
 
-    here : (o : Option Data) (ds : Items) (ts : List Members) → ds ≡ tables_of ts → ((o ≡ Some (array ds)) ⊎ ((o ≡ None) × (ds ≡ no_items))) → HoldsTables o ts ⊎ ((o ≡ None) × (ts ≡ []))
+    here : (o : Option Data) (ds : Items) (ts : List Members) → ds ≡ tables_of ts
+        → ((o ≡ Some (array ds)) ⊎ ((o ≡ None) × (ds ≡ no_items))) → HoldsTables o ts ⊎ ((o ≡ None) × (ts ≡ []))
     here o ds ts is (inl there) = inl (there ∙ ap (λ (x : Items). Some (array x)) is)
     here o ds ts is (inr missing) = inr (missing.0, none_of ts (sym missing.1 ∙ is))
 
 abbrev IsNewRelation : Schemes → Scheme → Type 0
 IsNewRelation before s = has_relation before s.name ≡ false
 
-scheme_step : (p : Policy) (before : Schemes) (d : Data) (s : Scheme) → scheme_at p before d ≡ Ok s → Step (SaysRelation p) IsNewRelation before d s
+scheme_step : (p : Policy) (before : Schemes) (d : Data) (s : Scheme) → scheme_at p before d ≡ Ok s
+    → Step (SaysRelation p) IsNewRelation before d s
 unfolding scheme_at
 scheme_step p before d s e =
     let f = bind_ok (lift Field (table_at d)) _ s e in
@@ -243,13 +282,22 @@ scheme_step p before d s e =
     let made : Scheme = record { name = n.0; keys = a.0.0; others = a.0.1 } in
     let here : made ≡ s = ok_is made s a.2 in
     let says : SaysRelation p f.0 made = parts_says p f.0 made n.1 (attributes_found p f.0 made a.1) in
-    record { fields = f.0; text = table_found d f.0 f.1; says = subst (SaysRelation p f.0) here says; follows = subst (IsNewRelation before) here w.0 }
+    record {
+      fields = f.0;
+      text = table_found d f.0 f.1;
+      says = subst (SaysRelation p f.0) here says;
+      follows =
+          subst (IsNewRelation before) here w.0;
+    }
 
-scheme_step_again : (p : Policy) (before : Schemes) (fields : Members) (s : Scheme) → SaysRelation p fields s → IsNewRelation before s → scheme_at p before (table fields) ≡ Ok s
+scheme_step_again : (p : Policy) (before : Schemes) (fields : Members) (s : Scheme) → SaysRelation p fields s
+    → IsNewRelation before s → scheme_at p before (table fields) ≡ Ok s
 unfolding scheme_at attributes_at IsDistinct
 scheme_step_again p before fields s r fresh =
-    let key_len : items_len (tables_of r.key_tables) ≡ length s.keys = items_len-tables_of (SaysAttribute p) r.key_tables s.keys r.keys in
-    let other_len : items_len (tables_of r.other_tables) ≡ length s.others = items_len-tables_of (SaysAttribute p) r.other_tables s.others r.others in
+    let key_len : items_len (tables_of r.key_tables) ≡ length s.keys = items_len-tables_of
+    (SaysAttribute p) r.key_tables s.keys r.keys in
+    let other_len : items_len (tables_of r.other_tables) ≡ length s.others = items_len-tables_of
+    (SaysAttribute p) r.other_tables s.others r.others in
     let some = r.valid.some_key in
     let few = r.valid.few_keys in
     let few_others = r.valid.few_others in
@@ -257,9 +305,12 @@ scheme_step_again p before fields s r fresh =
     let follow : Each FollowsKeys [] s.keys = Each-both (IsNewAfter []) HasKeyInterval [] s.keys
     (distinct_again (λ (a : Attribute). a.0) [] [] s.keys (front (λ (a : Attribute). a.0) s.keys s.others whole))
     (one_interval_again s.name s.keys s.others r.valid.one_interval) in
-    let keys : gather (key_at p) [] (tables_of r.key_tables) ≡ Ok s.keys = gather_again (key_at p) (SaysAttribute p) FollowsKeys (key_step_again p) [] r.key_tables s.keys r.keys follow in
+    let keys : gather (key_at p) [] (tables_of r.key_tables) ≡ Ok s.keys = gather_again (key_at p)
+    (SaysAttribute p) FollowsKeys (key_step_again p) [] r.key_tables s.keys r.keys follow in
     let others : gather (other_at p s.keys) [] (tables_of r.other_tables) ≡ Ok s.others =
-    gather_again (other_at p s.keys) (SaysAttribute p) (IsNewAfter s.keys) (other_step_again p s.keys) [] r.other_tables s.others r.others (distinct_again (λ (a : Attribute). a.0) s.keys [] s.others whole) in
+    gather_again (other_at p s.keys) (SaysAttribute p) (IsNewAfter s.keys)
+    (other_step_again p s.keys) [] r.other_tables s.others r.others
+    (distinct_again (λ (a : Attribute). a.0) s.keys [] s.others whole) in
     rw (
       name_again (codes "name") fields s.name r.name r.valid.named,
       fresh,
@@ -269,11 +320,13 @@ scheme_step_again p before fields s r fresh =
       others,
     ) refl
   where
-    shorter : {A : Type 0} (name_of : A → Name) (n : Name) (xs ys : List A) → AllByRecursion (λ y. bytes_eq n y ≡ false) (map name_of (xs ++ ys)) → AllByRecursion (λ y. bytes_eq n y ≡ false) (map name_of xs)
+    shorter : {A : Type 0} (name_of : A → Name) (n : Name) (xs ys : List A) → AllByRecursion (λ y. bytes_eq n y ≡ false)
+        (map name_of (xs ++ ys)) → AllByRecursion (λ y. bytes_eq n y ≡ false) (map name_of xs)
     shorter name_of n [] ys h = tt
     shorter name_of n (x ∷ xs) ys h = (h.0, shorter name_of n xs ys h.1)
 
-    front : {A : Type 0} (name_of : A → Name) (xs ys : List A) → IsDistinct bytes_eq (map name_of (xs ++ ys)) → IsDistinct bytes_eq (map name_of xs)
+    front : {A : Type 0} (name_of : A → Name) (xs ys : List A) → IsDistinct bytes_eq (map name_of (xs ++ ys))
+        → IsDistinct bytes_eq (map name_of xs)
     front name_of [] ys h = tt
     front name_of (x ∷ xs) ys h = (shorter name_of (name_of x) xs ys h.0, front name_of xs ys h.1)
 
@@ -289,20 +342,24 @@ chosen_within k n m e = by (nat_lt k n) refl e
 position_within : {X : Type 0} (f : X → Bool) (xs : List X) (m : ℕ) → position f xs ≡ Some m → m < length xs
 position_within f xs m e = chosen_within _ (length xs) m e
 
-each_valid : (p : Policy) (ts : List Members) (schemes : Schemes) → AllZip (SaysRelation p) ts schemes → AllByRecursion IsScheme schemes
+each_valid : (p : Policy) (ts : List Members) (schemes : Schemes) → AllZip (SaysRelation p) ts schemes
+    → AllByRecursion IsScheme schemes
 each_valid p [] [] h = tt
 each_valid p [] (s ∷ schemes) h = absurd h
 each_valid p (t ∷ ts) [] h = absurd h
 each_valid p (t ∷ ts) (s ∷ schemes) h = (h.0.valid, each_valid p ts schemes h.1)
 
-relations_says : (p : Policy) (document : Members) (v : Version) (ds : Items) (schemes : Schemes) → lift Field (version_at document) ≡ Ok v → relation_items document ≡ Ok ds → gather (scheme_at p) [] ds ≡ Ok schemes → Says p document v schemes
+relations_says : (p : Policy) (document : Members) (v : Version) (ds : Items) (schemes : Schemes)
+    → lift Field (version_at document) ≡ Ok v → relation_items document ≡ Ok ds → gather (scheme_at p) [] ds
+    ≡ Ok schemes → Says p document v schemes
 unfolding IsDistinct
 relations_says p document v ds schemes version text e =
     let r = relation_found document ds text in
     let g = gather_found (scheme_at p) (SaysRelation p) IsNewRelation (scheme_step p) [] ds schemes e in
     let same : g.new ≡ schemes = sym g.parts in
     let relations : AllZip (SaysRelation p) g.tables schemes = subst (AllZip (SaysRelation p) g.tables) same g.says in
-    let len : items_len ds ≡ length schemes = ap items_len g.text ∙ items_len-tables_of (SaysRelation p) g.tables schemes relations in
+    let len : items_len ds ≡ length schemes = ap items_len g.text ∙ items_len-tables_of
+    (SaysRelation p) g.tables schemes relations in
     let some = r.some in
     let few = r.few in
     record {
@@ -314,11 +371,13 @@ relations_says p document v ds schemes version text e =
         some = omega arith;
         few = omega arith;
         each = each_valid p g.tables schemes relations;
-        distinct = distinct_found (λ (s : Scheme). s.name) [] [] schemes tt (subst (Each IsNewRelation []) same g.follow);
+        distinct = distinct_found (λ (s : Scheme). s.name) [] [] schemes tt
+            (subst (Each IsNewRelation []) same g.follow);
       };
     }
 
-pub says_found : (p : Policy) (document : Members) (f : Version × Schemes) → file_at p document ≡ Ok f → Says p document f.0 f.1
+pub says_found : (p : Policy) (document : Members) (f : Version × Schemes) → file_at p document ≡ Ok f
+    → Says p document f.0 f.1
 unfolding file_at
 says_found p document f e =
     let v = bind_ok (lift Field (version_at document)) _ f e in
@@ -327,75 +386,107 @@ says_found p document f e =
     let same : (v.0, g.0) ≡ f = ok_is (v.0, g.0) f g.2 in
     subst (λ (x : Version × Schemes). Says p document x.0 x.1) same (relations_says p document v.0 r.0 g.0 v.1 r.1 g.1)
 
-pub says_again : (p : Policy) (document : Members) (v : Version) (schemes : Schemes) → Says p document v schemes → file_at p document ≡ Ok (v, schemes)
+pub says_again : (p : Policy) (document : Members) (v : Version) (schemes : Schemes) → Says p document v schemes
+    → file_at p document ≡ Ok (v, schemes)
 unfolding file_at
 says_again p document v schemes s =
-    let len : items_len (tables_of s.tables) ≡ length schemes = items_len-tables_of (SaysRelation p) s.tables schemes s.relations in
+    let len : items_len (tables_of s.tables) ≡ length schemes = items_len-tables_of
+    (SaysRelation p) s.tables schemes s.relations in
     let some = s.valid.some in
     let few = s.valid.few in
     rw (
       version_again document v s.version,
       relation_again document s.tables s.relation (omega arith) (omega arith),
-      gather_again (scheme_at p) (SaysRelation p) IsNewRelation (scheme_step_again p) [] s.tables schemes s.relations (distinct_again (λ (x : Scheme). x.name) [] [] schemes s.valid.distinct),
+      gather_again (scheme_at p) (SaysRelation p) IsNewRelation (scheme_step_again p) [] s.tables schemes s.relations
+          (distinct_again (λ (x : Scheme). x.name) [] [] schemes s.valid.distinct),
     ) refl
 
 -- ---- what the code asks and promises
 
-pub scheme_valid : (p : Policy) (fields : Members) (s : Scheme) → name_field (codes "name") fields ≡ Ok s.name → attributes_at p fields ≡ Ok (s.keys, s.others) → IsScheme s
+pub scheme_valid : (p : Policy) (fields : Members) (s : Scheme) → name_field (codes "name") fields ≡ Ok s.name
+    → attributes_at p fields ≡ Ok (s.keys, s.others) → IsScheme s
 scheme_valid p fields s name attributes = (parts_says p fields s name (attributes_found p fields s attributes)).valid
 
-pub schemes_valid : (p : Policy) (document : Members) (v : Version) (ds : Items) (schemes : Schemes) → lift Field (version_at document) ≡ Ok v → relation_items document ≡ Ok ds → gather (scheme_at p) [] ds ≡ Ok schemes → AreSchemes schemes
+pub schemes_valid : (p : Policy) (document : Members) (v : Version) (ds : Items) (schemes : Schemes)
+    → lift Field (version_at document) ≡ Ok v → relation_items document ≡ Ok ds → gather (scheme_at p) [] ds
+    ≡ Ok schemes → AreSchemes schemes
 schemes_valid p document v ds schemes version text e = (relations_says p document v ds schemes version text e).valid
 
 among : (p : Policy) (fields : Members) (a : Attribute) → SaysAttribute p fields a → IsAmongLabels (length p.labels) a
-among p fields a s = record { low = position_within (λ l. bytes_eq l.name s.low.name) p.labels a.1.low s.low.declared; high = position_within (λ l. bytes_eq l.name s.high.name) p.labels a.1.high s.high.declared }
+among p fields a s = record {
+  low = position_within (λ l. bytes_eq l.name s.low.name) p.labels a.1.low s.low.declared;
+  high = position_within (λ l. bytes_eq l.name s.high.name) p.labels a.1.high s.high.declared;
+}
 
-all_among : (p : Policy) (ts : List Members) (attributes : List Attribute) → AllZip (SaysAttribute p) ts attributes → AllByRecursion (IsAmongLabels (length p.labels)) attributes
+all_among : (p : Policy) (ts : List Members) (attributes : List Attribute) → AllZip (SaysAttribute p) ts attributes
+    → AllByRecursion (IsAmongLabels (length p.labels)) attributes
 all_among p [] [] h = tt
 all_among p [] (a ∷ attributes) h = absurd h
 all_among p (t ∷ ts) [] h = absurd h
 all_among p (t ∷ ts) (a ∷ attributes) h = (among p t a h.0, all_among p ts attributes h.1)
 
-all_under : (p : Policy) (ts : List Members) (schemes : Schemes) → AllZip (SaysRelation p) ts schemes → AreUnder (length p.labels) schemes
+all_under : (p : Policy) (ts : List Members) (schemes : Schemes) → AllZip (SaysRelation p) ts schemes
+    → AreUnder (length p.labels) schemes
 all_under p [] [] h = tt
 all_under p [] (s ∷ schemes) h = absurd h
 all_under p (t ∷ ts) [] h = absurd h
-all_under p (t ∷ ts) (s ∷ schemes) h =
-    (record { keys = all_among p h.0.key_tables s.keys h.0.keys; others = all_among p h.0.other_tables s.others h.0.others }, all_under p ts schemes h.1)
+all_under p (t ∷ ts) (s ∷ schemes) h = (
+  record {
+    keys = all_among p h.0.key_tables s.keys h.0.keys;
+    others =
+        all_among p h.0.other_tables s.others h.0.others;
+  },
+  all_under p ts schemes h.1,
+)
 
-all_intervals : (p : Policy) (ts : List Members) (attributes : List Attribute) → AllZip (SaysAttribute p) ts attributes → AllByRecursion (λ a. below (labels_of p) a.1.low a.1.high ≡ true) attributes
+all_intervals : (p : Policy) (ts : List Members) (attributes : List Attribute) → AllZip (SaysAttribute p) ts attributes
+    → AllByRecursion (λ a. below (labels_of p) a.1.low a.1.high ≡ true) attributes
 all_intervals p [] [] h = tt
 all_intervals p [] (a ∷ attributes) h = absurd h
 all_intervals p (t ∷ ts) [] h = absurd h
 all_intervals p (t ∷ ts) (a ∷ attributes) h = (h.0.interval, all_intervals p ts attributes h.1)
 
-all_have_intervals : (p : Policy) (ts : List Members) (schemes : Schemes) → AllZip (SaysRelation p) ts schemes → HaveIntervals (labels_of p) schemes
+all_have_intervals : (p : Policy) (ts : List Members) (schemes : Schemes) → AllZip (SaysRelation p) ts schemes
+    → HaveIntervals (labels_of p) schemes
 all_have_intervals p [] [] h = tt
 all_have_intervals p [] (s ∷ schemes) h = absurd h
 all_have_intervals p (t ∷ ts) [] h = absurd h
-all_have_intervals p (t ∷ ts) (s ∷ schemes) h =
-    (record { keys = all_intervals p h.0.key_tables s.keys h.0.keys; others = all_intervals p h.0.other_tables s.others h.0.others }, all_have_intervals p ts schemes h.1)
+all_have_intervals p (t ∷ ts) (s ∷ schemes) h = (
+  record {
+    keys = all_intervals p h.0.key_tables s.keys h.0.keys;
+    others =
+        all_intervals p h.0.other_tables s.others h.0.others;
+  },
+  all_have_intervals p ts schemes h.1,
+)
 
 -- ---- the clauses of the reader
 
 module _ {F : Type 0} (file : F → Version × Schemes) (p : Policy) (document : Members) where
-  pub read_found : (bytes : List ℕ) (r : Result F (Failed FileFault)) → IsDocument bytes document → Gives file r (file_at p document) → IfOk r (λ f. ReadsSchemes p bytes (file f).0 (file f).1)
+  pub read_found : (bytes : List ℕ) (r : Result F (Failed FileFault)) → IsDocument bytes document
+      → Gives file r (file_at p document) → IfOk r (λ f. ReadsSchemes p bytes (file f).0 (file f).1)
   read_found bytes (Ok f) is given = (document, is, says_found p document (file f) given)
   read_found bytes (Err e) is given = tt
 
-  pub read_under : (r : Result F (Failed FileFault)) → Gives file r (file_at p document) → IfOk r (λ f. AreUnder (length p.labels) (file f).1)
-  read_under (Ok f) given = let says = says_found p document (file f) given in all_under p says.tables (file f).1 says.relations
+  pub read_under : (r : Result F (Failed FileFault)) → Gives file r (file_at p document)
+      → IfOk r (λ f. AreUnder (length p.labels) (file f).1)
+  read_under (Ok f) given = let says = says_found p document (file f) given
+      in all_under p says.tables (file f).1 says.relations
   read_under (Err e) given = tt
 
-  pub read_intervals : (r : Result F (Failed FileFault)) → Gives file r (file_at p document) → IfOk r (λ f. HaveIntervals (labels_of p) (file f).1)
-  read_intervals (Ok f) given = let says = says_found p document (file f) given in all_have_intervals p says.tables (file f).1 says.relations
+  pub read_intervals : (r : Result F (Failed FileFault)) → Gives file r (file_at p document)
+      → IfOk r (λ f. HaveIntervals (labels_of p) (file f).1)
+  read_intervals (Ok f) given = let says = says_found p document (file f) given in all_have_intervals p says.tables
+      (file f).1 says.relations
   read_intervals (Err e) given = tt
 
-  pub read_refused : (bytes : List ℕ) (failed : Failed FileFault) → IsDocument bytes document → Gives file (Err failed) (file_at p document)
+  pub read_refused : (bytes : List ℕ) (failed : Failed FileFault) → IsDocument bytes document
+      → Gives file (Err failed) (file_at p document)
       → failed_fault_of failed ≢ Memory → (v : Version) (s : Schemes) → ReadsSchemes p bytes v s → ⊥
   read_refused bytes failed.Memory is given other v s reads = absurd (other refl)
   read_refused bytes (failed.Fault fault) is given other v s (read, is_read, says) =
-      let ok : file_at p document ≡ Ok (v, s) = ap (file_at p) (one_document bytes document read is is_read) ∙ says_again p read v s says in
+      let ok : file_at p document ≡ Ok (v, s) = ap (file_at p) (one_document bytes document read is is_read)
+      ∙ says_again p read v s says in
       let err : file_at p document ≡ Err fault = given fault refl in
       absurd cc
 

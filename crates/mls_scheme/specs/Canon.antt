@@ -15,7 +15,8 @@ line_of (word ∷ next ∷ words) = word ++ (codes " " ++ line_of (next ∷ word
 
 -- key or attribute, then its name, its kind, and the ends of its interval
 abbrev pub attribute_line : Policy → Name → Attribute → List ℕ
-attribute_line p word a = line_of (word ∷ a.0 ∷ kind_word a.1.kind ∷ label_name p.labels a.1.low ∷ label_name p.labels a.1.high ∷ [])
+attribute_line p word a = line_of (word ∷ a.0 ∷ kind_word a.1.kind ∷ label_name p.labels a.1.low
+    ∷ label_name p.labels a.1.high ∷ [])
 
 -- the name of a relation, and its key
 abbrev pub head_lines : Policy → Scheme → List ℕ

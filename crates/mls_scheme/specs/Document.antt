@@ -47,7 +47,8 @@ pub record SaysRelation (p : Policy) (fields : Members) (s : Scheme) : Type 0 wh
   pub keys : AllZip (SaysAttribute p) key_tables s.keys
   pub other_tables : List Members
   -- the field may be missing
-  pub attribute : HoldsTables (get_member (codes "attribute") fields) other_tables ⊎ ((get_member (codes "attribute") fields ≡ None) × (other_tables ≡ []))
+  pub attribute : HoldsTables (get_member (codes "attribute") fields) other_tables
+      ⊎ ((get_member (codes "attribute") fields ≡ None) × (other_tables ≡ []))
   pub others : AllZip (SaysAttribute p) other_tables s.others
   pub valid : IsScheme s
 
@@ -65,4 +66,5 @@ ReadsSchemes p bytes v schemes = (document : Members) × IsDocument bytes docume
 -- a text says at most one list of schemes, of one version
 abbrev pub SaysOnce : Type 0
 SaysOnce =
-    (p : Policy) (bytes : List ℕ) (v w : Version) (s t : Schemes) → ReadsSchemes p bytes v s → ReadsSchemes p bytes w t → (v ≡ w) × (s ≡ t)
+    (p : Policy) (bytes : List ℕ) (v w : Version) (s t : Schemes) → ReadsSchemes p bytes v s → ReadsSchemes p bytes w t
+    → (v ≡ w) × (s ≡ t)

@@ -39,7 +39,8 @@ pub record Extends (p : Policy) (schemes : Schemes) (old : List ℕ) (counts : L
 -- the old numbers of attributes are one list
 abbrev pub OldCountsAreOne : Type 0
 OldCountsAreOne =
-    (p : Policy) (schemes : Schemes) (old ns ms : List ℕ) → Extends p schemes old ns → Extends p schemes old ms → ns ≡ ms
+    (p : Policy) (schemes : Schemes) (old ns ms : List ℕ) → Extends p schemes old ns → Extends p schemes old ms
+    → ns ≡ ms
 
 -- ---- parts of a text
 

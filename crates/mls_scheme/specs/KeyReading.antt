@@ -15,7 +15,8 @@ GivesKey = GivesUnless (λ e. e ≡ Memory)
 
 -- A field is a value and the bytes after it.
 abbrev pub number_at : Width → List ℕ → Result (ℕ × List ℕ) KeyFault
-number_at w bytes = if nat_lt (length bytes) (byte_len w) then Err Short else Ok (from_be_bytes w (take (byte_len w) bytes), drop (byte_len w) bytes)
+number_at w bytes = if nat_lt (length bytes) (byte_len w) then Err Short else Ok
+    (from_be_bytes w (take (byte_len w) bytes), drop (byte_len w) bytes)
 
 unfoldable pub int_at : List ℕ → Result (ℤ × List ℕ) KeyFault
 int_at bytes = do
@@ -50,4 +51,5 @@ values_at front (suc n) bytes = value_at bytes >>= λ first. values_at (front ++
 unfoldable pub key_at : List ℕ → Result (List Value) KeyFault
 key_at [] = Err Short
 key_at (count ∷ bytes) =
-    if nat_le 1 count && nat_le count 4 then (values_at [] count bytes >>= (λ vs. if length vs.1 == 0 then Ok vs.0 else Err Trailing)) else Err BadTag
+    if nat_le 1 count && nat_le count 4 then (values_at [] count bytes >>=
+    (λ vs. if length vs.1 == 0 then Ok vs.0 else Err Trailing)) else Err BadTag

@@ -37,4 +37,5 @@ value_total = record { antisymm = value_reversed; trans = value_trans; congr = v
 
 pub place_total : IsTotalOrder place_cmp
 unfolding place_cmp
-place_total = then_total (on_total (λ (p : Place). p.key) (lists_total value_total)) (then_total (on_total (λ p. p.key_class) nat_cmp_total) (on_total (λ p. p.class) nat_cmp_total))
+place_total = then_total (on_total (λ (p : Place). p.key) (lists_total value_total))
+    (then_total (on_total (λ p. p.key_class) nat_cmp_total) (on_total (λ p. p.class) nat_cmp_total))

@@ -38,7 +38,8 @@ abbrev pub text_field : Name → Members → Result Name FileFault
 text_field key fields = lift Field (wanted key fields >>= text_at)
 
 abbrev pub kind_named : Name → Result Kind FileFault
-kind_named word = if bytes_eq word (codes "int") then Ok Int else (if bytes_eq word (codes "text") then Ok Text else Err (Field UnknownName))
+kind_named word = if bytes_eq word (codes "int") then Ok Int else (if bytes_eq word (codes "text") then Ok Text else Err
+    (Field UnknownName))
 
 -- the number of the label of a name
 abbrev pub label_named : List Named → Name → Result ℕ FileFault
@@ -56,7 +57,8 @@ column_at p fields = do
   kind ← kind_named word
   low ← label_field p.labels (codes "low") fields
   high ← label_field p.labels (codes "high") fields
-  if below (labels_of p) low high then Ok (record { kind = kind; low = low; high = high }) else Err (Field EmptyInterval)
+  if below (labels_of p) low high then Ok (record { kind = kind; low = low; high = high }) else Err
+      (Field EmptyInterval)
 
 abbrev pub new_name : Bool → Result (Unit {0}) FileFault
 new_name taken = if taken then Err (Field Repeated) else Ok tt

@@ -41,4 +41,5 @@ pub record IsSpelledKey (key : List Value) : Type 0 where
 -- no two keys have one spelling, and no value's spelling begins another's
 pub record AreUnambiguous : Type 0 where
   pub keys : (k l : List Value) → IsSpelledKey k → IsSpelledKey l → key_spelling k ≡ key_spelling l → k ≡ l
-  pub values : (v w : Value) (r s : List ℕ) → HasSpelling v → HasSpelling w → value_spelling v ++ r ≡ value_spelling w ++ s → (v ≡ w) × (r ≡ s)
+  pub values : (v w : Value) (r s : List ℕ) → HasSpelling v → HasSpelling w → value_spelling v ++ r ≡ value_spelling w
+      ++ s → (v ≡ w) × (r ≡ s)

@@ -11,7 +11,8 @@ use Rattle.mls_scheme.specs.Value.{value_cmp}
 
 -- by key, key class number and class number
 unfoldable pub place_cmp : Place → Place → Ordering
-place_cmp = then_cmp (on (λ p. p.key) (slice_cmp value_cmp)) (then_cmp (on (λ p. p.key_class) nat_cmp) (on (λ p. p.class) nat_cmp))
+place_cmp = then_cmp (on (λ p. p.key) (slice_cmp value_cmp)) (then_cmp (on (λ p. p.key_class) nat_cmp)
+    (on (λ p. p.class) nat_cmp))
 
 -- what a relation holds: at most one tuple for each entity and class
 abbrev pub Table : Type 0

@@ -42,7 +42,8 @@ static WORDS: [&str; 11] = words! {
 };
 
 impl SchemeFault {
-    /// What stands before the word where the fault is printed. The faults that policies have too have their numbers there.
+    /// What stands before the word where the fault is printed. The faults that policies have too have their numbers
+    /// there.
     pub fn code(self) -> u8
         ensures { result ≡ code_of self }
     {

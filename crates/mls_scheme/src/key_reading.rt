@@ -3,7 +3,16 @@ ghost use Rattle.std.specs.Prelude.{◌≡◌, ◌++◌, List, ℕ, [], length, 
 ghost use Rattle.std.specs.Int.{w32};
 ghost use Rattle.mls_scheme.specs.declared.value.Value.{Value as SpecValue};
 ghost use Rattle.mls_scheme.specs.Spelling.{value_spelling, key_spelling, HasSpelling, IsSpelledKey};
-ghost use Rattle.mls_scheme.specs.KeyReading.{GivesKey, number_at, int_at, utf8_at, text_at, value_at, values_at, key_at};
+ghost use Rattle.mls_scheme.specs.KeyReading.{
+  GivesKey,
+  number_at,
+  int_at,
+  utf8_at,
+  text_at,
+  value_at,
+  values_at,
+  key_at,
+};
 
 use crate::key_fault::KeyFault;
 use crate::value::Value;

@@ -144,7 +144,8 @@ impl Schemes {
         scheme
     }
 
-    /// How many attributes outside its key each relation had in older schemes that these extend: those relations with these keys,
+    /// How many attributes outside its key each relation had in older schemes that these extend: those relations with
+    /// these keys,
     /// and later attributes whose classes may be all that the key may have. They are given as their canonical text.
     pub fn extends(
         &self,

@@ -14,10 +14,13 @@ use Rattle.mls_script.specs.ReadList.{value_of_token, PlacedValue, value_at, fit
 
 -- ---- one item
 
-pub slot_kind : (attributes : List Attribute) (i : ℕ) (c : Column) (v : Option Value) → option_map column_of (slice_get attributes i) ≡ Some c → fits_kind v c.kind ≡ fits_attribute (slice_get attributes i) v
+pub slot_kind : (attributes : List Attribute) (i : ℕ) (c : Column) (v : Option Value)
+    → option_map column_of (slice_get attributes i) ≡ Some c → fits_kind v c.kind
+    ≡ fits_attribute (slice_get attributes i) v
 slot_kind attributes i c v h = slot (slice_get attributes i) c h (λ o. fits_attribute o v) (fits_kind v) (λ a. refl)
 
-pub slot_value : (attributes : List Attribute) (i : ℕ) (v : Option Value) → (i < length attributes → ⊥) → true ≡ fits_attribute (slice_get attributes i) v
+pub slot_value : (attributes : List Attribute) (i : ℕ) (v : Option Value) → (i < length attributes → ⊥)
+    → true ≡ fits_attribute (slice_get attributes i) v
 slot_value attributes i v past = ap (λ o. fits_attribute o v) (sym (no_slot attributes i past))
 
 pub ruleset slot_steps = (slot_kind, slot_value)
@@ -31,10 +34,12 @@ value_shorter s x e =
     omega (arith, shorter)
 
 -- the comma behind an item is nearer to the end
-pub item_less : (attributes : Option (List Attribute)) (front : List (Option Value)) (s : State) (x : List (Option Value)) (m l : State) (at : ℕ)
+pub item_less : (attributes : Option (List Attribute)) (front : List (Option Value)) (s : State)
+    (x : List (Option Value)) (m l : State) (at : ℕ)
     → item_at attributes front s ≡ Ok (x, m) → takes_sign Comma m ≡ Some (at, l) → length l.1.placed < length s.1.placed
 unfolding item_at
-item_less attributes = item_of_less value_at (λ v. v.0) (λ v. v.1) (λ a v. fits_attribute a v.0) value_shorter (attribute_at attributes)
+item_less attributes = item_of_less value_at (λ v. v.0) (λ v. v.1) (λ a v. fits_attribute a v.0) value_shorter
+    (attribute_at attributes)
 
 pub set_less : (scheme : Scheme) (front : Sets) (s : State) (x : Sets) (m l : State) (at : ℕ)
     → set_at scheme front s ≡ Ok (x, m) → takes_sign Comma m ≡ Some (at, l) → length l.1.placed < length s.1.placed

@@ -57,7 +57,8 @@ known_verb : (v : Verb) → verb_of_token (Word (verb_word v)) ≡ Some v
 known_verb verb.Open = refl
 known_verb _ = refl
 
-verb_gets : (v : Verb) (us : List Token) (s : State) → without_places s.1.placed ≡ Word (verb_word v) ∷ us → Gets (token (pass_known verb_of_token) s) s (λ x. x.0 ≡ v) us
+verb_gets : (v : Verb) (us : List Token) (s : State) → without_places s.1.placed ≡ Word (verb_word v) ∷ us
+    → Gets (token (pass_known verb_of_token) s) s (λ x. x.0 ≡ v) us
 verb_gets v us s k = known_gets verb_of_token v (Word (verb_word v)) us (known_verb v) s k
 
 module _ (policy : Policy) (schemes : Schemes) (is_policy : IsPolicy policy) (are_schemes : AreSchemes schemes) where
@@ -69,41 +70,70 @@ module _ (policy : Policy) (schemes : Schemes) (is_policy : IsPolicy policy) (ar
   names : (relation : ℕ) → relation < length schemes → HasNames (place relation)
   names relation within = written_names policy schemes is_policy are_schemes relation within
 
-  keyed_gets : (relation : ℕ) (key : List (Option Value)) (us : List Token) (s : State) → relation < length schemes → HaveKinds (scheme_of schemes relation).keys key
-      → without_places s.1.placed ≡ keyed_tokens policy schemes relation key ++ us → Gets (keyed_at schemes s) s (Same (relation, key)) us
+  keyed_gets : (relation : ℕ) (key : List (Option Value)) (us : List Token) (s : State) → relation < length schemes
+      → HaveKinds (scheme_of schemes relation).keys key
+      → without_places s.1.placed ≡ keyed_tokens policy schemes relation key ++ us
+      → Gets (keyed_at schemes s) s (Same (relation, key)) us
   unfolding keyed_at
   keyed_gets relation key us s within kinds k =
       let keys : ℕ → List Attribute = λ r. (scheme_of schemes r).keys in
-      gets_then (λ r. word_at (codes "key") r.1 >>= λ w. list_at (Some (keys r.0)) w.1 >>= λ key. Ok ((r.0, key.0), key.1))
-      (relation_gets (place relation) (names relation within) relation (Word (codes "key") ∷ (list_tokens key ++ us)) s within k)
-      (λ m t. gets_more (λ w. list_at (Some (keys relation)) w.1 >>= λ key. Ok ((relation, key.0), key.1)) (word_gets (codes "key") (list_tokens key ++ us) (s.0, m) t)
-      (λ w m2 is t2. gets_then (λ key. Ok ((relation, key.0), key.1)) (list_gets (Some (keys relation)) key us (s.0, m2) kinds t2) (λ m3 t3. gets_done (relation, key) s.0 m3 (Same (relation, key)) us refl t3)))
+      gets_then (λ r. word_at (codes "key") r.1 >>= λ w. list_at (Some (keys r.0)) w.1 >>= λ key. Ok (
+        (r.0, key.0),
+        key.1,
+      ))
+      (relation_gets (place relation) (names relation within) relation (Word (codes "key")
+      ∷ (list_tokens key ++ us)) s within k)
+      (λ m t. gets_more (λ w. list_at (Some (keys relation)) w.1 >>= λ key. Ok ((relation, key.0), key.1))
+      (word_gets (codes "key") (list_tokens key ++ us) (s.0, m) t)
+      (λ w m2 is t2. gets_then (λ key. Ok ((relation, key.0), key.1)) (list_gets (Some (keys relation)) key us (
+        s.0,
+        m2,
+      ) kinds t2) (λ m3 t3. gets_done (relation, key) s.0 m3 (Same (relation, key)) us refl t3)))
 
-  view_gets : (relation label : ℕ) (query : Query) (counts : Bool) (ts : List Token) (s : State) → CommandFits policy schemes (commands.View relation label query counts) → TellsQuery policy schemes relation query ts
-      → without_places s.1.placed ≡ command_tokens policy schemes (commands.View relation label query counts) ++ ts → Gets (view_at policy schemes counts s) s (Same (commands.View relation label query counts)) []
+  view_gets : (relation label : ℕ) (query : Query) (counts : Bool) (ts : List Token) (s : State)
+      → CommandFits policy schemes (commands.View relation label query counts)
+      → TellsQuery policy schemes relation query ts
+      → without_places s.1.placed ≡ command_tokens policy schemes (commands.View relation label query counts) ++ ts
+      → Gets (view_at policy schemes counts s) s (Same (commands.View relation label query counts)) []
   unfolding view_at
   view_gets relation label query counts ts s fits tells k =
       let whole : Command = commands.View relation label query counts in
-      gets_then (λ r. label_behind policy (codes "at") r.1 >>= λ l. query_at policy schemes counts r.0 l.1 >>= λ q. Ok (commands.View r.0 l.0 q.0 counts, q.1))
-      (relation_gets (place relation) (names relation fits.0) relation (Word (codes "at") ∷ label_token policy schemes label ∷ ts) s fits.0 k)
-      (λ m t. gets_then (λ l. query_at policy schemes counts relation l.1 >>= λ q. Ok (commands.View relation l.0 q.0 counts, q.1))
+      gets_then (λ r. label_behind policy (codes "at") r.1 >>= λ l. query_at policy schemes counts r.0 l.1 >>=
+      λ q. Ok (commands.View r.0 l.0 q.0 counts, q.1))
+      (relation_gets (place relation) (names relation fits.0) relation (Word (codes "at")
+      ∷ label_token policy schemes label ∷ ts) s fits.0 k)
+      (λ m t. gets_then (λ l. query_at policy schemes counts relation l.1 >>=
+      λ q. Ok (commands.View relation l.0 q.0 counts, q.1))
       (behind_gets (place relation) (names relation fits.0) (codes "at") label ts (s.0, m) fits.1 t)
-      (λ m2 t2. gets_then (λ q. Ok (commands.View relation label q.0 counts, q.1)) (query_gets policy schemes relation is_policy are_schemes fits.0 counts query ts (s.0, m2) fits.2 tells t2)
+      (λ m2 t2. gets_then (λ q. Ok (commands.View relation label q.0 counts, q.1))
+      (query_gets policy schemes relation is_policy are_schemes fits.0 counts query ts (s.0, m2) fits.2 tells t2)
       (λ m3 t3. gets_done whole s.0 m3 (Same whole) [] refl t3)))
 
-  insert_gets : (relation : ℕ) (key values : List (Option Value)) (us : List Token) (s : State) → CommandFits policy schemes (commands.Write relation (writes.Insert key values))
-      → without_places s.1.placed ≡ command_tokens policy schemes (commands.Write relation (writes.Insert key values)) ++ us → Gets (insert_at schemes s) s (Same (commands.Write relation (writes.Insert key values))) us
+  insert_gets : (relation : ℕ) (key values : List (Option Value)) (us : List Token) (s : State)
+      → CommandFits policy schemes (commands.Write relation (writes.Insert key values))
+      → without_places s.1.placed ≡ command_tokens policy schemes (commands.Write relation (writes.Insert key values))
+      ++ us → Gets (insert_at schemes s) s (Same (commands.Write relation (writes.Insert key values))) us
   unfolding insert_at
   insert_gets relation key values us s fits k =
       let whole : Command = commands.Write relation (writes.Insert key values) in
       let others : ℕ → List Attribute = λ r. (scheme_of schemes r).others in
-      gets_then (λ k. word_at (codes "values") k.1 >>= λ w. list_at (Some (others k.0.0)) w.1 >>= λ vs. Ok (commands.Write k.0.0 (writes.Insert k.0.1 vs.0), vs.1))
-      (keyed_gets relation key (Word (codes "values") ∷ (list_tokens values ++ us)) s fits.0 fits.1.0 (k ∙ append_assoc (keyed_tokens policy schemes relation key) (Word (codes "values") ∷ list_tokens values) us))
-      (λ m t. gets_more (λ w. list_at (Some (others relation)) w.1 >>= λ vs. Ok (commands.Write relation (writes.Insert key vs.0), vs.1)) (word_gets (codes "values") (list_tokens values ++ us) (s.0, m) t)
-      (λ w m2 is t2. gets_then (λ vs. Ok (commands.Write relation (writes.Insert key vs.0), vs.1)) (list_gets (Some (others relation)) values us (s.0, m2) fits.1.1 t2) (λ m3 t3. gets_done whole s.0 m3 (Same whole) us refl t3)))
+      gets_then (λ k. word_at (codes "values") k.1 >>= λ w. list_at (Some (others k.0.0)) w.1 >>=
+      λ vs. Ok (commands.Write k.0.0 (writes.Insert k.0.1 vs.0), vs.1))
+      (keyed_gets relation key (Word (codes "values") ∷ (list_tokens values ++ us)) s fits.0 fits.1.0
+      (k ∙ append_assoc (keyed_tokens policy schemes relation key) (Word (codes "values") ∷ list_tokens values) us))
+      (λ m t. gets_more (λ w. list_at (Some (others relation)) w.1 >>=
+      λ vs. Ok (commands.Write relation (writes.Insert key vs.0), vs.1)) (word_gets (codes "values")
+      (list_tokens values ++ us) (s.0, m) t)
+      (λ w m2 is t2. gets_then (λ vs. Ok (commands.Write relation (writes.Insert key vs.0), vs.1))
+      (list_gets (Some (others relation)) values us (s.0, m2) fits.1.1 t2) (λ m3 t3. gets_done whole s.0 m3
+      (Same whole) us refl t3)))
 
-  update_gets : (relation : ℕ) (key : List (Option Value)) (class from : ℕ) (sets : Sets) (us : List Token) (s : State) → CommandFits policy schemes (commands.Write relation (writes.Update key class from sets)) → NotNext (is_sign Comma) us
-      → without_places s.1.placed ≡ command_tokens policy schemes (commands.Write relation (writes.Update key class from sets)) ++ us → Gets (update_at policy schemes s) s (Same (commands.Write relation (writes.Update key class from sets))) us
+  update_gets : (relation : ℕ) (key : List (Option Value)) (class from : ℕ) (sets : Sets) (us : List Token) (s : State)
+      → CommandFits policy schemes (commands.Write relation (writes.Update key class from sets))
+      → NotNext (is_sign Comma) us
+      → without_places s.1.placed ≡ command_tokens policy schemes
+      (commands.Write relation (writes.Update key class from sets)) ++ us → Gets (update_at policy schemes s) s
+      (Same (commands.Write relation (writes.Update key class from sets))) us
   unfolding update_at
   update_gets relation key class from sets us s fits off k =
       let whole : Command = commands.Write relation (writes.Update key class from sets) in
@@ -112,66 +142,120 @@ module _ (policy : Policy) (schemes : Schemes) (is_policy : IsPolicy policy) (ar
       let n = names relation fits.0 in
       let new : List Token = Word (codes "set") ∷ separated (set_tokens scheme) sets in
       let behind : List Token = Word (codes "from") ∷ label_token policy schemes from ∷ new in
-      let made : ℕ × List (Option Value) → ℕ → ℕ → Sets → Command = λ k class from sets. commands.Write k.0 (writes.Update k.1 class from sets) in
-      gets_then (λ k. label_behind policy (codes "class") k.1 >>= λ c. label_behind policy (codes "from") c.1 >>= λ f. sets_at (scheme_of schemes k.0.0) f.1 >>= λ xs. Ok (made k.0 c.0 f.0 xs.0, xs.1))
-      (keyed_gets relation key (Word (codes "class") ∷ label_token policy schemes class ∷ (behind ++ us)) s fits.0 fits.1.0 (k ∙ append_assoc (keyed_tokens policy schemes relation key) (Word (codes "class") ∷ label_token policy schemes class ∷ behind) us))
-      (λ m t. gets_then (λ c. label_behind policy (codes "from") c.1 >>= λ f. sets_at scheme f.1 >>= λ xs. Ok (made (relation, key) c.0 f.0 xs.0, xs.1)) (behind_gets p n (codes "class") class (behind ++ us) (s.0, m) fits.1.1 t)
-      (λ m2 t2. gets_then (λ f. sets_at scheme f.1 >>= λ xs. Ok (made (relation, key) class f.0 xs.0, xs.1)) (behind_gets p n (codes "from") from (new ++ us) (s.0, m2) fits.1.2 t2)
-      (λ m3 t3. gets_then (λ xs. Ok (made (relation, key) class from xs.0, xs.1)) (sets_gets scheme (scheme_is schemes are_schemes relation fits.0) sets us (s.0, m3) fits.1.3 off t3)
+      let made : ℕ × List (Option Value) → ℕ → ℕ → Sets → Command = λ k class from sets. commands.Write k.0
+      (writes.Update k.1 class from sets) in
+      gets_then (λ k. label_behind policy (codes "class") k.1 >>= λ c. label_behind policy (codes "from") c.1 >>=
+      λ f. sets_at (scheme_of schemes k.0.0) f.1 >>= λ xs. Ok (made k.0 c.0 f.0 xs.0, xs.1))
+      (keyed_gets relation key (Word (codes "class") ∷ label_token policy schemes class
+      ∷ (behind ++ us)) s fits.0 fits.1.0 (k ∙ append_assoc (keyed_tokens policy schemes relation key)
+      (Word (codes "class") ∷ label_token policy schemes class ∷ behind) us))
+      (λ m t. gets_then (λ c. label_behind policy (codes "from") c.1 >>= λ f. sets_at scheme f.1 >>=
+      λ xs. Ok (made (relation, key) c.0 f.0 xs.0, xs.1)) (behind_gets p n (codes "class") class (behind ++ us)
+      (s.0, m) fits.1.1 t)
+      (λ m2 t2. gets_then (λ f. sets_at scheme f.1 >>= λ xs. Ok (made (relation, key) class f.0 xs.0, xs.1))
+      (behind_gets p n (codes "from") from (new ++ us) (s.0, m2) fits.1.2 t2)
+      (λ m3 t3. gets_then (λ xs. Ok (made (relation, key) class from xs.0, xs.1))
+      (sets_gets scheme (scheme_is schemes are_schemes relation fits.0) sets us (s.0, m3) fits.1.3 off t3)
       (λ m4 t4. gets_done whole s.0 m4 (Same whole) us refl t4))))
 
-  delete_gets : (relation : ℕ) (key : List (Option Value)) (class : ℕ) (us : List Token) (s : State) → CommandFits policy schemes (commands.Write relation (writes.Delete key class))
-      → without_places s.1.placed ≡ command_tokens policy schemes (commands.Write relation (writes.Delete key class)) ++ us → Gets (delete_at policy schemes s) s (Same (commands.Write relation (writes.Delete key class))) us
+  delete_gets : (relation : ℕ) (key : List (Option Value)) (class : ℕ) (us : List Token) (s : State)
+      → CommandFits policy schemes (commands.Write relation (writes.Delete key class))
+      → without_places s.1.placed ≡ command_tokens policy schemes (commands.Write relation (writes.Delete key class))
+      ++ us → Gets (delete_at policy schemes s) s (Same (commands.Write relation (writes.Delete key class))) us
   unfolding delete_at
   delete_gets relation key class us s fits k =
       let whole : Command = commands.Write relation (writes.Delete key class) in
-      gets_then (λ k. label_behind policy (codes "class") k.1 >>= λ c. Ok (commands.Write k.0.0 (writes.Delete k.0.1 c.0), c.1))
-      (keyed_gets relation key (Word (codes "class") ∷ label_token policy schemes class ∷ us) s fits.0 fits.1.0 (k ∙ append_assoc (keyed_tokens policy schemes relation key) (Word (codes "class") ∷ label_token policy schemes class ∷ []) us))
-      (λ m t. gets_then (λ c. Ok (commands.Write relation (writes.Delete key c.0), c.1)) (behind_gets (place relation) (names relation fits.0) (codes "class") class us (s.0, m) fits.1.1 t)
+      gets_then (λ k. label_behind policy (codes "class") k.1 >>=
+      λ c. Ok (commands.Write k.0.0 (writes.Delete k.0.1 c.0), c.1))
+      (keyed_gets relation key (Word (codes "class") ∷ label_token policy schemes class ∷ us) s fits.0 fits.1.0
+      (k ∙ append_assoc (keyed_tokens policy schemes relation key) (Word (codes "class")
+      ∷ label_token policy schemes class ∷ []) us))
+      (λ m t. gets_then (λ c. Ok (commands.Write relation (writes.Delete key c.0), c.1)) (behind_gets (place relation)
+      (names relation fits.0) (codes "class") class us (s.0, m) fits.1.1 t)
       (λ m2 t2. gets_done whole s.0 m2 (Same whole) us refl t2))
 
-  call_gets : (tx : List ℕ) (args : List (Option Value)) (us : List Token) (s : State) → CommandFits policy schemes (commands.Call tx args)
-      → without_places s.1.placed ≡ command_tokens policy schemes (commands.Call tx args) ++ us → Gets (call_at s) s (Same (commands.Call tx args)) us
+  call_gets : (tx : List ℕ) (args : List (Option Value)) (us : List Token) (s : State)
+      → CommandFits policy schemes (commands.Call tx args)
+      → without_places s.1.placed ≡ command_tokens policy schemes (commands.Call tx args) ++ us
+      → Gets (call_at s) s (Same (commands.Call tx args)) us
   unfolding call_at
   call_gets tx args us s fits k =
-      placed_then (λ n. list_at None n.1 >>= λ args. Ok (commands.Call n.0.0 args.0, args.1)) (name_gets tx (list_tokens args ++ us) s fits.0 k)
-      (λ at m t. gets_then (λ vs. Ok (commands.Call tx vs.0, vs.1)) (list_gets None args us (s.0, m) tt t) (λ m2 t2. gets_done (commands.Call tx args) s.0 m2 (Same (commands.Call tx args)) us refl t2))
+      placed_then (λ n. list_at None n.1 >>= λ args. Ok (commands.Call n.0.0 args.0, args.1))
+      (name_gets tx (list_tokens args ++ us) s fits.0 k)
+      (λ at m t. gets_then (λ vs. Ok (commands.Call tx vs.0, vs.1)) (list_gets None args us (s.0, m) tt t)
+      (λ m2 t2. gets_done (commands.Call tx args) s.0 m2 (Same (commands.Call tx args)) us refl t2))
 
   -- nothing stands behind the tokens of a command that is no view
-  closed : {r : Read Command} {s : State} {c : Command} (us : List Token) → us ≡ [] → Gets r s (Same c) us → Gets r s (Same c) []
-  closed us none h = record { value = h.value; rest = h.rest; is = h.is; holds = h.holds; tokens = h.tokens ∙ none; stop = h.stop }
+  closed : {r : Read Command} {s : State} {c : Command} (us : List Token) → us ≡ [] → Gets r s (Same c) us
+      → Gets r s (Same c) []
+  closed us none h = record {
+    value = h.value;
+    rest = h.rest;
+    is = h.is;
+    holds = h.holds;
+    tokens = h.tokens ∙ none;
+    stop = h.stop;
+  }
 
-  command_gets : (c : Command) (ts : List Token) (s : State) → CommandFits policy schemes c → TellsTail policy schemes c ts → without_places s.1.placed ≡ command_tokens policy schemes c ++ ts
+  command_gets : (c : Command) (ts : List Token) (s : State) → CommandFits policy schemes c
+      → TellsTail policy schemes c ts → without_places s.1.placed ≡ command_tokens policy schemes c ++ ts
       → Gets (command_at policy schemes (verb_of c) s) s (Same c) []
   command_gets (commands.Open user) ts s fits tells k =
-      closed ts tells (placed_then (λ n. Ok (commands.Open n.0.0, n.1)) (name_gets user ts s fits k) (λ at m t. gets_done (commands.Open user) s.0 m (Same (commands.Open user)) ts refl t))
-  command_gets commands.Close ts s fits tells k = closed ts tells (gets_done commands.Close s.0 s.1 (Same commands.Close) ts refl k)
-  command_gets commands.Audit ts s fits tells k = closed ts tells (gets_done commands.Audit s.0 s.1 (Same commands.Audit) ts refl k)
-  command_gets (commands.View relation label query false) ts s fits tells k = view_gets relation label query false ts s fits tells k
-  command_gets (commands.View relation label query true) ts s fits tells k = view_gets relation label query true ts s fits tells k
+      closed ts tells (placed_then (λ n. Ok (commands.Open n.0.0, n.1)) (name_gets user ts s fits k)
+      (λ at m t. gets_done (commands.Open user) s.0 m (Same (commands.Open user)) ts refl t))
+  command_gets commands.Close ts s fits tells k = closed ts tells (gets_done commands.Close s.0 s.1
+      (Same commands.Close) ts refl k)
+  command_gets commands.Audit ts s fits tells k = closed ts tells (gets_done commands.Audit s.0 s.1
+      (Same commands.Audit) ts refl k)
+  command_gets (commands.View relation label query false) ts s fits tells k =
+      view_gets relation label query false ts s fits tells k
+  command_gets (commands.View relation label query true) ts s fits tells k =
+      view_gets relation label query true ts s fits tells k
   command_gets (commands.Dump relation) ts s fits tells k =
-      closed ts tells (gets_then (λ r. Ok (commands.Dump r.0, r.1)) (relation_gets (place relation) (names relation fits) relation ts s fits k) (λ m t. gets_done (commands.Dump relation) s.0 m (Same (commands.Dump relation)) ts refl t))
-  command_gets (commands.Write relation (writes.Insert key values)) ts s fits tells k = closed ts tells (insert_gets relation key values ts s fits k)
+      closed ts tells (gets_then (λ r. Ok (commands.Dump r.0, r.1)) (relation_gets (place relation)
+      (names relation fits) relation ts s fits k) (λ m t. gets_done (commands.Dump relation) s.0 m
+      (Same (commands.Dump relation)) ts refl t))
+  command_gets (commands.Write relation (writes.Insert key values)) ts s fits tells k =
+      closed ts tells (insert_gets relation key values ts s fits k)
   command_gets (commands.Write relation (writes.Update key class from sets)) ts s fits tells k =
-      closed ts tells (update_gets relation key class from sets ts s fits (subst (NotNext (is_sign Comma)) (sym tells) tt) k)
-  command_gets (commands.Write relation (writes.Delete key class)) ts s fits tells k = closed ts tells (delete_gets relation key class ts s fits k)
+      closed ts tells (update_gets relation key class from sets ts s fits (subst (NotNext (is_sign Comma))
+      (sym tells) tt) k)
+  command_gets (commands.Write relation (writes.Delete key class)) ts s fits tells k =
+      closed ts tells (delete_gets relation key class ts s fits k)
   command_gets (commands.Call tx args) ts s fits tells k = closed ts tells (call_gets tx args ts s fits k)
 
   -- ---- a line
 
-  event_gets : (e : Event) (ts : List Token) (s : State) → EventFits policy schemes e → TellsTail policy schemes e.command ts → without_places s.1.placed ≡ event_tokens policy schemes e ++ ts → Gets (event_at policy schemes s) s (Same e) []
+  event_gets : (e : Event) (ts : List Token) (s : State) → EventFits policy schemes e
+      → TellsTail policy schemes e.command ts → without_places s.1.placed ≡ event_tokens policy schemes e ++ ts
+      → Gets (event_at policy schemes s) s (Same e) []
   unfolding event_at
   event_gets e ts s fits tells k =
       let v = verb_of e.command in
       let behind : List Token = command_tokens policy schemes e.command ++ ts in
-      let event : ℕ → List ℕ → Command → Event = λ level session c. record { level = level; session = session; command = c } in
-      gets_then (λ l. name_at l.1 >>= λ n. token (pass_known verb_of_token) n.1 >>= λ v. command_at policy schemes v.0.0 v.1 >>= λ c. Ok (event l.0 n.0.0 c.0, c.1))
+      let event : ℕ → List ℕ → Command → Event = λ level session c. record {
+        level = level;
+        session = session;
+        command =
+            c;
+      } in
+      gets_then (λ l. name_at l.1 >>= λ n. token (pass_known verb_of_token) n.1 >>=
+      λ v. command_at policy schemes v.0.0 v.1 >>= λ c. Ok (event l.0 n.0.0 c.0, c.1))
       (label_gets policy is_policy e.level (Word e.session ∷ Word (verb_word v) ∷ behind) s fits.level k)
-      (λ m t. placed_then (λ n. token (pass_known verb_of_token) n.1 >>= λ v. command_at policy schemes v.0.0 v.1 >>= λ c. Ok (event e.level n.0.0 c.0, c.1)) (name_gets e.session (Word (verb_word v) ∷ behind) (s.0, m) fits.session t)
-      (λ at m2 t2. placed_then (λ v. command_at policy schemes v.0.0 v.1 >>= λ c. Ok (event e.level e.session c.0, c.1)) (verb_gets v behind (s.0, m2) t2)
-      (λ at m3 t3. gets_then (λ c. Ok (event e.level e.session c.0, c.1)) (command_gets e.command ts (s.0, m3) fits.command tells t3) (λ m4 t4. gets_done e s.0 m4 (Same e) [] refl t4))))
+      (λ m t. placed_then (λ n. token (pass_known verb_of_token) n.1 >>= λ v. command_at policy schemes v.0.0 v.1 >>=
+      λ c. Ok (event e.level n.0.0 c.0, c.1)) (name_gets e.session (Word (verb_word v) ∷ behind) (
+        s.0,
+        m,
+      ) fits.session t)
+      (λ at m2 t2. placed_then (λ v. command_at policy schemes v.0.0 v.1 >>= λ c. Ok (event e.level e.session c.0, c.1))
+      (verb_gets v behind (s.0, m2) t2)
+      (λ at m3 t3. gets_then (λ c. Ok (event e.level e.session c.0, c.1)) (command_gets e.command ts (
+        s.0,
+        m3,
+      ) fits.command tells t3) (λ m4 t4. gets_done e s.0 m4 (Same e) [] refl t4))))
 
-  line_again : (line : List ℕ) (o : Option Event) → Tells policy schemes line o → line_at policy schemes line true ≡ Ok o
+  line_again : (line : List ℕ) (o : Option Event) → Tells policy schemes line o → line_at policy schemes line true
+      ≡ Ok o
   unfolding line_at told_at least_from
   line_again line None h =
       let t = (tokens_exact line []).1 h in
@@ -182,11 +266,15 @@ module _ (policy : Policy) (schemes : Schemes) (is_policy : IsPolicy policy) (ar
       let t = (tokens_exact line (event_tokens policy schemes e ++ h.tail)).1 h.tokens in
       let more : has_ended (tokens_at line) ≡ false = not_over (tokens_at line).placed (tokens_at line).stop _ _ t.0 in
       let g = event_gets e h.tail start h.fits h.query t.0 in
-      let over : has_ended g.rest ≡ true = over_again g.rest.placed g.rest.stop g.tokens (ap (λ (s : TokenFault). s.cause) g.stop ∙ t.1) in
-      let read : event_at policy schemes start ≡ Ok (e, ([], g.rest)) = g.is ∙ ap (λ (x : Event). Ok (x, ([], g.rest))) g.holds in
+      let over : has_ended g.rest ≡ true = over_again g.rest.placed g.rest.stop g.tokens
+      (ap (λ (s : TokenFault). s.cause) g.stop ∙ t.1) in
+      let read : event_at policy schemes start ≡ Ok (e, ([], g.rest)) =
+      g.is ∙ ap (λ (x : Event). Ok (x, ([], g.rest))) g.holds in
       let end : end_at ([], g.rest) ≡ Ok (tt, ([], g.rest)) = rw over refl in
-      let answered : Read (Option Event) → Result (Option Event) LineFault = λ r. placed_on r >>= λ x. placed_on (answer (least x.1.0) x.0) in
-      rw more (ap (λ r. answered (r >>= λ e. end_at e.1 >>= λ end. Ok (Some e.0, end.1))) read ∙ ap (λ r. answered (r >>= λ end. Ok (Some e, end.1))) end)
+      let answered : Read (Option Event) → Result (Option Event) LineFault = λ r. placed_on r >>=
+      λ x. placed_on (answer (least x.1.0) x.0) in
+      rw more (ap (λ r. answered (r >>= λ e. end_at e.1 >>= λ end. Ok (Some e.0, end.1))) read
+      ∙ ap (λ r. answered (r >>= λ end. Ok (Some e, end.1))) end)
 
   -- ---- all lines
 
@@ -194,27 +282,37 @@ module _ (policy : Policy) (schemes : Schemes) (is_policy : IsPolicy policy) (ar
   fed line = line.text ++ 10 ∷ []
 
   lines_again : (lines : List Line) (number : ℕ) (events : List Event) → AllByRecursion (IsLineOf policy schemes) lines
-      → lines_at policy schemes number events (split_lines [] (flat_map fed lines)) ≡ Ok (events ++ filter_map (λ (x : Line). x.event) lines)
+      → lines_at policy schemes number events (split_lines [] (flat_map fed lines))
+      ≡ Ok (events ++ filter_map (λ (x : Line). x.event) lines)
   lines_again [] number events h = ap (λ (x : List Event). Ok x) (sym (append-nil events))
   lines_again (line ∷ lines) number events h =
-      let split : split_lines [] (flat_map fed (line ∷ lines)) ≡ (line.text, true) ∷ split_lines [] (flat_map fed lines) =
-      ap (split_lines []) (append_assoc line.text (10 ∷ []) (flat_map fed lines)) ∙ split_ended [] line.text (flat_map fed lines) h.0.one in
+      let split : split_lines [] (flat_map fed (line ∷ lines)) ≡ (line.text, true) ∷ split_lines []
+      (flat_map fed lines) =
+      ap (split_lines []) (append_assoc line.text (10 ∷ []) (flat_map fed lines)) ∙ split_ended [] line.text
+      (flat_map fed lines) h.0.one in
       ap (lines_at policy schemes number events) split
-      ∙ ap (λ r. in_script number r >>= λ e. lines_at policy schemes (number + 1) (events ++ option_to_list e) (split_lines [] (flat_map fed lines))) (line_again line.text line.event h.0.tells)
+      ∙ ap (λ r. in_script number r >>= λ e. lines_at policy schemes (number + 1) (events ++ option_to_list e)
+      (split_lines [] (flat_map fed lines))) (line_again line.text line.event h.0.tells)
       ∙ lines_again lines (number + 1) (events ++ option_to_list line.event) h.1
-      ∙ ap (λ (x : List Event). Ok x) (append_assoc events (option_to_list line.event) (filter_map (λ (x : Line). x.event) lines)
-      ∙ ap (λ x. events ++ x) (ap (λ x. x ++ filter_map (λ (y : Line). y.event) lines) (listed line.event line.text) ∙ sym (filter_map-append (λ (y : Line). y.event) (line ∷ []) lines)))
+      ∙ ap (λ (x : List Event). Ok x) (append_assoc events (option_to_list line.event)
+      (filter_map (λ (x : Line). x.event) lines)
+      ∙ ap (λ x. events ++ x) (ap (λ x. x ++ filter_map (λ (y : Line). y.event) lines) (listed line.event line.text)
+      ∙ sym (filter_map-append (λ (y : Line). y.event) (line ∷ []) lines)))
 
-  pub script_again : (bytes : List ℕ) (es : List Event) → ReadsScript policy schemes bytes es → script_at policy schemes bytes ≡ Ok es
+  pub script_again : (bytes : List ℕ) (es : List Event) → ReadsScript policy schemes bytes es
+      → script_at policy schemes bytes ≡ Ok es
   unfolding script_at
   script_again bytes es h =
-      ap (λ x. lines_at policy schemes 1 [] (split_lines [] x)) h.text ∙ lines_again h.lines 1 [] h.each ∙ ap (λ (x : List Event). Ok x) (sym h.told)
+      ap (λ x. lines_at policy schemes 1 [] (split_lines [] x)) h.text ∙ lines_again h.lines 1 [] h.each
+      ∙ ap (λ (x : List Event). Ok x) (sym h.told)
 
   -- a text that tells events is not refused
-  pub read_refused : {X : Type 0} (view : X → List Event) (bytes : List ℕ) (r : Result X ScriptFault) → GivesScript view r (script_at policy schemes bytes)
+  pub read_refused : {X : Type 0} (view : X → List Event) (bytes : List ℕ) (r : Result X ScriptFault)
+      → GivesScript view r (script_at policy schemes bytes)
       → IfErr r (λ e. (e.cause ≡ Memory → ⊥) → (es : List Event) → ReadsScript policy schemes bytes es → ⊥)
   read_refused view bytes (Ok x) given = tt
-  read_refused view bytes (Err e) given = λ other es reads. let p = given other in let q = script_again bytes es reads in cc
+  read_refused view bytes (Err e) given = λ other es reads. let p = given other in let q = script_again bytes es reads
+      in cc
 
 -- ---- a text tells the events of one list at most
 
@@ -223,4 +321,5 @@ done_is es fs r p q = cc
 
 pub scripts_once : ScriptsAreOnce
 scripts_once policy schemes is_policy are_schemes bytes es fs p q =
-    done_is es fs (script_at policy schemes bytes) (script_again policy schemes is_policy are_schemes bytes es p) (script_again policy schemes is_policy are_schemes bytes fs q)
+    done_is es fs (script_at policy schemes bytes) (script_again policy schemes is_policy are_schemes bytes es p)
+    (script_again policy schemes is_policy are_schemes bytes fs q)

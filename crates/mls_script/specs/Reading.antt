@@ -1,4 +1,5 @@
--- What a script says, or its fault: line by line, on a line first its form, then the least fault of its names and kinds.
+-- What a script says, or its fault: line by line, on a line first its form, then the least fault of its names and
+-- kinds.
 use Rattle.std.specs.Prelude.{◌≡◌, ℕ, ◌+◌, Bool, true, false, ◌==◌, if◌then◌else◌, List, [], ◌∷◌, ◌++◌, length, codes}
 use Rattle.std.specs.Prelude.{Option, Some, None, option_to_list, Result, Ok, Err}
 use Rattle.mls_lattice.specs.Policy.{Policy}
@@ -157,7 +158,8 @@ unfoldable pub script_at : Policy → Schemes → List ℕ → Result (List Even
 script_at policy schemes bytes = lines_at policy schemes 1 [] (split_lines [] bytes)
 
 -- What script returned is what reading gives, unless memory ran out.
-abbrev pub GivesScript : {X : Type 0} → (X → List Event) → Result X ScriptFault → Result (List Event) ScriptFault → Type 0
+abbrev pub GivesScript : {X : Type 0} → (X → List Event) → Result X ScriptFault → Result (List Event) ScriptFault
+    → Type 0
 GivesScript = GivesUnless (λ e. e.cause ≡ Memory)
 
 -- The same of what is read of a line.

@@ -42,4 +42,5 @@ pub record ReadsScript (policy : Policy) (schemes : Schemes) (bytes : List ℕ) 
 abbrev pub ScriptsAreOnce : Type 0
 ScriptsAreOnce =
     (policy : Policy) (schemes : Schemes) → IsPolicy policy → AreSchemes schemes
-    → (bytes : List ℕ) (es fs : List Event) → ReadsScript policy schemes bytes es → ReadsScript policy schemes bytes fs → es ≡ fs
+    → (bytes : List ℕ) (es fs : List Event) → ReadsScript policy schemes bytes es → ReadsScript policy schemes bytes fs
+    → es ≡ fs

@@ -53,16 +53,20 @@ module _ (at : Site) (w : World) (e : Event) where
     unfolding step
     inside_is = ap (step_at at w e e.command) held
 
-    denied_call : (name : Name) (args : List (Option Value)) (o : Option Stored) (d : Denial) → call_denial at e.level user args o ≡ Some d → call_step at w e user name args o ≡ denied at w e user d
+    denied_call : (name : Name) (args : List (Option Value)) (o : Option Stored) (d : Denial)
+        → call_denial at e.level user args o ≡ Some d → call_step at w e user name args o ≡ denied at w e user d
     denied_call name args None d h = ap (denied at w e user) (some_is UnknownTransaction d h)
     denied_call name args (Some (Plain tx)) d h = ap (denied at w e user) (some_is NotCertified d h)
-    denied_call name args (Some (Certified k)) d h = ap (λ o. unless at o w e user (called at w e user name k.tx args)) h
+    denied_call name args (Some (Certified k)) d h =
+        ap (λ o. unless at o w e user (called at w e user name k.tx args)) h
 
-    denied_inside : (command : Command) (d : Denial) → denial_in at e.level user command ≡ Some d → step_inside at w e command user ≡ denied at w e user d
+    denied_inside : (command : Command) (d : Denial) → denial_in at e.level user command ≡ Some d
+        → step_inside at w e command user ≡ denied at w e user d
     denied_inside (commands.Open name) d h = ap (denied at w e user) (some_is AlreadyOpen d h)
     denied_inside commands.Close d h = none_is d h
     denied_inside commands.Audit d h = none_is d h
-    denied_inside (commands.View relation label query counts) d h = ap (λ o. unless at o w e user (viewed at w relation label query)) h
+    denied_inside (commands.View relation label query counts) d h =
+        ap (λ o. unless at o w e user (viewed at w relation label query)) h
     denied_inside (commands.Dump relation) d h = ap (λ o. unless at o w e user (dumped at w relation e.level)) h
     denied_inside (commands.Write relation wr) d h = ap (λ o. unless at o w e user (wrote at w e.level relation wr)) h
     denied_inside (commands.Call name args) d h = denied_call name args (stored_named at.stored name) d h
@@ -70,12 +74,16 @@ module _ (at : Site) (w : World) (e : Event) where
     pub denied_is : (d : Denial) → denial_in at e.level user e.command ≡ Some d → step at w e ≡ denied at w e user d
     denied_is d h = inside_is ∙ denied_inside e.command d h
 
-    pub viewed_is : (relation label : ℕ) (query : Query) (counts : Bool) → e.command ≡ commands.View relation label query counts → denial_in at e.level user e.command ≡ None → step at w e ≡ viewed at w relation label query
+    pub viewed_is : (relation label : ℕ) (query : Query) (counts : Bool)
+        → e.command ≡ commands.View relation label query counts → denial_in at e.level user e.command ≡ None
+        → step at w e ≡ viewed at w relation label query
     viewed_is relation label query counts is h =
         inside_is ∙ ap (λ x. step_inside at w e x user) is
-        ∙ ap (λ o. unless at o w e user (viewed at w relation label query)) (sym (ap (denial_in at e.level user) is) ∙ h)
+        ∙ ap (λ o. unless at o w e user (viewed at w relation label query)) (sym (ap (denial_in at e.level user) is)
+        ∙ h)
 
-    pub dumped_is : (relation : ℕ) → e.command ≡ commands.Dump relation → denial_in at e.level user e.command ≡ None → step at w e ≡ dumped at w relation e.level
+    pub dumped_is : (relation : ℕ) → e.command ≡ commands.Dump relation → denial_in at e.level user e.command ≡ None
+        → step at w e ≡ dumped at w relation e.level
     dumped_is relation is h =
         inside_is ∙ ap (λ x. step_inside at w e x user) is
         ∙ ap (λ o. unless at o w e user (dumped at w relation e.level)) (sym (ap (denial_in at e.level user) is) ∙ h)
@@ -105,7 +113,10 @@ not_served : {A : Type 0} (e : BaseFault) → e ≡ faults.Memory → e ≡ faul
 not_served e h k = absurd (let both : faults.Memory ≡ faults.Store = sym h ∙ k in cc)
 
 memory_served : (e : BaseFault) → e ≡ faults.Memory → IsServed e
-memory_served e h = (λ k. (let both : faults.Memory ≡ faults.NotBegun = sym h ∙ k in cc), λ k. (let both : faults.Memory ≡ faults.Begun = sym h ∙ k in cc))
+memory_served e h = (
+  λ k. (let both : faults.Memory ≡ faults.NotBegun = sym h ∙ k in cc),
+  λ k. (let both : faults.Memory ≡ faults.Begun = sym h ∙ k in cc),
+)
 
 module _ {B : Type 0} (seen : B → Seen) (old : Engine B) (ready : IsEngineReady seen old)
     (event : Event) (fits : EventFits (site old).policy (site old).schemes event) where
@@ -135,34 +146,48 @@ module _ {B : Type 0} (seen : B → Seen) (old : Engine B) (ready : IsEngineRead
     over_turn (Err e) t = record {
       clean = t.clean;
       count = t.count;
-      fault = record { served = t.fault.served; store = t.fault.store; same = λ c. ap (world_at (site old) (sessions_of old.sessions.items)) (t.fault.same c) };
+      fault = record {
+        served = t.fault.served;
+        store = t.fault.store;
+        same =
+            λ c. ap (world_at (site old) (sessions_of old.sessions.items)) (t.fault.same c);
+      };
     }
 
     over_world : (r : Reply) → IsStepOver (site old) X (now old.base) (now b) r → world_of seen new ≡ s.world
     over_world r h = h.world (sessions_of old.sessions.items) ∙ ap (λ (t : Step). t.world) (sym is)
 
     over_done : (r : Result Reply BaseFault) → Over r → IfOk r (IsEngineStep seen old s new)
-    over_done (Ok r) h = record { reply = h.reply (sessions_of old.sessions.items) ∙ ap (λ (t : Step). t.reply) (sym is); world = over_world r h }
+    over_done (Ok r) h = record {
+      reply = h.reply (sessions_of old.sessions.items) ∙ ap (λ (t : Step). t.reply)
+          (sym is);
+      world = over_world r h;
+    }
     over_done (Err e) h = tt
 
-    over_sound : (r : Result Reply BaseFault) → IsTurn seen now old.base b r → (seen b).is_clean → Over r → IsSoundContent (site old).policy (site old).schemes (now b)
+    over_sound : (r : Result Reply BaseFault) → IsTurn seen now old.base b r → (seen b).is_clean → Over r
+        → IsSoundContent (site old).policy (site old).schemes (now b)
     over_sound (Ok r) t c h = record {
-      content = subst (AreContent (site_labels (site old)) (site old).schemes) (sym (ap (λ (x : World). x.db) (over_world r h)))
+      content = subst (AreContent (site_labels (site old)) (site old).schemes)
+          (sym (ap (λ (x : World). x.db) (over_world r h)))
           (step_content (site old) old.site.distinct ready.read w event (ready.rest.sound (t.clean c)).content fits);
       entries = h.entries (ready.rest.sound (t.clean c)).entries;
     }
-    over_sound (Err e) t c h = subst (IsSoundContent (site old).policy (site old).schemes) (sym (t.fault.same c)) (ready.rest.sound (t.clean c))
+    over_sound (Err e) t c h = subst (IsSoundContent (site old).policy (site old).schemes) (sym (t.fault.same c))
+        (ready.rest.sound (t.clean c))
 
     -- views of the content that the event leaves
     abbrev Are : Kept → Type 0
     Are = AreViews (site old).policy seen b
 
     -- where it leaves the database
-    db_stays : (r : Result Reply BaseFault) → IsTurn seen now old.base b r → ((seen b).is_clean → Over r) → (X w).world.db ≡ w.db → (seen b).is_clean → (now b).db ≡ w.db
+    db_stays : (r : Result Reply BaseFault) → IsTurn seen now old.base b r → ((seen b).is_clean → Over r)
+        → (X w).world.db ≡ w.db → (seen b).is_clean → (now b).db ≡ w.db
     db_stays (Ok r) t h same c = ap (λ (x : World). x.db) (over_world r (h c)) ∙ ap (λ (x : Step). x.world.db) is ∙ same
     db_stays (Err e) t h same c = ap (λ (x : Content). x.db) (t.fault.same c)
 
-    pub answers_over : (r : Result Reply BaseFault) → IsTurn seen now old.base b r → (seen b).state.begun ≡ false → ((seen b).is_clean → Over r) → Are views → Answered new r
+    pub answers_over : (r : Result Reply BaseFault) → IsTurn seen now old.base b r → (seen b).state.begun ≡ false
+        → ((seen b).is_clean → Over r) → Are views → Answered new r
     answers_over r t idle h are = record {
       turn = over_turn r t;
       kept = record {
@@ -177,10 +202,12 @@ module _ {B : Type 0} (seen : B → Seen) (old : Engine B) (ready : IsEngineRead
       done = λ c. over_done r (h c);
     }
 
-    pub answers_stay : (r : Result Reply BaseFault) → IsTurn seen now old.base b r → (seen b).state.begun ≡ false → ((seen b).is_clean → Over r) → (X w).world.db ≡ w.db → views ≡ old.views → Answered new r
+    pub answers_stay : (r : Result Reply BaseFault) → IsTurn seen now old.base b r → (seen b).state.begun ≡ false
+        → ((seen b).is_clean → Over r) → (X w).world.db ≡ w.db → views ≡ old.views → Answered new r
     answers_stay r t idle h same kept =
         answers_over r t idle h
-        (subst Are (sym kept) (kept_same (site old).policy seen old.base b old.views t.clean (db_stays r t h same) ready.views))
+        (subst Are (sym kept) (kept_same (site old).policy seen old.base b old.views t.clean
+        (db_stays r t h same) ready.views))
 
   -- ---- with other sessions
 
@@ -189,9 +216,20 @@ module _ {B : Type 0} (seen : B → Seen) (old : Engine B) (ready : IsEngineRead
     with_them = record old { sessions = sessions }
 
     them_kept : IsKept seen old with_them
-    them_kept = record { site = refl; ready = record { read = ready.read; users = users; rest = ready.rest; views = ready.views } }
+    them_kept = record {
+      site = refl;
+      ready = record {
+        read = ready.read;
+        users = users;
+        rest = ready.rest;
+        views =
+            ready.views;
+      };
+    }
 
-    pub answers_closed : sessions_of sessions.items ≡ with_session (sessions_of old.sessions.items) event.level event.session None → s ≡ closed w event → Answered with_them (Ok Closed)
+    pub answers_closed : sessions_of sessions.items
+        ≡ with_session (sessions_of old.sessions.items) event.level event.session None → s ≡ closed w event
+        → Answered with_them (Ok Closed)
     answers_closed h is = record {
       turn = record { clean = λ c. c; count = omega arith; fault = tt };
       kept = them_kept;
@@ -202,9 +240,11 @@ module _ {B : Type 0} (seen : B → Seen) (old : Engine B) (ready : IsEngineRead
     }
 
     abbrev Opens : Result Reply BaseFault → Type 0
-    Opens r = IfOk r (IsSessionStep (λ v. step_outside (site old) v event event.command) old.sessions.items sessions.items)
+    Opens r = IfOk r (IsSessionStep (λ v. step_outside
+        (site old) v event event.command) old.sessions.items sessions.items)
 
-    opened_turn : (r : Result Reply BaseFault) → IfErr r (λ e. e ≡ faults.Memory) → OnErr r (sessions.items ≡ old.sessions.items) → IsEngineTurn seen old with_them r
+    opened_turn : (r : Result Reply BaseFault) → IfErr r (λ e. e ≡ faults.Memory)
+        → OnErr r (sessions.items ≡ old.sessions.items) → IsEngineTurn seen old with_them r
     opened_turn (Ok r) memory same = record { clean = λ c. c; count = omega arith; fault = tt }
     opened_turn (Err e) memory same = record {
       clean = λ c. c;
@@ -216,12 +256,19 @@ module _ {B : Type 0} (seen : B → Seen) (old : Engine B) (ready : IsEngineRead
       };
     }
 
-    opened_done : (r : Result Reply BaseFault) → s ≡ step_outside (site old) w event event.command → Opens r → IfOk r (IsEngineStep seen old s with_them)
+    opened_done : (r : Result Reply BaseFault) → s ≡ step_outside (site old) w event event.command → Opens r
+        → IfOk r (IsEngineStep seen old s with_them)
     opened_done (Ok r) is h = record {
       reply = h.reply w.db w.audit ∙ ap (λ (t : Step). t.reply) (sym is);
       world = h.world w.db w.audit ∙ ap (λ (t : Step). t.world) (sym is);
     }
     opened_done (Err e) is h = tt
 
-    pub answers_opened : (r : Result Reply BaseFault) → s ≡ step_outside (site old) w event event.command → Opens r → IfErr r (λ e. e ≡ faults.Memory) → OnErr r (sessions.items ≡ old.sessions.items) → Answered with_them r
-    answers_opened r is h memory same = record { turn = opened_turn r memory same; kept = them_kept; done = λ c. opened_done r is h }
+    pub answers_opened : (r : Result Reply BaseFault) → s ≡ step_outside (site old) w event event.command → Opens r
+        → IfErr r (λ e. e ≡ faults.Memory) → OnErr r (sessions.items ≡ old.sessions.items) → Answered with_them r
+    answers_opened r is h memory same = record {
+      turn = opened_turn r memory same;
+      kept = them_kept;
+      done =
+          λ c. opened_done r is h;
+    }

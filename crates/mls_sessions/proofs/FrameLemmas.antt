@@ -10,7 +10,8 @@ use Rattle.mls_sessions.specs.Sessions.{site_of_run, sessions_of}
 use Rattle.mls_sessions.specs.World.{world_at}
 
 -- an error that is passed on
-pub carried : {A F : Type 0} (P : Result A F → Type 0) (r : Result A F) (f : F) → IsErrAnd r (λ e. e ≡ f) → P (Err f) → P r
+pub carried : {A F : Type 0} (P : Result A F → Type 0) (r : Result A F) (f : F) → IsErrAnd r (λ e. e ≡ f) → P (Err f)
+    → P r
 carried P (Ok a) f h p = absurd h
 carried P (Err e) f h p = subst (λ x. P (Err x)) (sym h) p
 
@@ -29,9 +30,28 @@ module _ {B : Type 0} (seen : B → Seen) where
   WentWell old now = let all : Result (Unit {0}) RunFault = Ok tt in Goes old now all
 
   -- nothing was done
-  pub goes_nowhere : {A : Type 0} (e : Engine B) → IsEngineReady seen e → (r : Result A RunFault) → IfErr r (λ f. f.cause ≡ Store → ⊥) → Goes e e r
-  goes_nowhere e ready (Ok a) h = record { clean = λ c. c; count = omega arith; kept = record { site = refl; ready = ready }; store = λ c. tt }
-  goes_nowhere e ready (Err f) h = record { clean = λ c. c; count = omega arith; kept = record { site = refl; ready = ready }; store = λ c is. absurd (h is) }
+  pub goes_nowhere : {A : Type 0} (e : Engine B) → IsEngineReady seen e → (r : Result A RunFault)
+      → IfErr r (λ f. f.cause ≡ Store → ⊥) → Goes e e r
+  goes_nowhere e ready (Ok a) h = record {
+    clean = λ c. c;
+    count = omega arith;
+    kept = record {
+      site = refl;
+      ready =
+          ready;
+    };
+    store = λ c. tt;
+  }
+  goes_nowhere e ready (Err f) h = record {
+    clean = λ c. c;
+    count = omega arith;
+    kept = record {
+      site = refl;
+      ready =
+          ready;
+    };
+    store = λ c is. absurd (h is);
+  }
 
   -- the first of it stopped
   pub goes_first : {A C : Type 0} (a b : Engine B) (f : RunFault) → Goes {A = A} a b (Err f) → Goes {A = C} a b (Err f)
@@ -43,7 +63,13 @@ module _ {B : Type 0} (seen : B → Seen) where
     goes_well y = record { clean = h.clean; count = h.count; kept = h.kept; store = λ is. tt }
 
     pub worn_frame : (f : RunFault) → f.cause ≡ Memory → Goes {A = C} a b (Err f)
-    worn_frame f memory = record { clean = h.clean; count = h.count; kept = h.kept; store = λ is store. absurd (let e : Memory ≡ Store = sym memory ∙ store in cc) }
+    worn_frame f memory = record {
+      clean = h.clean;
+      count = h.count;
+      kept = h.kept;
+      store = λ is store. absurd
+          (let e : Memory ≡ Store = sym memory ∙ store in cc);
+    }
 
   module _ {A C D : Type 0} (a b c : Engine B) (x : A) (h : Goes a b (Ok x)) where
     -- all is done, or the last of it stopped
@@ -64,7 +90,8 @@ module _ {B : Type 0} (seen : B → Seen) where
     }
 
   -- a base is given back
-  pub left_behind : {A : Type 0} (base : B) (old new : Engine B) (left : B) (r : Result A RunFault) → old.base ≡ base → left ≡ new.base → Goes old new r → Leaves seen base left r
+  pub left_behind : {A : Type 0} (base : B) (old new : Engine B) (left : B) (r : Result A RunFault) → old.base ≡ base
+      → left ≡ new.base → Goes old new r → Leaves seen base left r
   left_behind base old new left r from to h =
       subst (λ b. Leaves seen base b r) (sym to) (subst (λ b. Leaves seen b new.base r) from
       (record { clean = h.clean; idle = h.kept.ready.rest.idle; count = h.count; store = h.store }))
@@ -74,10 +101,12 @@ module _ {B : Type 0} (seen : B → Seen) where
     pub rest : IsAtRest seen at.policy at.schemes left
     pub world : world_of seen new ≡ world_at at (sessions_of new.sessions.items) (seen left).state.now
 
-  pub given_back : (at : Site) (first new : Engine B) (left : B) → site first ≡ at → IsKept seen first new → left ≡ new.base → GivesBack at new left
+  pub given_back : (at : Site) (first new : Engine B) (left : B) → site first ≡ at → IsKept seen first new
+      → left ≡ new.base → GivesBack at new left
   given_back at first new left from kept to =
       let same : site new ≡ at = ap site_of_run kept.site ∙ from in
       record {
-        rest = subst (IsAtRest seen at.policy at.schemes) (sym to) (subst (λ (x : Site). IsAtRest seen x.policy x.schemes new.base) same kept.ready.rest);
+        rest = subst (IsAtRest seen at.policy at.schemes) (sym to)
+            (subst (λ (x : Site). IsAtRest seen x.policy x.schemes new.base) same kept.ready.rest);
         world = λ i. world_at (same i) (sessions_of new.sessions.items) (seen (sym to i)).state.now;
       }

@@ -20,25 +20,38 @@ use Rattle.mls_sessions.specs.Turns.{IsStepOver}
 
 module _ {B : Type 0} (seen : B → Seen) where
   -- a denial leaves the database
-  pub denied_views : (site : Site) (event : Event) (user : ℕ) (denial : Denial) (a c : B) (es : Kept) (r : Result Reply BaseFault) → ((seen c).is_clean → (seen a).is_clean)
-      → ((seen c).is_clean → IfOk r (IsStepOver site (λ w. denied site w event user denial) (seen a).state.now (seen c).state.now))
+  pub denied_views : (site : Site) (event : Event) (user : ℕ) (denial : Denial) (a c : B) (es : Kept)
+      (r : Result Reply BaseFault) → ((seen c).is_clean → (seen a).is_clean)
+      → ((seen c).is_clean → IfOk r (IsStepOver site (λ w. denied site w event user denial) (seen a).state.now
+      (seen c).state.now))
       → AreViews site.policy seen a es → OnOk r (AreViews site.policy seen c es)
-  denied_views site event user denial a c es (Ok r) back done views = kept_same site.policy seen a c es back (λ k. ap (λ (w : World). w.db) ((done k).world no_sessions)) views
+  denied_views site event user denial a c es (Ok r) back done views = kept_same site.policy seen a c es back
+      (λ k. ap (λ (w : World). w.db) ((done k).world no_sessions)) views
   denied_views site event user denial a c es (Err e) back done views = tt
 
 -- ---- a write that fits its scheme
 
 -- the class of its key is declared
-pub key_class_within : (policy : Policy) (scheme : Scheme) (level : ℕ) → level < length policy.labels → (wr : Write) → IsWriteOf policy scheme wr → key_class_of level wr < length policy.labels
+pub key_class_within : (policy : Policy) (scheme : Scheme) (level : ℕ) → level < length policy.labels → (wr : Write)
+    → IsWriteOf policy scheme wr → key_class_of level wr < length policy.labels
 key_class_within policy scheme level within (Insert key values) fits = within
 key_class_within policy scheme level within (Update key key_class from sets) fits = fits.1
 key_class_within policy scheme level within (Delete key key_class) fits = fits.1
 
 -- it may be made, over content of the stored form
-module _ {B : Type 0} (seen : B → Seen) (base : B) (policy : Policy) (schemes : Schemes) (relation level : ℕ) (within : level < length policy.labels) (declared : relation < length schemes)
-    (under : AreUnder (length policy.labels) schemes) (stored : (seen base).is_clean → IsContent (labels_of policy) (scheme_of schemes relation) ((seen base).state.now.db relation)) where
-  pub can_write : (wr : Write) → IsWriteOf policy (scheme_of schemes relation) wr → CanWrite seen base policy schemes relation level wr
-  can_write (Insert key values) fits = record { label = within; declared = declared; under = under; kinds = fits; stored = stored }
+module _ {B : Type 0} (seen : B → Seen) (base : B) (policy : Policy) (schemes : Schemes) (relation level : ℕ)
+    (within : level < length policy.labels) (declared : relation < length schemes)
+    (under : AreUnder (length policy.labels) schemes) (stored : (seen base).is_clean → IsContent (labels_of policy)
+    (scheme_of schemes relation) ((seen base).state.now.db relation)) where
+  pub can_write : (wr : Write) → IsWriteOf policy (scheme_of schemes relation) wr
+      → CanWrite seen base policy schemes relation level wr
+  can_write (Insert key values) fits = record {
+    label = within;
+    declared = declared;
+    under = under;
+    kinds = fits;
+    stored = stored;
+  }
   can_write (Update key key_class from sets) fits = record {
     label = within;
     key_class = fits.1;
@@ -51,4 +64,10 @@ module _ {B : Type 0} (seen : B → Seen) (base : B) (policy : Policy) (schemes 
     kinds = fits.3.kinds;
     stored = stored;
   }
-  can_write (Delete key key_class) fits = record { label = within; key_class = fits.1; declared = declared; key = fits.0; stored = stored }
+  can_write (Delete key key_class) fits = record {
+    label = within;
+    key_class = fits.1;
+    declared = declared;
+    key = fits.0;
+    stored = stored;
+  }

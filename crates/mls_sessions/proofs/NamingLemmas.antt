@@ -10,6 +10,7 @@ pub copy_is_short : (copy name : Name) → copy ≡ name → is_name name ≡ tr
 copy_is_short copy name same is = subst IsShortName (sym same) (name-short name is)
 
 -- an entry that was written has a spelling
-pub spelled_as : {A F : Type 0} (r : Result A F) (written meant : Entry) → written ≡ meant → IsShort written → OnOk r (IsEntry written) → OnOk r (HasSpelling meant)
+pub spelled_as : {A F : Type 0} (r : Result A F) (written meant : Entry) → written ≡ meant → IsShort written
+    → OnOk r (IsEntry written) → OnOk r (HasSpelling meant)
 spelled_as (Ok x) written meant same short whole = subst HasSpelling same (whole, short)
 spelled_as (Err e) written meant same short whole = tt

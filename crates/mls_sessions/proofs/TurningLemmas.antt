@@ -13,7 +13,9 @@ module _ (p : Policy) (c : ℕ) where
   seen_lines : (es : List Entry) → out (labels_of p) c (turn_lines p es) ≡ turn_lines p (visible (labels_of p) c es)
   seen_lines [] = refl
   seen_lines (e ∷ es) =
-      elim (below (labels_of p) (label_of e) c) as (λ b. cond b (turn_line p e ∷ out (labels_of p) c (turn_lines p es)) (out (labels_of p) c (turn_lines p es)) ≡ turn_lines p (cond b (e ∷ visible (labels_of p) c es) (visible (labels_of p) c es))) [
+      elim (below (labels_of p) (label_of e) c) as (λ b. cond b (turn_line p e ∷ out (labels_of p) c (turn_lines p es))
+      (out (labels_of p) c (turn_lines p es)) ≡ turn_lines p (cond b (e ∷ visible (labels_of p) c es)
+      (visible (labels_of p) c es))) [
         | true ↦ ap (λ (ls : List Line). turn_line p e ∷ ls) (seen_lines es)
         | false ↦ seen_lines es
       ]

@@ -12,7 +12,8 @@ abbrev pub denial_in : Site → ℕ → ℕ → Command → Option Denial
 denial_in site level user (commands.Open name) = Some AlreadyOpen
 denial_in site level user commands.Close = None
 denial_in site level user commands.Audit = None
-denial_in site level user (commands.View relation label query counts) = first_denial (view_denials site level user relation label)
+denial_in site level user (commands.View relation label query counts) =
+    first_denial (view_denials site level user relation label)
 denial_in site level user (commands.Dump relation) = first_denial (view_denials site level user relation level)
 denial_in site level user (commands.Write relation wr) =
     first_denial (write_denials site level user relation wr)

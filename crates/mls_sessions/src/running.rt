@@ -10,7 +10,16 @@ ghost use Rattle.mls_sessions.specs.Sessions.{site_of_run};
 ghost use Rattle.mls_machine.specs.Known.{HasKnownNumbers};
 ghost use Rattle.mls_sessions.specs.Access.{IsPermitted, ArePermitted};
 ghost use Rattle.mls_sessions.specs.Engine.{site, world_of, IsEngineReady, Continues};
-ghost use Rattle.mls_sessions.specs.Run.{notice_of, last_of, notice_in, IsWhole, IsStopped, IsFaultOf, IsEventAnswered, IsHalted};
+ghost use Rattle.mls_sessions.specs.Run.{
+  notice_of,
+  last_of,
+  notice_in,
+  IsWhole,
+  IsStopped,
+  IsFaultOf,
+  IsEventAnswered,
+  IsHalted,
+};
 
 use crate::cause::{cause_of, fault_at};
 use crate::engine::Engine;
@@ -22,7 +31,8 @@ use mls_machine::{Audience, Form, Reply, is_known, shown_to};
 use mls_translang::{Event, RunCause, RunFault};
 use std::io::Write;
 
-/// The lines of the reply to an event that the audience is shown. `Store` is the cause where a class is not declared, as
+/// The lines of the reply to an event that the audience is shown. `Store` is the cause where a class is not declared,
+/// as
 /// may be over a store that gives other content than was written.
 fn text_of(
     site: &Site,
@@ -53,7 +63,8 @@ fn text_of(
     }
 }
 
-/// Answers one event, which has a number, notes why it was not done, and writes the lines of the reply that the audience is
+/// Answers one event, which has a number, notes why it was not done, and writes the lines of the reply that the
+/// audience is
 /// shown. Where there are none, nothing is asked of the writer.
 fn answer<B: Base, W: Write>(
     engine: &mut Engine<B>,
@@ -93,15 +104,19 @@ fn answer<B: Base, W: Write>(
     }
 }
 
-/// Answers events in order, and writes of the reply of each, before the next begins, what the audience is shown: the lines
+/// Answers events in order, and writes of the reply of each, before the next begins, what the audience is shown: the
+/// lines
 /// whose labels its reader dominates, or all lines where it has none, in its form.
 ///
-/// The first event that fails stops it: `Store` where the store fails, `Memory` where a growth is refused, `Write` where
+/// The first event that fails stops it: `Store` where the store fails, `Memory` where a growth is refused, `Write`
+/// where
 /// the writer refuses. That it stopped, and where, is not decided by what the reader sees.
 ///
 /// What a level is shown passes nothing down to it but what calls release: the lines whose labels it dominates are the
-/// same, in each form, for any second world that looks alike to it and any second list of events of which it sees the same, and so is what it
-/// sees of the end, where the runs release the same to it, or where it dominates all that the calls that it sees can read.
+/// same, in each form, for any second world that looks alike to it and any second list of events of which it sees the
+/// same, and so is what it
+/// sees of the end, where the runs release the same to it, or where it dominates all that the calls that it sees can
+/// read.
 pub fn run_to<B: Base, W: Write>(
     engine: &mut Engine<B>,
     events: &[Event],
@@ -139,7 +154,8 @@ pub fn run_to<B: Base, W: Write>(
     Ok(())
 }
 
-/// Answers events in order, and writes the lines of the reply of each before the next begins: [`run_to`] for no one reader.
+/// Answers events in order, and writes the lines of the reply of each before the next begins: [`run_to`] for no one
+/// reader.
 pub fn run<B: Base, W: Write>(
     engine: &mut Engine<B>,
     events: &[Event],

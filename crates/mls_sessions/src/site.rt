@@ -12,7 +12,8 @@ use mls_lattice::{Items, Policy};
 use mls_scheme::Schemes;
 use std::alloc::Global;
 
-/// A policy, the schemes of its relations, the stored transactions, and where memory comes from. That the transactions were read under
+/// A policy, the schemes of its relations, the stored transactions, and where memory comes from. That the transactions
+/// were read under
 /// it (`AreRead`) it does not keep: what a type keeps has one proof at most, and `null` is of each kind.
 #[derive(Drop)]
 pub(crate) struct Site<'a> {
@@ -22,5 +23,6 @@ pub(crate) struct Site<'a> {
     pub stored: Items<Stored>,
     pub ghost under: { AreUnder (length policy.now.labels) schemes.now } by { Prim.hlevel props },
     pub ghost distinct: { AreDistinct (labels_of policy.now) } by { Prim.hlevel props },
-    pub ghost certified: { AreCertified (site_of policy.now schemes.now stored) } by { certified-prop (site_of policy.now schemes.now stored) },
+    pub ghost certified: { AreCertified (site_of policy.now schemes.now stored) } by { certified-prop
+        (site_of policy.now schemes.now stored) },
 }

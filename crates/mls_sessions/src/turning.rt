@@ -64,7 +64,8 @@ fn empty<B: Base>(base: &mut B) -> Result<(), BaseFault>
     base.commit()
 }
 
-/// Writes the entries of the audit list, each behind the label that may see it, and then empties the list, in one change: with a reader
+/// Writes the entries of the audit list, each behind the label that may see it, and then empties the list, in one
+/// change: with a reader
 /// those that it may see, and else all. Where the writer refuses, no entry is dropped. The number of a fault is 0.
 pub fn turn<B: Base, W: Write>(
     alloc: Global,

@@ -36,7 +36,8 @@ name_unmarked (b ∷ bs) h =
       | false ↦ λ q. refl
     ] refl
 
-names_unmarked : (labels : List Named) → AllByRecursion (λ name. is_name name ≡ true) (map (λ l. l.name) labels) → (n : ℕ) → is_marked (label_name labels n) ≡ false
+names_unmarked : (labels : List Named) → AllByRecursion (λ name. is_name name ≡ true) (map (λ l. l.name) labels)
+    → (n : ℕ) → is_marked (label_name labels n) ≡ false
 names_unmarked [] h n = refl
 names_unmarked (l ∷ labels) h zero = name_unmarked l.name h.0
 names_unmarked (l ∷ labels) h (suc n) = names_unmarked labels h.1 n
@@ -52,33 +53,46 @@ abbrev Unmarked : Line → Type 0
 Unmarked l = is_marked l.text ≡ false
 
 -- what a filter leaves
-left_by : {A : Type 0} (P : A → Type 0) (p : A → Bool) (xs : List A) → AllByRecursion P xs → AllByRecursion P (filter p xs)
+left_by : {A : Type 0} (P : A → Type 0) (p : A → Bool) (xs : List A) → AllByRecursion P xs
+    → AllByRecursion P (filter p xs)
 left_by P p [] h = tt
-left_by P p (x ∷ xs) h = elim (p x) as (λ b. AllByRecursion P (cond b (x ∷ filter p xs) (filter p xs))) [ true ↦ (h.0, left_by P p xs h.1) | false ↦ left_by P p xs h.1 ]
+left_by P p (x ∷ xs) h = elim (p x) as (λ b. AllByRecursion P (cond b (x ∷ filter p xs) (filter p xs))) [
+  | true ↦ (
+    h.0,
+    left_by P p xs h.1,
+  )
+  | false ↦ left_by P p xs h.1
+]
 
 module _ (site : Site) (policy : IsPolicy site.policy) (schemes : AreSchemes site.schemes) where
   begins : (e : Event) (label : ℕ) (text : List ℕ)
-      → front site.policy e label ++ text ≡ label_name site.policy.labels label ++ 32 ∷ (label_name site.policy.labels e.level ++ codes "/" ++ printable e.session ++ codes " " ++ text)
+      → front site.policy e label ++ text ≡ label_name site.policy.labels label ++ 32
+      ∷ (label_name site.policy.labels e.level ++ codes "/" ++ printable e.session ++ codes " " ++ text)
   begins e label text = simp (append_assoc)
 
   unmarked_line : (e : Event) (label : ℕ) (text : List ℕ) → Unmarked (line site.policy e label text)
   unmarked_line e label text =
       ap is_marked (begins e label text)
-      ∙ unmarked_front (label_name site.policy.labels label) (label_name site.policy.labels e.level ++ codes "/" ++ printable e.session ++ codes " " ++ text)
+      ∙ unmarked_front (label_name site.policy.labels label) (label_name site.policy.labels e.level ++ codes "/"
+      ++ printable e.session ++ codes " " ++ text)
       (names_unmarked site.policy.labels policy.label_names label)
 
   unmarked_items : (e : Event) (r : Reply) → AllByRecursion Unmarked (item_lines site.policy e r)
   unmarked_items e (Ran run) =
-      all_append Unmarked (map (item_line site.policy e (codes "emit ")) run.emitted) (map (item_line site.policy e (codes "release ")) run.released)
-      (all_map Unmarked (item_line site.policy e (codes "emit ")) run.emitted (all _ (λ (i : Item). unmarked_line e i.0 (codes "emit " ++ cell_text i.1)) run.emitted))
-      (all_map Unmarked (item_line site.policy e (codes "release ")) run.released (all _ (λ (i : Item). unmarked_line e i.0 (codes "release " ++ cell_text i.1)) run.released))
+      all_append Unmarked (map (item_line site.policy e (codes "emit ")) run.emitted)
+      (map (item_line site.policy e (codes "release ")) run.released)
+      (all_map Unmarked (item_line site.policy e (codes "emit ")) run.emitted
+      (all _ (λ (i : Item). unmarked_line e i.0 (codes "emit " ++ cell_text i.1)) run.emitted))
+      (all_map Unmarked (item_line site.policy e (codes "release ")) run.released
+      (all _ (λ (i : Item). unmarked_line e i.0 (codes "release " ++ cell_text i.1)) run.released))
   unmarked_items e _ = tt
 
   unmarked_reply : (e : Event) (r : Reply) → AllByRecursion Unmarked (reply_lines site e r)
   unmarked_reply e r =
       let texts = reply_texts site e.session e.command r in
       all_append Unmarked (map (line site.policy e e.level) texts) (item_lines site.policy e r)
-      (all_map Unmarked (line site.policy e e.level) texts (all _ (λ (text : List ℕ). unmarked_line e e.level text) texts))
+      (all_map Unmarked (line site.policy e e.level) texts
+      (all _ (λ (text : List ℕ). unmarked_line e e.level text) texts))
       (unmarked_items e r)
 
   -- ---- answers
@@ -102,7 +116,8 @@ module _ (site : Site) (policy : IsPolicy site.policy) (schemes : AreSchemes sit
       let all_lines = reply_lines site e r in
       all_map Fit (λ (l : Line). l.text) (heard_lines w e)
       (left_by (λ (l : Line). Fit l.text) _ all_lines
-      (all_zip (λ (l : Line). IsOneLine l.text) Unmarked (λ (l : Line). Fit l.text) (λ l h k. (h, k)) all_lines (replies_whole site (policies_plain site policy schemes) Lines e r) (unmarked_reply e r)))
+      (all_zip (λ (l : Line). IsOneLine l.text) Unmarked (λ (l : Line). Fit l.text) (λ l h k. (h, k)) all_lines
+      (replies_whole site (policies_plain site policy schemes) Lines e r) (unmarked_reply e r)))
 
   abbrev lines_to : World → List Event → List (List ℕ)
   lines_to w [] = []
@@ -113,9 +128,13 @@ module _ (site : Site) (policy : IsPolicy site.policy) (schemes : AreSchemes sit
   answers_unmarked w [] = (refl, tt)
   answers_unmarked w (e ∷ es) =
       let more = answers_unmarked (step site w e).world es in (
-        (λ i. printed_ended (heard_lines w e) i ++ more.0 i) ∙ sym (flat_map-append (λ (x : List ℕ). x ++ codes "\n") (texts_of (heard_lines w e)) (lines_to (step site w e).world es)),
+        (λ i. printed_ended (heard_lines w e) i ++ more.0 i) ∙ sym (flat_map-append (λ (x : List ℕ). x ++ codes "\n")
+            (texts_of (heard_lines w e)) (lines_to (step site w e).world es)),
         all_append Fit (texts_of (heard_lines w e)) (lines_to (step site w e).world es) (fit_answer w e) more.1,
       )
 
 pub answers_are_unmarked : AnswersAreUnmarked
-answers_are_unmarked site policy schemes w es = (lines_to site policy schemes w es, answers_unmarked site policy schemes w es)
+answers_are_unmarked site policy schemes w es = (
+  lines_to site policy schemes w es,
+  answers_unmarked site policy schemes w es,
+)

@@ -51,20 +51,29 @@ module _ {A : Type 0} where
 -- ---- events, and what c sees of them
 
 module _ (site : Site) (c : ℕ) where
-  sees_next : (e : Event) (es : List Event) (b : Bool) → below (site_labels site) e.level c ≡ b → seen site c (e ∷ es) ≡ cond b (glimpse site c e ∷ seen site c es) (seen site c es)
-  sees_next e es true h = ap (λ x. map (glimpse site c) (cond x (e ∷ filter (λ f. below (site_labels site) f.level c) es) (filter (λ f. below (site_labels site) f.level c) es))) h
-  sees_next e es false h = ap (λ x. map (glimpse site c) (cond x (e ∷ filter (λ f. below (site_labels site) f.level c) es) (filter (λ f. below (site_labels site) f.level c) es))) h
+  sees_next : (e : Event) (es : List Event) (b : Bool) → below (site_labels site) e.level c ≡ b → seen site c (e ∷ es)
+      ≡ cond b (glimpse site c e ∷ seen site c es) (seen site c es)
+  sees_next e es true h = ap (λ x. map (glimpse site c)
+      (cond x (e ∷ filter (λ f. below (site_labels site) f.level c) es)
+      (filter (λ f. below (site_labels site) f.level c) es))) h
+  sees_next e es false h = ap (λ x. map (glimpse site c)
+      (cond x (e ∷ filter (λ f. below (site_labels site) f.level c) es)
+      (filter (λ f. below (site_labels site) f.level c) es))) h
 
   -- the first events of which c sees a first part
-  first_seen : (es : List Event) (xs more : List Event) → xs ++ more ≡ seen site c es → (n : ℕ) × (seen site c (take n es) ≡ xs)
+  first_seen : (es : List Event) (xs more : List Event) → xs ++ more ≡ seen site c es → (n : ℕ)
+      × (seen site c (take n es) ≡ xs)
   first_seen es [] more h = (zero, refl)
   first_seen [] (x ∷ xs) more h = absurd (not_nil x (xs ++ more) h)
   first_seen (e ∷ es) (x ∷ xs) more h =
       elim (cases_Bool (below (site_labels site) e.level c)) [
         | inl b ↦
             let k = h ∙ sees_next e es true b in
-            let r = first_seen es xs more (tail_same x (glimpse site c e) (xs ++ more) (seen site c es) k) in
-            (suc r.0, sees_next e (take r.0 es) true b ∙ (λ i. sym (head_same x (glimpse site c e) (xs ++ more) (seen site c es) k) i ∷ r.1 i))
+            let r = first_seen es xs more (tail_same x (glimpse site c e) (xs ++ more) (seen site c es) k) in (
+              suc r.0,
+              sees_next e (take r.0 es) true b
+                  ∙ (λ i. sym (head_same x (glimpse site c e) (xs ++ more) (seen site c es) k) i ∷ r.1 i),
+            )
         | inr b ↦
             let r = first_seen es (x ∷ xs) more (h ∙ sees_next e es false b) in
             (suc r.0, sees_next e (take r.0 es) false b ∙ r.1)
@@ -77,17 +86,23 @@ module _ (site : Site) (c : ℕ) where
   seen_first (e ∷ es) (suc n) =
       let r = seen_first es n in
       elim (cases_Bool (below (site_labels site) e.level c)) [
-        | inl b ↦ (r.0, ap (λ l. l ++ r.0) (sees_next e (take n es) true b) ∙ ap (λ l. glimpse site c e ∷ l) r.1 ∙ sym (sees_next e es true b))
+        | inl b ↦ (
+          r.0,
+          ap (λ l. l ++ r.0) (sees_next e (take n es) true b) ∙ ap (λ l. glimpse site c e ∷ l) r.1
+              ∙ sym (sees_next e es true b),
+        )
         | inr b ↦ (r.0, ap (λ l. l ++ r.0) (sees_next e (take n es) false b) ∙ r.1 ∙ sym (sees_next e es false b))
       ]
 
   pub ceiling_first : (es : List Event) (n : ℕ) → AreBelowCeiling site c es → AreBelowCeiling site c (take n es)
   ceiling_first es n h =
       let r = seen_first es n in
-      all_front (λ e. IsBelowCeiling site c e.command) (seen site c (take n es)) r.0 (subst (AllByRecursion (λ e. IsBelowCeiling site c e.command)) (sym r.1) h)
+      all_front (λ e. IsBelowCeiling site c e.command) (seen site c (take n es)) r.0
+      (subst (AllByRecursion (λ e. IsBelowCeiling site c e.command)) (sym r.1) h)
 
   -- what c is shown of first events is a first part of what it is shown of all
-  pub shows_first : (form : Form) (w : World) (es : List Event) (n : ℕ) → IsFirstPart (run_shows site (reader_of c form) w (take n es)) (run_shows site (reader_of c form) w es)
+  pub shows_first : (form : Form) (w : World) (es : List Event) (n : ℕ)
+      → IsFirstPart (run_shows site (reader_of c form) w (take n es)) (run_shows site (reader_of c form) w es)
   unfolding run_lines
   shows_first form w es zero = (run_shows site (reader_of c form) w es, refl)
   shows_first form w [] (suc n) = ([], refl)
@@ -97,7 +112,8 @@ module _ (site : Site) (c : ℕ) where
       let r = shows_first form s.world es n in
       let front = printed (out ls c (reply_lines_in form site e s.reply)) in (
         r.0,
-        ap (λ l. l ++ r.0) (printed-append ls (Some c) (reply_lines_in form site e s.reply) (run_lines form site s.world (take n es)))
+        ap (λ l. l ++ r.0) (printed-append ls (Some c) (reply_lines_in form site e s.reply) (run_lines form site s.world
+            (take n es)))
             ∙ append_assoc front (run_shows site (reader_of c form) s.world (take n es)) r.0
             ∙ ap (λ l. front ++ l) r.1
             ∙ sym (printed-append ls (Some c) (reply_lines_in form site e s.reply) (run_lines form site s.world es)),
@@ -115,7 +131,8 @@ runs_agree site c v es secret w fs alike form =
           let first = first_seen site c fs (seen site c es) part.0 part.1 in
           let n = first.0 in
           let end : EndAlike site c v w (take (length es) es) (take n fs)
-          = secret (length es) c w (take n fs) alike.stored (first_fit site n fs alike.fits) alike.agree (ap (seen site c) whole ∙ sym first.1)
+          = secret (length es) c w (take n fs) alike.stored (first_fit site n fs alike.fits) alike.agree
+          (ap (seen site c) whole ∙ sym first.1)
           (elim alike.released_so_far [
             | inl same ↦ inl (same (length es) n (ap (seen site c) whole ∙ sym first.1))
             | inr ceiling ↦ inr (ceiling_first site c es (length es) ceiling)
@@ -129,7 +146,8 @@ runs_agree site c v es secret w fs alike form =
           let end : EndAlike site c v w (take m es) fs
           = secret m c w fs alike.stored alike.fits alike.agree first.1
           (elim alike.released_so_far [
-            | inl same ↦ inl (same m (length fs) (first.1 ∙ ap (seen site c) (sym whole_other)) ∙ ap (released_to site c w) whole_other)
+            | inl same ↦ inl (same m (length fs) (first.1 ∙ ap (seen site c) (sym whole_other))
+                ∙ ap (released_to site c w) whole_other)
             | inr ceiling ↦ inr (ceiling_first site c es m ceiling)
           ]) in
           let same : shows w fs ≡ shows v (take m es) = sym (ap printed (end.out form)) in
@@ -142,7 +160,8 @@ runs_agree site c v es secret w fs alike form =
 lines_first : (front xs more : List ℕ) → IsFirstPart (lines_behind front xs) (lines_behind front (xs ++ more))
 lines_first front [] more = (lines_behind front more, refl)
 lines_first front (b ∷ xs) more =
-    elim (is_line_feed b) as (λ x. IsFirstPart (cond x (front ∷ lines_behind [] xs) (lines_behind (front ++ b ∷ []) xs)) (cond x (front ∷ lines_behind [] (xs ++ more)) (lines_behind (front ++ b ∷ []) (xs ++ more)))) [
+    elim (is_line_feed b) as (λ x. IsFirstPart (cond x (front ∷ lines_behind [] xs) (lines_behind (front ++ b ∷ []) xs))
+    (cond x (front ∷ lines_behind [] (xs ++ more)) (lines_behind (front ++ b ∷ []) (xs ++ more)))) [
       | true ↦ (let r = lines_first [] xs more in (r.0, ap (λ l. front ∷ l) r.1))
       | false ↦ lines_first (front ++ b ∷ []) xs more
     ]
@@ -157,7 +176,8 @@ none_more (x ∷ xs) more (y ∷ ys) h k =
     λ i. first i ∷ rest i
 
 -- as many lines are the same lines
-lines_same : (xs ys : List ℕ) → AgreeSoFar xs ys → length (whole_lines xs) ≡ length (whole_lines ys) → whole_lines xs ≡ whole_lines ys
+lines_same : (xs ys : List ℕ) → AgreeSoFar xs ys → length (whole_lines xs) ≡ length (whole_lines ys) → whole_lines xs
+    ≡ whole_lines ys
 lines_same xs ys (inl part) many =
     let r = lines_first [] xs part.0 in
     none_more (whole_lines xs) r.0 (whole_lines ys) (r.1 ∙ ap whole_lines part.1) many
@@ -181,22 +201,30 @@ cause_same Write Memory h = (let k : 2 ≡ 0 = h in absurd (omega (arith, k)))
 cause_same Write Store h = (let k : 2 ≡ 1 = h in absurd (omega (arith, k)))
 cause_same Write Write h = refl
 
-few_classes : (lines : List (List ℕ)) (cause : Option RunCause) (n : ℕ) → length lines ≤ n → class_by lines cause < 3 * n + 4
+few_classes : (lines : List (List ℕ)) (cause : Option RunCause) (n : ℕ) → length lines ≤ n → class_by lines cause
+    < 3 * n + 4
 few_classes lines None n h = omega arith
 few_classes lines (Some cause) n h = let small = cause_small cause in omega (arith, small, h)
 
-same_class : (xs ys : List ℕ) → AgreeSoFar xs ys → (a b : Option RunCause) → class_by (whole_lines xs) a ≡ class_by (whole_lines ys) b
+same_class : (xs ys : List ℕ) → AgreeSoFar xs ys → (a b : Option RunCause) → class_by (whole_lines xs) a
+    ≡ class_by (whole_lines ys) b
     → (a ≡ b) × ((a ≡ None) ⊎ (whole_lines xs ≡ whole_lines ys))
 same_class xs ys agree None None h = (refl, inl refl)
-same_class xs ys agree None (Some b) h = (let k : 0 ≡ 1 + (3 * length (whole_lines ys) + cause_number b) = h in absurd (omega (arith, k)))
-same_class xs ys agree (Some a) None h = (let k : 1 + (3 * length (whole_lines xs) + cause_number a) ≡ 0 = h in absurd (omega (arith, k)))
+same_class xs ys agree None (Some b) h = (let k : 0 ≡ 1 + (3 * length (whole_lines ys) + cause_number b) = h
+    in absurd (omega (arith, k)))
+same_class xs ys agree (Some a) None h = (let k : 1 + (3 * length (whole_lines xs) + cause_number a) ≡ 0 = h
+    in absurd (omega (arith, k)))
 same_class xs ys agree (Some a) (Some b) h =
     let small = cause_small a in
     let other = cause_small b in
-    let same : 1 + (3 * length (whole_lines xs) + cause_number a) ≡ 1 + (3 * length (whole_lines ys) + cause_number b) = h in
+    let same : 1 + (3 * length (whole_lines xs) + cause_number a) ≡ 1 + (3 * length (whole_lines ys) + cause_number b) =
+    h in
     let causes : cause_number a ≡ cause_number b = omega (arith, same, small, other) in
     let many : length (whole_lines xs) ≡ length (whole_lines ys) = omega (arith, same, small, other) in
     (ap Some (cause_same a b causes), inr (lines_same xs ys agree many))
 
 pub stops_tell : StopsTellFew
-stops_tell a b n agree few = (few_classes (whole_lines a.text) a.cause n few, λ same. same_class a.text b.text agree a.cause b.cause same)
+stops_tell a b n agree few = (
+  few_classes (whole_lines a.text) a.cause n few,
+  λ same. same_class a.text b.text agree a.cause b.cause same,
+)

@@ -32,12 +32,17 @@ module _ (old new : State) (ready : IsSchemaReady old.now) where
   -- the rows that a statement shows are taken out of their table
   abbrev TakesOut : Table → Row → Type 0
   TakesOut table params =
-      (new.now.schema ≡ schema ready.0.others) × (rows : List Row) × IsAnswer (every table.tree) (overlay old.now.trees []) params rows × Applies (schema ready.0.others) Enforced old.now.trees (edit_of old.now.trees table (ids_of rows) Given 0 []) new.now.trees × IsNext old new
+      (new.now.schema ≡ schema ready.0.others) × (rows : List Row) × IsAnswer (every table.tree)
+      (overlay old.now.trees []) params rows × Applies (schema ready.0.others) Enforced old.now.trees
+      (edit_of old.now.trees table (ids_of rows) Given 0 []) new.now.trees × IsNext old new
 
-  cleared : {X : Type 0} (is_row : Row → Bool) (read : Row → X) (table : Table) → ((r : Row) → is_row r ≡ true → is_int (rowid r) ≡ true) → overlay old.now.trees [] table.tree ≡ old.now.trees table.tree
-      → AreRows is_row (old.now.trees table.tree) → TakesOut table [] → AreRows is_row (new.now.trees table.tree) × (map read (new.now.trees table.tree) ≡ [])
+  cleared : {X : Type 0} (is_row : Row → Bool) (read : Row → X) (table : Table) → ((r : Row) → is_row r ≡ true
+      → is_int (rowid r) ≡ true) → overlay old.now.trees [] table.tree ≡ old.now.trees table.tree
+      → AreRows is_row (old.now.trees table.tree) → TakesOut table [] → AreRows is_row (new.now.trees table.tree)
+      × (map read (new.now.trees table.tree) ≡ [])
   cleared is_row read table ids plain are did =
-      let left = dropped is_row read (schema ready.0.others) old.now.trees new.now.trees table are ids (passes [] []) (λ x. true) (λ r h. refl) did.1
+      let left = dropped is_row read (schema ready.0.others) old.now.trees new.now.trees table are ids (passes [] [])
+      (λ x. true) (λ r h. refl) did.1
       (answered table.tree [] (col 1 0 ∷ []) [] old.now.trees [] did.1 plain did.2) did.3 in
       (left.0, left.1 ∙ none_left (map read (old.now.trees table.tree)))
 
@@ -45,38 +50,64 @@ module _ (old new : State) (ready : IsSchemaReady old.now) where
   nodes_cleared did =
       let left = cleared is_node_row node_of node (λ r h. (and_parts _ _ h).0) refl ready.1.0 did in
       let all = nodes_changed old.now new.now ready did.0 left.0 did.3.tables in
-      record { ready = all.0; rows = all.1 ∙ ap (λ ns. record (tables_of old.now.trees) { nodes = ns }) left.1; next = did.4 }
+      record {
+        ready = all.0;
+        rows = all.1 ∙ ap (λ ns. record (tables_of old.now.trees) { nodes = ns }) left.1;
+        next =
+            did.4;
+      }
 
   pub clears_nodes : (r : Result ℕ Error) → Executes clear_nodes [] old new r → OnOk r (Changes ClearsNodes old new)
   clears_nodes (Err e) h = tt
-  clears_nodes (Ok count) h = nodes_cleared (drops old new (schema ready.0.others) ready.0.is clear_nodes 0 node refl (at_rest ready.0.others ready.0.apart node.tree) [] count h (every 0) (clear_nodes_is ready.0.others))
+  clears_nodes (Ok count) h = nodes_cleared (drops old new (schema ready.0.others) ready.0.is clear_nodes 0 node refl
+      (at_rest ready.0.others ready.0.apart node.tree) [] count h (every 0) (clear_nodes_is ready.0.others))
 
   cells_cleared : TakesOut cell [] → Changes ClearsCells old new
   cells_cleared did =
       let left = cleared is_cell_row cell_of cell (λ r h. (and_parts _ _ h).0) refl ready.1.1.0 did in
       let all = cells_changed old.now new.now ready did.0 left.0 did.3.tables in
-      record { ready = all.0; rows = all.1 ∙ ap (λ cs. record (tables_of old.now.trees) { cells = cs }) left.1; next = did.4 }
+      record {
+        ready = all.0;
+        rows = all.1 ∙ ap (λ cs. record (tables_of old.now.trees) { cells = cs }) left.1;
+        next =
+            did.4;
+      }
 
   pub clears_cells : (r : Result ℕ Error) → Executes clear_cells [] old new r → OnOk r (Changes ClearsCells old new)
   clears_cells (Err e) h = tt
-  clears_cells (Ok count) h = cells_cleared (drops old new (schema ready.0.others) ready.0.is clear_cells 1 cell refl (at_rest ready.0.others ready.0.apart cell.tree) [] count h (every 2) (clear_cells_is ready.0.others))
+  clears_cells (Ok count) h = cells_cleared (drops old new (schema ready.0.others) ready.0.is clear_cells 1 cell refl
+      (at_rest ready.0.others ready.0.apart cell.tree) [] count h (every 2) (clear_cells_is ready.0.others))
 
   entries_cleared : TakesOut audit [] → Changes ClearsEntries old new
   entries_cleared did =
       let left = cleared is_audit_row audit_of audit (λ r h. (and_parts _ _ h).0) refl ready.1.1.1.0 did in
       let all = audit_changed old.now new.now ready did.0 left.0 did.3.tables in
-      record { ready = all.0; rows = all.1 ∙ ap (λ es. record (tables_of old.now.trees) { audit = es }) left.1; next = did.4 }
+      record {
+        ready = all.0;
+        rows = all.1 ∙ ap (λ es. record (tables_of old.now.trees) { audit = es }) left.1;
+        next =
+            did.4;
+      }
 
-  pub clears_entries : (r : Result ℕ Error) → Executes clear_entries [] old new r → OnOk r (Changes ClearsEntries old new)
+  pub clears_entries : (r : Result ℕ Error) → Executes clear_entries [] old new r
+      → OnOk r (Changes ClearsEntries old new)
   clears_entries (Err e) h = tt
-  clears_entries (Ok count) h = entries_cleared (drops old new (schema ready.0.others) ready.0.is clear_entries 2 audit refl (at_rest ready.0.others ready.0.apart audit.tree) [] count h (every 4) (clear_entries_is ready.0.others))
+  clears_entries (Ok count) h = entries_cleared
+      (drops old new (schema ready.0.others) ready.0.is clear_entries 2 audit refl
+      (at_rest ready.0.others ready.0.apart audit.tree) [] count h (every 4) (clear_entries_is ready.0.others))
 
   meta_cleared : TakesOut meta [] → Changes ClearsMeta old new
   meta_cleared did =
       let left = cleared is_meta_row meta_of meta (λ r h. (and_parts _ _ h).0) refl ready.1.1.1.1 did in
       let all = meta_changed old.now new.now ready did.0 left.0 did.3.tables in
-      record { ready = all.0; rows = all.1 ∙ ap (λ ms. record (tables_of old.now.trees) { meta = ms }) left.1; next = did.4 }
+      record {
+        ready = all.0;
+        rows = all.1 ∙ ap (λ ms. record (tables_of old.now.trees) { meta = ms }) left.1;
+        next =
+            did.4;
+      }
 
   pub clears_meta : (r : Result ℕ Error) → Executes clear_meta [] old new r → OnOk r (Changes ClearsMeta old new)
   clears_meta (Err e) h = tt
-  clears_meta (Ok count) h = meta_cleared (drops old new (schema ready.0.others) ready.0.is clear_meta 3 meta refl (at_rest ready.0.others ready.0.apart meta.tree) [] count h (every 5) (clear_meta_is ready.0.others))
+  clears_meta (Ok count) h = meta_cleared (drops old new (schema ready.0.others) ready.0.is clear_meta 3 meta refl
+      (at_rest ready.0.others ready.0.apart meta.tree) [] count h (every 5) (clear_meta_is ready.0.others))

@@ -30,7 +30,8 @@ use Rattle.mls_tables.proofs.Finds.{found, query}
 abbrev pattern_shown : List Term
 pattern_shown = col 1 5 ∷ []
 
-pub patterns_of_key_is : (o : Others) → Asks (schema o) patterns_of_key (Select (alone (rows_by 0 by_class pattern_shown)) (codes "pattern" ∷ []))
+pub patterns_of_key_is : (o : Others) → Asks (schema o) patterns_of_key
+    (Select (alone (rows_by 0 by_class pattern_shown)) (codes "pattern" ∷ []))
 unfolding understood everything
 patterns_of_key_is o = (refl, (refl, refl), refl)
 
@@ -40,21 +41,32 @@ patterns_of_key_takes o = (lit≤ tt, refl)
 
 -- ---- what it finds
 
-pattern_shows : (params r : Row) → is_node_row r ≡ true → eval_all pattern_shown (params ∷ r ∷ []) ≡ pattern_values (node_of r)
+pattern_shows : (params r : Row) → is_node_row r ≡ true → eval_all pattern_shown (params ∷ r ∷ [])
+    ≡ pattern_values (node_of r)
 pattern_shows params r h = let c = node_parts r h in rw (← blob_is (column r 5) c.pattern)
 
-pub finds_patterns_of_key : (old new : State) (k : TupleKey) (r : Result (Vec (List ℕ) Global) Error) → (HasCleanDisk new → HasCleanDisk old)
-    → (HasCleanDisk new → IfOk r (λ xs. ShowsSome shown_bytes (λ r. is_blob (column r 0)) patterns_of_key (class_values k) old new xs.items))
+pub finds_patterns_of_key : (old new : State) (k : TupleKey) (r : Result (Vec (List ℕ) Global) Error)
+    → (HasCleanDisk new → HasCleanDisk old)
+    → (HasCleanDisk new → IfOk r (λ xs. ShowsSome shown_bytes (λ r. is_blob (column r 0)) patterns_of_key
+    (class_values k) old new xs.items))
     → (HasCleanDisk new → IfErr r (FailsToShow (λ r. IsBytes (column r 0)) patterns_of_key (class_values k) old new))
-    → IsQuery (IsPermutation (map (λ n. n.pattern) (filter (is_node k) (tables_of old.now.trees).nodes))) patterns_of_key (class_values k) old new r
+    → IsQuery (IsPermutation (map (λ n. n.pattern)
+    (filter (is_node k) (tables_of old.now.trees).nodes))) patterns_of_key (class_values k) old new r
 finds_patterns_of_key old new k =
     let params = class_values k in
     let nodes = filter (is_node k) (tables_of old.now.trees).nodes in
-    let shows : IsSchemaReady old.now → (given : List Row) → Shown patterns_of_key params old new given → IsPermutation (map pattern_values (filter (is_node k) (tables_of old.now.trees).nodes)) given =
-    λ ready given h. answers is_node_row node_of (passes by_class params) (is_node k) _ pattern_values (node_in_class k) (pattern_shows params) (old.now.trees 0) given ready.1.0.1
-    (found old new ready.0.others patterns_of_key params 0 by_class pattern_shown (codes "pattern" ∷ []) [] (patterns_of_key_is ready.0.others) refl ready.0.is given h) in
-    query old new shown_bytes (λ r. is_blob (column r 0)) (λ r. IsBytes (column r 0)) patterns_of_key params (rows_by 0 by_class pattern_shown) (codes "pattern" ∷ []) patterns_of_key_is patterns_of_key_takes
-    (λ ready fit given h. all-permutation (λ r. IsBytes (column r 0)) (map pattern_values nodes) given (shows ready given h) (all-map (λ r. IsBytes (column r 0)) pattern_values nodes (all_of (λ n. IsBytes (Blob n.pattern)) (λ n. (n.pattern, refl)) nodes)))
+    let shows : IsSchemaReady old.now → (given : List Row) → Shown patterns_of_key params old new given
+    → IsPermutation (map pattern_values (filter (is_node k) (tables_of old.now.trees).nodes)) given =
+    λ ready given h. answers is_node_row node_of (passes by_class params) (is_node k) _ pattern_values (node_in_class k)
+    (pattern_shows params) (old.now.trees 0) given ready.1.0.1
+    (found old new ready.0.others patterns_of_key params 0 by_class pattern_shown (codes "pattern" ∷ []) []
+    (patterns_of_key_is ready.0.others) refl ready.0.is given h) in
+    query old new shown_bytes (λ r. is_blob (column r 0)) (λ r. IsBytes (column r 0)) patterns_of_key params
+    (rows_by 0 by_class pattern_shown) (codes "pattern" ∷ []) patterns_of_key_is patterns_of_key_takes
+    (λ ready fit given h. all-permutation (λ r. IsBytes (column r 0)) (map pattern_values nodes) given
+    (shows ready given h) (all-map (λ r. IsBytes (column r 0)) pattern_values nodes
+    (all_of (λ n. IsBytes (Blob n.pattern)) (λ n. (n.pattern, refl)) nodes)))
     (IsPermutation (map (λ n. n.pattern) nodes)) (λ ready given h.
     read_back (λ bytes. Blob bytes ∷ []) shown_bytes (λ bytes. refl) (map (λ n. n.pattern) nodes) given
-    (subst (λ (shown : List Row). IsPermutation shown given) (sym (map-map (λ bytes. Blob bytes ∷ []) (λ n. n.pattern) nodes)) (shows ready given h)))
+    (subst (λ (shown : List Row). IsPermutation shown given)
+    (sym (map-map (λ bytes. Blob bytes ∷ []) (λ n. n.pattern) nodes)) (shows ready given h)))

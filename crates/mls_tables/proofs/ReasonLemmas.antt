@@ -23,8 +23,10 @@ use Rattle.mls_tables.specs.Store.{MatchesConnection, HasFallen}
 not_of : (e other : Error) → e ≡ other → ¬ IsOfRun other → IsOfRun e → ⊥
 not_of e other is none of = none (subst IsOfRun is of)
 
-module _ (old new : State) (sql : List ℕ) (params : Row) (e : Error) (of : IsOfRun e) (other : e ≢ SqliteFailure code.OutOfMemory) where
-  by_cause : (big : Type 0) (cause : StoreError) → e ≡ store_error cause → HasCause old new big cause → IsFailed old new ⊎ big
+module _ (old new : State) (sql : List ℕ) (params : Row) (e : Error) (of : IsOfRun e)
+    (other : e ≢ SqliteFailure code.OutOfMemory) where
+  by_cause : (big : Type 0) (cause : StoreError) → e ≡ store_error cause → HasCause old new big cause → IsFailed old new
+      ⊎ big
   by_cause big store.OutOfMemory is h = absurd (other is)
   by_cause big store.Io is h = inl (inl h)
   by_cause big store.Corrupt is h = inl (inl h)
@@ -42,8 +44,10 @@ module _ (old new : State) (sql : List ℕ) (params : Row) (e : Error) (of : IsO
     by_command : RunsCommand old new sql c ps (Err e) → IsFailed old new ⊎ Refusal
     by_command h = elim h [
       | inl refusal ↦ elim refusal.0 [
-        | inl (inl place) ↦ absurd (not_of e (SqliteFailure code.TransactionState) place.0 (λ none. true≢false (sym none)) of)
-        | inl (inr mark) ↦ absurd (not_of e (SqliteFailure code.NoSuchSavepoint) mark.0 (λ none. true≢false (sym none)) of)
+        | inl (inl place) ↦ absurd (not_of e (SqliteFailure code.TransactionState) place.0
+            (λ none. true≢false (sym none)) of)
+        | inl (inr mark) ↦ absurd (not_of e (SqliteFailure code.NoSuchSavepoint) mark.0
+            (λ none. true≢false (sym none)) of)
         | inr does ↦ inr (refused e of does.1)
       ]
       | inr fails ↦ elim (failed _ fails) [ inl x ↦ inl x | inr big ↦ inr (unstorable big) ]
@@ -56,7 +60,8 @@ module _ (old new : State) (sql : List ℕ) (params : Row) (e : Error) (of : IsO
     ]
       where
         shown : ◌≡◌ {A = Result ℕ Error} (Err e) (Err ExecuteReturnedResults) → ⊥
-        shown is = not_of e ExecuteReturnedResults (let same : e ≡ ExecuteReturnedResults = cc in same) (λ none. true≢false (sym none)) of
+        shown is = not_of e ExecuteReturnedResults (let same : e ≡ ExecuteReturnedResults = cc in same)
+            (λ none. true≢false (sym none)) of
 
     by_shown : (r : Option Returning) → c.returning ≡ r → FailsToShow old new sql c ps e r → IsFailed old new ⊎ Refusal
     by_shown None is h = inr (unread e of h.0 h.1 h.2)
@@ -86,7 +91,15 @@ module _ (old new : State) (sql : List ℕ) (params : Row) (e : Error) (of : IsO
   query_reason : FailsToQuery sql params old new e → Reason
   unfolding FailsToQuery
   query_reason (inl none) = inl (not_run none)
-  query_reason (inr h) = elim (by_shown h.0 _ h.0.returning refl h.2) [ inl x ↦ inl x | inr r ↦ inr (h.0, h.1.is, h.1.now, r) ]
+  query_reason (inr h) = elim (by_shown h.0 _ h.0.returning refl h.2) [
+    | inl x ↦ inl x
+    | inr r ↦ inr (
+      h.0,
+      h.1.is,
+      h.1.now,
+      r,
+    )
+  ]
 
 -- ---- a call of a store
 
@@ -97,7 +110,8 @@ more_later m a b h k = omega (arith, h, k)
 abbrev Over : State → (Database → Type 0) → Type 0
 Over s Does = (db : Database) × IsSchemaReady db × (trees_of db.trees ≡ trees_of s.now.trees) × Does db
 
-module _ (old mid new : State) (begun : Bool) (last : Tables) (before after : ℕ) (e : Error) (f : StoreFault) (matches : MatchesConnection old begun last) (fallen : HasFallen mid new before after e f)
+module _ (old mid new : State) (begun : Bool) (last : Tables) (before after : ℕ) (e : Error) (f : StoreFault)
+    (matches : MatchesConnection old begun last) (fallen : HasFallen mid new before after e f)
     (clean : HasCleanDisk mid → HasCleanDisk old) (disk : HasCleanDisk new) (is_store : f ≡ fault.Store) where
   not_memory : e ≢ SqliteFailure code.OutOfMemory
   not_memory want = let no : fault.Memory ≡ fault.Store = sym (fallen.cause.1 want) ∙ is_store in absurd cc
@@ -123,22 +137,31 @@ module _ (old mid new : State) (begun : Bool) (last : Tables) (before after : �
     over : IsTrue old.is_open → Refuses sql params old.step_limit old.now → IsRefused
     over on refuses = (old.now, ready on, refl, refuses)
 
-    pub write_caused : (HasCleanDisk mid → (IsTrue old.is_open → IsSchemaReady old.now) → IsOfRun e) → (HasCleanDisk mid → Executes sql params old mid (Err e)) → IsFailed old new ⊎ IsRefused
-    write_caused of runs = by_open IsRefused (λ on. elim (statement_reason old mid sql params e (of here ready) not_memory (runs here)) [ inl x ↦ inl (still x) | inr r ↦ inr (over on r) ])
+    pub write_caused : (HasCleanDisk mid → (IsTrue old.is_open → IsSchemaReady old.now) → IsOfRun e)
+        → (HasCleanDisk mid → Executes sql params old mid (Err e)) → IsFailed old new ⊎ IsRefused
+    write_caused of runs = by_open IsRefused (λ on. elim (statement_reason old mid sql params e
+        (of here ready) not_memory (runs here)) [ inl x ↦ inl (still x) | inr r ↦ inr (over on r) ])
 
     -- where it is open it shows the tables
-    at_open : old.is_open ≡ true → ¬ AreInRange (tables_of old.now.trees) → ¬ AreInRange (if old.is_open then tables_of old.now.trees else last)
+    at_open : old.is_open ≡ true → ¬ AreInRange (tables_of old.now.trees)
+        → ¬ AreInRange (if old.is_open then tables_of old.now.trees else last)
     at_open on = subst (λ (b : Bool). ¬ AreInRange (if b then tables_of old.now.trees else last)) (sym on)
 
     abbrev IsUnread : Type 0
     IsUnread = IsRefused ⊎ (¬ AreInRange (if old.is_open then tables_of old.now.trees else last))
 
-    pub query_caused : (HasCleanDisk mid → (IsTrue old.is_open → IsSchemaReady old.now) → IsOfRun e ⊎ (¬ AreInRange (tables_of old.now.trees)))
-        → (HasCleanDisk mid → (IsTrue old.is_open → IsSchemaReady old.now) → e ≢ SqliteFailure code.OutOfMemory → FailsToQuery sql params old mid e ⊎ (¬ AreInRange (tables_of old.now.trees)))
+    pub query_caused : (HasCleanDisk mid → (IsTrue old.is_open → IsSchemaReady old.now) → IsOfRun e
+        ⊎ (¬ AreInRange (tables_of old.now.trees)))
+        → (HasCleanDisk mid → (IsTrue old.is_open → IsSchemaReady old.now) → e ≢ SqliteFailure code.OutOfMemory
+        → FailsToQuery sql params old mid e ⊎ (¬ AreInRange (tables_of old.now.trees)))
         → IsFailed old new ⊎ IsUnread
     query_caused of stopped = by_open IsUnread (λ on. elim (of here ready) [
       | inl run ↦ elim (stopped here ready not_memory) [
-        | inl fails ↦ elim (query_reason old mid sql params e run not_memory fails) [ inl x ↦ inl (still x) | inr r ↦ inr (inl (over on r)) ]
+        | inl fails ↦ elim (query_reason old mid sql params e run not_memory fails) [
+          | inl x ↦ inl
+              (still x)
+          | inr r ↦ inr (inl (over on r))
+        ]
         | inr large ↦ inr (inr (at_open on large))
       ]
       | inr large ↦ inr (inr (at_open on large))
@@ -146,9 +169,15 @@ module _ (old mid new : State) (begun : Bool) (last : Tables) (before after : �
 
   -- of cells beside a node
   pub cells_caused : begun ≡ true → (n : NodeRow) (cs : List OwnCell)
-      → (HasCleanDisk mid → IsWithin old → e ≢ SqliteFailure code.OutOfMemory → IsFailed old mid ⊎ RefusesCells n cs old.step_limit old.now)
+      → (HasCleanDisk mid → IsWithin old → e ≢ SqliteFailure code.OutOfMemory → IsFailed old mid
+      ⊎ RefusesCells n cs old.step_limit old.now)
       → IsFailed old new ⊎ Over old (RefusesCells n cs old.step_limit)
   cells_caused on n cs stopped =
       let open_now = matches.is_open (clean here) on in
-      let within : IsWithin old = record { is_open = open_now; mode = matches.mode (clean here) open_now ∙ on; ready = ready open_now } in
+      let within : IsWithin old = record {
+        is_open = open_now;
+        mode = matches.mode (clean here) open_now ∙ on;
+        ready =
+            ready open_now;
+      } in
       elim (stopped here within not_memory) [ inl x ↦ inl (still x) | inr r ↦ inr (old.now, ready open_now, refl, r) ]

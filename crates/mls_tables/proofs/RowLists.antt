@@ -30,7 +30,8 @@ equal_is Greater h = absurd (cc)
 abbrev pub is_among : List ℤ → Row → Bool
 is_among ids r = list_any (λ id. has_rowid id r) ids
 
-drop_each : (id : ℤ) (ids : List ℤ) (rows : List Row) → filter (λ r. not (is_among ids r)) (without_rowid id rows) ≡ filter (λ r. not (is_among (id ∷ ids) r)) rows
+drop_each : (id : ℤ) (ids : List ℤ) (rows : List Row) → filter (λ r. not (is_among ids r)) (without_rowid id rows)
+    ≡ filter (λ r. not (is_among (id ∷ ids) r)) rows
 drop_each id ids [] = refl
 drop_each id ids (r ∷ rows) = elim (cases_Bool (has_rowid id r)) [
   | inl e ↦ rw (e, drop_each id ids rows)
@@ -41,7 +42,8 @@ every : {X : Type 0} (xs : List X) → filter (λ x. true) xs ≡ xs
 every [] = refl
 every (x ∷ xs) = ap (λ l. x ∷ l) (every xs)
 
-pub without_all-filter : (ids : List ℤ) (rows : List Row) → without_all rows ids ≡ filter (λ r. not (is_among ids r)) rows
+pub without_all-filter : (ids : List ℤ) (rows : List Row) → without_all rows ids
+    ≡ filter (λ r. not (is_among ids r)) rows
 without_all-filter [] rows = sym (every rows)
 without_all-filter (id ∷ ids) rows = without_all-filter ids (without_rowid id rows) ∙ drop_each id ids rows
 
@@ -62,15 +64,19 @@ unmapped (y ∷ xs) id (inl same) = (y, inl refl, same)
 unmapped (y ∷ xs) id (inr more) = let it = unmapped xs id more in (it.0, inr it.1, it.2)
 
 -- taking out the rows that pass a test, whatever their order, leaves the others
-pub removed : (p : Row → Bool) (rows : List Row) (ids : List ℤ) → IsApart rows → AreKeyed rows → IsPermutation (ids_of (filter p rows)) ids
+pub removed : (p : Row → Bool) (rows : List Row) (ids : List ℤ) → IsApart rows → AreKeyed rows
+    → IsPermutation (ids_of (filter p rows)) ids
     → without_all rows ids ≡ filter (λ r. not (p r)) rows
 removed p rows ids up keyed same =
-    without_all-filter ids rows ∙ filter_same (λ r. not (is_among ids r)) (λ r. not (p r)) rows (all_by _ rows (λ r here. ap not (agrees r here)))
+    without_all-filter ids rows ∙ filter_same (λ r. not (is_among ids r)) (λ r. not (p r)) rows
+    (all_by _ rows (λ r here. ap not (agrees r here)))
   where
     clash : (r : Row) → Has rows r → p r ≡ false → is_among ids r ≡ true → ⊥
     clash r here lacks hit =
         let some = some_has (λ id. has_rowid id r) ids hit in
-        let back = has_contained (ids_of (filter p rows)) some.0 (Contains-permutation ids (ids_of (filter p rows)) some.0 (IsPermutation-sym (ids_of (filter p rows)) ids same) (contains_had ids some.0 some.1)) in
+        let back = has_contained (ids_of (filter p rows)) some.0 (Contains-permutation ids
+        (ids_of (filter p rows)) some.0 (IsPermutation-sym (ids_of (filter p rows)) ids same)
+        (contains_had ids some.0 some.1)) in
         let x = unmapped (filter p rows) some.0 back in
         let was = has_filtered p rows x.0 x.1 in
         let keyed_there : IsTrue (is_int (rowid x.0)) = all_has _ rows x.0 keyed was.0 in
@@ -82,7 +88,8 @@ removed p rows ids up keyed same =
     agrees r here = elim (cases_Bool (p r)) [
       | inl passed ↦
           let kept = mapped (filter p rows) r (has_kept p rows r here passed) in
-          let there = has_contained ids (id_in (rowid r)) (Contains-permutation (ids_of (filter p rows)) ids (id_in (rowid r)) same (contains_had (ids_of (filter p rows)) (id_in (rowid r)) kept)) in
+          let there = has_contained ids (id_in (rowid r)) (Contains-permutation (ids_of (filter p rows)) ids
+          (id_in (rowid r)) same (contains_had (ids_of (filter p rows)) (id_in (rowid r)) kept)) in
           let keyed_here : IsTrue (is_int (rowid r)) = all_has _ rows r keyed here in
           some_from (λ id. has_rowid id r) ids (id_in (rowid r)) there (same_rowid r keyed_here) ∙ sym passed
       | inr lacks ↦ elim (cases_Bool (is_among ids r)) [

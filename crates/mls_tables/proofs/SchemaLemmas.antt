@@ -25,13 +25,15 @@ none_is xs h = nil_from_length xs (zero_is (length xs) h)
 
 -- tables without foreign keys have nothing to do after an edit
 module _ (s : Schema) (tree : ℕ) (olds news : List Row) where
-  no_work : (tables : List Table) → list_all has_no_reference tables ≡ true → flat_map (λ child. filter_map (work_for s Enforced 0 tree olds news child) child.references) tables ≡ []
+  no_work : (tables : List Table) → list_all has_no_reference tables ≡ true
+      → flat_map (λ child. filter_map (work_for s Enforced 0 tree olds news child) child.references) tables ≡ []
   no_work [] h = refl
   no_work (t ∷ tables) h =
       let both = and_parts _ _ h in
       rw (none_is t.references both.0) (no_work tables both.1)
 
-pub at_rest : (o : Others) → AreApart o → (tree : ℕ) (olds news : List Row) → works (schema o) Enforced 0 tree olds news ≡ []
+pub at_rest : (o : Others) → AreApart o → (tree : ℕ) (olds news : List Row) → works (schema o) Enforced 0 tree olds news
+    ≡ []
 at_rest o apart tree olds news = no_work (schema o) tree olds news o.tables apart.tables
 
 -- a schema that begins with the four tables is theirs and others'
@@ -39,7 +41,11 @@ pub split : (s : Schema) → BeginsWithTables s → HasTables s
 split s h = record {
   others = record { tables = drop 4 s.tables; indexes = drop 2 s.indexes };
   apart = record { tables = h.1.1.1.1; indexes = h.1.1.0 };
-  is = (λ i. record { tables = (sym (take-append-drop 4 s.tables) ∙ ap (λ ts. ts ++ drop 4 s.tables) h.1.1.1.0) i; indexes = (sym (take-append-drop 2 s.indexes) ∙ ap (λ is. is ++ drop 2 s.indexes) h.1.0) i; views = h.0 i });
+  is = (λ i. record {
+    tables = (sym (take-append-drop 4 s.tables) ∙ ap (λ ts. ts ++ drop 4 s.tables) h.1.1.1.0) i;
+    indexes = (sym (take-append-drop 2 s.indexes) ∙ ap (λ is. is ++ drop 2 s.indexes) h.1.0) i;
+    views = h.0 i;
+  });
 }
 
 pub joined : (s : Schema) → HasTables s → BeginsWithTables s

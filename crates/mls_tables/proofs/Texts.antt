@@ -40,13 +40,15 @@ Takes count s text = IsTaken count text (understood s text)
 
 -- so it is of a query, which does not read the list of tables
 abbrev pub Asks : Schema → List ℕ → Command → Type 0
-Asks s text command = (command_of (understood s text) ≡ command) × IsPlain (understood s text) × (reads_listing s text ≡ false)
+Asks s text command = (command_of (understood s text) ≡ command) × IsPlain (understood s text)
+    × (reads_listing s text ≡ false)
 
 -- ---- the tables
 
 abbrev pub MakesTable : Schema → List ℕ → Table → Type 0
 MakesTable s text table =
-    (command_of (understood s text) ≡ CreateTable) × IsPlain (understood s text) × (statement_of text (understood s text) ≡ text) × (table_defined_by text ≡ Ok (record table { tree = 0 }))
+    (command_of (understood s text) ≡ CreateTable) × IsPlain (understood s text)
+    × (statement_of text (understood s text) ≡ text) × (table_defined_by text ≡ Ok (record table { tree = 0 }))
 
 abbrev pub create_node : List ℕ
 create_node = codes "CREATE TABLE node (rel INTEGER NOT NULL, ent BLOB NOT NULL, kclass INTEGER NOT NULL, label INTEGER NOT NULL, pattern BLOB NOT NULL, PRIMARY KEY (rel, ent, kclass, label)) STRICT"
@@ -106,12 +108,14 @@ add_cell_takes o = (lit≤ tt, refl)
 -- the same of cells beside one node: the key, and then two parameters a cell
 abbrev pub own_terms : ℕ → ℕ → List Term
 own_terms at zero = []
-own_terms at (suc count) = lit Null ∷ col 0 0 ∷ col 0 1 ∷ col 0 2 ∷ col 0 3 ∷ col 0 at ∷ col 0 (suc at) ∷ own_terms (suc (suc at)) count
+own_terms at (suc count) = lit Null ∷ col 0 0 ∷ col 0 1 ∷ col 0 2 ∷ col 0 3 ∷ col 0 at ∷ col 0 (suc at)
+    ∷ own_terms (suc (suc at)) count
 
 -- the text adds so many cells
 abbrev pub AddsOwn : List ℕ → ℕ → Type 0
 AddsOwn text count =
-    ((o : Others) → Means (schema o) text (Insert 1 (Values (own_terms 4 count) 7)) × Takes (4 + 2 * count) (schema o) text) × (length (own_terms 4 count) / 7 ≡ count)
+    ((o : Others) → Means (schema o) text (Insert 1 (Values (own_terms 4 count) 7))
+    × Takes (4 + 2 * count) (schema o) text) × (length (own_terms 4 count) / 7 ≡ count)
 
 -- the statement that adds so many
 abbrev pub add_own : ℕ → List ℕ
@@ -124,12 +128,58 @@ AddEach count (suc more) = AddsOwn (add_own count) count × AddEach (suc count) 
 
 add_each_is : AddEach 1 15
 unfolding understood everything
-add_each_is = (((λ o. ((refl, (refl, refl)), (lit≤ tt, refl))), refl), (((λ o. ((refl, (refl, refl)), (lit≤ tt, refl))), refl), (((λ o. ((refl, (refl, refl)), (lit≤ tt, refl))), refl), (((λ o. ((refl, (refl, refl)), (lit≤ tt, refl))), refl), (((λ o. ((refl, (refl, refl)), (lit≤ tt, refl))), refl), (((λ o. ((refl, (refl, refl)), (lit≤ tt, refl))), refl), (((λ o. ((refl, (refl, refl)), (lit≤ tt, refl))), refl), (((λ o. ((refl, (refl, refl)), (lit≤ tt, refl))), refl), (((λ o. ((refl, (refl, refl)), (lit≤ tt, refl))), refl), (((λ o. ((refl, (refl, refl)), (lit≤ tt, refl))), refl), (((λ o. ((refl, (refl, refl)), (lit≤ tt, refl))), refl), (((λ o. ((refl, (refl, refl)), (lit≤ tt, refl))), refl), (((λ o. ((refl, (refl, refl)), (lit≤ tt, refl))), refl), (((λ o. ((refl, (refl, refl)), (lit≤ tt, refl))), refl), (((λ o. ((refl, (refl, refl)), (lit≤ tt, refl))), refl), tt)))))))))))))))
+add_each_is = (
+  ((λ o. ((refl, (refl, refl)), (lit≤ tt, refl))), refl),
+  (
+    ((λ o. ((refl, (refl, refl)), (lit≤ tt, refl))), refl),
+    (
+      ((λ o. ((refl, (refl, refl)), (lit≤ tt, refl))), refl),
+      (
+        ((λ o. ((refl, (refl, refl)), (lit≤ tt, refl))), refl),
+        (
+          ((λ o. ((refl, (refl, refl)), (lit≤ tt, refl))), refl),
+          (
+            ((λ o. ((refl, (refl, refl)), (lit≤ tt, refl))), refl),
+            (
+              ((λ o. ((refl, (refl, refl)), (lit≤ tt, refl))), refl),
+              (
+                ((λ o. ((refl, (refl, refl)), (lit≤ tt, refl))), refl),
+                (
+                  ((λ o. ((refl, (refl, refl)), (lit≤ tt, refl))), refl),
+                  (
+                    ((λ o. ((refl, (refl, refl)), (lit≤ tt, refl))), refl),
+                    (
+                      ((λ o. ((refl, (refl, refl)), (lit≤ tt, refl))), refl),
+                      (
+                        ((λ o. ((refl, (refl, refl)), (lit≤ tt, refl))), refl),
+                        (
+                          ((λ o. ((refl, (refl, refl)), (lit≤ tt, refl))), refl),
+                          (
+                            ((λ o. ((refl, (refl, refl)), (lit≤ tt, refl))), refl),
+                            (
+                              ((λ o. ((refl, (refl, refl)), (lit≤ tt, refl))), refl),
+                              tt,
+                            ),
+                          ),
+                        ),
+                      ),
+                    ),
+                  ),
+                ),
+              ),
+            ),
+          ),
+        ),
+      ),
+    ),
+  ),
+)
 
 one_of : (count more at : ℕ) → AddEach count more → at < more → AddsOwn (add_own (count + at)) (count + at)
 one_of count zero at adds within = absurd (omega (arith, within))
 one_of count (suc more) zero adds within = subst (λ n. AddsOwn (add_own n) n) (omega arith) adds.0
-one_of count (suc more) (suc at) adds within = subst (λ n. AddsOwn (add_own n) n) (omega arith) (one_of (suc count) more at adds.1 (omega (arith, within)))
+one_of count (suc more) (suc at) adds within = subst (λ n. AddsOwn (add_own n) n) (omega arith)
+    (one_of (suc count) more at adds.1 (omega (arith, within)))
 
 pub add_own_is : (count : ℕ) → 0 < count → count ≤ 15 → AddsOwn (add_own count) count
 add_own_is count some few =
@@ -263,7 +313,8 @@ by_label = same 1 0 ∷ same 4 1 ∷ []
 abbrev pub by_labels : List Term
 by_labels = same 1 0 ∷ op2 (Bits bit.And) (col 0 1) (op2 (Bits bit.Shl) (lit (Int (pos 1))) (col 1 4)) ∷ []
 
-pub nodes_of_class_is : (o : Others) → Asks (schema o) nodes_of_class (Select (alone (rows_by 0 by_label node_shown)) node_names)
+pub nodes_of_class_is : (o : Others) → Asks (schema o) nodes_of_class
+    (Select (alone (rows_by 0 by_label node_shown)) node_names)
 unfolding understood everything
 nodes_of_class_is o = (refl, (refl, refl), refl)
 
@@ -271,7 +322,8 @@ pub nodes_of_class_takes : (o : Others) → Takes 2 (schema o) nodes_of_class
 unfolding understood everything
 nodes_of_class_takes o = (lit≤ tt, refl)
 
-pub nodes_among_is : (o : Others) → Asks (schema o) nodes_among (Select (alone (rows_by 0 by_labels node_shown)) node_names)
+pub nodes_among_is : (o : Others) → Asks (schema o) nodes_among
+    (Select (alone (rows_by 0 by_labels node_shown)) node_names)
 unfolding understood everything
 nodes_among_is o = (refl, (refl, refl), refl)
 
@@ -279,7 +331,8 @@ pub nodes_among_takes : (o : Others) → Takes 2 (schema o) nodes_among
 unfolding understood everything
 nodes_among_takes o = (lit≤ tt, refl)
 
-pub nodes_of_key_is : (o : Others) → Asks (schema o) nodes_of_key (Select (alone (rows_by 0 by_class node_shown)) node_names)
+pub nodes_of_key_is : (o : Others) → Asks (schema o) nodes_of_key
+    (Select (alone (rows_by 0 by_class node_shown)) node_names)
 unfolding understood everything
 nodes_of_key_is o = (refl, (refl, refl), refl)
 
@@ -293,7 +346,8 @@ cell_names = codes "rel" ∷ codes "ent" ∷ codes "kclass" ∷ codes "label" �
 abbrev pub cell_shown : List Term
 cell_shown = col 1 1 ∷ col 1 2 ∷ col 1 3 ∷ col 1 4 ∷ col 1 5 ∷ col 1 6 ∷ []
 
-pub cells_of_class_is : (o : Others) → Asks (schema o) cells_of_class (Select (alone (rows_by 2 by_label cell_shown)) cell_names)
+pub cells_of_class_is : (o : Others) → Asks (schema o) cells_of_class
+    (Select (alone (rows_by 2 by_label cell_shown)) cell_names)
 unfolding understood everything
 cells_of_class_is o = (refl, (refl, refl), refl)
 
@@ -301,7 +355,8 @@ pub cells_of_class_takes : (o : Others) → Takes 2 (schema o) cells_of_class
 unfolding understood everything
 cells_of_class_takes o = (lit≤ tt, refl)
 
-pub cells_among_is : (o : Others) → Asks (schema o) cells_among (Select (alone (rows_by 2 by_labels cell_shown)) cell_names)
+pub cells_among_is : (o : Others) → Asks (schema o) cells_among
+    (Select (alone (rows_by 2 by_labels cell_shown)) cell_names)
 unfolding understood everything
 cells_among_is o = (refl, (refl, refl), refl)
 
@@ -309,7 +364,8 @@ pub cells_among_takes : (o : Others) → Takes 2 (schema o) cells_among
 unfolding understood everything
 cells_among_takes o = (lit≤ tt, refl)
 
-pub cells_of_tuple_is : (o : Others) → Asks (schema o) cells_of_tuple (Select (alone (rows_by 2 by_class cell_shown)) cell_names)
+pub cells_of_tuple_is : (o : Others) → Asks (schema o) cells_of_tuple
+    (Select (alone (rows_by 2 by_class cell_shown)) cell_names)
 unfolding understood everything
 cells_of_tuple_is o = (refl, (refl, refl), refl)
 
@@ -329,18 +385,23 @@ meta_names = codes "id" ∷ codes "version" ∷ codes "lattice" ∷ codes "schem
 abbrev pub all_nodes : List ℕ
 all_nodes = codes "SELECT rel, ent, kclass, label, pattern, rowid FROM node ORDER BY rowid"
 
-pub all_nodes_is : (o : Others) → Asks (schema o) all_nodes (Select (alone (rows_sorted 0 [] (node_shown ++ col 1 0 ∷ []) ((col 1 0, ascending Binary) ∷ []))) (node_names ++ codes "rowid" ∷ []))
+pub all_nodes_is : (o : Others) → Asks (schema o) all_nodes
+    (Select (alone (rows_sorted 0 [] (node_shown ++ col 1 0 ∷ []) ((col 1 0, ascending Binary) ∷ [])))
+    (node_names ++ codes "rowid" ∷ []))
 unfolding understood everything
 all_nodes_is o = (refl, (refl, refl), refl)
 
 abbrev pub all_cells : List ℕ
 all_cells = codes "SELECT rel, ent, kclass, label, attr, value, rowid FROM cell ORDER BY rowid"
 
-pub all_cells_is : (o : Others) → Asks (schema o) all_cells (Select (alone (rows_sorted 2 [] (cell_shown ++ col 1 0 ∷ []) ((col 1 0, ascending Binary) ∷ []))) (cell_names ++ codes "rowid" ∷ []))
+pub all_cells_is : (o : Others) → Asks (schema o) all_cells
+    (Select (alone (rows_sorted 2 [] (cell_shown ++ col 1 0 ∷ []) ((col 1 0, ascending Binary) ∷ [])))
+    (cell_names ++ codes "rowid" ∷ []))
 unfolding understood everything
 all_cells_is o = (refl, (refl, refl), refl)
 
-pub all_entries_is : (o : Others) → Asks (schema o) all_entries (Select (alone (rows_sorted 4 [] audit_shown ((col 1 0, ascending Binary) ∷ []))) audit_names)
+pub all_entries_is : (o : Others) → Asks (schema o) all_entries
+    (Select (alone (rows_sorted 4 [] audit_shown ((col 1 0, ascending Binary) ∷ []))) audit_names)
 unfolding understood everything
 all_entries_is o = (refl, (refl, refl), refl)
 
@@ -351,7 +412,8 @@ all_entries_takes o = (lit≤ tt, refl)
 abbrev pub all_meta : List ℕ
 all_meta = codes "SELECT id, version, lattice, schemes FROM meta"
 
-pub all_meta_is : (o : Others) → Asks (schema o) all_meta (Select (alone (rows_by 5 [] (col 1 0 ∷ col 1 2 ∷ col 1 3 ∷ col 1 4 ∷ []))) meta_names)
+pub all_meta_is : (o : Others) → Asks (schema o) all_meta
+    (Select (alone (rows_by 5 [] (col 1 0 ∷ col 1 2 ∷ col 1 3 ∷ col 1 4 ∷ []))) meta_names)
 unfolding understood everything
 all_meta_is o = (refl, (refl, refl), refl)
 

@@ -49,13 +49,17 @@ blob_is (Blob b) h = refl
 equal_numbers : (m n : ℕ) → is_eq (int_cmp (pos m) (pos n)) ≡ nat_eq m n
 equal_numbers m n = grind (arith, ints, nat_tests)
 
-same_nat : (v : Value) (n : ℕ) → is_nat v ≡ true → is_true (binary (Compare Eq Binary) v (Int (pos n))) ≡ nat_eq (nat_in v) n
+same_nat : (v : Value) (n : ℕ) → is_nat v ≡ true → is_true (binary (Compare Eq Binary) v (Int (pos n)))
+    ≡ nat_eq (nat_in v) n
 same_nat v n h =
-    equals_int v (pos n) ∙ (ap (λ w. is_eq (value_cmp w (Int (pos n)))) (nat_is v h) ∙ (ap is_eq (value_cmp-Int (pos (nat_in v)) (pos n)) ∙ equal_numbers (nat_in v) n))
+    equals_int v (pos n) ∙ (ap (λ w. is_eq (value_cmp w (Int (pos n)))) (nat_is v h)
+    ∙ (ap is_eq (value_cmp-Int (pos (nat_in v)) (pos n)) ∙ equal_numbers (nat_in v) n))
 
-same_blob : (v : Value) (b : List ℕ) → is_blob v ≡ true → is_true (binary (Compare Eq Binary) v (Blob b)) ≡ bytes_eq (blob_in v) b
+same_blob : (v : Value) (b : List ℕ) → is_blob v ≡ true → is_true (binary (Compare Eq Binary) v (Blob b))
+    ≡ bytes_eq (blob_in v) b
 same_blob v b h =
-    equals_blob v b ∙ (ap (λ w. is_eq (value_cmp w (Blob b))) (blob_is v h) ∙ (ap is_eq (value_cmp-Blob (blob_in v) b) ∙ is_eq-slice_cmp (blob_in v) b))
+    equals_blob v b ∙ (ap (λ w. is_eq (value_cmp w (Blob b))) (blob_is v h) ∙ (ap is_eq (value_cmp-Blob (blob_in v) b)
+    ∙ is_eq-slice_cmp (blob_in v) b))
 
 pub and_true : (b : Bool) → (b && true) ≡ b
 and_true true = refl
@@ -106,11 +110,13 @@ not_below n = grind (arith, ints)
 
 module _ (mask n : ℕ) (within : mask < 2 ^ 64) where
   -- a bit that a number of 64 bits can have
-  low_bit : n < 64 → int_bit_and w64 (cast_signed w64 mask) (int_shl w64 (pos 1) n) ≡ cast_signed w64 (bit_at mask n * 2 ^ n)
+  low_bit : n < 64 → int_bit_and w64 (cast_signed w64 mask) (int_shl w64 (pos 1) n)
+      ≡ cast_signed w64 (bit_at mask n * 2 ^ n)
   low_bit l =
       let small : 2 ^ n < 2 ^ 64 = pow-lt l in
       let one : 1 * 2 ^ n ≡ 2 ^ n = omega arith in
-      (λ i. cast_signed w64 (bit_and (of_z-to_z w64 mask within i) (cast_unsigned w64 (cast_signed w64 (one i % 2 ^ 64)))))
+      (λ i. cast_signed w64 (bit_and (of_z-to_z w64 mask within i)
+      (cast_unsigned w64 (cast_signed w64 (one i % 2 ^ 64)))))
       ∙ (λ i. cast_signed w64 (bit_and mask (cast_unsigned w64 (cast_signed w64 (mod-eq_of_lt small i)))))
       ∙ (λ i. cast_signed w64 (bit_and mask (of_z-to_z w64 (2 ^ n) small i)))
       ∙ ap (cast_signed w64) (and_pow mask n)
@@ -121,28 +127,39 @@ module _ (mask n : ℕ) (within : mask < 2 ^ 64) where
 
   not_zero : n < 64 → int_eq (cast_signed w64 (2 ^ n)) (pos 0) ≡ false
   not_zero l = false_from_ne_true _ (λ t.
-      let same : 2 ^ n ≡ 0 = sym (of_z-to_z w64 (2 ^ n) (pow-lt l)) ∙ ap (cast_unsigned w64) (equal_ints (cast_signed w64 (2 ^ n)) (pos 0) t) in
+      let same : 2 ^ n ≡ 0 = sym (of_z-to_z w64 (2 ^ n) (pow-lt l)) ∙ ap (cast_unsigned w64)
+      (equal_ints (cast_signed w64 (2 ^ n)) (pos 0) t) in
       let some = pow_pos n in
       absurd (omega (arith, same, some)))
 
-  is_set : (b : ℕ) → b < 2 → bit_at mask n ≡ b → n < 64 → is_true (Int (cast_signed w64 (bit_at mask n * 2 ^ n))) ≡ nat_eq (bit_at mask n) 1
+  is_set : (b : ℕ) → b < 2 → bit_at mask n ≡ b → n < 64 → is_true (Int (cast_signed w64 (bit_at mask n * 2 ^ n)))
+      ≡ nat_eq (bit_at mask n) 1
   is_set zero few is l =
       let none : 0 * 2 ^ n ≡ 0 = omega arith in
-      (λ i. is_true (Int (cast_signed w64 (is i * 2 ^ n)))) ∙ (λ i. is_true (Int (cast_signed w64 (none i)))) ∙ sym (ap (λ b. nat_eq b 1) is)
+      (λ i. is_true (Int (cast_signed w64 (is i * 2 ^ n)))) ∙ (λ i. is_true (Int (cast_signed w64 (none i))))
+      ∙ sym (ap (λ b. nat_eq b 1) is)
   is_set (suc zero) few is l =
       let one : 1 * 2 ^ n ≡ 2 ^ n = omega arith in
-      (λ i. is_true (Int (cast_signed w64 (is i * 2 ^ n)))) ∙ (λ i. is_true (Int (cast_signed w64 (one i)))) ∙ ap not (not_zero l) ∙ sym (ap (λ b. nat_eq b 1) is)
+      (λ i. is_true (Int (cast_signed w64 (is i * 2 ^ n)))) ∙ (λ i. is_true (Int (cast_signed w64 (one i))))
+      ∙ ap not (not_zero l) ∙ sym (ap (λ b. nat_eq b 1) is)
   is_set (suc (suc b)) few is l = absurd (omega (arith, few))
 
-  tested : (b : Bool) → nat_lt n 64 ≡ b → is_true (Int (int_bit_and w64 (cast_signed w64 mask) (cond b (int_shl w64 (pos 1) n) (pos 0)))) ≡ nat_eq (bit_at mask n) 1
-  tested true t = let l = ltb-true n 64 t in ap (λ z. is_true (Int z)) (low_bit l) ∙ is_set (bit_at mask n) (bit_at-lt mask n) refl l
-  tested false f = let l = ltb-false n 64 f in ap (λ z. is_true (Int z)) (high_bit l) ∙ sym (ap (λ b. nat_eq b 1) (bit_at_above mask 64 n within l))
+  tested : (b : Bool) → nat_lt n 64 ≡ b → is_true
+      (Int (int_bit_and w64 (cast_signed w64 mask) (cond b (int_shl w64 (pos 1) n) (pos 0)))) ≡ nat_eq (bit_at mask n) 1
+  tested true t = let l = ltb-true n 64 t in ap (λ z. is_true (Int z)) (low_bit l) ∙ is_set (bit_at mask n)
+      (bit_at-lt mask n) refl l
+  tested false f = let l = ltb-false n 64 f in ap (λ z. is_true (Int z)) (high_bit l)
+      ∙ sym (ap (λ b. nat_eq b 1) (bit_at_above mask 64 n within l))
 
-set_bit : (v : Value) (mask : ℕ) → mask < 2 ^ 64 → is_nat v ≡ true → is_true (binary (Bits bit.And) (Int (cast_signed w64 mask)) (binary (Bits bit.Shl) (Int (pos 1)) v)) ≡ has_bit mask (nat_in v)
+set_bit : (v : Value) (mask : ℕ) → mask < 2 ^ 64 → is_nat v ≡ true
+    → is_true (binary (Bits bit.And) (Int (cast_signed w64 mask)) (binary (Bits bit.Shl) (Int (pos 1)) v))
+    ≡ has_bit mask (nat_in v)
 unfolding binary
 set_bit v mask within h =
-    ap (λ x. is_true (binary (Bits bit.And) (Int (cast_signed w64 mask)) (binary (Bits bit.Shl) (Int (pos 1)) x))) (nat_is v h)
-    ∙ ap (λ b. is_true (Int (int_bit_and w64 (cast_signed w64 mask) (shifted (cond b false true) (pos 1) (nat_in v))))) (not_below (nat_in v))
+    ap (λ x. is_true (binary (Bits bit.And) (Int (cast_signed w64 mask)) (binary (Bits bit.Shl) (Int (pos 1)) x)))
+    (nat_is v h)
+    ∙ ap (λ b. is_true (Int (int_bit_and w64 (cast_signed w64 mask) (shifted (cond b false true) (pos 1) (nat_in v)))))
+    (not_below (nat_in v))
     ∙ tested mask (nat_in v) within (nat_lt (nat_in v) 64) refl
 
 -- ---- the tests of the statements
@@ -151,50 +168,102 @@ pub node_in_class : (k : TupleKey) (r : Row) → is_node_row r ≡ true
     → passes by_class (class_values k) r ≡ is_node k (node_of r)
 node_in_class k r h =
     let c = node_parts r h in
-    rw (same_nat (column r 1) k.rel c.rel, same_blob (column r 2) k.ent c.ent, same_nat (column r 3) k.kclass c.kclass, same_nat (column r 4) k.label c.label, and_true (nat_eq (nat_in (column r 4)) k.label))
+    rw (
+      same_nat (column r 1) k.rel c.rel,
+      same_blob (column r 2) k.ent c.ent,
+      same_nat (column r 3) k.kclass c.kclass,
+      same_nat (column r 4) k.label c.label,
+      and_true (nat_eq (nat_in (column r 4)) k.label),
+    )
 
 pub cell_in_class : (k : TupleKey) (r : Row) → is_cell_row r ≡ true
     → passes by_class (class_values k) r ≡ is_cell_in k (cell_of r)
 cell_in_class k r h =
     let c = cell_parts r h in
-    rw (same_nat (column r 1) k.rel c.rel, same_blob (column r 2) k.ent c.ent, same_nat (column r 3) k.kclass c.kclass, same_nat (column r 4) k.label c.label, and_true (nat_eq (nat_in (column r 4)) k.label))
+    rw (
+      same_nat (column r 1) k.rel c.rel,
+      same_blob (column r 2) k.ent c.ent,
+      same_nat (column r 3) k.kclass c.kclass,
+      same_nat (column r 4) k.label c.label,
+      and_true (nat_eq (nat_in (column r 4)) k.label),
+    )
 
-pub cell_at_key : (cell : CellRow) (r : Row) → is_cell_row r ≡ true → passes by_cell (cell_values cell) r ≡ is_cell cell.rel cell.ent cell.kclass cell.label cell.attr (cell_of r)
+pub cell_at_key : (cell : CellRow) (r : Row) → is_cell_row r ≡ true → passes by_cell (cell_values cell) r
+    ≡ is_cell cell.rel cell.ent cell.kclass cell.label cell.attr (cell_of r)
 cell_at_key cell r h =
     let c = cell_parts r h in
-    rw (same_nat (column r 1) cell.rel c.rel, same_blob (column r 2) cell.ent c.ent, same_nat (column r 3) cell.kclass c.kclass, same_nat (column r 4) cell.label c.label, same_nat (column r 5) cell.attr c.attr, and_true (nat_eq (nat_in (column r 5)) cell.attr))
+    rw (
+      same_nat (column r 1) cell.rel c.rel,
+      same_blob (column r 2) cell.ent c.ent,
+      same_nat (column r 3) cell.kclass c.kclass,
+      same_nat (column r 4) cell.label c.label,
+      same_nat (column r 5) cell.attr c.attr,
+      and_true (nat_eq (nat_in (column r 5)) cell.attr),
+    )
 
 -- ---- what the queries show, of the rows that they show it of
 
 pub node_at_label : (rel label : ℕ) (r : Row) → is_node_row r ≡ true
     → (passes by_label (Int (pos rel) ∷ Int (pos label) ∷ []) r ≡ is_node_at rel label (node_of r))
 node_at_label rel label r h =
-    let c = node_parts r h in rw (same_nat (column r 1) rel c.rel, same_nat (column r 4) label c.label, and_true (nat_eq (nat_in (column r 4)) label))
+    let c = node_parts r h in rw (
+      same_nat (column r 1) rel c.rel,
+      same_nat (column r 4) label c.label,
+      and_true (nat_eq (nat_in (column r 4)) label),
+    )
 
 pub node_among_labels : (rel labels : ℕ) → labels < 2 ^ 64 → (r : Row) → is_node_row r ≡ true
     → (passes by_labels (Int (pos rel) ∷ Int (cast_signed w64 labels) ∷ []) r ≡ is_node_among rel labels (node_of r))
 node_among_labels rel labels within r h =
-    let c = node_parts r h in rw (same_nat (column r 1) rel c.rel, set_bit (column r 4) labels within c.label, and_true (has_bit labels (nat_in (column r 4))))
+    let c = node_parts r h in rw (
+      same_nat (column r 1) rel c.rel,
+      set_bit (column r 4) labels within c.label,
+      and_true (has_bit labels (nat_in (column r 4))),
+    )
 
-pub node_shows : (params r : Row) → is_node_row r ≡ true → eval_all node_shown (params ∷ r ∷ []) ≡ node_values (node_of r)
+pub node_shows : (params r : Row) → is_node_row r ≡ true → eval_all node_shown (params ∷ r ∷ [])
+    ≡ node_values (node_of r)
 node_shows params r h =
     let c = node_parts r h in
-    rw (← nat_is (column r 1) c.rel, ← blob_is (column r 2) c.ent, ← nat_is (column r 3) c.kclass, ← nat_is (column r 4) c.label, ← blob_is (column r 5) c.pattern)
+    rw (
+      ← nat_is (column r 1) c.rel,
+      ← blob_is (column r 2) c.ent,
+      ← nat_is (column r 3) c.kclass,
+      ← nat_is (column r 4) c.label,
+      ← blob_is (column r 5) c.pattern,
+    )
 
 pub cell_at_label : (rel label : ℕ) (r : Row) → is_cell_row r ≡ true
     → (passes by_label (Int (pos rel) ∷ Int (pos label) ∷ []) r ≡ is_cell_at rel label (cell_of r))
 cell_at_label rel label r h =
-    let c = cell_parts r h in rw (same_nat (column r 1) rel c.rel, same_nat (column r 4) label c.label, and_true (nat_eq (nat_in (column r 4)) label))
+    let c = cell_parts r h in rw (
+      same_nat (column r 1) rel c.rel,
+      same_nat (column r 4) label c.label,
+      and_true (nat_eq (nat_in (column r 4)) label),
+    )
 
 pub cell_among_labels : (rel labels : ℕ) → labels < 2 ^ 64 → (r : Row) → is_cell_row r ≡ true
     → (passes by_labels (Int (pos rel) ∷ Int (cast_signed w64 labels) ∷ []) r ≡ is_cell_among rel labels (cell_of r))
 cell_among_labels rel labels within r h =
-    let c = cell_parts r h in rw (same_nat (column r 1) rel c.rel, set_bit (column r 4) labels within c.label, and_true (has_bit labels (nat_in (column r 4))))
+    let c = cell_parts r h in rw (
+      same_nat (column r 1) rel c.rel,
+      set_bit (column r 4) labels within c.label,
+      and_true (has_bit labels (nat_in (column r 4))),
+    )
 
-pub cell_shows : (params r : Row) → is_cell_row r ≡ true → eval_all cell_shown (params ∷ r ∷ []) ≡ cell_values (cell_of r)
+pub cell_shows : (params r : Row) → is_cell_row r ≡ true → eval_all cell_shown (params ∷ r ∷ [])
+    ≡ cell_values (cell_of r)
 cell_shows params r h =
     let c = cell_parts r h in
-    rw (← nat_is (column r 1) c.rel, ← blob_is (column r 2) c.ent, ← nat_is (column r 3) c.kclass, ← nat_is (column r 4) c.label, ← nat_is (column r 5) c.attr, ← blob_is (column r 6) c.value)
+    rw (
+      ← nat_is (column r 1) c.rel,
+      ← blob_is (column r 2) c.ent,
+      ← nat_is (column r 3) c.kclass,
+      ← nat_is (column r 4) c.label,
+      ← nat_is (column r 5) c.attr,
+      ← blob_is (column r 6) c.value,
+    )
 
-pub entry_shows : (params r : Row) → is_audit_row r ≡ true → eval_all audit_shown (params ∷ r ∷ []) ≡ audit_values (audit_of r)
+pub entry_shows : (params r : Row) → is_audit_row r ≡ true → eval_all audit_shown (params ∷ r ∷ [])
+    ≡ audit_values (audit_of r)
 entry_shows params r h = let c = and_parts _ _ h in rw (← int_is (rowid r) c.0, ← blob_is (column r 2) c.1)

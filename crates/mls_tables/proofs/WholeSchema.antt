@@ -12,7 +12,8 @@ one = refl
 numbered : List ℕ → Schema
 numbered number = record (schema no_others) {
   indexes =
-      key_index (codes "sqlite_autoindex_node_" ++ number) 1 0 (1 ∷ 2 ∷ 3 ∷ 4 ∷ []) ∷ key_index (codes "sqlite_autoindex_cell_" ++ number) 3 2 (1 ∷ 2 ∷ 3 ∷ 5 ∷ 4 ∷ []) ∷ [];
+      key_index (codes "sqlite_autoindex_node_" ++ number) 1 0 (1 ∷ 2 ∷ 3 ∷ 4 ∷ [])
+      ∷ key_index (codes "sqlite_autoindex_cell_" ++ number) 3 2 (1 ∷ 2 ∷ 3 ∷ 5 ∷ 4 ∷ []) ∷ [];
 }
 
 pub made_whole : created with_audit meta ≡ schema no_others

@@ -40,11 +40,13 @@ abbrev pub IsText : Value → Type 0
 IsText v = (t : List ℕ) × (v ≡ Text t) × IsUtf8 t
 
 abbrev pub ReadsNode : Row → Type 0
-ReadsNode r = IsNumber (column r 0) × (IsBytes (column r 1) × (IsNumber (column r 2) × (IsNumber (column r 3) × IsBytes (column r 4))))
+ReadsNode r = IsNumber (column r 0) × (IsBytes (column r 1)
+    × (IsNumber (column r 2) × (IsNumber (column r 3) × IsBytes (column r 4))))
 
 abbrev pub ReadsCell : Row → Type 0
 ReadsCell r =
-    IsNumber (column r 0) × (IsBytes (column r 1) × (IsNumber (column r 2) × (IsNumber (column r 3) × (IsNumber (column r 4) × IsBytes (column r 5)))))
+    IsNumber (column r 0) × (IsBytes (column r 1)
+    × (IsNumber (column r 2) × (IsNumber (column r 3) × (IsNumber (column r 4) × IsBytes (column r 5)))))
 
 abbrev pub ReadsEntry : Row → Type 0
 ReadsEntry r = IsInteger (column r 0) × IsBytes (column r 1)
@@ -57,7 +59,8 @@ HaveIds at = AllByRecursion (λ r. IsInteger (column r at))
 
 -- the integers at this place rise
 abbrev pub AreRising : ℕ → List Row → Type 0
-AreRising at rows = AllByRecursion (λ r. is_int (column r at) ≡ true) rows × IsAscending (λ a b. int_lt (id_in (column a at)) (id_in (column b at)) ≡ true) rows
+AreRising at rows = AllByRecursion (λ r. is_int (column r at) ≡ true) rows
+    × IsAscending (λ a b. int_lt (id_in (column a at)) (id_in (column b at)) ≡ true) rows
 
 -- only memory refuses rows that read
 abbrev pub Refutes : Type 0 → Error → Type 0
@@ -70,29 +73,36 @@ Blames P e = e ≡ BadRows → ¬ P
 -- this is what the rows of a query show, whose rowids rise
 abbrev pub ShowsAll : {X : Type 0} → ℕ → (Row → X) → (Row → Bool) → List ℕ → State → State → List X → Type 0
 ShowsAll at show shows sql old new xs =
-    (given : List Row) × Shown sql [] old new given × (xs ≡ map show given) × AllByRecursion (λ r. shows r ≡ true) given × AreRising at given
+    (given : List Row) × Shown sql [] old new given × (xs ≡ map show given) × AllByRecursion (λ r. shows r ≡ true) given
+    × AreRising at given
 
 -- a query is called bad only where a row of its answer does not read
 abbrev pub BlamesOne : ℕ → (Row → Type 0) → List ℕ → State → AdoptFault → Type 0
-BlamesOne at Reads sql s e = e ≡ BadRows → (given : List Row) × (row : Row) × Begins sql [] s (given ++ row ∷ []) × ¬ (Reads row × IsInteger (column row at))
+BlamesOne at Reads sql s e = e ≡ BadRows → (given : List Row) × (row : Row) × Begins sql [] s (given ++ row ∷ [])
+    × ¬ (Reads row × IsInteger (column row at))
 
 -- a whole table, read row by row from where nothing was changed
-pub record ReadsAll {X : Type 0} (at : ℕ) (show : Row → X) (shows : Row → Bool) (Reads : Row → Type 0) (sql : List ℕ) (old new : State) (result : Result (Vec X Global) AdoptFault) : Type 0 where
+pub record ReadsAll {X : Type 0} (at : ℕ) (show : Row → X) (shows : Row → Bool) (Reads : Row → Type 0) (sql : List ℕ)
+    (old new : State) (result : Result (Vec X Global) AdoptFault) : Type 0 where
   pub clean : HasCleanDisk new → HasCleanDisk old
-  pub all : HasCleanDisk new → IsPlain (understood old.now.schema sql) → IfOk result (λ xs. ShowsAll at show shows sql old new xs.items)
+  pub all : HasCleanDisk new → IsPlain (understood old.now.schema sql)
+      → IfOk result (λ xs. ShowsAll at show shows sql old new xs.items)
   pub same : HasCleanDisk new → IsPlain (understood old.now.schema sql) → OnOk result (IsUnchanged old new)
-  pub bad : HasCleanDisk new → IsPlain (understood old.now.schema sql) → IfErr result (λ e. e ≡ BadRows → IsUnchanged old new × BlamesOne at Reads sql new e)
+  pub bad : HasCleanDisk new → IsPlain (understood old.now.schema sql) → IfErr result (λ e. e ≡ BadRows
+      → IsUnchanged old new × BlamesOne at Reads sql new e)
   pub left : HasCleanDisk new → IsPlain (understood old.now.schema sql) → OnErr result (KeepsCommit old new)
 
 -- this is what the rows of a query show
 abbrev pub ShowsSome : {X : Type 0} → (Row → X) → (Row → Bool) → List ℕ → Row → State → State → List X → Type 0
 ShowsSome show shows sql params old new xs =
-    (given : List Row) × Shown sql params old new given × (xs ≡ map show given) × AllByRecursion (λ r. shows r ≡ true) given
+    (given : List Row) × Shown sql params old new given × (xs ≡ map show given)
+    × AllByRecursion (λ r. shows r ≡ true) given
 
 -- a query is refused, or its rows do not read
 abbrev pub FailsToShow : (Row → Type 0) → List ℕ → Row → State → State → Error → Type 0
 FailsToShow Reads sql params old new e =
-    FailsToQuery sql params old new e ⊎ ((given : List Row) × Shown sql params old new given × Refutes (AllByRecursion Reads given) e)
+    FailsToQuery sql params old new e ⊎ ((given : List Row) × Shown sql params old new given
+    × Refutes (AllByRecursion Reads given) e)
 
 -- ---- what is adopted
 
@@ -117,7 +127,8 @@ abbrev pub IsReadDescription : Database → Type 0
 IsReadDescription db = ((m : MetaRow) × IsDescription m db) × AllByRecursion ReadsMeta (map meta_columns (db.trees 5))
 
 abbrev pub AreRead : Database → Type 0
-AreRead db = AreNodes (map node_columns (db.trees 0)) × (AreCells (map cell_columns (db.trees 2)) × AreEntries (map audit_columns (db.trees 4)))
+AreRead db = AreNodes (map node_columns (db.trees 0)) × (AreCells (map cell_columns (db.trees 2))
+    × AreEntries (map audit_columns (db.trees 4)))
 
 -- the database has the four tables, and one row describes it, which reads
 abbrev pub HasDescription : Database → Type 0
@@ -137,11 +148,13 @@ HaveRows db = AreRows is_node_row (db.trees 0) × (AreRows is_cell_row (db.trees
 
 -- all rows of a table, in any order
 abbrev pub IsWholeTable : {X : Type 0} → (Row → Bool) → ℕ → (Tables → List X) → Database → Vec X Global → Type 0
-IsWholeTable is_row tree items db rows = AreRows is_row (db.trees tree) × IsPermutation (items (tables_of db.trees)) rows.items
+IsWholeTable is_row tree items db rows = AreRows is_row (db.trees tree)
+    × IsPermutation (items (tables_of db.trees)) rows.items
 
 -- all rows of the three other tables, each table's in any order
 abbrev pub AreAll : Tables → AllRows → Type 0
-AreAll t rows = IsPermutation t.nodes rows.nodes.items × (IsPermutation t.cells rows.cells.items × IsPermutation t.audit rows.entries.items)
+AreAll t rows = IsPermutation t.nodes rows.nodes.items × (IsPermutation t.cells rows.cells.items
+    × IsPermutation t.audit rows.entries.items)
 
 abbrev pub HasRows : Database → AllRows → Type 0
 HasRows db rows = HaveRows db × AreAll (tables_of db.trees) rows
@@ -159,18 +172,22 @@ pub record IsAdopted (old new : State) (rows : AllRows) : Type 0 where
   pub same : new.now ≡ old.now
   pub all : AreAll (tables_of old.now.trees) rows
 
--- a call that reads of the four tables: an answer says this of them and changes nothing; an error keeps what was committed, and rows
+-- a call that reads of the four tables: an answer says this of them and changes nothing; an error keeps what was
+-- committed, and rows
 -- are called bad only of a database that does not read
-pub record ReadsTables {X : Type 0} (Says : Database → X → Type 0) (Reads : Database → Type 0) (old new : State) (result : Result X AdoptFault) : Type 0 where
+pub record ReadsTables {X : Type 0} (Says : Database → X → Type 0) (Reads : Database → Type 0) (old new : State)
+    (result : Result X AdoptFault) : Type 0 where
   pub clean : HasCleanDisk new → HasCleanDisk old
   pub says : HasCleanDisk new → HasTables old.now.schema → IfOk result (Says old.now)
   pub same : HasCleanDisk new → HasTables old.now.schema → OnOk result (IsUnchanged old new)
   pub left : HasCleanDisk new → HasTables old.now.schema → OnErr result (KeepsCommit old new)
   pub bad : HasCleanDisk new → HasTables old.now.schema → IfErr result (Blames (Reads old.now))
 
--- a call that reads the tables of a connection which is open: what an error leaves, and that rows are called bad only of a
+-- a call that reads the tables of a connection which is open: what an error leaves, and that rows are called bad only
+-- of a
 -- database that does not read
-pub record IsReading {X : Type 0} (Left : State → State → Type 0) (Reads : Database → Type 0) (old new : State) (result : Result X AdoptFault) : Type 0 where
+pub record IsReading {X : Type 0} (Left : State → State → Type 0) (Reads : Database → Type 0) (old new : State)
+    (result : Result X AdoptFault) : Type 0 where
   pub clean : HasCleanDisk new → HasCleanDisk old
   pub schema : OnOk result (HasTables old.now.schema)
   pub was_open : HasCleanDisk new → OnOk result (IsTrue old.is_open)

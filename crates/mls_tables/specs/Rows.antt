@@ -69,7 +69,15 @@ is_cell rel ent kclass label attr c =
 
 -- the row of a cell that stands beside its tuple's node
 abbrev pub cell_beside : NodeRow → OwnCell → CellRow
-cell_beside n c = record { rel = n.rel; ent = n.ent; kclass = n.kclass; label = n.label; attr = c.attr; value = c.value }
+cell_beside n c = record {
+  rel = n.rel;
+  ent = n.ent;
+  kclass = n.kclass;
+  label = n.label;
+  attr = c.attr;
+  value =
+      c.value;
+}
 
 -- the entries of a list, numbered from k
 abbrev pub numbered : ℕ → List (List ℕ) → List AuditRow
@@ -117,19 +125,36 @@ is_text _ = false
 
 abbrev pub node_of : Row → NodeRow
 node_of r =
-    record { rel = nat_in (column r 1); ent = blob_in (column r 2); kclass = nat_in (column r 3); label = nat_in (column r 4); pattern = blob_in (column r 5) }
+    record {
+      rel = nat_in (column r 1);
+      ent = blob_in (column r 2);
+      kclass = nat_in (column r 3);
+      label =
+          nat_in (column r 4);
+      pattern = blob_in (column r 5);
+    }
 
 abbrev pub is_node_row : Row → Bool
 is_node_row r =
-    is_int (rowid r) && (is_nat (column r 1) && (is_blob (column r 2) && (is_nat (column r 3) && (is_nat (column r 4) && is_blob (column r 5)))))
+    is_int (rowid r) && (is_nat (column r 1) && (is_blob (column r 2)
+    && (is_nat (column r 3) && (is_nat (column r 4) && is_blob (column r 5)))))
 
 abbrev pub cell_of : Row → CellRow
 cell_of r =
-    record { rel = nat_in (column r 1); ent = blob_in (column r 2); kclass = nat_in (column r 3); label = nat_in (column r 4); attr = nat_in (column r 5); value = blob_in (column r 6) }
+    record {
+      rel = nat_in (column r 1);
+      ent = blob_in (column r 2);
+      kclass = nat_in (column r 3);
+      label =
+          nat_in (column r 4);
+      attr = nat_in (column r 5);
+      value = blob_in (column r 6);
+    }
 
 abbrev pub is_cell_row : Row → Bool
 is_cell_row r =
-    is_int (rowid r) && (is_nat (column r 1) && (is_blob (column r 2) && (is_nat (column r 3) && (is_nat (column r 4) && (is_nat (column r 5) && is_blob (column r 6))))))
+    is_int (rowid r) && (is_nat (column r 1) && (is_blob (column r 2)
+    && (is_nat (column r 3) && (is_nat (column r 4) && (is_nat (column r 5) && is_blob (column r 6))))))
 
 -- the number of an entry is its rowid
 abbrev pub audit_of : Row → AuditRow
@@ -139,13 +164,24 @@ abbrev pub is_audit_row : Row → Bool
 is_audit_row r = is_int (rowid r) && is_blob (column r 2)
 
 abbrev pub meta_of : Row → MetaRow
-meta_of r = record { id = id_in (rowid r); version = id_in (column r 2); lattice = text_in (column r 3); schemes = text_in (column r 4) }
+meta_of r = record {
+  id = id_in (rowid r);
+  version = id_in (column r 2);
+  lattice = text_in (column r 3);
+  schemes =
+      text_in (column r 4);
+}
 
 abbrev pub is_meta_row : Row → Bool
 is_meta_row r = is_int (rowid r) && (is_int (column r 2) && (is_text (column r 3) && is_text (column r 4)))
 
 abbrev pub tables_of : Trees → Tables
-tables_of trees = record { nodes = map node_of (trees 0); cells = map cell_of (trees 2); audit = map audit_of (trees 4); meta = map meta_of (trees 5) }
+tables_of trees = record {
+  nodes = map node_of (trees 0);
+  cells = map cell_of (trees 2);
+  audit = map audit_of (trees 4);
+  meta = map meta_of (trees 5);
+}
 
 -- ---- rows as queries show them
 
@@ -191,18 +227,35 @@ meta_columns r = column r 0 ∷ column r 2 ∷ column r 3 ∷ column r 4 ∷ []
 -- what a row shows, and whether it shows as much
 abbrev pub shown_node : Row → NodeRow
 shown_node r =
-    record { rel = nat_in (column r 0); ent = blob_in (column r 1); kclass = nat_in (column r 2); label = nat_in (column r 3); pattern = blob_in (column r 4) }
+    record {
+      rel = nat_in (column r 0);
+      ent = blob_in (column r 1);
+      kclass = nat_in (column r 2);
+      label =
+          nat_in (column r 3);
+      pattern = blob_in (column r 4);
+    }
 
 abbrev pub shows_node : Row → Bool
-shows_node r = is_nat (column r 0) && (is_blob (column r 1) && (is_nat (column r 2) && (is_nat (column r 3) && is_blob (column r 4))))
+shows_node r = is_nat (column r 0) && (is_blob (column r 1)
+    && (is_nat (column r 2) && (is_nat (column r 3) && is_blob (column r 4))))
 
 abbrev pub shown_cell : Row → CellRow
 shown_cell r =
-    record { rel = nat_in (column r 0); ent = blob_in (column r 1); kclass = nat_in (column r 2); label = nat_in (column r 3); attr = nat_in (column r 4); value = blob_in (column r 5) }
+    record {
+      rel = nat_in (column r 0);
+      ent = blob_in (column r 1);
+      kclass = nat_in (column r 2);
+      label =
+          nat_in (column r 3);
+      attr = nat_in (column r 4);
+      value = blob_in (column r 5);
+    }
 
 abbrev pub shows_cell : Row → Bool
 shows_cell r =
-    is_nat (column r 0) && (is_blob (column r 1) && (is_nat (column r 2) && (is_nat (column r 3) && (is_nat (column r 4) && is_blob (column r 5)))))
+    is_nat (column r 0) && (is_blob (column r 1)
+    && (is_nat (column r 2) && (is_nat (column r 3) && (is_nat (column r 4) && is_blob (column r 5)))))
 
 abbrev pub shown_entry : Row → AuditRow
 shown_entry r = record { number = id_in (column r 0); bytes = blob_in (column r 1) }
@@ -211,7 +264,13 @@ abbrev pub shows_entry : Row → Bool
 shows_entry r = is_int (column r 0) && is_blob (column r 1)
 
 abbrev pub shown_meta : Row → MetaRow
-shown_meta r = record { id = id_in (column r 0); version = id_in (column r 1); lattice = text_in (column r 2); schemes = text_in (column r 3) }
+shown_meta r = record {
+  id = id_in (column r 0);
+  version = id_in (column r 1);
+  lattice = text_in (column r 2);
+  schemes =
+      text_in (column r 3);
+}
 
 abbrev pub shows_meta : Row → Bool
 shows_meta r = is_int (column r 0) && (is_int (column r 1) && (is_text (column r 2) && is_text (column r 3)))

@@ -15,12 +15,21 @@ use Rattle.sqlite.specs.Change.{created}
 use Rattle.sqlite.specs.Effect.{Database}
 
 abbrev pub needed : List ℕ → Kind → Column
-needed name kind = record { name = name; kind = kind; is_strict = true; not_null = true; default = Null; collation = Binary }
+needed name kind = record {
+  name = name;
+  kind = kind;
+  is_strict = true;
+  not_null = true;
+  default = Null;
+  collation =
+      Binary;
+}
 
 -- nothing is tested, computed or counted beside the keys
 abbrev pub HasNoRules : Table → Type 0
 HasNoRules t =
-    (t.checks ≡ []) × ((t.references ≡ []) × ((t.computed ≡ []) × ((t.stamps ≡ record { places = []; terms = []; formats = [] }) × (t.is_counted ≡ false))))
+    (t.checks ≡ []) × ((t.references ≡ []) × ((t.computed ≡ [])
+    × ((t.stamps ≡ record { places = []; terms = []; formats = [] }) × (t.is_counted ≡ false))))
 
 -- the first column is the rowid, and the only key
 abbrev pub IsByRowid : Table → Type 0
@@ -47,29 +56,45 @@ by_rowid name tree columns = record {
 }
 
 abbrev pub by_index : List ℕ → ℕ → List Column → List ℕ → Table
-by_index name tree columns places = record (by_rowid name tree columns) { key = None; primary = places; uniques = places ∷ []; orders = plain ∷ [] }
+by_index name tree columns places = record (by_rowid name tree columns) {
+  key = None;
+  primary = places;
+  uniques = places
+      ∷ [];
+  orders = plain ∷ [];
+}
 
 -- the index that SQLite makes for a primary key
 abbrev pub key_index : List ℕ → ℕ → ℕ → List ℕ → Index
-key_index name tree table places = record { name = name; tree = tree; table = table; columns = places; order = plain; is_unique = true }
+key_index name tree table places = record {
+  name = name;
+  tree = tree;
+  table = table;
+  columns = places;
+  order = plain;
+  is_unique = true;
+}
 
 abbrev pub node : Table
 node =
     by_index (codes "node") 0
-    (needed (codes "rel") Integer ∷ needed (codes "ent") Blob ∷ needed (codes "kclass") Integer ∷ needed (codes "label") Integer ∷ needed (codes "pattern") Blob ∷ [])
+    (needed (codes "rel") Integer ∷ needed (codes "ent") Blob ∷ needed (codes "kclass") Integer
+    ∷ needed (codes "label") Integer ∷ needed (codes "pattern") Blob ∷ [])
     (1 ∷ 2 ∷ 3 ∷ 4 ∷ [])
 
 abbrev pub cell : Table
 cell =
     by_index (codes "cell") 2
-    (needed (codes "rel") Integer ∷ needed (codes "ent") Blob ∷ needed (codes "kclass") Integer ∷ needed (codes "label") Integer ∷ needed (codes "attr") Integer ∷ needed (codes "value") Blob ∷ [])
+    (needed (codes "rel") Integer ∷ needed (codes "ent") Blob ∷ needed (codes "kclass") Integer
+    ∷ needed (codes "label") Integer ∷ needed (codes "attr") Integer ∷ needed (codes "value") Blob ∷ [])
     (1 ∷ 2 ∷ 3 ∷ 5 ∷ 4 ∷ [])
 
 abbrev pub audit : Table
 audit = by_rowid (codes "audit") 4 (needed (codes "number") Integer ∷ needed (codes "bytes") Blob ∷ [])
 
 abbrev pub meta : Table
-meta = by_rowid (codes "meta") 5 (needed (codes "id") Integer ∷ needed (codes "version") Integer ∷ needed (codes "lattice") Text ∷ needed (codes "schemes") Text ∷ [])
+meta = by_rowid (codes "meta") 5 (needed (codes "id") Integer ∷ needed (codes "version") Integer
+    ∷ needed (codes "lattice") Text ∷ needed (codes "schemes") Text ∷ [])
 
 abbrev pub no_schema : Schema
 no_schema = record { tables = []; indexes = []; views = [] }
@@ -96,7 +121,8 @@ no_others = record { tables = []; indexes = [] }
 abbrev pub schema : Others → Schema
 schema others = record {
   tables = node ∷ cell ∷ audit ∷ meta ∷ others.tables;
-  indexes = key_index (codes "sqlite_autoindex_node_1") 1 0 (1 ∷ 2 ∷ 3 ∷ 4 ∷ []) ∷ key_index (codes "sqlite_autoindex_cell_1") 3 2 (1 ∷ 2 ∷ 3 ∷ 5 ∷ 4 ∷ []) ∷ others.indexes;
+  indexes = key_index (codes "sqlite_autoindex_node_1") 1 0 (1 ∷ 2 ∷ 3 ∷ 4 ∷ [])
+      ∷ key_index (codes "sqlite_autoindex_cell_1") 3 2 (1 ∷ 2 ∷ 3 ∷ 5 ∷ 4 ∷ []) ∷ others.indexes;
   views = [];
 }
 
@@ -120,7 +146,8 @@ pub record HasTables (s : Schema) : Type 0 where
 -- the same, by its parts
 abbrev pub BeginsWithTables : Schema → Type 0
 BeginsWithTables s =
-    (s.views ≡ []) × ((take 2 s.indexes ≡ (schema no_others).indexes) × ((list_all is_on_others (drop 2 s.indexes) ≡ true)
+    (s.views ≡ []) × ((take 2 s.indexes ≡ (schema no_others).indexes)
+    × ((list_all is_on_others (drop 2 s.indexes) ≡ true)
     × ((take 4 s.tables ≡ (schema no_others).tables) × (list_all has_no_reference (drop 4 s.tables) ≡ true))))
 
 -- the database has the tables of a schema, without a row

@@ -42,7 +42,8 @@ AreRows is_row rows = IsApart rows × AllByRecursion (λ r. is_row r ≡ true) r
 abbrev pub IsSchemaReady : Database → Type 0
 IsSchemaReady db =
     HasTables db.schema
-    × (AreRows is_node_row (db.trees 0) × (AreRows is_cell_row (db.trees 2) × (AreRows is_audit_row (db.trees 4) × AreRows is_meta_row (db.trees 5))))
+    × (AreRows is_node_row (db.trees 0) × (AreRows is_cell_row (db.trees 2) × (AreRows is_audit_row (db.trees 4)
+    × AreRows is_meta_row (db.trees 5))))
 
 -- ---- what becomes of the rows
 
@@ -60,7 +61,8 @@ has_key_of c = is_cell c.rel c.ent c.kclass c.label c.attr
 
 -- the cell stands in the place of the one with its key
 abbrev pub SetsCell : CellRow → Tables → Tables → Type 0
-SetsCell c old new = (new ≡ record old { cells = new.cells }) × IsPermutation (c ∷ filter (λ d. not (has_key_of c d)) old.cells) new.cells
+SetsCell c old new = (new ≡ record old { cells = new.cells })
+    × IsPermutation (c ∷ filter (λ d. not (has_key_of c d)) old.cells) new.cells
 
 abbrev pub DropsCells : TupleKey → Tables → Tables → Type 0
 DropsCells k old new = new ≡ record old { cells = filter (λ c. not (is_cell_in k c)) old.cells }
@@ -96,7 +98,8 @@ abbrev pub ClearsStore : Tables → Tables → Type 0
 ClearsStore old new = new ≡ record old { nodes = []; cells = []; meta = [] }
 
 -- the nodes and the cells are these, in any order, one row describes the store, and the entries stay
-pub record Rewrites (nodes : List NodeRow) (cells : List CellRow) (version : ℕ) (lattice schemes : List ℕ) (old new : Tables) : Type 0 where
+pub record Rewrites (nodes : List NodeRow) (cells : List CellRow) (version : ℕ) (lattice schemes : List ℕ)
+    (old new : Tables) : Type 0 where
   pub nodes_are : IsPermutation nodes new.nodes
   pub cells_are : IsPermutation cells new.cells
   pub audit : new.audit ≡ old.audit
@@ -151,7 +154,8 @@ pub record IsNewStore (version : ℕ) (lattice schemes : List ℕ) (s : State) :
   pub rows : tables_of s.now.trees ≡ described version lattice schemes
 
 -- a store that was rewritten, and is committed
-pub record IsRewritten (nodes : List NodeRow) (cells : List CellRow) (version : ℕ) (lattice schemes : List ℕ) (old new : State) : Type 0 where
+pub record IsRewritten (nodes : List NodeRow) (cells : List CellRow) (version : ℕ) (lattice schemes : List ℕ)
+    (old new : State) : Type 0 where
   pub settled : HasSettled new
   pub rows : Rewrites nodes cells version lattice schemes (tables_of old.now.trees) (tables_of new.now.trees)
 
@@ -159,7 +163,8 @@ pub record IsRewritten (nodes : List NodeRow) (cells : List CellRow) (version : 
 abbrev pub IsEnded : State → State → Type 0
 IsEnded old new = IsUnchanged old new ⊎ IsRolledBack old new
 
--- The statement was understood and run: the store failed; or the database refused these rows, since they break a rule of their
+-- The statement was understood and run: the store failed; or the database refused these rows, since they break a rule
+-- of their
 -- table, are of other kinds than it takes, or go past a limit.
 abbrev pub is_of_run : Error → Bool
 is_of_run (SqliteFailure code.OutOfMemory) = true
@@ -184,7 +189,8 @@ IsOfRun e = is_of_run e ≡ true
 abbrev pub enforced : Mode
 enforced = record { keys = Enforced; in_doubt = false; may_wait = false }
 
--- The database refuses a statement that it understands, with these parameters: no row that is written can be stored; or it
+-- The database refuses a statement that it understands, with these parameters: no row that is written can be stored; or
+-- it
 -- breaks a rule, is of another kind or goes past a limit; or so does what is read.
 pub data IsRefusal (sql : List ℕ) (c : Compiled) (params : Row) (limit : Option ℕ) (db : Database) : Type 0 where
   unstorable : Does limit enforced params db (text_of sql c) c.returning c.command (Err None)
@@ -248,7 +254,8 @@ pub record IsWrite (Rows : Tables → Tables → Type 0) (old new : State) (resu
   pub err : HasCleanDisk new → OnErr result (IsEnded old new)
 
 -- statements in a change, which goes on; an error keeps what was committed
-pub record AreWrites {A : Type 0} (Rows : Tables → Tables → Type 0) (old new : State) (result : Result A Error) : Type 0 where
+pub record AreWrites {A : Type 0} (Rows : Tables → Tables → Type 0) (old new : State)
+    (result : Result A Error) : Type 0 where
   pub clean : HasCleanDisk new → HasCleanDisk old
   pub done : HasCleanDisk new → IsWithin old → OnOk result (GoesOn Rows old new)
   pub cause : HasCleanDisk new → IsWithin old → IfErr result IsOfRun
@@ -260,7 +267,8 @@ pub record IsMaking (before after : Schema) (old new : State) (result : Result �
   pub made : HasCleanDisk new → IsMade before old.now → OnOk result (IsMade after new.now × IsNext old new)
   pub err : HasCleanDisk new → OnErr result (IsEnded old new)
 
--- a query over an open connection: of the four tables it finds this and changes nothing; an error leaves what was there, or undoes
+-- a query over an open connection: of the four tables it finds this and changes nothing; an error leaves what was
+-- there, or undoes
 -- the transaction
 pub record IsQuery {X : Type 0} (Finds : List X → Type 0) (sql : List ℕ) (params : Row) (old new : State)
     (result : Result (Vec X Global) Error) : Type 0 where
@@ -268,7 +276,8 @@ pub record IsQuery {X : Type 0} (Finds : List X → Type 0) (sql : List ℕ) (pa
   pub was_open : HasCleanDisk new → OnOk result (IsTrue old.is_open)
   pub found : HasCleanDisk new → IsSchemaReady old.now → IfOk result (λ xs. Finds xs.items)
   pub same : HasCleanDisk new → IsSchemaReady old.now → OnOk result (IsUnchanged old new)
-  pub cause : HasCleanDisk new → (IsTrue old.is_open → IsSchemaReady old.now) → IfErr result (λ e. IsOfRun e ⊎ (¬ AreInRange (tables_of old.now.trees)))
+  pub cause : HasCleanDisk new → (IsTrue old.is_open → IsSchemaReady old.now)
+      → IfErr result (λ e. IsOfRun e ⊎ (¬ AreInRange (tables_of old.now.trees)))
   pub err : HasCleanDisk new → (IsTrue old.is_open → IsSchemaReady old.now) → OnErr result (IsEnded old new)
   -- it was not answered, or not every number fits
   pub stopped : HasCleanDisk new → (IsTrue old.is_open → IsSchemaReady old.now)

@@ -18,8 +18,10 @@ use Rattle.mls_tables.specs.Rows.{Tables, tables_of}
 use Rattle.mls_tables.specs.Statements.{IsSchemaReady, AreInRange, Refuses, RefusesCells, trees_of}
 
 -- the rows now and as of the last commit, whether a change is begun, whether the disk has so far given back what was
--- written to it, how many calls of the store have failed, whether the connection is open, and how many times the disk has
--- failed or refused; the rows of the tables and of their indexes with their rowids, where it is open, and how many steps a
+-- written to it, how many calls of the store have failed, whether the connection is open, and how many times the disk
+-- has
+-- failed or refused; the rows of the tables and of their indexes with their rowids, where it is open, and how many
+-- steps a
 -- statement may take
 pub record TableState : Type 0 where
   pub now : Tables
@@ -60,13 +62,15 @@ abbrev pub IsSame : TableState → TableState → Type 0
 IsSame old new = (new.now ≡ old.now) × (new.kept ≡ old.kept)
 
 -- a call that begins or ends a change: these are the rows then, and those of the last commit
-pub record IsStoreTurn (begun : Bool) (rows : Tables) (old new : TableState) (result : Result (Unit {0}) StoreFault) : Type 0 where
+pub record IsStoreTurn (begun : Bool) (rows : Tables) (old new : TableState)
+    (result : Result (Unit {0}) StoreFault) : Type 0 where
   pub call : IsStoreCall old new result
   pub cause : IsClean new → IfErr result (λ e. e ≡ Store → HasFailed old new)
   pub mode : OnOk result (new.begun ≡ begun)
   pub done : IsClean new → OnOk result ((new.now ≡ rows) × (new.kept ≡ rows))
 
--- Store is answered only where the disk failed or refused, the connection was shut, or the database refuses what is asked.
+-- Store is answered only where the disk failed or refused, the connection was shut, or the database refuses what is
+-- asked.
 abbrev pub IsCaused : {A : Type 0} → Type 0 → TableState → TableState → Result A StoreFault → Type 0
 IsCaused Refused old new result = IsClean new → IfErr result (λ e. e ≡ Store → HasFailed old new ⊎ Refused)
 
@@ -118,7 +122,8 @@ table_state s begun failures last = record {
   limit = s.step_limit;
 }
 
--- Inside a change the connection is open. An open one shows the four tables, and `last` is what it committed last, which is
+-- Inside a change the connection is open. An open one shows the four tables, and `last` is what it committed last,
+-- which is
 -- remembered for when it is shut.
 pub record MatchesConnection (s : State) (begun : Bool) (last : Tables) : Type 0 where
   pub is_open : HasCleanDisk s → IsTrue begun → IsTrue s.is_open
@@ -135,7 +140,8 @@ pub record HasEnded (old new : State) : Type 0 where
   pub now : IsTrue new.is_open → new.now ≡ old.committed
   pub committed : IsTrue new.is_open → new.committed ≡ old.committed
 
--- the change is ended after a call that failed, and the failure is counted: how many failures there were and are, and why it failed
+-- the change is ended after a call that failed, and the failure is counted: how many failures there were and are, and
+-- why it failed
 pub record HasFallen (old new : State) (before after : ℕ) (error : Error) (fault : StoreFault) : Type 0 where
   pub clean : HasCleanDisk new → HasCleanDisk old
   pub ended : HasCleanDisk new → HasEnded old new

@@ -25,7 +25,8 @@ pub enum AdoptFault {
     Store,
     /// A growth was refused.
     Memory,
-    /// The tables are not the four, a row is not what its table is for, or it is not one row, of version 1 or 2, that describes
+    /// The tables are not the four, a row is not what its table is for, or it is not one row, of version 1 or 2, that
+    /// describes
     /// the store.
     BadRows,
 }

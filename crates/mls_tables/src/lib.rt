@@ -1,4 +1,5 @@
-//! The four tables of a store, the statements on them, and a store that keeps its rows, its last commit and its failures.
+//! The four tables of a store, the statements on them, and a store that keeps its rows, its last commit and its
+//! failures.
 #![tactic(auto)]
 
 mod adopting;

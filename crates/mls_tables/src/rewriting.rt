@@ -60,7 +60,8 @@ fn replace_at_once<S: Alter>(
     change::commit(conn)
 }
 
-/// Gives a store other nodes and cells and another description, in one transaction. The entries stay. After an `Err` the store
+/// Gives a store other nodes and cells and another description, in one transaction. The entries stay. After an `Err`
+/// the store
 /// has the rows that it had.
 pub fn rewrite_store<S: Alter>(
     conn: &mut Connection<S>,

@@ -141,7 +141,8 @@ macro_rules! settle {
 }
 
 impl<S: Alter> TableStore<S> {
-    /// Makes a new store in a database that has nothing, described by a version and two texts. An `Err` hands the connection back, with
+    /// Makes a new store in a database that has nothing, described by a version and two texts. An `Err` hands the
+    /// connection back, with
     /// what it had.
     pub fn create(
         alloc: Global,
@@ -237,7 +238,8 @@ impl<S: Alter> TableStore<S> {
         self.begun
     }
 
-    /// Begins a change. A `Store` has a cause: the disk failed or refused, the connection was shut, or, where rows are asked for or
+    /// Begins a change. A `Store` has a cause: the disk failed or refused, the connection was shut, or, where rows are
+    /// asked for or
     /// written, the database refuses the statement, as for a constraint, a size or a limit of steps.
     pub fn begin(&mut self) -> Result<(), StoreFault>
         requires begun { self.old.begun ≡ false }

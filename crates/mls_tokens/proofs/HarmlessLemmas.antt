@@ -11,7 +11,8 @@ use Rattle.mls_tokens.proofs.EscapingLemmas.{pair_short, triple_short, triple_cu
 -- no hidden character begins anywhere
 abbrev Calm : List ℕ → Type 0
 Calm [] = ⊤
-Calm (a ∷ bs) = (is_hidden a ≡ false) × (is_hidden_pair a (byte_at bs 0) ≡ false) × (is_hidden_triple a (byte_at bs 0) (byte_at bs 1) ≡ false) × Calm bs
+Calm (a ∷ bs) = (is_hidden a ≡ false) × (is_hidden_pair a (byte_at bs 0) ≡ false)
+    × (is_hidden_triple a (byte_at bs 0) (byte_at bs 1) ≡ false) × Calm bs
 
 -- ---- escapes
 
@@ -30,7 +31,12 @@ hidden_plain : (a : ℕ) → 32 ≤ a → a ≤ 126 → is_hidden a ≡ false
 hidden_plain a low high = grind (arith, nat_tests)
 
 calm_plain : (a : ℕ) (bs : List ℕ) → IsPlain a → Calm bs → Calm (a ∷ bs)
-calm_plain a bs h k = (hidden_plain a h.shown h.ascii, pair_plain a (byte_at bs 0) h.ascii, triple_plain a (byte_at bs 0) (byte_at bs 1) h.ascii, k)
+calm_plain a bs h k = (
+  hidden_plain a h.shown h.ascii,
+  pair_plain a (byte_at bs 0) h.ascii,
+  triple_plain a (byte_at bs 0) (byte_at bs 1) h.ascii,
+  k,
+)
 
 plain_between : (b : ℕ) → 32 ≤ b → b ≤ 126 → IsPlain b
 plain_between b low high = record { shown = low; ascii = high }
@@ -38,8 +44,10 @@ plain_between b low high = record { shown = low; ascii = high }
 plain_digit : (n : ℕ) → n < 16 → IsPlain (hex_digit n)
 plain_digit n h =
     elim (cases_Bool (nat_lt n 10)) [
-      | inl e ↦ subst IsPlain (sym (ap (λ t. cond t (48 + n) (87 + n)) e)) (plain_between (48 + n) (omega arith) (omega arith))
-      | inr e ↦ subst IsPlain (sym (ap (λ t. cond t (48 + n) (87 + n)) e)) (plain_between (87 + n) (omega arith) (omega arith))
+      | inl e ↦ subst IsPlain (sym (ap (λ t. cond t (48 + n) (87 + n)) e)) (plain_between (48 + n) (omega arith)
+          (omega arith))
+      | inr e ↦ subst IsPlain (sym (ap (λ t. cond t (48 + n) (87 + n)) e)) (plain_between (87 + n) (omega arith)
+          (omega arith))
     ]
 
 calm_digit : (n : ℕ) (bs : List ℕ) → n < 16 → Calm bs → Calm (hex_digit n ∷ bs)
@@ -78,20 +86,24 @@ calm_pair a b rest small k =
 -- ---- what is written first
 
 -- an escape, or the byte itself
-shown_elim : (Q : List ℕ → Type 0) (a b c : ℕ) (out : ℕ → List ℕ) → ((tail : List ℕ) → Q (92 ∷ tail)) → Q (a ∷ out 0) → Q (shown a b c ++ out (passed a b c))
+shown_elim : (Q : List ℕ → Type 0) (a b c : ℕ) (out : ℕ → List ℕ) → ((tail : List ℕ) → Q (92 ∷ tail)) → Q (a ∷ out 0)
+    → Q (shown a b c ++ out (passed a b c))
 shown_elim Q a b c out escape same =
-    elim (is_hidden a) as (λ t. Q (cond t (hex_escape a) (cond (is_hidden_pair a b) (pair_escape a b) (cond (is_hidden_triple a b c) (unicode_escape a b c) (a ∷ []))) ++ out (passed a b c))) [
+    elim (is_hidden a) as (λ t. Q (cond t (hex_escape a) (cond (is_hidden_pair a b) (pair_escape a b)
+    (cond (is_hidden_triple a b c) (unicode_escape a b c) (a ∷ []))) ++ out (passed a b c))) [
       | true ↦ escape _
-      | false ↦ elim (is_hidden_pair a b) as (λ t. Q (cond t (pair_escape a b) (cond (is_hidden_triple a b c) (unicode_escape a b c) (a ∷ [])) ++ out (cond t 1 (cond (is_hidden_triple a b c) 2 0)))) [
-        | true ↦ elim (a == 194) as (λ t. Q (cond t (hex_escape b) (unicode_escape 0 a b) ++ out 1)) [
-          | true ↦ escape _
-          | false ↦ escape _
-        ]
-        | false ↦ elim (is_hidden_triple a b c) as (λ t. Q (cond t (unicode_escape a b c) (a ∷ []) ++ out (cond t 2 0))) [
-          | true ↦ escape _
-          | false ↦ same
-        ]
-      ]
+      | false ↦ elim (is_hidden_pair a b) as (λ t. Q (cond t (pair_escape a b) (cond (is_hidden_triple a b c)
+          (unicode_escape a b c) (a ∷ [])) ++ out (cond t 1 (cond (is_hidden_triple a b c) 2 0)))) [
+            | true ↦ elim (a == 194) as (λ t. Q (cond t (hex_escape b) (unicode_escape 0 a b) ++ out 1)) [
+              | true ↦ escape _
+              | false ↦ escape _
+            ]
+            | false ↦ elim (is_hidden_triple a b c) as (λ t. Q (cond t (unicode_escape a b c) (a ∷ [])
+                ++ out (cond t 2 0))) [
+                  | true ↦ escape _
+                  | false ↦ same
+                ]
+          ]
     ]
 
 first_kept : (P : ℕ → Type 0) (bs : List ℕ) → P 92 → P (byte_at bs 0) → P (byte_at (escaped bs) 0)
@@ -99,27 +111,36 @@ first_kept P [] escape same = same
 first_kept P (b ∷ bs) escape same =
     shown_elim (λ l. P (byte_at l 0)) b (byte_at bs 0) (byte_at bs 1) (λ n. escaped_from n bs) (λ tail. escape) same
 
-two_kept : (P : ℕ → ℕ → Type 0) (bs : List ℕ) → ((c : ℕ) → P 92 c) → ((b : ℕ) → P b 92) → P (byte_at bs 0) (byte_at bs 1) → P (byte_at (escaped bs) 0) (byte_at (escaped bs) 1)
+two_kept : (P : ℕ → ℕ → Type 0) (bs : List ℕ) → ((c : ℕ) → P 92 c) → ((b : ℕ) → P b 92)
+    → P (byte_at bs 0) (byte_at bs 1) → P (byte_at (escaped bs) 0) (byte_at (escaped bs) 1)
 two_kept P [] first second same = same
 two_kept P (b ∷ bs) first second same =
-    shown_elim (λ l. P (byte_at l 0) (byte_at l 1)) b (byte_at bs 0) (byte_at bs 1) (λ n. escaped_from n bs) (λ tail. first _)
+    shown_elim (λ l. P (byte_at l 0) (byte_at l 1)) b (byte_at bs 0) (byte_at bs 1) (λ n. escaped_from n bs)
+    (λ tail. first _)
     (first_kept (P b) bs (second b) same)
 
 -- ---- a whole text
 
-calm_shown : (a b c : ℕ) (out : ℕ → List ℕ) → ((n : ℕ) → Calm (out n)) → (is_hidden a ≡ false → is_hidden_pair a b ≡ false → is_hidden_triple a b c ≡ false → Calm (a ∷ out 0)) → Calm (shown a b c ++ out (passed a b c))
+calm_shown : (a b c : ℕ) (out : ℕ → List ℕ) → ((n : ℕ) → Calm (out n)) → (is_hidden a ≡ false → is_hidden_pair a b
+    ≡ false → is_hidden_triple a b c ≡ false → Calm (a ∷ out 0)) → Calm (shown a b c ++ out (passed a b c))
 calm_shown a b c out every same =
     elim (cases_Bool (is_hidden a)) [
-      | inl e ↦ subst (λ t. Calm (cond t (hex_escape a) (cond (is_hidden_pair a b) (pair_escape a b) (cond (is_hidden_triple a b c) (unicode_escape a b c) (a ∷ []))) ++ out (passed a b c))) (sym e)
+      | inl e ↦ subst (λ t. Calm (cond t (hex_escape a) (cond (is_hidden_pair a b) (pair_escape a b)
+          (cond (is_hidden_triple a b c) (unicode_escape a b c) (a ∷ []))) ++ out (passed a b c))) (sym e)
           (calm_escape a (out (passed a b c)) (hidden_small a e) (every (passed a b c)))
-      | inr e ↦ subst (λ t. Calm (cond t (hex_escape a) (cond (is_hidden_pair a b) (pair_escape a b) (cond (is_hidden_triple a b c) (unicode_escape a b c) (a ∷ []))) ++ out (passed a b c))) (sym e)
+      | inr e ↦ subst (λ t. Calm (cond t (hex_escape a) (cond (is_hidden_pair a b) (pair_escape a b)
+          (cond (is_hidden_triple a b c) (unicode_escape a b c) (a ∷ []))) ++ out (passed a b c))) (sym e)
           (elim (cases_Bool (is_hidden_pair a b)) [
-            | inl p ↦ subst (λ t. Calm (cond t (pair_escape a b) (cond (is_hidden_triple a b c) (unicode_escape a b c) (a ∷ [])) ++ out (cond t 1 (cond (is_hidden_triple a b c) 2 0)))) (sym p)
+            | inl p ↦ subst (λ t. Calm (cond t (pair_escape a b) (cond (is_hidden_triple a b c) (unicode_escape a b c)
+                (a ∷ [])) ++ out (cond t 1 (cond (is_hidden_triple a b c) 2 0)))) (sym p)
                 (calm_pair a b (out 1) (pair_small a b p) (every 1))
-            | inr p ↦ subst (λ t. Calm (cond t (pair_escape a b) (cond (is_hidden_triple a b c) (unicode_escape a b c) (a ∷ [])) ++ out (cond t 1 (cond (is_hidden_triple a b c) 2 0)))) (sym p)
+            | inr p ↦ subst (λ t. Calm (cond t (pair_escape a b) (cond (is_hidden_triple a b c) (unicode_escape a b c)
+                (a ∷ [])) ++ out (cond t 1 (cond (is_hidden_triple a b c) 2 0)))) (sym p)
                 (elim (cases_Bool (is_hidden_triple a b c)) [
-                  | inl q ↦ subst (λ t. Calm (cond t (unicode_escape a b c) (a ∷ []) ++ out (cond t 2 0))) (sym q) (calm_number a b c (out 2) (every 2))
-                  | inr q ↦ subst (λ t. Calm (cond t (unicode_escape a b c) (a ∷ []) ++ out (cond t 2 0))) (sym q) (same e p q)
+                  | inl q ↦ subst (λ t. Calm (cond t (unicode_escape a b c) (a ∷ []) ++ out (cond t 2 0))) (sym q)
+                      (calm_number a b c (out 2) (every 2))
+                  | inr q ↦ subst (λ t. Calm (cond t (unicode_escape a b c) (a ∷ []) ++ out (cond t 2 0))) (sym q)
+                      (same e p q)
                 ])
           ])
     ]
@@ -132,7 +153,8 @@ calm (a ∷ bs) zero =
     (λ e p q. (
       e,
       first_kept (λ b. is_hidden_pair a b ≡ false) bs (pair_short a 92 (omega arith)) p,
-      two_kept (λ b c. is_hidden_triple a b c ≡ false) bs (λ c. triple_short a 92 c (omega arith)) (λ b. triple_cut a b 92 (omega arith)) q,
+      two_kept (λ b c. is_hidden_triple a b c ≡ false) bs (λ c. triple_short a 92 c (omega arith))
+          (λ b. triple_cut a b 92 (omega arith)) q,
       calm bs 0,
     ))
 

@@ -13,7 +13,8 @@ module _ (xs front : List ℕ) (i : ℕ) where
     pub escape_bad : is_escaped (get_or xs i 0) ≡ false → text_at true front (drop i xs) ≡ Err BadToken
     escape_bad e = at_drop_more (text_at true front) xs i 0 more ∙ rw e refl
 
-    pub escape_read : is_escaped (get_or xs i 0) ≡ true → text_at true front (drop i xs) ≡ text_at false (front ++ get_or xs i 0 ∷ []) (drop (i + 1) xs)
+    pub escape_read : is_escaped (get_or xs i 0) ≡ true → text_at true front (drop i xs)
+        ≡ text_at false (front ++ get_or xs i 0 ∷ []) (drop (i + 1) xs)
     escape_read e = at_drop_more (text_at true front) xs i 0 more ∙ rw e refl
 
     pub quote_found : get_or xs i 0 ≡ 34 → text_at false front (drop i xs) ≡ Ok (front, drop (i + 1) xs)
@@ -24,7 +25,16 @@ module _ (xs front : List ℕ) (i : ℕ) where
 
     module _ (no_quote : get_or xs i 0 ≡ 34 → ⊥) (no_backslash : get_or xs i 0 ≡ 92 → ⊥) where
       pub control_bad : is_control (get_or xs i 0) ≡ true → text_at false front (drop i xs) ≡ Err BadToken
-      control_bad e = at_drop_more (text_at false front) xs i 0 more ∙ rw (ne_eqb _ _ no_quote, ne_eqb _ _ no_backslash, e) refl
+      control_bad e = at_drop_more (text_at false front) xs i 0 more ∙ rw (
+        ne_eqb _ _ no_quote,
+        ne_eqb _ _ no_backslash,
+        e,
+      ) refl
 
-      pub byte_read : is_control (get_or xs i 0) ≡ false → text_at false front (drop i xs) ≡ text_at false (front ++ get_or xs i 0 ∷ []) (drop (i + 1) xs)
-      byte_read e = at_drop_more (text_at false front) xs i 0 more ∙ rw (ne_eqb _ _ no_quote, ne_eqb _ _ no_backslash, e) refl
+      pub byte_read : is_control (get_or xs i 0) ≡ false → text_at false front (drop i xs)
+          ≡ text_at false (front ++ get_or xs i 0 ∷ []) (drop (i + 1) xs)
+      byte_read e = at_drop_more (text_at false front) xs i 0 more ∙ rw (
+        ne_eqb _ _ no_quote,
+        ne_eqb _ _ no_backslash,
+        e,
+      ) refl

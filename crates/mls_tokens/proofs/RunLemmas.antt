@@ -9,11 +9,13 @@ use Rattle.mls_lattice.specs.Name.{is_name_byte}
 use Rattle.mls_lattice.proofs.AsciiLemmas.{name_byte_small, digit_small}
 
 -- a run of ASCII bytes
-run_ascii : (p : ℕ → Bool) → ((b : ℕ) → p b ≡ true → b < 128) → (bytes : List ℕ) → IsAscii (take (prefix_len p bytes) bytes)
+run_ascii : (p : ℕ → Bool) → ((b : ℕ) → p b ≡ true → b < 128) → (bytes : List ℕ)
+    → IsAscii (take (prefix_len p bytes) bytes)
 run_ascii p small bytes = λ i.
     elim (cases_lt i (prefix_len p bytes)) [
       | inl lt ↦ rw (get_or-take (prefix_len p bytes) bytes i 0 lt) (small _ (prefix_len_passes p bytes i 0 lt))
-      | inr le ↦ rw (get_or_past (take (prefix_len p bytes) bytes) i 0 (omega (arith, length-take (prefix_len p bytes) bytes))) (omega arith)
+      | inr le ↦ rw (get_or_past (take (prefix_len p bytes) bytes) i 0
+          (omega (arith, length-take (prefix_len p bytes) bytes))) (omega arith)
     ]
 
 pub name_ascii : (bytes : List ℕ) → IsAscii (take (prefix_len is_name_byte bytes) bytes)
@@ -49,7 +51,8 @@ run_stops p none (b ∷ bs) =
       | inr off ↦ rw off off
     ]
 
-pub run_len : (p : ℕ → Bool) (xs ys : List ℕ) → AllAre p xs → p (slice_index ys 0) ≡ false → prefix_len p (xs ++ ys) ≡ length xs
+pub run_len : (p : ℕ → Bool) (xs ys : List ℕ) → AllAre p xs → p (slice_index ys 0) ≡ false → prefix_len p (xs ++ ys)
+    ≡ length xs
 run_len p [] [] h s = refl
 run_len p [] (y ∷ ys) h s = rw s refl
 run_len p (x ∷ xs) ys h s = rw (h.0, run_len p xs ys h.1 s) (one-add (length xs))

@@ -42,11 +42,13 @@ pub record First (bytes : List ℕ) (t : Token) (rest : List ℕ) : Type 0 where
 letter_is_name : (b : ℕ) → is_ascii_alphabetic b ≡ true → is_name_byte b ≡ true
 letter_is_name b h = grind (arith, nat_tests)
 
-first_of_run : (bs : List ℕ) → is_ascii_alphabetic (slice_index bs 0) ≡ true → is_ascii_alphabetic (slice_index (take (prefix_len is_name_byte bs) bs) 0) ≡ true
+first_of_run : (bs : List ℕ) → is_ascii_alphabetic (slice_index bs 0) ≡ true
+    → is_ascii_alphabetic (slice_index (take (prefix_len is_name_byte bs) bs) 0) ≡ true
 first_of_run [] h = h
 first_of_run (b ∷ bs) h = rw (letter_is_name b h, one-add (prefix_len is_name_byte bs)) h
 
-word_found : (bs s rest : List ℕ) → is_ascii_alphabetic (slice_index bs 0) ≡ true → leading_word bs ≡ Ok (s, rest) → First bs (Word s) rest
+word_found : (bs s rest : List ℕ) → is_ascii_alphabetic (slice_index bs 0) ≡ true → leading_word bs ≡ Ok (s, rest)
+    → First bs (Word s) rest
 unfolding leading_word
 word_found bs s rest letter e =
     let short = guard_ok (nat_lt 32 (prefix_len is_name_byte bs)) _ _ (s, rest) e in
@@ -83,8 +85,15 @@ int_in_found text z is e =
           let some : 0 < length (drop 1 text) = rw minus at is.some in
           let n = digits_value 10 (drop 1 text) in
           let fits = pass_ok (nat_le n (2 ^ 63)) BadToken (Ok (neg_ℤ (pos n))) z (rw minus at e) in
-          let same : neg_ℤ (pos n) ≡ z = ok_is _ _ fits.1 in
-          (rw (← same) (fits_neg n (leb-true _ _ fits.0)), inr (drop 1 text, minus_front text (eqb-true _ 45 minus), record { some = some; digits = digits }, sym same))
+          let same : neg_ℤ (pos n) ≡ z = ok_is _ _ fits.1 in (
+            rw (← same) (fits_neg n (leb-true _ _ fits.0)),
+            inr (
+              drop 1 text,
+              minus_front text (eqb-true _ 45 minus),
+              record { some = some; digits = digits },
+              sym same,
+            ),
+          )
       | inr plain ↦
           let digits : all_ascii_digits text ≡ true = rw plain at is.digits in
           let some : 0 < length text = rw plain at is.some in
@@ -103,7 +112,8 @@ int_stops (b ∷ bs) =
       | inr plain ↦ rw plain (run_stops is_ascii_digit refl (b ∷ bs))
     ]
 
-int_found : (bs : List ℕ) (z : ℤ) (rest : List ℕ) → starts_int bs ≡ true → leading_int bs ≡ Ok (z, rest) → First bs (Int z) rest
+int_found : (bs : List ℕ) (z : ℤ) (rest : List ℕ) → starts_int bs ≡ true → leading_int bs ≡ Ok (z, rest)
+    → First bs (Int z) rest
 unfolding leading_int
 int_found bs z rest starts e =
     let n = int_length bs in
@@ -125,7 +135,8 @@ record Unquoted (bytes : List ℕ) (front s rest : List ℕ) : Type 0 where
   parts : bytes ≡ flat_map quoted_byte own ++ 34 ∷ rest
   no_control : AllByRecursion (λ b. is_control b ≡ false) own
 
-unquoted_end : (bs front s rest : List ℕ) (b : ℕ) → (b == 34) ≡ true → front ≡ s → bs ≡ rest → Unquoted (b ∷ bs) front s rest
+unquoted_end : (bs front s rest : List ℕ) (b : ℕ) → (b == 34) ≡ true → front ≡ s → bs ≡ rest
+    → Unquoted (b ∷ bs) front s rest
 unquoted_end bs front s rest b quote same after = record {
   own = [];
   whole = sym same ∙ sym (append-nil front);
@@ -133,11 +144,13 @@ unquoted_end bs front s rest b quote same after = record {
   no_control = tt;
 }
 
-unquoted_more : (bytes bs front s rest : List ℕ) (b : ℕ) → bytes ≡ quoted_byte b ++ bs → is_control b ≡ false → Unquoted bs (front ++ b ∷ []) s rest → Unquoted bytes front s rest
+unquoted_more : (bytes bs front s rest : List ℕ) (b : ℕ) → bytes ≡ quoted_byte b ++ bs → is_control b ≡ false
+    → Unquoted bs (front ++ b ∷ []) s rest → Unquoted bytes front s rest
 unquoted_more bytes bs front s rest b is plain u = record {
   own = b ∷ u.own;
   whole = u.whole ∙ append_assoc front (b ∷ []) u.own;
-  parts = is ∙ ap (λ (x : List ℕ). quoted_byte b ++ x) u.parts ∙ sym (append_assoc (quoted_byte b) (flat_map quoted_byte u.own) (34 ∷ rest));
+  parts = is ∙ ap (λ (x : List ℕ). quoted_byte b ++ x) u.parts
+      ∙ sym (append_assoc (quoted_byte b) (flat_map quoted_byte u.own) (34 ∷ rest));
   no_control = (plain, u.no_control);
 }
 
@@ -152,50 +165,68 @@ abbrev left : Bool → List ℕ → List ℕ
 left true bs = 92 ∷ bs
 left false bs = bs
 
-text_found : (escaped : Bool) (bs front s rest : List ℕ) → text_at escaped front bs ≡ Ok (s, rest) → Unquoted (left escaped bs) front s rest
+text_found : (escaped : Bool) (bs front s rest : List ℕ) → text_at escaped front bs ≡ Ok (s, rest)
+    → Unquoted (left escaped bs) front s rest
 text_found escaped [] front s rest e = absurd cc
 text_found true (b ∷ bs) front s rest e =
     let h = pass_ok (is_escaped b) BadToken (text_at false (front ++ b ∷ []) bs) (s, rest) e in
-    unquoted_more (92 ∷ b ∷ bs) bs front s rest b (rw h.0 refl) (escaped_plain b h.0) (text_found false bs (front ++ b ∷ []) s rest h.1)
+    unquoted_more (92 ∷ b ∷ bs) bs front s rest b (rw h.0 refl) (escaped_plain b h.0)
+    (text_found false bs (front ++ b ∷ []) s rest h.1)
 text_found false (b ∷ bs) front s rest e =
     elim (chosen (b == 34) _ _ _ e) [
       | inl quote ↦
           let pair : (front, bs) ≡ (s, rest) = ok_is _ _ quote.1 in
           unquoted_end bs front s rest b quote.0 (λ i. (pair i).0) (λ i. (pair i).1)
       | inr more ↦ elim (chosen (b == 92) _ _ _ more.1) [
-        | inl slash ↦ subst (λ (x : ℕ). Unquoted (x ∷ bs) front s rest) (sym (eqb-true b 92 slash.0)) (text_found true bs front s rest slash.1)
+        | inl slash ↦ subst (λ (x : ℕ). Unquoted (x ∷ bs) front s rest) (sym (eqb-true b 92 slash.0))
+            (text_found true bs front s rest slash.1)
         | inr plain ↦
             let h = guard_ok (is_control b) BadToken (text_at false (front ++ b ∷ []) bs) (s, rest) plain.1 in
-            unquoted_more (b ∷ bs) bs front s rest b (ap (λ (x : List ℕ). x ++ bs) (sym (plain_byte b more.0 plain.0 h.0))) h.0 (text_found false bs (front ++ b ∷ []) s rest h.1)
+            unquoted_more (b ∷ bs) bs front s rest b (ap (λ (x : List ℕ). x ++ bs)
+            (sym (plain_byte b more.0 plain.0 h.0))) h.0 (text_found false bs (front ++ b ∷ []) s rest h.1)
       ]
     ]
 
 first_text : (bs s rest : List ℕ) → Unquoted bs [] s rest → IsUtf8 s → length s ≤ 1024 → First (34 ∷ bs) (Text s) rest
 first_text bs s rest q utf8 few = record {
   text = quoted s;
-  parts = ap (λ (x : List ℕ). 34 ∷ x) (q.parts ∙ ap (λ (x : List ℕ). flat_map quoted_byte x ++ 34 ∷ rest) (sym q.whole) ∙ sym (append_assoc (flat_map quoted_byte s) (34 ∷ []) rest));
-  spells = (refl, record { utf8 = utf8; no_control = subst (λ (x : List ℕ). AllByRecursion (λ b. is_control b ≡ false) x) (sym q.whole) q.no_control; short = few });
+  parts = ap (λ (x : List ℕ). 34 ∷ x) (q.parts ∙ ap (λ (x : List ℕ). flat_map quoted_byte x ++ 34 ∷ rest) (sym q.whole)
+      ∙ sym (append_assoc (flat_map quoted_byte s) (34 ∷ []) rest));
+  spells = (
+    refl,
+    record {
+      utf8 = utf8;
+      no_control = subst (λ (x : List ℕ). AllByRecursion (λ b. is_control b
+          ≡ false) x) (sym q.whole) q.no_control;
+      short = few;
+    },
+  );
   ends = refl;
 }
 
 quoted_found : (bs s rest : List ℕ) → leading_quoted bs ≡ Ok (s, rest) → First (34 ∷ bs) (Text s) rest
 unfolding leading_quoted utf8_of
 quoted_found bs s rest e =
-    let read = bind_ok (text_at false [] bs) (λ x. utf8_of x.0 >>= λ text. cond (nat_lt 1024 (length text)) (Err TooLong) (Ok (text, x.1))) (s, rest) e in
-    let text = bind_ok (utf8_of read.0.0) (λ text. cond (nat_lt 1024 (length text)) (Err TooLong) (Ok (text, read.0.1))) (s, rest) read.2 in
+    let read = bind_ok (text_at false [] bs) (λ x. utf8_of x.0 >>= λ text. cond (nat_lt 1024 (length text))
+    (Err TooLong) (Ok (text, x.1))) (s, rest) e in
+    let text = bind_ok (utf8_of read.0.0) (λ text. cond (nat_lt 1024 (length text)) (Err TooLong) (Ok (text, read.0.1)))
+    (s, rest) read.2 in
     let utf8 = pass_ok (is_utf8 read.0.0) BadToken (Ok read.0.0) text.0 text.1 in
     let short = guard_ok (nat_lt 1024 (length text.0)) TooLong (Ok (text.0, read.0.1)) (s, rest) text.2 in
     let few : length text.0 ≤ 1024 = ltb-false _ _ short.0 in
     let same : read.0.0 ≡ text.0 = ok_is _ _ utf8.1 in
     let pair : (text.0, read.0.1) ≡ (s, rest) = ok_is _ _ short.1 in
     let is_text : IsUtf8 text.0 = subst (λ (x : List ℕ). IsUtf8 x) same (IsUtf8-from_is_utf8 read.0.0 utf8.0) in
-    let q : Unquoted bs [] text.0 read.0.1 = subst (λ (x : List ℕ). Unquoted bs [] x read.0.1) same (text_found false bs [] read.0.0 read.0.1 read.1) in
+    let q : Unquoted bs [] text.0 read.0.1 = subst (λ (x : List ℕ). Unquoted bs [] x read.0.1) same
+    (text_found false bs [] read.0.0 read.0.1 read.1) in
     subst (λ (p : List ℕ × List ℕ). First (34 ∷ bs) (Text p.0) p.1) pair (first_text bs text.0 read.0.1 q is_text few)
 
 -- ---- any of them
 
 -- what stands before the rest of a token's text is the token
-bound : {A : Type 0} (bs : List ℕ) (token : A → Token) (r : Result (A × List ℕ) ScanFault) (t : Token) (rest : List ℕ) → ((x : A) (after : List ℕ) → r ≡ Ok (x, after) → First bs (token x) after) → (r >>= λ x. found token x) ≡ Ok (t, rest) → First bs t rest
+bound : {A : Type 0} (bs : List ℕ) (token : A → Token) (r : Result (A × List ℕ) ScanFault) (t : Token) (rest : List ℕ)
+    → ((x : A) (after : List ℕ) → r ≡ Ok (x, after) → First bs (token x) after) → (r >>= λ x. found token x)
+    ≡ Ok (t, rest) → First bs t rest
 bound bs token (Err d) t rest h e = absurd cc
 bound bs token (Ok x) t rest h e =
     let pair : (token x.0, x.1) ≡ (t, rest) = ok_is _ _ e in
@@ -205,11 +236,17 @@ quote_front : (bs : List ℕ) → (slice_index bs 0 == 34) ≡ true → bs ≡ 3
 quote_front [] h = absurd cc
 quote_front (c ∷ bs) h = ap (λ (x : ℕ). x ∷ bs) (eqb-true c 34 h)
 
-first_of_sign : (bs : List ℕ) (o : Option (Sign × List ℕ)) (t : Token) (rest : List ℕ) → leading_sign bs ≡ o → starts_int bs ≡ false → sign_found o ≡ Ok (t, rest) → First bs t rest
+first_of_sign : (bs : List ℕ) (o : Option (Sign × List ℕ)) (t : Token) (rest : List ℕ) → leading_sign bs ≡ o
+    → starts_int bs ≡ false → sign_found o ≡ Ok (t, rest) → First bs t rest
 first_of_sign bs None t rest is plain e = absurd cc
 first_of_sign bs (Some x) t rest is plain e =
     let pair : (Sign_token x.0, x.1) ≡ (t, rest) = ok_is _ _ e in
-    subst (λ (p : Found). First bs p.0 p.1) pair (record { text = sign_text x.0; parts = sign_parts bs x.0 x.1 is; spells = refl; ends = sign_ends bs x.0 x.1 is plain })
+    subst (λ (p : Found). First bs p.0 p.1) pair (record {
+      text = sign_text x.0;
+      parts = sign_parts bs x.0 x.1 is;
+      spells = refl;
+      ends = sign_ends bs x.0 x.1 is plain;
+    })
 
 pub token_found : (bs : List ℕ) (t : Token) (rest : List ℕ) → leading_token bs ≡ Ok (t, rest) → First bs t rest
 unfolding leading_token
@@ -220,7 +257,8 @@ token_found bs t rest e =
         | inl number ↦ bound bs Int (leading_int bs) t rest (λ z after h. int_found bs z after number.0 h) number.1
         | inr plain ↦ elim (chosen (slice_index bs 0 == 34) _ _ _ plain.1) [
           | inl quote ↦
-              subst (λ (x : List ℕ). First x t rest) (sym (quote_front bs quote.0)) (bound (34 ∷ drop 1 bs) Text (leading_quoted (drop 1 bs)) t rest (λ s after h. quoted_found (drop 1 bs) s after h) quote.1)
+              subst (λ (x : List ℕ). First x t rest) (sym (quote_front bs quote.0)) (bound (34 ∷ drop 1 bs) Text
+              (leading_quoted (drop 1 bs)) t rest (λ s after h. quoted_found (drop 1 bs) s after h) quote.1)
           | inr sign ↦ first_of_sign bs (leading_sign bs) t rest refl plain.0 sign.1
         ]
       ]
@@ -242,12 +280,14 @@ spells_some text (Int z) h = int_some text z h
 spells_some text (Text s) (same, h) = rw same (omega arith)
 spells_some text (Sign_token s) same = rw same (sign_some s)
 
-pub token_shorter : (bs : List ℕ) (t : Token) (rest : List ℕ) → leading_token bs ≡ Ok (t, rest) → length rest < length bs
+pub token_shorter : (bs : List ℕ) (t : Token) (rest : List ℕ) → leading_token bs ≡ Ok (t, rest) → length rest
+    < length bs
 token_shorter bs t rest e =
     let f = token_found bs t rest e in
     let some = spells_some f.text t f.spells in
     omega (arith, ap length f.parts, length-append f.text rest)
 
-pub scan_shorter : (bs : List ℕ) (r : Result (Token × Bor (List ℕ)) (Failed ScanFault)) → Gives (λ x. (x.0, x.1.now)) r (leading_token bs) → IfOk r (λ x. length x.1.now < length bs)
+pub scan_shorter : (bs : List ℕ) (r : Result (Token × Bor (List ℕ)) (Failed ScanFault)) → Gives (λ x. (x.0, x.1.now)) r
+    (leading_token bs) → IfOk r (λ x. length x.1.now < length bs)
 scan_shorter bs (Ok x) given = token_shorter bs x.0 x.1.now given
 scan_shorter bs (Err e) given = tt

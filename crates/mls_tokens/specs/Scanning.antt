@@ -52,7 +52,8 @@ digits_of text = if slice_index text 0 == 45 then drop 1 text else text
 unfoldable pub int_value : List ℕ → Result ℤ ScanFault
 int_value text =
     let n = digits_value 10 (digits_of text) in
-    if slice_index text 0 == 45 then (if nat_le n (2 ^ 63) then Ok (neg_ℤ (pos n)) else Err scan.Token) else (if nat_lt n (2 ^ 63) then Ok (pos n) else Err scan.Token)
+    if slice_index text 0 == 45 then (if nat_le n (2 ^ 63) then Ok (neg_ℤ (pos n)) else Err scan.Token) else
+    (if nat_lt n (2 ^ 63) then Ok (pos n) else Err scan.Token)
 
 -- the text is such
 pub record IsIntText (text : List ℕ) : Type 0 where
@@ -61,10 +62,12 @@ pub record IsIntText (text : List ℕ) : Type 0 where
 
 -- a digit, or a minus and a digit
 abbrev pub starts_int : List ℕ → Bool
-starts_int bytes = is_ascii_digit (slice_index bytes 0) || (slice_index bytes 0 == 45 && is_ascii_digit (slice_index bytes 1))
+starts_int bytes = is_ascii_digit (slice_index bytes 0) || (slice_index bytes 0 == 45 && is_ascii_digit
+    (slice_index bytes 1))
 
 unfoldable pub int_length : List ℕ → ℕ
-int_length bytes = if slice_index bytes 0 == 45 then 1 + prefix_len is_ascii_digit (drop 1 bytes) else prefix_len is_ascii_digit bytes
+int_length bytes = if slice_index bytes 0 == 45 then 1 + prefix_len is_ascii_digit
+    (drop 1 bytes) else prefix_len is_ascii_digit bytes
 
 unfoldable pub leading_int : List ℕ → Result (ℤ × List ℕ) ScanFault
 leading_int bytes = int_value (take (int_length bytes) bytes) >>= λ n. Ok (n, drop (int_length bytes) bytes)
@@ -118,7 +121,8 @@ after_comment bytes = take (prefix_len is_no_feed bytes) bytes
 
 -- how many bytes are left from the first of a comment that is not UTF-8
 unfoldable pub comment_fault : List ℕ → Option ℕ
-comment_fault bytes = if is_utf8 (after_comment bytes) then None else Some (length bytes - utf8_valid_len (after_comment bytes))
+comment_fault bytes = if is_utf8 (after_comment bytes) then None else Some (length bytes - utf8_valid_len
+    (after_comment bytes))
 
 abbrev pub unless : {X : Type 0} → Option ℕ → Result X ℕ → Result X ℕ
 unless None next = next
@@ -151,7 +155,8 @@ placed_at at (Err fault) = Err (fault_at at (cause_of fault))
 
 -- the token at the front of the last bytes of len, if there are any
 abbrev pub token_or_end : ℕ → List ℕ → Result (Placed × List ℕ) TokenFault
-token_or_end len front = if length front == 0 then Err (fault_at (len + 1) Expected) else placed_at (len - length front + 1) (leading_token front)
+token_or_end len front = if length front == 0 then Err (fault_at (len + 1) Expected) else placed_at
+    (len - length front + 1) (leading_token front)
 
 abbrev pub behind : ℕ → Result (List ℕ) ℕ → Result (Placed × List ℕ) TokenFault
 behind len (Ok front) = token_or_end len front
@@ -180,4 +185,5 @@ without_places = map (λ p. p.token)
 -- scanning comes to the end with these tokens exactly where the text is these tokens
 abbrev pub TokensAreExact : Type 0
 TokensAreExact =
-    (bytes : List ℕ) (ts : List Token) → ((without_places (tokens_at bytes).placed ≡ ts) × ((tokens_at bytes).stop.cause ≡ Expected)) ↔ AreTokens ts bytes
+    (bytes : List ℕ) (ts : List Token) → ((without_places (tokens_at bytes).placed ≡ ts) × ((tokens_at bytes).stop.cause
+    ≡ Expected)) ↔ AreTokens ts bytes

@@ -1,4 +1,5 @@
--- Texts as a screen is given them: no control character but line feeds, and none that is invisible or turns a line round.
+-- Texts as a screen is given them: no control character but line feeds, and none that is invisible or turns a line
+-- round.
 use Rattle.std.specs.Prelude.{◌≡◌, ℕ, zero, suc, ◌+◌, ◌*◌, ◌/◌, ◌%◌, Bool, false, not, ◌&&◌, ◌||◌, ◌==◌, nat_lt, nat_le, if◌then◌else◌, List, []}
 use Rattle.std.specs.Prelude.{◌∷◌, ◌++◌, codes, slice_get, unwrap_or}
 use Rattle.std.specs.List.{AllByRecursion}
@@ -22,14 +23,16 @@ is_joiner c = nat_le 160 c && nat_lt c 170
 
 -- the characters of three bytes: those behind 226 128 and 226 129; U+FEFF
 abbrev pub is_hidden_triple : ℕ → ℕ → ℕ → Bool
-is_hidden_triple a b c = a == 226 && (b == 128 && is_mark c || b == 129 && is_joiner c) || a == 239 && (b == 187 && c == 191)
+is_hidden_triple a b c = a == 226 && (b == 128 && is_mark c || b == 129 && is_joiner c) || a ==
+    239 && (b == 187 && c == 191)
 
 abbrev pub hex_escape : ℕ → List ℕ
 hex_escape b = codes "\\x" ++ hex_digit (b / 16) ∷ hex_digit (b % 16) ∷ []
 
 -- the number of a character of three bytes, four bits a digit: the first byte has four of them, each other one six
 abbrev pub unicode_escape : ℕ → ℕ → ℕ → List ℕ
-unicode_escape a b c = codes "\\u" ++ hex_digit (a % 16) ∷ hex_digit (b % 64 / 4) ∷ hex_digit (b % 4 * 4 + c % 64 / 16) ∷ hex_digit (c % 16) ∷ []
+unicode_escape a b c = codes "\\u" ++ hex_digit (a % 16) ∷ hex_digit (b % 64 / 4) ∷ hex_digit (b % 4 * 4 + c % 64 / 16)
+    ∷ hex_digit (c % 16) ∷ []
 
 -- of two bytes, likewise
 abbrev pub pair_escape : ℕ → ℕ → List ℕ
@@ -53,7 +56,8 @@ passed a b c = if is_hidden_pair a b then 1 else if is_hidden_triple a b c then 
 abbrev pub escaped_from : ℕ → List ℕ → List ℕ
 escaped_from n [] = []
 escaped_from (suc n) (a ∷ bs) = escaped_from n bs
-escaped_from zero (a ∷ bs) = shown a (byte_at bs 0) (byte_at bs 1) ++ escaped_from (passed a (byte_at bs 0) (byte_at bs 1)) bs
+escaped_from zero (a ∷ bs) = shown a (byte_at bs 0) (byte_at bs 1) ++ escaped_from
+    (passed a (byte_at bs 0) (byte_at bs 1)) bs
 
 abbrev pub escaped : List ℕ → List ℕ
 escaped = escaped_from 0

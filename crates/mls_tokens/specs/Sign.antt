@@ -41,13 +41,17 @@ sign_goes_on _ b = false
 -- those of two bytes first
 abbrev pub signs : List Sign
 signs =
-    Becomes ∷ Differs ∷ AtMost ∷ AtLeast ∷ LeftParen ∷ RightParen ∷ LeftBrace ∷ RightBrace ∷ Comma ∷ Semicolon ∷ Colon ∷ Dot
+    Becomes ∷ Differs ∷ AtMost ∷ AtLeast ∷ LeftParen ∷ RightParen ∷ LeftBrace ∷ RightBrace ∷ Comma ∷ Semicolon ∷ Colon
+    ∷ Dot
     ∷ Equals ∷ Less ∷ Greater ∷ Plus ∷ Minus ∷ Times ∷ []
 
 -- the first of some signs that bytes begin with, and what follows it
 abbrev pub first_sign : List Sign → List ℕ → Option (Sign × List ℕ)
 first_sign [] bytes = None
-first_sign (s ∷ ss) bytes = if starts_with nat_eq bytes (sign_text s) then Some (s, drop (length (sign_text s)) bytes) else first_sign ss bytes
+first_sign (s ∷ ss) bytes = if starts_with nat_eq bytes (sign_text s) then Some (
+  s,
+  drop (length (sign_text s)) bytes,
+) else first_sign ss bytes
 
 abbrev pub leading_sign : List ℕ → Option (Sign × List ℕ)
 leading_sign = first_sign signs

@@ -20,7 +20,8 @@ padding width cell = replicate (width - columns cell) 32
 -- the cells of a row, each with blanks up to the width of its column, from column k on
 abbrev pub padded : List ℕ → ℕ → List (List ℕ) → List ℕ
 padded widths k [] = []
-padded widths k (cell ∷ cells) = (cell ++ padding (slice_index widths k) cell ++ codes " | ") ++ padded widths (k + 1) cells
+padded widths k (cell ∷ cells) = (cell ++ padding (slice_index widths k) cell ++ codes " | ") ++ padded widths
+    (k + 1) cells
 
 -- the dashes below a column
 abbrev pub ruled : ℕ → List ℕ

@@ -1,4 +1,5 @@
--- The tokens of a whole text, with no word of how it is scanned. A script line has no LF; where one stands, it is blank.
+-- The tokens of a whole text, with no word of how it is scanned. A script line has no LF; where one stands, it is
+-- blank.
 use Rattle.std.specs.Prelude.{◌≡◌, ℕ, ◌<◌, ◌≤◌, ℤ, pos, neg_ℤ, true, false, Bool, not, ◌||◌, ◌==◌, ◌⊎◌, List, [], ◌∷◌}
 use Rattle.std.specs.Prelude.{◌++◌, length, slice_index, FitsSigned, IsUtf8, flat_map}
 use Rattle.std.specs.List.{AllByRecursion}

@@ -1,4 +1,5 @@
-//! The number that a text begins with: whether there is one, how many bytes it takes, what its value is, and what follows it.
+//! The number that a text begins with: whether there is one, how many bytes it takes, what its value is, and what
+//! follows it.
 //! A number is decimal digits, with a minus before them or none, and fits 64 bits with a sign.
 ghost use Rattle.std.specs.Prelude.{◌≡◌, ◌≤◌, length, IsTrue};
 ghost use Rattle.mls_lattice.specs.Reading.{Shows};

@@ -60,7 +60,8 @@ fn read_typed<S: Source>(alloc: Global, input: &mut S) -> Result<(Typed, bool), 
     }
 }
 
-/// The lines of a source. Nothing behind a line is read before it is asked for, and nothing behind the end: a terminal would ask again.
+/// The lines of a source. Nothing behind a line is read before it is asked for, and nothing behind the end: a terminal
+/// would ask again.
 #[derive(Drop)]
 pub struct LinesOf<S: Drop> {
     input: S,

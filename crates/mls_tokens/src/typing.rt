@@ -11,7 +11,8 @@ pub trait TypedLines {
     // The bytes that are still to come, where they are known.
     ghost remaining: { Self → Option (List ℕ) };
 
-    // What is shown of a line, among what is written, when it is read: nothing where somebody types at a terminal of his own.
+    // What is shown of a line, among what is written, when it is read: nothing where somebody types at a terminal of
+    // his own.
     ghost echo: { List ℕ → List ℕ };
 
     // A read of what they come from has failed.

@@ -14,7 +14,8 @@ use Rattle.mls_translang.specs.Kinds.{field_of}
 no_width : (n i : ℕ) → n ≡ 0 → i < n → ⊥
 no_width n i e h = omega (arith, e, h)
 
-pub has_attribute : (schemes : Schemes) (relation i : ℕ) → i < width (scheme_of schemes relation) → relation < length schemes
+pub has_attribute : (schemes : Schemes) (relation i : ℕ) → i < width (scheme_of schemes relation)
+    → relation < length schemes
 has_attribute schemes relation i within =
     elim (cases_lt relation (length schemes)) [
       | inl lt ↦ lt
@@ -32,9 +33,12 @@ module _ (scheme : Scheme) where
   attribute_is_name valid n lt =
       elim (cases_lt n (length scheme.keys)) [
         | inl key ↦
-            let names = every_front (λ x. is_name x ≡ true) _ (map (λ a. a.0) scheme.keys) (map (λ a. a.0) scheme.others) (split_names scheme valid) refl in
-            subst (λ a. is_name a.0 ≡ true) (sym (as_key n key)) (is_name_at (λ a. a.0) scheme.keys no_attribute names n key)
+            let names = every_front (λ x. is_name x ≡ true) _ (map (λ a. a.0) scheme.keys)
+            (map (λ a. a.0) scheme.others) (split_names scheme valid) refl in
+            subst (λ a. is_name a.0 ≡ true) (sym (as_key n key))
+            (is_name_at (λ a. a.0) scheme.keys no_attribute names n key)
         | inr other ↦
             let le : length scheme.keys ≤ n = omega (arith, other) in
-            subst (λ a. is_name a.0 ≡ true) (sym (as_other n le)) (other_is_name scheme valid (n - length scheme.keys) (omega (arith, le, lt)))
+            subst (λ a. is_name a.0 ≡ true) (sym (as_other n le)) (other_is_name scheme valid (n - length scheme.keys)
+            (omega (arith, le, lt)))
       ]

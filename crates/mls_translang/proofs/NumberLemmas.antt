@@ -10,8 +10,14 @@ use Rattle.mls_translang.specs.ReadsBack.{IsSpelled}
 
 digits : (n : ℕ) → n < 2 ^ 64 → IsDigits (decimal n) × (digits_value 10 (decimal n) ≡ n)
 digits n h =
-    let e = decimal_is_IsNumeral n h in
-    (record { some = e.0.0; digits = (numerals_by_value (λ ds. all_ascii_digits ds ≡ true) tells_all_ascii_digits).from (decimal n) e.0.1 }, e.1)
+    let e = decimal_is_IsNumeral n h in (
+      record {
+        some = e.0.0;
+        digits = (numerals_by_value (λ ds. all_ascii_digits ds ≡ true) tells_all_ascii_digits).from
+            (decimal n) e.0.1;
+      },
+      e.1,
+    )
 
 pub int_spelled : (n : ℤ) → FitsSigned w64 n → IsSpelled (Int n)
 int_spelled (pos n) fits =

@@ -33,7 +33,8 @@ spaced : (t : Token) → goes_on t 32 ≡ false
 spaced t = quiet t 32 (refl, refl, refl, refl)
 
 -- behind another token than an opening or the end of a line
-behind : (t u : Token) (d : ℕ) (rest : List ℕ) → goes_on t (slice_index (gap d Other (side_of u) ++ (spelled u ++ rest)) 0) ≡ false
+behind : (t u : Token) (d : ℕ) (rest : List ℕ)
+    → goes_on t (slice_index (gap d Other (side_of u) ++ (spelled u ++ rest)) 0) ≡ false
 behind t (Word s) d rest = choice (bytes_eq s (codes "else"))
   where
     choice : (b : Bool) → goes_on t (slice_index (gap d Other (cond b side.Else side.Apart) ++ (s ++ rest)) 0) ≡ false

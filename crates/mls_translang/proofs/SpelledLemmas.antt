@@ -48,8 +48,17 @@ named name h =
     (refl, record { letter = d.1; bytes = all_of is_name_byte name b.1; short = leb-true (length name) 32 e.1 })
 
 -- a reserved word is a word, too
-pub word_spelled : (w : List ℕ) → is_ascii_alphabetic (slice_index w 0) ≡ true → list_all is_name_byte w ≡ true → nat_le (length w) 32 ≡ true → IsSpelled (Word w)
-word_spelled w letter bytes short = (refl, record { letter = letter; bytes = all_of is_name_byte w bytes; short = leb-true (length w) 32 short })
+pub word_spelled : (w : List ℕ) → is_ascii_alphabetic (slice_index w 0) ≡ true → list_all is_name_byte w ≡ true
+    → nat_le (length w) 32 ≡ true → IsSpelled (Word w)
+word_spelled w letter bytes short = (
+  refl,
+  record {
+    letter = letter;
+    bytes = all_of is_name_byte w bytes;
+    short =
+        leb-true (length w) 32 short;
+  },
+)
 
 -- ---- what names are at a place
 
@@ -57,7 +66,8 @@ pub record HasNames (p : Context) : Type 0 where
   pub label : (n : ℕ) → IsLabel p.policy n → is_name (label_name p.policy.labels n) ≡ true
   pub relation : (r : ℕ) → r < length p.schemes → is_name (scheme_of p.schemes r).name ≡ true
   pub field : (r i : ℕ) → i < width (scheme_of p.schemes r) → is_name (field_of (scheme_of p.schemes r) i).0 ≡ true
-  pub other : (r i : ℕ) → i < length (scheme_of p.schemes r).others → is_name (other_of (scheme_of p.schemes r) i).0 ≡ true
+  pub other : (r i : ℕ) → i < length (scheme_of p.schemes r).others → is_name (other_of (scheme_of p.schemes r) i).0
+      ≡ true
   pub var : (i : ℕ) → i < length p.scope.vars → is_name (name_at p.scope.vars i) ≡ true
   pub param : (i : ℕ) → i < length p.scope.params → is_name (name_at p.scope.params i) ≡ true
   pub row : (d : ℕ) → d < length p.scope.rows → is_name (row_at p.scope d).name ≡ true
@@ -73,7 +83,8 @@ inside p row relation named h = record {
   row = rows;
 }
   where
-    rows : (d : ℕ) → d < length (at_row p row relation).scope.rows → is_name (row_at (at_row p row relation).scope d).name ≡ true
+    rows : (d : ℕ) → d < length (at_row p row relation).scope.rows
+        → is_name (row_at (at_row p row relation).scope d).name ≡ true
     rows zero within = named
     rows (suc d) within = h.row d (omega arith)
 
@@ -94,7 +105,10 @@ module _ (p : Context) (h : HasNames p) where
   expr_spelled Null own fits = (word_spelled (codes "null") refl refl refl, tt)
   expr_spelled (Var i) own fits = (named _ (h.var i own), tt)
   expr_spelled (Param i) own fits = (named _ (h.param i own), tt)
-  expr_spelled (Field d i) own fits = (named _ (h.row d own), (refl, (named _ (h.field (row_at p.scope d).relation i fits), tt)))
+  expr_spelled (Field d i) own fits = (
+    named _ (h.row d own),
+    (refl, (named _ (h.field (row_at p.scope d).relation i fits), tt)),
+  )
   expr_spelled (No e) own fits = (word_spelled (codes "not") refl refl refl, expr_spelled e own fits)
   expr_spelled (Op op left right) own fits = (
     refl,
@@ -105,9 +119,14 @@ module _ (p : Context) (h : HasNames p) where
   list_items : (es : List Expr) → AllByRecursion (IsOwn p.scope) es → AllByRecursion (ExprFits p.schemes p.scope) es
       → AreSpelled (flat_map (comma_tokens (expr_tokens p)) es)
   list_items [] own fits = tt
-  list_items (e ∷ es) own fits = (refl, both (expr_tokens p e) _ (expr_spelled e own.0.numbers fits.0) (list_items es own.1 fits.1))
+  list_items (e ∷ es) own fits = (
+    refl,
+    both (expr_tokens p e) _ (expr_spelled e own.0.numbers fits.0)
+        (list_items es own.1 fits.1),
+  )
 
-  list_spelled : (es : List Expr) → AllByRecursion (IsOwn p.scope) es → AllByRecursion (ExprFits p.schemes p.scope) es → AreSpelled (list_tokens p es)
+  list_spelled : (es : List Expr) → AllByRecursion (IsOwn p.scope) es → AllByRecursion (ExprFits p.schemes p.scope) es
+      → AreSpelled (list_tokens p es)
   list_spelled [] own fits = (refl, (refl, tt))
   list_spelled (e ∷ es) own fits = (
     refl,
@@ -117,23 +136,31 @@ module _ (p : Context) (h : HasNames p) where
 
   -- ---- writes
 
-  set_spelled : (relation : ℕ) (x : ℕ × Expr) → IsOwn p.scope x.1 → x.0 < length (scheme_of p.schemes relation).others → ExprFits p.schemes p.scope x.1
+  set_spelled : (relation : ℕ) (x : ℕ × Expr) → IsOwn p.scope x.1 → x.0 < length (scheme_of p.schemes relation).others
+      → ExprFits p.schemes p.scope x.1
       → AreSpelled (set_tokens p (scheme_of p.schemes relation) x)
-  set_spelled relation x own within fits = (named _ (h.other relation x.0 within), (refl, expr_spelled x.1 own.numbers fits))
+  set_spelled relation x own within fits = (
+    named _ (h.other relation x.0 within),
+    (refl, expr_spelled x.1 own.numbers fits),
+  )
 
   set_items : (relation : ℕ) (xs : List (ℕ × Expr)) → AllByRecursion (λ x. IsOwn p.scope x.1) xs
       → AllByRecursion (λ x. (x.0 < length (scheme_of p.schemes relation).others) × ExprFits p.schemes p.scope x.1) xs
       → AreSpelled (flat_map (comma_tokens (set_tokens p (scheme_of p.schemes relation))) xs)
   set_items relation [] own fits = tt
-  set_items relation (x ∷ xs) own fits =
-      (refl, both (set_tokens p (scheme_of p.schemes relation) x) _ (set_spelled relation x own.0 fits.0.0 fits.0.1) (set_items relation xs own.1 fits.1))
+  set_items relation (x ∷ xs) own fits = (
+    refl,
+    both (set_tokens p (scheme_of p.schemes relation) x) _ (set_spelled relation x own.0 fits.0.0 fits.0.1)
+        (set_items relation xs own.1 fits.1),
+  )
 
   sets_spelled : (relation : ℕ) (xs : List (ℕ × Expr)) → AllByRecursion (λ x. IsOwn p.scope x.1) xs
       → AllByRecursion (λ x. (x.0 < length (scheme_of p.schemes relation).others) × ExprFits p.schemes p.scope x.1) xs
       → AreSpelled (separated (set_tokens p (scheme_of p.schemes relation)) xs)
   sets_spelled relation [] own fits = tt
   sets_spelled relation (x ∷ xs) own fits =
-      both (set_tokens p (scheme_of p.schemes relation) x) _ (set_spelled relation x own.0 fits.0.0 fits.0.1) (set_items relation xs own.1 fits.1)
+      both (set_tokens p (scheme_of p.schemes relation) x) _ (set_spelled relation x own.0 fits.0.0 fits.0.1)
+      (set_items relation xs own.1 fits.1)
 
   label : (n : ℕ) → IsLabel p.policy n → IsSpelled (Word (label_name p.policy.labels n))
   label n within = named _ (h.label n within)
@@ -142,23 +169,42 @@ module _ (p : Context) (h : HasNames p) where
   end_spelled None own = (refl, tt)
   end_spelled (Some x) own = (word_spelled (codes "as") refl refl refl, (named _ (h.var x own), (refl, tt)))
 
-  at_end : (w : ℕ) (outcome : Option ℕ) → IsLabel p.policy w → IfSome outcome (λ x. x < length p.scope.vars) → AreSpelled (write_end p w (stmt_end p outcome))
+  at_end : (w : ℕ) (outcome : Option ℕ) → IsLabel p.policy w → IfSome outcome (λ x. x < length p.scope.vars)
+      → AreSpelled (write_end p w (stmt_end p outcome))
   at_end w outcome within own = (word_spelled (codes "at") refl refl refl, (label w within, end_spelled outcome own))
 
-  head_spelled : (word : Name) (relation : ℕ) (key : List Expr) → IsSpelled (Word word) → relation < length p.schemes → AllByRecursion (IsOwn p.scope) key
+  head_spelled : (word : Name) (relation : ℕ) (key : List Expr) → IsSpelled (Word word) → relation < length p.schemes
+      → AllByRecursion (IsOwn p.scope) key
       → AllByRecursion (ExprFits p.schemes p.scope) key → AreSpelled (head_tokens p word relation key)
-  head_spelled word relation key w within own fits =
-      (w, (named _ (h.relation relation within), (word_spelled (codes "key") refl refl refl, list_spelled key own fits)))
+  head_spelled word relation key w within own fits = (
+    w,
+    (
+      named _ (h.relation relation within),
+      (
+        word_spelled (codes "key") refl refl refl,
+        list_spelled key own fits,
+      ),
+    ),
+  )
 
-  stmt_spelled : (stmt : Stmt) → StmtIsOwn p.scope stmt → StmtFits p.policy p.schemes p.hi p.scope stmt → AreSpelled (stmt_tokens p stmt)
-  stmt_spelled (Assign x e) own fits = (named _ (h.var x own.0), (refl, both (expr_tokens p e) _ (expr_spelled e own.1.numbers fits) (refl, tt)))
+  stmt_spelled : (stmt : Stmt) → StmtIsOwn p.scope stmt → StmtFits p.policy p.schemes p.hi p.scope stmt
+      → AreSpelled (stmt_tokens p stmt)
+  stmt_spelled (Assign x e) own fits = (
+    named _ (h.var x own.0),
+    (refl, both (expr_tokens p e) _ (expr_spelled e own.1.numbers fits) (refl, tt)),
+  )
   stmt_spelled (Write_at relation w (Insert key values) outcome) own fits =
       both (head_tokens p (codes "insert") relation key) _
-      (head_spelled (codes "insert") relation key (word_spelled (codes "insert") refl refl refl) fits.0 own.0.0 fits.2.0.each)
-      (word_spelled (codes "values") refl refl refl, both (list_tokens p values) _ (list_spelled values own.0.1 fits.2.1.each) (at_end w outcome fits.1 own.1))
+      (head_spelled (codes "insert") relation key
+      (word_spelled (codes "insert") refl refl refl) fits.0 own.0.0 fits.2.0.each) (
+        word_spelled (codes "values") refl refl refl,
+        both (list_tokens p values) _
+            (list_spelled values own.0.1 fits.2.1.each) (at_end w outcome fits.1 own.1),
+      )
   stmt_spelled (Write_at relation w (Update key key_class from sets) outcome) own fits =
       both (head_tokens p (codes "update") relation key) _
-      (head_spelled (codes "update") relation key (word_spelled (codes "update") refl refl refl) fits.0 own.0.0 fits.2.0.each) (
+      (head_spelled (codes "update") relation key
+      (word_spelled (codes "update") refl refl refl) fits.0 own.0.0 fits.2.0.each) (
         word_spelled (codes "class") refl refl refl,
         (
           label key_class fits.2.1,
@@ -172,7 +218,8 @@ module _ (p : Context) (h : HasNames p) where
                   label w fits.1,
                   (
                     word_spelled (codes "set") refl refl refl,
-                    both (separated (set_tokens p (scheme_of p.schemes relation)) sets) _ (sets_spelled relation sets own.0.1 fits.2.3.each) (end_spelled outcome own.1),
+                    both (separated (set_tokens p (scheme_of p.schemes relation)) sets) _
+                        (sets_spelled relation sets own.0.1 fits.2.3.each) (end_spelled outcome own.1),
                   ),
                 ),
               ),
@@ -182,12 +229,21 @@ module _ (p : Context) (h : HasNames p) where
       )
   stmt_spelled (Write_at relation w (Delete key key_class) outcome) own fits =
       both (head_tokens p (codes "delete") relation key) _
-      (head_spelled (codes "delete") relation key (word_spelled (codes "delete") refl refl refl) fits.0 own.0 fits.2.0.each)
+      (head_spelled (codes "delete") relation key
+      (word_spelled (codes "delete") refl refl refl) fits.0 own.0 fits.2.0.each)
       (word_spelled (codes "class") refl refl refl, (label key_class fits.2.1, at_end w outcome fits.1 own.1))
   stmt_spelled (Release e to into) own fits = (
     word_spelled (codes "release") refl refl refl,
-    both (expr_tokens p e) _ (expr_spelled e own.0.numbers fits.0)
-        (word_spelled (codes "to") refl refl refl, (label to fits.1, (word_spelled (codes "into") refl refl refl, (named _ (h.var into own.1), (refl, tt))))),
+    both (expr_tokens p e) _ (expr_spelled e own.0.numbers fits.0) (
+      word_spelled (codes "to") refl refl refl,
+      (
+        label to fits.1,
+        (
+          word_spelled (codes "into") refl refl refl,
+          (named _ (h.var into own.1), (refl, tt)),
+        ),
+      ),
+    ),
   )
   stmt_spelled (Emit e label_no) own fits = (
     word_spelled (codes "emit") refl refl refl,
@@ -204,7 +260,8 @@ else_spelled : (other : Block) (ts : List Token) → AreSpelled ts → AreSpelle
 else_spelled End ts h = tt
 else_spelled _ ts h = (word_spelled (codes "else") refl refl refl, h)
 
-pub block_spelled : (b : Block) (p : Context) → HasNames p → BlockIsOwn p.scope b → BlockFits p.policy p.schemes p.hi p.scope b → AreSpelled (block_tokens p b)
+pub block_spelled : (b : Block) (p : Context) → HasNames p → BlockIsOwn p.scope b
+    → BlockFits p.policy p.schemes p.hi p.scope b → AreSpelled (block_tokens p b)
 block_spelled End p h own fits = tt
 block_spelled (Do stmt rest) p h own fits =
     both (stmt_tokens p stmt) _ (stmt_spelled p h stmt own.0 fits.0) (block_spelled rest p h own.1 fits.1)
@@ -213,7 +270,8 @@ block_spelled (If guard one other rest) p h own fits = (
   both (expr_tokens p guard) _ (expr_spelled p h guard own.0.numbers fits.0)
       (both (braced (block_tokens p one)) _ (braced_spelled (block_tokens p one) (block_spelled one p h own.1 fits.1))
       (both (else_tokens other (braced (block_tokens p other))) _
-      (else_spelled other (braced (block_tokens p other)) (braced_spelled (block_tokens p other) (block_spelled other p h own.2 fits.2)))
+      (else_spelled other (braced (block_tokens p other)) (braced_spelled (block_tokens p other)
+      (block_spelled other p h own.2 fits.2)))
       (block_spelled rest p h own.3 fits.3))),
 )
 block_spelled (For row relation label_no body rest) p h own fits = (
@@ -229,7 +287,8 @@ block_spelled (For row relation label_no body rest) p h own fits = (
           (
             label p h label_no fits.1,
             both (braced (block_tokens (at_row p row relation) body)) _
-                (braced_spelled (block_tokens (at_row p row relation) body) (block_spelled body (at_row p row relation) (inside p row relation own.0.0 h) own.1 fits.2))
+                (braced_spelled (block_tokens (at_row p row relation) body) (block_spelled body (at_row p row relation)
+                (inside p row relation own.0.0 h) own.1 fits.2))
                 (block_spelled rest p h own.2 fits.3),
           ),
         ),

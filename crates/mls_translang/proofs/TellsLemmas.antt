@@ -8,7 +8,8 @@ use Rattle.mls_translang.specs.Tokens.{Context, at_row, outermost, block_tokens,
 use Rattle.mls_translang.specs.Tells.{TellsBlock, TellsOther, PrintsAreTold}
 use Rattle.mls_translang.proofs.PrintedLemmas.{prints_are_tokens}
 
-other_told : (other : Block) (told : List Token → Type 0) (ts : List Token) → told ts → TellsOther (is_end other) told (else_tokens other (braced ts))
+other_told : (other : Block) (told : List Token → Type 0) (ts : List Token) → told ts → TellsOther (is_end other) told
+    (else_tokens other (braced ts))
 other_told End told ts h = inl (refl, refl)
 other_told _ told ts h = inr (ts, refl, h)
 
@@ -24,8 +25,13 @@ block_told (If guard one other rest) p = (
   other_told other (λ inner. TellsBlock p other inner) (block_tokens p other) (block_told other p),
   block_told rest p,
 )
-block_told (For row relation label body rest) p =
-    (block_tokens (at_row p row relation) body, block_tokens p rest, refl, block_told body (at_row p row relation), block_told rest p)
+block_told (For row relation label body rest) p = (
+  block_tokens (at_row p row relation) body,
+  block_tokens p rest,
+  refl,
+  block_told body (at_row p row relation),
+  block_told rest p,
+)
 
 alone : (name : Name) → IsDistinct bytes_eq (name ∷ [])
 unfolding IsDistinct
@@ -37,7 +43,13 @@ prints_are_told policy schemes tx of_policy of_schemes is read =
     record {
       tokens = tokens_of policy schemes tx;
       text = prints_are_tokens policy schemes tx of_policy of_schemes is read;
-      told = (tokens_of policy schemes tx, [], sym (append-nil (tokens_of policy schemes tx)), (block_tokens p tx.body, refl, block_told tx.body p), refl);
+      told = (
+        tokens_of policy schemes tx,
+        [],
+        sym (append-nil (tokens_of policy schemes tx)),
+        (block_tokens p tx.body, refl, block_told tx.body p),
+        refl,
+      );
       each = (is, tt);
       read = record { few = omega arith; each = (read, tt); apart = alone tx.name };
     }

@@ -43,15 +43,18 @@ top_of (b ∷ bs) = b
 
 pub built-marks : (b : Block) (ms : List Mark) (bs : List Block) → built (marks b ++ ms) bs ≡ built ms (b ∷ bs)
 built-marks End ms bs = refl
-built-marks (Do stmt rest) ms bs = ap (λ l. built l bs) (append_assoc (marks rest) (A_stmt stmt ∷ []) ms) ∙ built-marks rest (A_stmt stmt ∷ ms) bs
+built-marks (Do stmt rest) ms bs = ap (λ l. built l bs) (append_assoc (marks rest) (A_stmt stmt ∷ []) ms)
+    ∙ built-marks rest (A_stmt stmt ∷ ms) bs
 built-marks (If guard one other rest) ms bs =
     ap (λ l. built l bs)
-    (append_assoc (marks one) _ ms ∙ ap (λ l. marks one ++ l) (append_assoc (marks other) _ ms ∙ ap (λ l. marks other ++ l) (append_assoc (marks rest) (An_if guard ∷ []) ms)))
+    (append_assoc (marks one) _ ms ∙ ap (λ l. marks one ++ l) (append_assoc (marks other) _ ms
+    ∙ ap (λ l. marks other ++ l) (append_assoc (marks rest) (An_if guard ∷ []) ms)))
     ∙ built-marks one (marks other ++ (marks rest ++ An_if guard ∷ ms)) bs
     ∙ built-marks other (marks rest ++ An_if guard ∷ ms) (one ∷ bs)
     ∙ built-marks rest (An_if guard ∷ ms) (other ∷ one ∷ bs)
 built-marks (For row relation label body rest) ms bs =
-    ap (λ l. built l bs) (append_assoc (marks body) _ ms ∙ ap (λ l. marks body ++ l) (append_assoc (marks rest) (A_for row relation label ∷ []) ms))
+    ap (λ l. built l bs) (append_assoc (marks body) _ ms ∙ ap (λ l. marks body ++ l) (append_assoc (marks rest)
+    (A_for row relation label ∷ []) ms))
     ∙ built-marks body (marks rest ++ A_for row relation label ∷ ms) bs
     ∙ built-marks rest (A_for row relation label ∷ ms) (body ∷ bs)
 

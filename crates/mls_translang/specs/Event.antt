@@ -51,7 +51,8 @@ CommandFits policy schemes Audit = ⊤
 CommandFits policy schemes (View relation label query counts) =
     (relation < length schemes) × (label < length policy.labels) × QueryFits policy schemes relation query counts
 CommandFits policy schemes (Dump relation) = relation < length schemes
-CommandFits policy schemes (Write relation write) = (relation < length schemes) × IsWriteOf policy (scheme_of schemes relation) write
+CommandFits policy schemes (Write relation write) = (relation < length schemes)
+    × IsWriteOf policy (scheme_of schemes relation) write
 CommandFits policy schemes (Call tx args) = (is_name tx ≡ true) × AllByRecursion HasSomeKind args
 
 pub record EventFits (policy : Policy) (schemes : Schemes) (e : Event) : Type 0 where

@@ -56,7 +56,8 @@ top_of (e ∷ es) = e
 pub built-marks : (e : Expr) (ms : List Mark) (es : List Expr) → built (marks e ++ ms) es ≡ built ms (e ∷ es)
 built-marks (No e) ms es = ap (λ l. built l es) (append_assoc (marks e) (A_not ∷ []) ms) ∙ built-marks e (A_not ∷ ms) es
 built-marks (Op op left right) ms es =
-    ap (λ l. built l es) (append_assoc (marks left) _ ms ∙ ap (λ l. marks left ++ l) (append_assoc (marks right) (An_op op ∷ []) ms))
+    ap (λ l. built l es) (append_assoc (marks left) _ ms ∙ ap (λ l. marks left ++ l) (append_assoc (marks right)
+    (An_op op ∷ []) ms))
     ∙ built-marks left (marks right ++ An_op op ∷ ms) es
     ∙ built-marks right (An_op op ∷ ms) (left ∷ es)
 built-marks _ ms es = refl

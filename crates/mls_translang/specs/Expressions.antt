@@ -66,7 +66,8 @@ apply operators.Or a b = Truth (is_true a || is_true b)
 
 -- an attribute of a row by number, the key first
 abbrev pub cell_of : Tuple → ℕ → Option Value
-cell_of t i = if nat_lt i (length t.key) then slice_index_or (map Some t.key) i None else (at t.elements (i - length t.key)).value
+cell_of t i = if nat_lt i (length t.key) then slice_index_or (map Some t.key) i None else
+    (at t.elements (i - length t.key)).value
 
 -- what expressions read: arguments, the rows of the loops around, the innermost first, and variables by number
 pub record Environment : Type 0 where

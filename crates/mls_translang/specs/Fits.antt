@@ -60,22 +60,27 @@ pub record IsConditionOf (schemes : Schemes) (relation : ℕ) (e : Expr) : Type 
 
 module _ (policy : Policy) (schemes : Schemes) (hi : ℕ) where
   abbrev pub WritingFits : Scope → Scheme → Writing → Type 0
-  WritingFits s scheme (Insert key values) = ListFits schemes s scheme.keys key × ListFits schemes s scheme.others values
+  WritingFits s scheme (Insert key values) = ListFits schemes s scheme.keys key
+      × ListFits schemes s scheme.others values
   WritingFits s scheme (Update key key_class from sets) =
-      ListFits schemes s scheme.keys key × IsLabel policy key_class × IsLabel policy from × SetsFit schemes s scheme sets
+      ListFits schemes s scheme.keys key × IsLabel policy key_class × IsLabel policy from
+      × SetsFit schemes s scheme sets
   WritingFits s scheme (Delete key key_class) = ListFits schemes s scheme.keys key × IsLabel policy key_class
 
   abbrev pub StmtFits : Scope → Stmt → Type 0
   StmtFits s (Assign x e) = ExprFits schemes s e
-  StmtFits s (Write_at relation w writing outcome) = (relation < length schemes) × IsLabel policy w × WritingFits s (scheme_of schemes relation) writing
+  StmtFits s (Write_at relation w writing outcome) = (relation < length schemes) × IsLabel policy w
+      × WritingFits s (scheme_of schemes relation) writing
   StmtFits s (Release e to into) = ExprFits schemes s e × IsLabel policy to × (below (labels_of policy) to hi ≡ true)
   StmtFits s (Emit e label) = ExprFits schemes s e × IsLabel policy label
 
   abbrev pub BlockFits : Scope → Block → Type 0
   BlockFits s End = Unit {0}
   BlockFits s (Do stmt rest) = StmtFits s stmt × BlockFits s rest
-  BlockFits s (If guard one other rest) = ExprFits schemes s guard × BlockFits s one × BlockFits s other × BlockFits s rest
-  BlockFits s (For row relation label body rest) = (relation < length schemes) × IsLabel policy label × BlockFits (in_loop s row relation) body × BlockFits s rest
+  BlockFits s (If guard one other rest) = ExprFits schemes s guard × BlockFits s one × BlockFits s other
+      × BlockFits s rest
+  BlockFits s (For row relation label body rest) = (relation < length schemes) × IsLabel policy label
+      × BlockFits (in_loop s row relation) body × BlockFits s rest
 
 -- ---- transactions
 

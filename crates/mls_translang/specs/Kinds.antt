@@ -28,7 +28,8 @@ OperatorGives _ s operands = (s ≡ Truth) × ((k : Kind) × operands (Of k))
 -- an attribute of a row by number, the key first
 abbrev pub field_of : Scheme → ℕ → Attribute
 field_of scheme i =
-    if nat_lt i (length scheme.keys) then slice_index_or scheme.keys i no_attribute else other_of scheme (i - length scheme.keys)
+    if nat_lt i (length scheme.keys) then slice_index_or scheme.keys i no_attribute else other_of scheme
+    (i - length scheme.keys)
 
 module _ (schemes : Schemes) where
   abbrev pub HasSort : Scope → Sort → Expr → Type 0
@@ -70,5 +71,6 @@ module _ (schemes : Schemes) where
   abbrev pub BlockKinds : Scope → Block → Type 0
   BlockKinds s End = Unit {0}
   BlockKinds s (Do stmt rest) = StmtKinds s stmt × BlockKinds s rest
-  BlockKinds s (If guard one other rest) = HasSort s Truth guard × BlockKinds s one × BlockKinds s other × BlockKinds s rest
+  BlockKinds s (If guard one other rest) = HasSort s Truth guard × BlockKinds s one × BlockKinds s other
+      × BlockKinds s rest
   BlockKinds s (For row relation label body rest) = BlockKinds (in_loop s row relation) body × BlockKinds s rest

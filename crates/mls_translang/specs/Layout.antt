@@ -108,7 +108,11 @@ pub record Laid : Type 0 where
   pub before : Before
 
 abbrev pub put : Laid → Token → Laid
-put l t = record { text = l.text ++ (gap l.depth l.before (side_of t) ++ spelled t); depth = depth_after l.depth t; before = before_of t }
+put l t = record {
+  text = l.text ++ (gap l.depth l.before (side_of t) ++ spelled t);
+  depth = depth_after l.depth t;
+  before = before_of t;
+}
 
 abbrev pub puts : Laid → List Token → Laid
 puts l [] = l

@@ -21,5 +21,6 @@ LayoutsAreTokens = (ts : List Token) → AllByRecursion IsSpelled ts → AreToke
 -- the printed text of a transaction is the tokens of its tree
 abbrev pub PrintsAreTokens : Type 0
 PrintsAreTokens =
-    (policy : Policy) (schemes : Schemes) (tx : Tx) → IsPolicy policy → AreSchemes schemes → IsTx tx → IsReadUnder policy schemes tx
+    (policy : Policy) (schemes : Schemes) (tx : Tx) → IsPolicy policy → AreSchemes schemes → IsTx tx
+    → IsReadUnder policy schemes tx
     → AreTokens (tokens_of policy schemes tx) (printed policy schemes tx)

@@ -14,7 +14,8 @@ use Rattle.mls_translang.specs.Tokens.{params_tokens, var_tokens, heading_tokens
 
 -- the other block of an `if`: one with no statement may be left out or written
 abbrev pub TellsOther : Bool → (List Token → Type 0) → List Token → Type 0
-TellsOther none told ts = ((none ≡ true) × (ts ≡ [])) ⊎ ((inner : List Token) × (ts ≡ Word (codes "else") ∷ braced inner) × told inner)
+TellsOther none told ts = ((none ≡ true) × (ts ≡ []))
+    ⊎ ((inner : List Token) × (ts ≡ Word (codes "else") ∷ braced inner) × told inner)
 
 abbrev pub TellsBlock : Context → Block → List Token → Type 0
 TellsBlock p End ts = ts ≡ []
@@ -23,11 +24,13 @@ TellsBlock p (If guard one other rest) ts =
     (a b r : List Token) × (ts ≡ Word (codes "if") ∷ (expr_tokens p guard ++ (braced a ++ (b ++ r))))
     × TellsBlock p one a × TellsOther (is_end other) (λ inner. TellsBlock p other inner) b × TellsBlock p rest r
 TellsBlock p (For row relation label body rest) ts =
-    (a r : List Token) × (ts ≡ for_tokens p row relation label ++ (braced a ++ r)) × TellsBlock (at_row p row relation) body a × TellsBlock p rest r
+    (a r : List Token) × (ts ≡ for_tokens p row relation label ++ (braced a ++ r))
+    × TellsBlock (at_row p row relation) body a × TellsBlock p rest r
 
 abbrev pub TellsTx : Context → Tx → List Token → Type 0
 TellsTx p tx ts =
-    (b : List Token) × (ts ≡ heading_tokens p tx.name tx.lo tx.hi ++ (params_tokens p tx.params ++ braced (flat_map var_tokens tx.vars ++ b)))
+    (b : List Token) × (ts ≡ heading_tokens p tx.name tx.lo tx.hi ++ (params_tokens p tx.params
+    ++ braced (flat_map var_tokens tx.vars ++ b)))
     × TellsBlock p tx.body b
 
 abbrev pub TellsEach : Policy → Schemes → List Tx → List Token → Type 0
@@ -47,5 +50,6 @@ pub record Tells (policy : Policy) (schemes : Schemes) (bytes : List ℕ) (txs :
 -- the printed text of a transaction tells it
 abbrev pub PrintsAreTold : Type 0
 PrintsAreTold =
-    (policy : Policy) (schemes : Schemes) (tx : Tx) → IsPolicy policy → AreSchemes schemes → IsTx tx → IsReadUnder policy schemes tx
+    (policy : Policy) (schemes : Schemes) (tx : Tx) → IsPolicy policy → AreSchemes schemes → IsTx tx
+    → IsReadUnder policy schemes tx
     → Tells policy schemes (printed policy schemes tx) (tx ∷ [])

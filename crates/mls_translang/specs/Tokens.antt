@@ -72,7 +72,8 @@ operator_token operators.Or = Word (codes "or")
 
 -- ROW.ATTRIBUTE
 abbrev pub field_tokens : Context → ℕ → ℕ → List Token
-field_tokens p d i = Word (row_at p.scope d).name ∷ Sign sign.Dot ∷ Word (field_of (scheme_of p.schemes (row_at p.scope d).relation) i).0 ∷ []
+field_tokens p d i = Word (row_at p.scope d).name ∷ Sign sign.Dot
+    ∷ Word (field_of (scheme_of p.schemes (row_at p.scope d).relation) i).0 ∷ []
 
 -- each operation in its own parentheses
 abbrev pub expr_tokens : Context → Expr → List Token
@@ -83,7 +84,8 @@ expr_tokens p (Param i) = Word (name_at p.scope.params i) ∷ []
 expr_tokens p (Field d i) = field_tokens p d i
 expr_tokens p (No e) = Word (codes "not") ∷ expr_tokens p e
 expr_tokens p (Op op left right) =
-    Sign sign.LeftParen ∷ (expr_tokens p left ++ (operator_token op ∷ (expr_tokens p right ++ Sign sign.RightParen ∷ [])))
+    Sign sign.LeftParen ∷ (expr_tokens p left ++ (operator_token op ∷ (expr_tokens p right ++ Sign sign.RightParen
+    ∷ [])))
 
 abbrev pub list_tokens : Context → List Expr → List Token
 list_tokens p es = Sign sign.LeftParen ∷ (separated (expr_tokens p) es ++ Sign sign.RightParen ∷ [])
@@ -113,26 +115,31 @@ head_tokens p word relation key = Word word ∷ rel_token p relation ∷ Word (c
 -- class KEY_CLASS from FROM at W
 abbrev pub class_tokens : Context → ℕ → ℕ → ℕ → List Token
 class_tokens p key_class from w =
-    Word (codes "class") ∷ label_token p key_class ∷ Word (codes "from") ∷ label_token p from ∷ Word (codes "at") ∷ label_token p w ∷ []
+    Word (codes "class") ∷ label_token p key_class ∷ Word (codes "from") ∷ label_token p from ∷ Word (codes "at")
+    ∷ label_token p w ∷ []
 
 -- set SETS, the outcome, and the end
 abbrev pub update_end : Context → ℕ → List (ℕ × Expr) → Option ℕ → List Token
-update_end p relation sets outcome = Word (codes "set") ∷ (separated (set_tokens p (scheme_of p.schemes relation)) sets ++ stmt_end p outcome)
+update_end p relation sets outcome = Word (codes "set") ∷ (separated (set_tokens p (scheme_of p.schemes relation)) sets
+    ++ stmt_end p outcome)
 
 abbrev pub write_tokens : Context → ℕ → ℕ → Option ℕ → Writing → List Token
 write_tokens p relation w outcome (Insert key values) =
-    head_tokens p (codes "insert") relation key ++ (Word (codes "values") ∷ (list_tokens p values ++ write_end p w (stmt_end p outcome)))
+    head_tokens p (codes "insert") relation key ++ (Word (codes "values") ∷ (list_tokens p values ++ write_end p w
+    (stmt_end p outcome)))
 write_tokens p relation w outcome (Update key key_class from sets) =
     head_tokens p (codes "update") relation key
     ++ (class_tokens p key_class from w ++ update_end p relation sets outcome)
 write_tokens p relation w outcome (Delete key key_class) =
-    head_tokens p (codes "delete") relation key ++ (Word (codes "class") ∷ label_token p key_class ∷ write_end p w (stmt_end p outcome))
+    head_tokens p (codes "delete") relation key ++ (Word (codes "class") ∷ label_token p key_class ∷ write_end p w
+    (stmt_end p outcome))
 
 abbrev pub stmt_tokens : Context → Stmt → List Token
 stmt_tokens p (Assign x e) = var_token p x ∷ Sign sign.Becomes ∷ (expr_tokens p e ++ Sign sign.Semicolon ∷ [])
 stmt_tokens p (Write_at relation w writing outcome) = write_tokens p relation w outcome writing
 stmt_tokens p (Release e to into) =
-    Word (codes "release") ∷ (expr_tokens p e ++ (Word (codes "to") ∷ label_token p to ∷ Word (codes "into") ∷ var_token p into ∷ Sign sign.Semicolon ∷ []))
+    Word (codes "release") ∷ (expr_tokens p e ++ (Word (codes "to") ∷ label_token p to ∷ Word (codes "into")
+    ∷ var_token p into ∷ Sign sign.Semicolon ∷ []))
 stmt_tokens p (Emit e label) =
     Word (codes "emit") ∷ (expr_tokens p e ++ (Word (codes "at") ∷ label_token p label ∷ Sign sign.Semicolon ∷ []))
 
@@ -142,7 +149,8 @@ else_tokens other tokens = if is_end other then [] else Word (codes "else") ∷ 
 
 -- for ROW in RELATION at LABEL
 abbrev pub for_tokens : Context → Name → ℕ → ℕ → List Token
-for_tokens p row relation label = Word (codes "for") ∷ Word row ∷ Word (codes "in") ∷ rel_token p relation ∷ Word (codes "at") ∷ label_token p label ∷ []
+for_tokens p row relation label = Word (codes "for") ∷ Word row ∷ Word (codes "in") ∷ rel_token p relation
+    ∷ Word (codes "at") ∷ label_token p label ∷ []
 
 abbrev pub braced : List Token → List Token
 braced tokens = Sign sign.LeftBrace ∷ (tokens ++ Sign sign.RightBrace ∷ [])
@@ -151,7 +159,8 @@ abbrev pub block_tokens : Context → Block → List Token
 block_tokens p End = []
 block_tokens p (Do stmt rest) = stmt_tokens p stmt ++ block_tokens p rest
 block_tokens p (If guard one other rest) =
-    Word (codes "if") ∷ (expr_tokens p guard ++ (braced (block_tokens p one) ++ (else_tokens other (braced (block_tokens p other)) ++ block_tokens p rest)))
+    Word (codes "if") ∷ (expr_tokens p guard ++ (braced (block_tokens p one)
+    ++ (else_tokens other (braced (block_tokens p other)) ++ block_tokens p rest)))
 block_tokens p (For row relation label body rest) =
     for_tokens p row relation label ++ (braced (block_tokens (at_row p row relation) body) ++ block_tokens p rest)
 
@@ -174,14 +183,16 @@ var_tokens x = Word (codes "var") ∷ Word x.0 ∷ Sign sign.Colon ∷ kind_toke
 -- transaction NAME levels LO to HI
 abbrev pub heading_tokens : Context → Name → ℕ → ℕ → List Token
 heading_tokens p name lo hi =
-    Word (codes "transaction") ∷ Word name ∷ Word (codes "levels") ∷ label_token p lo ∷ Word (codes "to") ∷ label_token p hi ∷ []
+    Word (codes "transaction") ∷ Word name ∷ Word (codes "levels") ∷ label_token p lo ∷ Word (codes "to")
+    ∷ label_token p hi ∷ []
 
 abbrev pub outermost : Policy → Schemes → Tx → Context
 outermost policy schemes tx = record { policy = policy; schemes = schemes; hi = tx.hi; scope = scope_of tx }
 
 abbrev pub tx_tokens : Context → Tx → List Token
 tx_tokens p tx =
-    heading_tokens p tx.name tx.lo tx.hi ++ (params_tokens p tx.params ++ braced (flat_map var_tokens tx.vars ++ block_tokens p tx.body))
+    heading_tokens p tx.name tx.lo tx.hi ++ (params_tokens p tx.params ++ braced (flat_map var_tokens tx.vars
+    ++ block_tokens p tx.body))
 
 abbrev pub tokens_of : Policy → Schemes → Tx → List Token
 tokens_of policy schemes tx = tx_tokens (outermost policy schemes tx) tx

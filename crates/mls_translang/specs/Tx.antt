@@ -74,7 +74,8 @@ abbrev pub BlockIsOwn : Scope → Block → Type 0
 BlockIsOwn s End = Unit {0}
 BlockIsOwn s (Do stmt rest) = StmtIsOwn s stmt × BlockIsOwn s rest
 BlockIsOwn s (If guard one other rest) = IsOwn s guard × BlockIsOwn s one × BlockIsOwn s other × BlockIsOwn s rest
-BlockIsOwn s (For row relation label body rest) = IsFresh s row × BlockIsOwn (in_loop s row relation) body × BlockIsOwn s rest
+BlockIsOwn s (For row relation label body rest) = IsFresh s row × BlockIsOwn (in_loop s row relation) body
+    × BlockIsOwn s rest
 
 -- outside loops
 abbrev pub scope_of : Tx → Scope

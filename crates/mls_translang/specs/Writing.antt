@@ -52,7 +52,8 @@ keyed schemes verb relation key = verb ++ relation_name schemes relation ++ code
 module _ (policy : Policy) (schemes : Schemes) where
   -- inserts and updates are written, and no other command
   abbrev pub command_text : Command → List ℕ
-  command_text (Write relation (Insert key values)) = keyed schemes (codes "insert ") relation key ++ codes " values " ++ list_text values
+  command_text (Write relation (Insert key values)) = keyed schemes (codes "insert ") relation key ++ codes " values "
+      ++ list_text values
   command_text (Write relation (Update key key_class from sets)) =
       keyed schemes (codes "update ") relation key
       ++ codes " class " ++ label_name policy.labels key_class ++ codes " from " ++ label_name policy.labels from

@@ -24,7 +24,8 @@ pub enum Term {
     Variable(u8),
     /// A parameter, by its place among the parameters, from 0.
     Parameter(u8),
-    /// An attribute of a loop's row: how many loops stand between, the innermost 0, and the attribute's number, the key first.
+    /// An attribute of a loop's row: how many loops stand between, the innermost 0, and the attribute's number, the key
+    /// first.
     Field { depth: u8, attribute: u8 },
     /// The other truth value.
     Not(Box<Expr>),

@@ -31,7 +31,13 @@ impl<'a> Model for Names<'a> {
 
     ghost coded = { Prim.hlevel (codes, pair_code) };
 
-    ghost view = { λ a. record { policy = a.policy.now; schemes = a.schemes.now; hi = a.tx.now.hi; scope = record { params = a.tx.now.params; vars = a.tx.now.vars; rows = a.rows.now } } };
+    ghost view = { λ a. record {
+      policy = a.policy.now;
+      schemes = a.schemes.now;
+      hi = a.tx.now.hi;
+      scope =
+          record { params = a.tx.now.params; vars = a.tx.now.vars; rows = a.rows.now };
+    } };
 }
 
 impl Names<'_> {

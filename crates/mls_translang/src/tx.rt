@@ -37,9 +37,24 @@ impl Model for Tx {
 
     ghost coded = { Prim.hlevel (codes, b.the_row.coded) };
 
-    ghost view = { λ a. record { name = a.name; lo = a.lo; hi = a.hi; params = a.params; vars = a.vars; body = a.body } };
+    ghost view = { λ a. record {
+      name = a.name;
+      lo = a.lo;
+      hi = a.hi;
+      params = a.params;
+      vars = a.vars;
+      body =
+          a.body;
+    } };
 
-    ghost invariant = { λ a. IsTx (record { name = a.name; lo = a.lo; hi = a.hi; params = a.params; vars = a.vars; body = a.body }) };
+    ghost invariant = { λ a. IsTx (record {
+      name = a.name;
+      lo = a.lo;
+      hi = a.hi;
+      params = a.params;
+      vars = a.vars;
+      body = a.body;
+    }) };
 }
 
 impl Tx {

@@ -192,7 +192,8 @@ fn push_command(
     }
 }
 
-/// Appends the line of an event, as a person would write it, without its line feed. Behind the session, nothing is written of
+/// Appends the line of an event, as a person would write it, without its line feed. Behind the session, nothing is
+/// written of
 /// commands other than inserts and updates.
 pub fn push_event(
     alloc: Global,
@@ -250,7 +251,8 @@ fn are_writable_sets(sets: &[(usize, Option<Value>)]) -> bool
     sets.iter().all(|set| is_writable_value(&set.1))
 }
 
-/// Whether a script can hold an event that fits: it is an insert or an update, and no text has a control character or more
+/// Whether a script can hold an event that fits: it is an insert or an update, and no text has a control character or
+/// more
 /// than 1,024 bytes.
 pub fn is_writable(event: &Event) -> bool
     ensures { result ≡ is_writable event.now }

@@ -22,12 +22,20 @@ module _ (call : Call) (vars : Variables) (kept : Kept) (f g : Frame) (h : HasVa
     count = h.count ∙ i.count;
     vars = subst (VarsFit (scope_of call.tx.now)) (sym h.vars) v;
     emitted = subst (λ x. AllByRecursion (IsItem call.policy.now) x.items) (sym h.emitted) i.emitted;
-    released = subst (λ x. AllByRecursion (λ k. IsItem call.policy.now k × (below (labels_of call.policy.now) k.0 call.tx.now.hi ≡ true)) x.items) (sym h.released) i.released;
+    released = subst (λ x. AllByRecursion (λ k. IsItem call.policy.now k
+        × (below (labels_of call.policy.now) k.0 call.tx.now.hi ≡ true)) x.items) (sym h.released) i.released;
   }
 
   pub vars_progress : (db : Database) → progress_of db g ≡ record (progress_of db f) { vars = vars }
-  vars_progress db = λ k. record { db = db; vars = h.vars k; emitted = (h.emitted k).items; released = (h.released k).items }
+  vars_progress db = λ k. record {
+    db = db;
+    vars = h.vars k;
+    emitted = (h.emitted k).items;
+    released =
+        (h.released k).items;
+  }
 
 -- what expressions read in a frame is of its kinds
-pub env_fits : (call : Call) (f : Frame) (block : Block) → IsFrame call f → (m : MayRunBlock call (around_of f) block) → EnvironmentFits call.policy.now call.schemes.now call.tx.now.hi (inside call m.rows) (env_in call.args.now f)
+pub env_fits : (call : Call) (f : Frame) (block : Block) → IsFrame call f → (m : MayRunBlock call (around_of f) block)
+    → EnvironmentFits call.policy.now call.schemes.now call.tx.now.hi (inside call m.rows) (env_in call.args.now f)
 env_fits call f block i m = record { vars = i.vars; params = m.read.params; rows = m.read.rows }

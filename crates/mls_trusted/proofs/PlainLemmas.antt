@@ -20,29 +20,42 @@ use Rattle.mls_trusted.specs.declared.frame.Frame.{Frame}
 use Rattle.mls_trusted.specs.Frames.{around_of, vars_of, progress_of, env_in, inside, MayRunBlock, run_of, IsFrame, HasVars, IsFrameStep}
 use Rattle.mls_trusted.proofs.FrameLemmas.{vars_frame, vars_progress, env_fits}
 
-module _ (call : Call) (f : Frame) (i : IsFrame call f) (e : Expr) (v : Option Value) (is : v ≡ value_in (env_in call.args.now f) e) where
+module _ (call : Call) (f : Frame) (i : IsFrame call f) (e : Expr) (v : Option Value) (is : v
+    ≡ value_in (env_in call.args.now f) e) where
   -- a value of its variable's kind
-  given_kind : (block : Block) (m : MayRunBlock call (around_of f) block) (x : ℕ) → Assigns call.schemes.now (inside call m.rows) x e → VarsFit (scope_of call.tx.now) (set_var x v (vars_of f))
+  given_kind : (block : Block) (m : MayRunBlock call (around_of f) block) (x : ℕ)
+      → Assigns call.schemes.now (inside call m.rows) x e → VarsFit (scope_of call.tx.now) (set_var x v (vars_of f))
   given_kind block m x a =
       set_kind (scope_of call.tx.now) x v (vars_of f) i.vars
-      (λ k q. subst (λ w. fits_kind w k ≡ true) (sym is) (assigned call.policy.now call.schemes.now call.tx.now.hi (inside call m.rows) (env_in call.args.now f) (env_fits call f block i m) x e a k q))
+      (λ k q. subst (λ w. fits_kind w k ≡ true) (sym is) (assigned call.policy.now call.schemes.now call.tx.now.hi
+      (inside call m.rows) (env_in call.args.now f) (env_fits call f block i m) x e a k q))
 
-  given_item : (block : Block) (m : MayRunBlock call (around_of f) block) (label : ℕ) → label < length call.policy.now.labels → (k : Kind) → HasKind call.schemes.now (inside call m.rows) k e → IsItem call.policy.now (label, v)
+  given_item : (block : Block) (m : MayRunBlock call (around_of f) block) (label : ℕ)
+      → label < length call.policy.now.labels → (k : Kind) → HasKind call.schemes.now (inside call m.rows) k e
+      → IsItem call.policy.now (label, v)
   given_item block m label l k h = record {
     label = l;
-    kind = (k, subst (λ w. fits_kind w k ≡ true) (sym is) (value_kind call.policy.now call.schemes.now call.tx.now.hi (inside call m.rows) (env_in call.args.now f) (env_fits call f block i m) k e h));
+    kind = (
+      k,
+      subst (λ w. fits_kind w k ≡ true) (sym is) (value_kind call.policy.now call.schemes.now call.tx.now.hi
+          (inside call m.rows) (env_in call.args.now f) (env_fits call f block i m) k e h),
+    );
   }
 
-  pub assign_step : (x : ℕ) (g : Frame) → MayRunBlock call (around_of f) (Do (Assign x e) End) → HasVars (set_var x v (vars_of f)) f.views f g → IsFrameStep call (run_of call (Do (Assign x e) End) (around_of f)) f g
+  pub assign_step : (x : ℕ) (g : Frame) → MayRunBlock call (around_of f) (Do (Assign x e) End)
+      → HasVars (set_var x v (vars_of f)) f.views f g
+      → IsFrameStep call (run_of call (Do (Assign x e) End) (around_of f)) f g
   unfolding run_block perform
   assign_step x g m h = record {
     frame = vars_frame call (set_var x v (vars_of f)) f.views f g h i (given_kind (Do (Assign x e) End) m x m.kinds.0);
     rows = ap (λ r. r.items) h.rows;
     views = h.views;
-    progress = λ db. vars_progress call (set_var x v (vars_of f)) f.views f g h db ∙ (λ k. record (progress_of db f) { vars = set_var x (is k) (vars_of f) });
+    progress = λ db. vars_progress call (set_var x v (vars_of f)) f.views f g h db
+        ∙ (λ k. record (progress_of db f) { vars = set_var x (is k) (vars_of f) });
   }
 
-  pub emit_step : (label : ℕ) (r : Frame) → MayRunBlock call (around_of f) (Do (Emit e label) End) → r.emitted.items ≡ f.emitted.items ++ (label, v) ∷ []
+  pub emit_step : (label : ℕ) (r : Frame) → MayRunBlock call (around_of f) (Do (Emit e label) End) → r.emitted.items
+      ≡ f.emitted.items ++ (label, v) ∷ []
       → IsFrameStep call (run_of call (Do (Emit e label) End) (around_of f)) f (record f { emitted = r.emitted })
   unfolding run_block perform
   emit_step label r m more =
@@ -51,16 +64,20 @@ module _ (call : Call) (f : Frame) (i : IsFrame call f) (e : Expr) (v : Option V
         frame = record {
           count = i.count;
           vars = i.vars;
-          emitted = subst (AllByRecursion (IsItem call.policy.now)) (sym more) (all_by_recursion_push (IsItem call.policy.now) f.emitted.items (label, v) i.emitted item);
+          emitted = subst (AllByRecursion (IsItem call.policy.now)) (sym more)
+              (all_by_recursion_push (IsItem call.policy.now) f.emitted.items (label, v) i.emitted item);
           released = i.released;
         };
         rows = refl;
         views = refl;
-        progress = λ db. (λ k. record (progress_of db f) { emitted = more k }) ∙ (λ k. record (progress_of db f) { emitted = f.emitted.items ++ (label, is k) ∷ [] });
+        progress = λ db. (λ k. record (progress_of db f) { emitted = more k })
+            ∙ (λ k. record (progress_of db f) { emitted = f.emitted.items ++ (label, is k) ∷ [] });
       }
 
-  pub release_step : (to into : ℕ) (r g : Frame) → MayRunBlock call (around_of f) (Do (Release e to into) End) → r.released.items ≡ f.released.items ++ (to, v) ∷ []
-      → HasVars (set_var into v (vars_of f)) f.views (record f { released = r.released }) g → IsFrameStep call (run_of call (Do (Release e to into) End) (around_of f)) f g
+  pub release_step : (to into : ℕ) (r g : Frame) → MayRunBlock call (around_of f) (Do (Release e to into) End)
+      → r.released.items ≡ f.released.items ++ (to, v) ∷ []
+      → HasVars (set_var into v (vars_of f)) f.views (record f { released = r.released }) g
+      → IsFrameStep call (run_of call (Do (Release e to into) End) (around_of f)) f g
   unfolding run_block perform
   release_step to into r g m more h =
       let block = Do (Release e to into) End in
@@ -71,8 +88,11 @@ module _ (call : Call) (f : Frame) (i : IsFrame call f) (e : Expr) (v : Option V
         count = i.count;
         vars = i.vars;
         emitted = i.emitted;
-        released = subst (AllByRecursion (λ k. IsItem call.policy.now k × (below (labels_of call.policy.now) k.0 call.tx.now.hi ≡ true))) (sym more)
-            (all_by_recursion_push (λ k. IsItem call.policy.now k × (below (labels_of call.policy.now) k.0 call.tx.now.hi ≡ true)) f.released.items (to, v) i.released (item, m.fits.0.2));
+        released = subst (AllByRecursion (λ k. IsItem call.policy.now k
+            × (below (labels_of call.policy.now) k.0 call.tx.now.hi ≡ true))) (sym more)
+            (all_by_recursion_push (λ k. IsItem call.policy.now k
+            × (below (labels_of call.policy.now) k.0 call.tx.now.hi ≡ true)) f.released.items (to, v) i.released
+            (item, m.fits.0.2));
       } in
       record {
         frame = vars_frame call (set_var into v (vars_of f)) f.views mid g h there (given_kind block m into a);
@@ -80,5 +100,9 @@ module _ (call : Call) (f : Frame) (i : IsFrame call f) (e : Expr) (v : Option V
         views = h.views;
         progress = λ db. vars_progress call (set_var into v (vars_of f)) f.views mid g h db
             ∙ (λ k. record (progress_of db f) { vars = set_var into v (vars_of f); released = more k })
-            ∙ (λ k. record (progress_of db f) { vars = set_var into (is k) (vars_of f); released = f.released.items ++ (to, is k) ∷ [] });
+            ∙ (λ k. record (progress_of db f) {
+              vars = set_var into (is k) (vars_of f);
+              released = f.released.items
+                  ++ (to, is k) ∷ [];
+            });
       }

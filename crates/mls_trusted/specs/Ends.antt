@@ -1,4 +1,5 @@
--- Inner: no public contract names these. Blocks that read below the upper end of their transaction, and write between its ends.
+-- Inner: no public contract names these. Blocks that read below the upper end of their transaction, and write between
+-- its ends.
 use Rattle.std.specs.Prelude.{◌≡◌, ℕ, true, ⊤}
 use Rattle.mls_lattice.specs.Labels.{Labels, below}
 use Rattle.mls_lattice.specs.Policy.{labels_of}
@@ -26,4 +27,5 @@ module _ (call : Call) where
 
   -- between the ends of the transaction, where the block is
   abbrev pub Accesses : {B : Type 0} → (B → Seen) → Block → B → B → Type 0
-  Accesses seen block old new = Between block → NoWriteDown seen (labels_of call.policy.now) call.tx.now.hi call.tx.now.lo old new
+  Accesses seen block old new = Between block
+      → NoWriteDown seen (labels_of call.policy.now) call.tx.now.hi call.tx.now.lo old new

@@ -60,7 +60,8 @@ module _ (call : Call) where
     pub count : length f.vars.items ≡ length call.tx.now.vars
     pub vars : VarsFit (scope_of call.tx.now) (vars_of f)
     pub emitted : AllByRecursion (IsItem call.policy.now) f.emitted.items
-    pub released : AllByRecursion (λ i. IsItem call.policy.now i × (below labels i.0 call.tx.now.hi ≡ true)) f.released.items
+    pub released : AllByRecursion (λ i. IsItem call.policy.now i × (below labels i.0 call.tx.now.hi
+        ≡ true)) f.released.items
 
   -- ---- what may be run
 

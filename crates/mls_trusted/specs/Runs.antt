@@ -34,7 +34,8 @@ pub record HasItems (policy : Policy) (r : Run) : Type 0 where
 
 module _ {Self : Type 0} (seen : Self → Seen) (policy : Policy) (schemes : Schemes) (tx : Tx) (given : List
     (Option Value)) where
-  -- what may be called: a transaction that was read for these schemes, an argument for each parameter, content of the stored form
+  -- what may be called: a transaction that was read for these schemes, an argument for each parameter, content of the
+  -- stored form
   pub record MayCall (base : Self) : Type 0 where
     pub under : AreUnder (length policy.labels) schemes
     pub read : IsReadUnder policy schemes tx

@@ -7,7 +7,16 @@ ghost use Rattle.mls_filterview.specs.Calls.{IsCall, IsServed};
 ghost use Rattle.mls_translang.specs.Tree.{If, End};
 ghost use Rattle.mls_translang.specs.Blocks.{block_of};
 ghost use Rattle.mls_trusted.specs.Ends.{Accesses};
-ghost use Rattle.mls_trusted.specs.Frames.{around_of, MayRunBlock, MayLoop, run_of, rows_of, loop_of, IsCallReady, IsFrameRun};
+ghost use Rattle.mls_trusted.specs.Frames.{
+  around_of,
+  MayRunBlock,
+  MayLoop,
+  run_of,
+  rows_of,
+  loop_of,
+  IsCallReady,
+  IsFrameRun,
+};
 
 use crate::call::Call;
 use crate::fitting::rows_at;

@@ -20,8 +20,10 @@ use std::alloc::Global;
 
 /// Runs a transaction inside a change, with an argument for each parameter.
 ///
-/// Under a certificate that holds it reads below the upper end of the transaction, and changes at labels that dominate its lower end.
-/// A write that is refused changes nothing, and the run goes on. A view that is kept is not resolved again. After `Store` or
+/// Under a certificate that holds it reads below the upper end of the transaction, and changes at labels that dominate
+/// its lower end.
+/// A write that is refused changes nothing, and the run goes on. A view that is kept is not resolved again. After
+/// `Store` or
 /// `Memory` the change has ended, and no view is kept.
 pub fn evaluate_in<B: Base>(
     alloc: Global,

@@ -20,7 +20,8 @@ pub(crate) fn assign(
 ) -> Result<(), AllocError>
     requires frame { IsFrame call.now frame.old }
     requires may { MayRunBlock call.now (around_of frame.old) (Do (Assign variable value.now) End) }
-    ensures { OnOk result (IsFrameStep call.now (run_of call.now (Do (Assign variable value.now) End) (around_of frame.old))
+    ensures { OnOk result (IsFrameStep call.now (run_of call.now (Do (Assign variable value.now) End)
+        (around_of frame.old))
         frame.old frame.new) }
 {
     let value = value_of(&frame.environment(call.args), value)?;
@@ -38,7 +39,8 @@ pub(crate) fn release(
 ) -> Result<(), AllocError>
     requires frame { IsFrame call.now frame.old }
     requires may { MayRunBlock call.now (around_of frame.old) (Do (Release value.now to into) End) }
-    ensures { OnOk result (IsFrameStep call.now (run_of call.now (Do (Release value.now to into) End) (around_of frame.old))
+    ensures { OnOk result (IsFrameStep call.now (run_of call.now (Do (Release value.now to into) End)
+        (around_of frame.old))
         frame.old frame.new) }
 {
     let value = value_of(&frame.environment(call.args), value)?;

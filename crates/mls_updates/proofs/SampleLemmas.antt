@@ -28,11 +28,13 @@ rigel = pair (word (codes "Exploration")) 0 (word (codes "Rigel")) 2
 a_root_has_one_class : root 2 (word (codes "Trade") ∷ None ∷ []) ≡ pair (word (codes "Trade")) 2 None 2
 a_root_has_one_class = refl
 
-an_update_from_below_keeps_the_other_elements : derived 2 ((0, word (codes "Spying")) ∷ []) exploration ≡ pair (word (codes "Spying")) 2 (word (codes "Talos")) 0
+an_update_from_below_keeps_the_other_elements : derived 2 ((0, word (codes "Spying")) ∷ []) exploration
+    ≡ pair (word (codes "Spying")) 2 (word (codes "Talos")) 0
 unfolding derived
 an_update_from_below_keeps_the_other_elements = refl
 
-an_update_reaches_the_higher_tuple : updated 0 ((0, word (codes "Diplomacy")) ∷ []) rigel ≡ pair (word (codes "Diplomacy")) 0 (word (codes "Rigel")) 2
+an_update_reaches_the_higher_tuple : updated 0 ((0, word (codes "Diplomacy")) ∷ []) rigel
+    ≡ pair (word (codes "Diplomacy")) 0 (word (codes "Rigel")) 2
 unfolding updated
 an_update_reaches_the_higher_tuple = refl
 
@@ -60,9 +62,11 @@ module _ (ls : Labels) (scheme : Scheme) (up : below ls 0 2 ≡ true) where
   unfolding first_refusal
   a_root_is_inserted_once = refl
 
-  an_element_of_a_lower_class_is_inherited : outcome_of known (own_refusals ls scheme 2 0 trade (Some rigel)) ≡ Inherited
+  an_element_of_a_lower_class_is_inherited : outcome_of known (own_refusals ls scheme 2 0 trade (Some rigel))
+      ≡ Inherited
   unfolding first_refusal
-  an_element_of_a_lower_class_is_inherited = ap (λ b. cond (not b) NoTuple Inherited) (and_from _ _ up (below-refl ls 2))
+  an_element_of_a_lower_class_is_inherited = ap (λ b. cond (not b) NoTuple Inherited)
+      (and_from _ _ up (below-refl ls 2))
 
   no_null_stands_above_the_key : outcome_of known (own_refusals ls scheme 2 0 nulled (Some rigel)) ≡ NullAboveKey
   unfolding first_refusal
@@ -70,15 +74,19 @@ module _ (ls : Labels) (scheme : Scheme) (up : below ls 0 2 ≡ true) where
 
   a_null_stands_at_the_key_class : outcome_of known (own_refusals ls scheme 0 0 nulled (Some exploration)) ≡ Done
   unfolding first_refusal
-  a_null_stands_at_the_key_class = ap (λ b. cond (not b) NoTuple Done) (and_from _ _ (below-refl ls 0) (below-refl ls 0))
+  a_null_stands_at_the_key_class = ap (λ b. cond (not b) NoTuple Done) (and_from _ _ (below-refl ls 0)
+      (below-refl ls 0))
 
-  an_entity_has_one_tuple_of_a_class : outcome_of known (below_refusals ls scheme 2 0 0 nulled (Some exploration) (Some rigel)) ≡ AlreadyDerived
+  an_entity_has_one_tuple_of_a_class : outcome_of known (below_refusals ls scheme 2 0 0 nulled (Some exploration)
+      (Some rigel)) ≡ AlreadyDerived
   unfolding first_refusal
   an_entity_has_one_tuple_of_a_class = ap (λ b. cond (not b) NoTuple AlreadyDerived) (and_from _ _ (below-refl ls 0) up)
 
-  a_class_outside_the_interval_is_refused : in_interval ls 2 (other_of scheme 0) ≡ false → outcome_of known (below_refusals ls scheme 2 0 0 trade (Some exploration) None) ≡ OutOfInterval
+  a_class_outside_the_interval_is_refused : in_interval ls 2 (other_of scheme 0) ≡ false
+      → outcome_of known (below_refusals ls scheme 2 0 0 trade (Some exploration) None) ≡ OutOfInterval
   unfolding first_refusal
-  a_class_outside_the_interval_is_refused out = λ i. cond (not (and_from _ _ (below-refl ls 0) up i)) NoTuple (cond (not (out i) || false) OutOfInterval Done)
+  a_class_outside_the_interval_is_refused out = λ i. cond (not (and_from _ _ (below-refl ls 0) up i)) NoTuple
+      (cond (not (out i) || false) OutOfInterval Done)
 
   what_is_not_there_is_not_deleted : outcome_of known (drop_refusals ls scheme 0 0 None) ≡ NoTuple
   unfolding first_refusal

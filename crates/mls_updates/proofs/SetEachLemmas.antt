@@ -27,17 +27,20 @@ module _ (attr label : ℕ) (v : Option Value) where
   abbrev new_at : ℕ → Element → Element
   new_at i e = cond (nat_eq i attr && nat_eq e.class label) (record { value = v; class = label }) e
 
-  at-set_from : (k : ℕ) (es : List Element) (i : ℕ) → i < length es → at (set_from attr label v k es) i ≡ new_at (k + i) (at es i)
+  at-set_from : (k : ℕ) (es : List Element) (i : ℕ) → i < length es → at (set_from attr label v k es) i
+      ≡ new_at (k + i) (at es i)
   at-set_from k [] i l = absurd (omega arith)
   at-set_from k (e ∷ es) zero l = let n : k ≡ k + 0 = omega arith in ap (λ j. new_at j e) n
-  at-set_from k (e ∷ es) (suc i) l = let n : suc k + i ≡ k + suc i = omega arith in at-set_from (suc k) es i (omega arith) ∙ ap (λ j. new_at j (at es i)) n
+  at-set_from k (e ∷ es) (suc i) l = let n : suc k + i ≡ k + suc i = omega arith
+      in at-set_from (suc k) es i (omega arith) ∙ ap (λ j. new_at j (at es i)) n
 
   at-set : (es : List Element) (i : ℕ) → i < length es → at (set_from attr label v 0 es) i ≡ new_at i (at es i)
   at-set es i l = let n : 0 + i ≡ i = omega arith in at-set_from 0 es i l ∙ ap (λ j. new_at j (at es i)) n
 
   class_kept : (i : ℕ) (e : Element) → (new_at i e).class ≡ e.class
   class_kept i e =
-      elim (nat_eq i attr && nat_eq e.class label) as (λ b. (nat_eq i attr && nat_eq e.class label) ≡ b → (cond b (record { value = v; class = label }) e).class ≡ e.class) [
+      elim (nat_eq i attr && nat_eq e.class label) as (λ b. (nat_eq i attr && nat_eq e.class label) ≡ b
+      → (cond b (record { value = v; class = label }) e).class ≡ e.class) [
         | true ↦ λ h. sym (eqb-true e.class label (and_parts (nat_eq i attr) (nat_eq e.class label) h).1)
         | false ↦ λ h. refl
       ] refl
@@ -53,21 +56,31 @@ module _ (w a : ℕ) (v : Option Value) (sets : Sets) where
 
   -- an element of class w that is set or stays is of class w
   class_stays : (i : ℕ) (x : Element) → x.class ≡ w → (set_element w sets i x).class ≡ w
-  class_stays i x own = elim (set_cases w sets i x) [ inl e ↦ ap (λ y. y.class) e ∙ own | inr e ↦ ap (λ y. y.class) e.2 ]
+  class_stays i x own = elim (set_cases w sets i x) [
+    | inl e ↦ ap (λ y. y.class) e ∙ own
+    | inr e ↦ ap
+        (λ y. y.class) e.2
+  ]
 
-  one_element : (i : ℕ) (x : Element) → new_at a w v i (cond (nat_eq x.class w) (set_element w sets i x) x) ≡ cond (nat_eq x.class w) (set_element w both i x) x
+  one_element : (i : ℕ) (x : Element) → new_at a w v i (cond (nat_eq x.class w) (set_element w sets i x) x)
+      ≡ cond (nat_eq x.class w) (set_element w both i x) x
   one_element i x = elim (cases_Bool (nat_eq x.class w)) [
     | inr b ↦ ap (new_at a w v i) (cond-false (nat_eq x.class w) (set_element w sets i x) x b)
-        ∙ cond-false (nat_eq i a && nat_eq x.class w) set_now x (false_from_ne_true (nat_eq i a && nat_eq x.class w) (λ t. eqb-false x.class w b (eqb-true x.class w (and_parts (nat_eq i a) (nat_eq x.class w) t).1)))
+        ∙ cond-false (nat_eq i a && nat_eq x.class w) set_now x (false_from_ne_true (nat_eq i a && nat_eq x.class w)
+        (λ t. eqb-false x.class w b (eqb-true x.class w (and_parts (nat_eq i a) (nat_eq x.class w) t).1)))
         ∙ sym (cond-false (nat_eq x.class w) (set_element w both i x) x b)
     | inl b ↦ (let y = set_element w sets i x in
-        let here : new_at a w v i (cond (nat_eq x.class w) y x) ≡ new_at a w v i y = ap (new_at a w v i) (cond-true (nat_eq x.class w) y x b) in
+        let here : new_at a w v i (cond (nat_eq x.class w) y x) ≡ new_at a w v i y = ap (new_at a w v i)
+        (cond-true (nat_eq x.class w) y x b) in
         let own : nat_eq y.class w ≡ true = eq-eqb y.class w (class_stays i x (eqb-true x.class w b)) in
         elim (cases_Bool (nat_eq a i)) [
-          | inl n ↦ here ∙ cond-true (nat_eq i a && nat_eq y.class w) set_now y (λ j. eq-eqb i a (sym (eqb-true a i n)) j && own j)
+          | inl n ↦ here ∙ cond-true (nat_eq i a && nat_eq y.class w) set_now y
+              (λ j. eq-eqb i a (sym (eqb-true a i n)) j && own j)
               ∙ sym (cond-true (nat_eq x.class w) (set_element w both i x) x b ∙ cond-true (nat_eq a i) set_now y n)
           | inr n ↦ here
-              ∙ cond-false (nat_eq i a && nat_eq y.class w) set_now y (false_from_ne_true (nat_eq i a && nat_eq y.class w) (λ t. eqb-false a i n (sym (eqb-true i a (and_parts (nat_eq i a) (nat_eq y.class w) t).0))))
+              ∙ cond-false (nat_eq i a && nat_eq y.class w) set_now y
+              (false_from_ne_true (nat_eq i a && nat_eq y.class w)
+              (λ t. eqb-false a i n (sym (eqb-true i a (and_parts (nat_eq i a) (nat_eq y.class w) t).0))))
               ∙ sym (cond-true (nat_eq x.class w) (set_element w both i x) x b ∙ cond-false (nat_eq a i) set_now y n)
         ])
   ]
@@ -79,7 +92,8 @@ module _ (w a : ℕ) (v : Option Value) (sets : Sets) where
       ext_get_or null_element (set_from a w v 0 set) (updated w both es) (n ∙ sym (length-updated w both es)) (λ i l.
       let there : i < length es = subst (λ k. i < k) n l in
       at-set a w v set i (subst (λ k. i < k) (length-set_from a w v 0 set) l)
-      ∙ ap (new_at a w v i) (at-updated w sets es i there) ∙ one_element i (at es i) ∙ sym (at-updated w both es i there))
+      ∙ ap (new_at a w v i) (at-updated w sets es i there) ∙ one_element i (at es i)
+      ∙ sym (at-updated w both es i there))
 
 none_updated : (w : ℕ) (es : List Element) → updated w [] es ≡ es
 none_updated w es = ext_get_or null_element (updated w [] es) es (length-updated w [] es) (λ i l.
@@ -93,9 +107,11 @@ none_updated w es = ext_get_or null_element (updated w [] es) es (length-updated
 -- ---- the table
 
 module _ (p : Place) where
-  in_place : (a : ℕ) (v : Option Value) (sets : Sets) (q : Place) (es : List Element) → set_in p a v q (update_in p sets q es) ≡ update_in p ((a, v) ∷ sets) q es
+  in_place : (a : ℕ) (v : Option Value) (sets : Sets) (q : Place) (es : List Element)
+      → set_in p a v q (update_in p sets q es) ≡ update_in p ((a, v) ∷ sets) q es
   in_place a v sets q es =
-      elim (is_entity p q) as (λ b. cond b (set_from a p.class v 0 (cond b (updated p.class sets es) es)) (cond b (updated p.class sets es) es) ≡ cond b (updated p.class ((a, v) ∷ sets) es) es) [
+      elim (is_entity p q) as (λ b. cond b (set_from a p.class v 0 (cond b (updated p.class sets es) es))
+      (cond b (updated p.class sets es) es) ≡ cond b (updated p.class ((a, v) ∷ sets) es) es) [
         | true ↦ one_tuple p.class a v sets es
         | false ↦ refl
       ]
@@ -105,7 +121,8 @@ module _ (p : Place) where
   all_set [] T = same_table _ _ (λ q. by_look q (get T q) ∙ sym (get_change (update_in p []) T q))
     where
       none : (q : Place) (es : List Element) → update_in p [] q es ≡ es
-      none q es = elim (is_entity p q) as (λ b. cond b (updated p.class [] es) es ≡ es) [ true ↦ none_updated p.class es | false ↦ refl ]
+      none q es = elim (is_entity p q) as (λ b. cond b (updated p.class [] es) es
+          ≡ es) [ true ↦ none_updated p.class es | false ↦ refl ]
 
       by_look : (q : Place) (o : Option (List Element)) → o ≡ option_map (update_in p [] q) o
       by_look q None = refl
@@ -113,15 +130,18 @@ module _ (p : Place) where
   all_set (s ∷ ss) T =
       ap (change (set_in p s.0 s.1)) (all_set ss T)
       ∙ same_table _ _ (λ q.
-      get_change (set_in p s.0 s.1) (change (update_in p ss) T) q ∙ ap (option_map (set_in p s.0 s.1 q)) (get_change (update_in p ss) T q)
+      get_change (set_in p s.0 s.1) (change (update_in p ss) T) q ∙ ap (option_map (set_in p s.0 s.1 q))
+      (get_change (update_in p ss) T q)
       ∙ by_look q (get T q) ∙ sym (get_change (update_in p (s ∷ ss)) T q))
     where
-      by_look : (q : Place) (o : Option (List Element)) → option_map (set_in p s.0 s.1 q) (option_map (update_in p ss q) o) ≡ option_map (update_in p (s ∷ ss) q) o
+      by_look : (q : Place) (o : Option (List Element)) → option_map (set_in p s.0 s.1 q)
+          (option_map (update_in p ss q) o) ≡ option_map (update_in p (s ∷ ss) q) o
       by_look q None = refl
       by_look q (Some es) = ap Some (in_place s.0 s.1 ss q es)
 
   -- ---- cells that are there stay there
-  still_there : (T : Table) (a : ℕ) (v : Option Value) (attr : ℕ) → HasCell T p attr → HasCell (change (set_in p a v) T) p attr
+  still_there : (T : Table) (a : ℕ) (v : Option Value) (attr : ℕ) → HasCell T p attr
+      → HasCell (change (set_in p a v) T) p attr
   still_there T a v attr h =
       let q = h.0 in
       let es = h.1 in
@@ -131,7 +151,8 @@ module _ (p : Place) where
         q,
         new,
         entity,
-        get_change (set_in p a v) T q ∙ ap (option_map (set_in p a v q)) h.3 ∙ ap Some (cond-true (is_entity p q) new es entity),
+        get_change (set_in p a v) T q ∙ ap (option_map (set_in p a v q)) h.3
+            ∙ ap Some (cond-true (is_entity p q) new es entity),
         subst (λ k. attr < k) (sym (length-set_from a p.class v 0 es)) l,
         ap (λ x. x.class) (at-set a p.class v es attr l) ∙ class_kept a p.class v attr (at es attr) ∙ h.5,
       )
@@ -141,14 +162,18 @@ module _ (p : Place) where
   there_after (s ∷ ss) T attr h = still_there (set_each p ss T) s.0 s.1 attr (there_after ss T attr h)
 
   -- the named cells of a tuple at p
-  pub cells_there : (T : Table) (es : List Element) → get T p ≡ Some es → (sets : Sets) → AllByRecursion (λ s. s.0 < length es) sets → list_any (λ s. not (nat_eq (at es s.0).class p.class)) sets ≡ false
+  pub cells_there : (T : Table) (es : List Element) → get T p ≡ Some es → (sets : Sets)
+      → AllByRecursion (λ s. s.0 < length es) sets → list_any (λ s. not (nat_eq (at es s.0).class p.class)) sets ≡ false
       → AllByRecursion (λ s. HasCell T p s.0) sets
   cells_there T es g [] l h = tt
   cells_there T es g (s ∷ ss) l h =
-      let parts = or_parts _ _ h in
-      ((p, es, (entity_decides p p).1 (refl, refl), g, l.0, eqb-true (at es s.0).class p.class (not-false _ parts.0)), cells_there T es g ss l.1 parts.1)
+      let parts = or_parts _ _ h in (
+        (p, es, (entity_decides p p).1 (refl, refl), g, l.0, eqb-true (at es s.0).class p.class (not-false _ parts.0)),
+        cells_there T es g ss l.1 parts.1,
+      )
 
-  cell_at : (T : Table) (sets : Sets) (i : ℕ) (d : ℕ × Option Value) → i < length sets → AllByRecursion (λ s. HasCell T p s.0) sets → HasCell T p (get_or sets i d).0
+  cell_at : (T : Table) (sets : Sets) (i : ℕ) (d : ℕ × Option Value) → i < length sets
+      → AllByRecursion (λ s. HasCell T p s.0) sets → HasCell T p (get_or sets i d).0
   cell_at T [] i d l h = absurd (omega arith)
   cell_at T (s ∷ ss) zero d l h = h.0
   cell_at T (s ∷ ss) (suc i) d l h = cell_at T ss i d (omega arith) h.1
@@ -157,8 +182,11 @@ module _ (p : Place) where
 
 module _ (p : Place) (sets : Sets) (i : ℕ) (d : ℕ × Option Value) (within : i < length sets) where
   -- the next cell to set is there
-  pub cell_now : (T U : Table) → U ≡ set_each p (drop (i + 1) sets) T → AllByRecursion (λ s. HasCell T p s.0) sets → HasCell U p (get_or sets i d).0
-  cell_now T U is h = subst (λ X. HasCell X p (get_or sets i d).0) (sym is) (there_after p (drop (i + 1) sets) T (get_or sets i d).0 (cell_at p T sets i d within h))
+  pub cell_now : (T U : Table) → U ≡ set_each p (drop (i + 1) sets) T → AllByRecursion (λ s. HasCell T p s.0) sets
+      → HasCell U p (get_or sets i d).0
+  cell_now T U is h = subst (λ X. HasCell X p (get_or sets i d).0) (sym is) (there_after p (drop (i + 1) sets) T
+      (get_or sets i d).0 (cell_at p T sets i d within h))
 
-  pub set_next : (T : Table) → set_each p (drop i sets) T ≡ change (set_in p (get_or sets i d).0 (get_or sets i d).1) (set_each p (drop (i + 1) sets) T)
+  pub set_next : (T : Table) → set_each p (drop i sets) T ≡ change (set_in p (get_or sets i d).0 (get_or sets i d).1)
+      (set_each p (drop (i + 1) sets) T)
   set_next T = ap (λ ss. set_each p ss T) (drop_more sets i d within)

@@ -19,7 +19,8 @@ abbrev pub IsSet : ℕ → Sets → ℕ → Element → Type 0
 IsSet w sets i e = (v : Option Value) × IsAmong (i, v) sets × (e ≡ record { value = v; class = w })
 
 -- an element is set, or it stays
-pub set_cases : (w : ℕ) (sets : Sets) (i : ℕ) (e : Element) → (set_element w sets i e ≡ e) ⊎ IsSet w sets i (set_element w sets i e)
+pub set_cases : (w : ℕ) (sets : Sets) (i : ℕ) (e : Element) → (set_element w sets i e ≡ e)
+    ⊎ IsSet w sets i (set_element w sets i e)
 set_cases w [] i e = inl refl
 set_cases w (s ∷ ss) i e =
     elim (cases_Bool (nat_eq s.0 i)) [
@@ -29,9 +30,15 @@ set_cases w (s ∷ ss) i e =
     ]
 
 -- the first attribute that is named is set
-pub some_set : (w n : ℕ) (sets : Sets) → 0 < length sets → AllByRecursion (λ s. s.0 < n) sets → (i : ℕ) × (i < n) × ((e : Element) → (set_element w sets i e).class ≡ w)
+pub some_set : (w n : ℕ) (sets : Sets) → 0 < length sets → AllByRecursion (λ s. s.0 < n) sets → (i : ℕ) × (i < n)
+    × ((e : Element) → (set_element w sets i e).class ≡ w)
 some_set w n [] l h = absurd (omega arith)
-some_set w n (s ∷ ss) l h = (s.0, h.0, λ e. ap (λ b. (cond b (record { value = s.1; class = w }) (set_element w ss s.0 e)).class) (eq-eqb s.0 s.0 refl))
+some_set w n (s ∷ ss) l h = (
+  s.0,
+  h.0,
+  λ e. ap
+      (λ b. (cond b (record { value = s.1; class = w }) (set_element w ss s.0 e)).class) (eq-eqb s.0 s.0 refl),
+)
 
 -- ---- elements by number
 
@@ -39,10 +46,12 @@ some_set w n (s ∷ ss) l h = (s.0, h.0, λ e. ap (λ b. (cond b (record { value
 length_numbered : (f : ℕ × Element → Element) (es : List Element) → length (map f (enumerate_from 0 es)) ≡ length es
 length_numbered f es = length-map (enumerate_from 0 es) f ∙ length-enumerate_from 0 es
 
-at_numbered : (f : ℕ × Element → Element) (es : List Element) (i : ℕ) → i < length es → at (map f (enumerate_from 0 es)) i ≡ f (i, at es i)
+at_numbered : (f : ℕ × Element → Element) (es : List Element) (i : ℕ) → i < length es
+    → at (map f (enumerate_from 0 es)) i ≡ f (i, at es i)
 at_numbered f es i l =
     let n : 0 + i ≡ i = omega arith in
-    get_or-map f (enumerate_from 0 es) i (0, null_element) null_element (subst (λ k. i < k) (sym (length-enumerate_from 0 es)) l)
+    get_or-map f (enumerate_from 0 es) i (0, null_element) null_element
+    (subst (λ k. i < k) (sym (length-enumerate_from 0 es)) l)
     ∙ ap f (get_or-enumerate_from 0 es i (0, null_element) l) ∙ (λ k. f (n k, at es i))
 
 pub length-derived : (w : ℕ) (sets : Sets) (es : List Element) → length (derived w sets es) ≡ length es
@@ -53,31 +62,47 @@ pub length-updated : (w : ℕ) (sets : Sets) (es : List Element) → length (upd
 unfolding updated
 length-updated w sets es = length_numbered _ es
 
-pub at-derived : (w : ℕ) (sets : Sets) (es : List Element) (i : ℕ) → i < length es → at (derived w sets es) i ≡ set_element w sets i (at es i)
+pub at-derived : (w : ℕ) (sets : Sets) (es : List Element) (i : ℕ) → i < length es → at (derived w sets es) i
+    ≡ set_element w sets i (at es i)
 unfolding derived
 at-derived w sets es i l = at_numbered _ es i l
 
-pub at-updated : (w : ℕ) (sets : Sets) (es : List Element) (i : ℕ) → i < length es → at (updated w sets es) i ≡ cond (nat_eq (at es i).class w) (set_element w sets i (at es i)) (at es i)
+pub at-updated : (w : ℕ) (sets : Sets) (es : List Element) (i : ℕ) → i < length es → at (updated w sets es) i
+    ≡ cond (nat_eq (at es i).class w) (set_element w sets i (at es i)) (at es i)
 unfolding updated
 at-updated w sets es i l = at_numbered _ es i l
 
-pub derived_cases : (w : ℕ) (sets : Sets) (es : List Element) (i : ℕ) → i < length es → (at (derived w sets es) i ≡ at es i) ⊎ IsSet w sets i (at (derived w sets es) i)
+pub derived_cases : (w : ℕ) (sets : Sets) (es : List Element) (i : ℕ) → i < length es
+    → (at (derived w sets es) i ≡ at es i) ⊎ IsSet w sets i (at (derived w sets es) i)
 derived_cases w sets es i l =
     let same = at-derived w sets es i l in
     elim (set_cases w sets i (at es i)) [ inl s ↦ inl (same ∙ s) | inr s ↦ inr (s.0, s.1, same ∙ s.2) ]
 
 -- an element of another class stays too
-pub updated_other : (w : ℕ) (sets : Sets) (es : List Element) (i : ℕ) → i < length es → nat_eq (at es i).class w ≡ false → at (updated w sets es) i ≡ at es i
+pub updated_other : (w : ℕ) (sets : Sets) (es : List Element) (i : ℕ) → i < length es → nat_eq (at es i).class w ≡ false
+    → at (updated w sets es) i ≡ at es i
 updated_other w sets es i l b = at-updated w sets es i l ∙ cond-false _ _ _ b
 
-pub updated_cases : (w : ℕ) (sets : Sets) (es : List Element) (i : ℕ) → i < length es → (at (updated w sets es) i ≡ at es i) ⊎ (((at es i).class ≡ w) × IsSet w sets i (at (updated w sets es) i))
+pub updated_cases : (w : ℕ) (sets : Sets) (es : List Element) (i : ℕ) → i < length es
+    → (at (updated w sets es) i ≡ at es i) ⊎ (((at es i).class ≡ w) × IsSet w sets i (at (updated w sets es) i))
 updated_cases w sets es i l =
     elim (cases_Bool (nat_eq (at es i).class w)) [
       | inl b ↦ (let same = at-updated w sets es i l ∙ cond-true _ _ _ b in
-          elim (set_cases w sets i (at es i)) [ inl s ↦ inl (same ∙ s) | inr s ↦ inr (eqb-true _ _ b, (s.0, s.1, same ∙ s.2)) ])
+          elim (set_cases w sets i (at es i)) [
+            | inl s ↦ inl (same ∙ s)
+            | inr s ↦ inr (
+              eqb-true _ _ b,
+              (s.0, s.1, same ∙ s.2),
+            )
+          ])
       | inr b ↦ inl (updated_other w sets es i l b)
     ]
 
 -- classes stay
-pub updated_class : (w : ℕ) (sets : Sets) (es : List Element) (i : ℕ) → i < length es → (at (updated w sets es) i).class ≡ (at es i).class
-updated_class w sets es i l = elim (updated_cases w sets es i l) [ inl s ↦ ap (λ e. e.class) s | inr s ↦ ap (λ e. e.class) s.1.2 ∙ sym s.0 ]
+pub updated_class : (w : ℕ) (sets : Sets) (es : List Element) (i : ℕ) → i < length es → (at (updated w sets es) i).class
+    ≡ (at es i).class
+updated_class w sets es i l = elim (updated_cases w sets es i l) [
+  | inl s ↦ ap (λ e. e.class) s
+  | inr s ↦ ap
+      (λ e. e.class) s.1.2 ∙ sym s.0
+]

@@ -20,15 +20,24 @@ pub table_of : (s : State) (relation : ℕ) (T : Table) → (with_relation s rel
 table_of s relation T = cond-true (nat_eq relation relation) T (s.now.db relation) (eq-eqb relation relation refl)
 
 -- of two tables put there the second stands
-pub put_twice : (s : State) (relation : ℕ) (T U : Table) → with_relation (with_relation s relation T) relation U ≡ with_relation s relation U
-put_twice s relation T U = λ i. record s { now = record { db = λ r. by_test r (nat_eq r relation) i; audit = s.now.audit } }
+pub put_twice : (s : State) (relation : ℕ) (T U : Table) → with_relation (with_relation s relation T) relation U
+    ≡ with_relation s relation U
+put_twice s relation T U = λ i. record s {
+  now = record {
+    db = λ r. by_test r (nat_eq r relation) i;
+    audit =
+        s.now.audit;
+  };
+}
   where
     by_test : (r : ℕ) (b : Bool) → cond b U (cond b T (s.now.db r)) ≡ cond b U (s.now.db r)
     by_test r true = refl
     by_test r false = refl
 
 -- a step on the way to x: what is left of it, on the relation as it is now
-pub next_step : (relation : ℕ) (t u x : State) (rest next : Table → Table) (T : Table) → with_relation t relation (rest (t.now.db relation)) ≡ x → rest (t.now.db relation) ≡ next T → u ≡ with_relation t relation T
+pub next_step : (relation : ℕ) (t u x : State) (rest next : Table → Table) (T : Table)
+    → with_relation t relation (rest (t.now.db relation)) ≡ x → rest (t.now.db relation) ≡ next T
+    → u ≡ with_relation t relation T
     → with_relation u relation (next (u.now.db relation)) ≡ x
 next_step relation t u x rest next T way step is =
     ap (λ v. with_relation v relation (next (v.now.db relation))) is
@@ -36,7 +45,8 @@ next_step relation t u x rest next T way step is =
     ∙ put_twice t relation T (next T) ∙ ap (with_relation t relation) (sym step) ∙ way
 
 -- where nothing is left the state is x
-pub last_step : (relation : ℕ) (t x : State) (rest : Table → Table) → with_relation t relation (rest (t.now.db relation)) ≡ x → rest (t.now.db relation) ≡ t.now.db relation → t ≡ x
+pub last_step : (relation : ℕ) (t x : State) (rest : Table → Table)
+    → with_relation t relation (rest (t.now.db relation)) ≡ x → rest (t.now.db relation) ≡ t.now.db relation → t ≡ x
 last_step relation t x rest way none = sym (same_state t relation) ∙ ap (with_relation t relation) (sym none) ∙ way
 
 -- what is left of a list

@@ -31,29 +31,37 @@ IsWritten ls scheme relation w wr s = IsLeft relation (write ls scheme w wr (s.n
 
 -- ---- the same of a key without nulls, by the place of the tuple
 
-abbrev pub IsInserted : Labels → Scheme → (relation : ℕ) → Place → List (Option Value) → State → State → Outcome → Type 0
+abbrev pub IsInserted : Labels → Scheme → (relation : ℕ) → Place → List (Option Value) → State → State → Outcome
+    → Type 0
 IsInserted ls scheme relation p values s =
-    let T = s.now.db relation in IsLeft relation (written (first_refusal (root_refusals ls scheme p.class (get T p))) (insert T p (root p.class values)) T) s
+    let T = s.now.db relation in IsLeft relation (written (first_refusal (root_refusals ls scheme p.class (get T p)))
+    (insert T p (root p.class values)) T) s
 
 abbrev pub IsDeleted : Labels → Scheme → (relation : ℕ) → Place → State → State → Outcome → Type 0
 IsDeleted ls scheme relation p s =
-    let T = s.now.db relation in IsLeft relation (written (first_refusal (drop_refusals ls scheme p.class p.key_class (get T p))) (retain_keys T (λ q. not (is_above ls p q))) T) s
+    let T = s.now.db relation in IsLeft relation
+    (written (first_refusal (drop_refusals ls scheme p.class p.key_class (get T p)))
+    (retain_keys T (λ q. not (is_above ls p q))) T) s
 
 abbrev pub IsChanged : Labels → Scheme → (relation : ℕ) → Place → Sets → State → State → Outcome → Type 0
 IsChanged ls scheme relation p sets s =
-    let T = s.now.db relation in IsLeft relation (written (first_refusal (own_refusals ls scheme p.class p.key_class sets (get T p))) (change (update_in p sets) T) T) s
+    let T = s.now.db relation in IsLeft relation
+    (written (first_refusal (own_refusals ls scheme p.class p.key_class sets (get T p)))
+    (change (update_in p sets) T) T) s
 
 -- the tuple of class from is the lower one
 abbrev pub IsDerived : Labels → Scheme → (relation : ℕ) → Place → ℕ → Sets → State → State → Outcome → Type 0
 IsDerived ls scheme relation p from sets s =
     let T = s.now.db relation in
     let found = get T (with_class p from) in
-    IsLeft relation (written (first_refusal (below_refusals ls scheme p.class p.key_class from sets found (get T p))) (insert T p (derived p.class sets (unwrap_or found []))) T) s
+    IsLeft relation (written (first_refusal (below_refusals ls scheme p.class p.key_class from sets found (get T p)))
+    (insert T p (derived p.class sets (unwrap_or found []))) T) s
 
 -- the classes of the tuple of class from, where there is one and its class lies between the key class and that of p
 abbrev pub classes_below : Labels → (relation : ℕ) → Place → ℕ → State → Option (List ℕ)
 classes_below ls relation p from s =
-    if below ls p.key_class from && below ls from p.class then option_map classes (get (s.now.db relation) (with_class p from)) else None
+    if below ls p.key_class from && below ls from p.class then option_map classes
+    (get (s.now.db relation) (with_class p from)) else None
 
 -- ---- what a write at w of a relation may be asked of: declared labels, attributes of their kinds, and stored content
 
@@ -96,7 +104,8 @@ module _ {Self : Type 0} (seen : Self → Seen) (base : Self) (policy : Policy) 
 
 module _ {Self : Type 0} (seen : Self → Seen)
     (policy : Policy) (schemes : Schemes) (relation w : ℕ) (wr : Write) where
-  -- outcome and table are those of its definition, the content is of the stored form, and whatever is answered nothing was read
+  -- outcome and table are those of its definition, the content is of the stored form, and whatever is answered nothing
+  -- was read
   -- but what w dominates, and nothing changed but at labels that dominate w
   pub record HasWritten (old new : Self) (result : Result Outcome BaseFault) : Type 0 where
     pub change : IsChange seen true old new result

@@ -23,6 +23,7 @@ abbrev pub state_of : Held → Option Held → State
 state_of h saved = record { now = content_of h; kept = content_of (unwrap_or saved h); begun = is_some saved }
 
 -- outside a change all is as at the last commit
-pub state-settled : (h : Held) (saved : Option Held) → (state_of h saved).begun ≡ false → (state_of h saved).kept ≡ (state_of h saved).now
+pub state-settled : (h : Held) (saved : Option Held) → (state_of h saved).begun ≡ false → (state_of h saved).kept
+    ≡ (state_of h saved).now
 state-settled h None e = refl
 state-settled h (Some k) e = absurd (true≢false e)

@@ -22,7 +22,8 @@ abbrev pub set_each : Place → Sets → Table → Table
 set_each p [] T = T
 set_each p (s ∷ ss) T = change (set_in p s.0 s.1) (set_each p ss T)
 
--- the elements of a pattern, numbered from k, with the named ones of class w; where w is in no pattern the others need no value
+-- the elements of a pattern, numbered from k, with the named ones of class w; where w is in no pattern the others need
+-- no value
 abbrev pub outline : ℕ → Sets → ℕ → List ℕ → List Element
 outline w sets k [] = []
 outline w sets k (m ∷ ms) = set_element w sets k (record { value = None; class = m }) ∷ outline w sets (suc k) ms

@@ -155,11 +155,13 @@ named w wr = place (key_of wr) (key_class_of w wr) w
 -- a relation with n attributes outside its key, and a declared label; an update names at least one attribute
 abbrev pub WriteFits : Labels → ℕ → ℕ → Write → Type 0
 WriteFits ls n w (Insert key values) = (w < length ls) × (length values ≡ n)
-WriteFits ls n w (Update key key_class from sets) = (w < length ls) × (0 < length sets) × AllByRecursion (λ s. s.0 < n) sets
+WriteFits ls n w (Update key key_class from sets) = (w < length ls) × (0 < length sets)
+    × AllByRecursion (λ s. s.0 < n) sets
 WriteFits ls n w (Delete key key_class) = ⊤
 
 -- the numbers and kinds of attributes
 abbrev pub WriteKinds : Scheme → Write → Type 0
 WriteKinds scheme (Insert key values) = HaveKinds scheme.keys key × HaveKinds scheme.others values
-WriteKinds scheme (Update key key_class from sets) = AllByRecursion (λ s. fits_kind s.1 (other_of scheme s.0).1.kind ≡ true) sets
+WriteKinds scheme (Update key key_class from sets) = AllByRecursion (λ s. fits_kind s.1 (other_of scheme s.0).1.kind
+    ≡ true) sets
 WriteKinds scheme (Delete key key_class) = ⊤

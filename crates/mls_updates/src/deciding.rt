@@ -78,7 +78,8 @@ pub(crate) fn own_outcome(
     Outcome::Done
 }
 
-/// The outcome of an update at `w` from below, where a lower tuple was found or not, and one of class `w` is there or not.
+/// The outcome of an update at `w` from below, where a lower tuple was found or not, and one of class `w` is there or
+/// not.
 #[tactic(auto, unfolding(crate::specs::Writes::first_refusal))]
 pub(crate) fn below_outcome(
     policy: &Policy,

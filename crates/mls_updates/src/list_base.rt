@@ -10,7 +10,8 @@ use mls_lattice::{Items, LabelNo};
 use mls_scheme::{Place, RelNo, Value};
 use std::alloc::Global;
 
-/// A base that keeps whole tuples by their places, and entries in a list; at a change those of the last commit beside them.
+/// A base that keeps whole tuples by their places, and entries in a list; at a change those of the last commit beside
+/// them.
 /// They are copied when the change begins, so commit and rollback take no memory.
 ///
 /// Its calls answer no `Store`.
@@ -24,7 +25,12 @@ pub struct ListBase {
 impl ListBase {
     /// An empty base, with no change begun.
     pub fn new(alloc: Global) -> ListBase
-        ensures { (⟦<ListBase as Base>⟧.seen result).state ≡ record { now = no_content; kept = no_content; begun = false } }
+        ensures { (⟦<ListBase as Base>⟧.seen result).state ≡ record {
+          now = no_content;
+          kept = no_content;
+          begun =
+              false;
+        } }
     {
         ListBase {
             alloc,

@@ -45,7 +45,10 @@ fn value_by_class(
     class: LabelNo,
 ) -> Result<Option<Value>, AllocError>
     ensures { IfOk result (λ v. v ≡ unwrap_or
-        (value_held (get (tables_of tables.now relation)) place.now.class cells.now (with_class place.now class, attr)) None) }
+        (value_held (get (tables_of tables.now relation)) place.now.class cells.now (
+          with_class place.now class,
+          attr,
+        )) None) }
 {
     if class == place.class {
         return value_among_cells(cells, attr);

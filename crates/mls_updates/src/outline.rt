@@ -1,5 +1,7 @@
-//! The tuple that an update adds at a level above the tuple that it updates: it has the classes of that one, but for the
-//! attributes that the update sets. The outline of it has a class for each attribute, and values where the update sets one; the other values
+//! The tuple that an update adds at a level above the tuple that it updates: it has the classes of that one, but for
+//! the
+//! attributes that the update sets. The outline of it has a class for each attribute, and values where the update sets
+//! one; the other values
 //! are read off the entity's tuples of those classes.
 ghost use Rattle.std.specs.Prelude.{◌≡◌, List, IfOk, OnOk, None};
 ghost use Rattle.std.specs.FinMap.{insert};
@@ -61,7 +63,12 @@ fn outline_tuple(
     sets: &[(usize, Option<Value>)],
     pattern: &[LabelNo],
 ) -> Result<NewTuple, AllocError>
-    ensures { IfOk result (λ r. r ≡ record { relation = relation; place = place; elements = outline place.class sets.now 0 pattern.now }) }
+    ensures { IfOk result (λ r. r ≡ record {
+      relation = relation;
+      place = place;
+      elements =
+          outline place.class sets.now 0 pattern.now;
+    }) }
 {
     let elements = outline_elements(alloc, place.class, sets, pattern)?;
     Ok(NewTuple {
@@ -81,7 +88,12 @@ pub(crate) fn add_outline<B: Base>(
     sets: &[(usize, Option<Value>)],
     pattern: &[LabelNo],
 ) -> Result<(), BaseFault>
-    requires { CanAddTuple B.seen base.old (record { relation = relation; place = place; elements = outline place.class sets.now 0 pattern.now }) }
+    requires { CanAddTuple B.seen base.old (record {
+      relation = relation;
+      place = place;
+      elements =
+          outline place.class sets.now 0 pattern.now;
+    }) }
     ensures step { IsStep B.seen base.old base.new result }
     ensures access { ChangesAt B.seen place.class base.old base.new }
     ensures done { (B.seen base.new).is_clean → (es : List SpecElement)

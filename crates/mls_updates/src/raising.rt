@@ -15,7 +15,8 @@ use mls_lattice::{Items, LabelNo, Policy};
 use mls_scheme::{Place, RelNo, Scheme, Value};
 use std::alloc::Global;
 
-/// The classes of the tuple at a place, if there is one and its class lies between the key class and `w`; nothing is read
+/// The classes of the tuple at a place, if there is one and its class lies between the key class and `w`; nothing is
+/// read
 /// where it doesn't.
 fn pattern_below<B: Base>(
     base: &mut B,

@@ -39,7 +39,12 @@ fn root_at(
     place: Place,
     values: &[Option<Value>],
 ) -> Result<NewTuple, AllocError>
-    ensures { IfOk result (λ r. r ≡ record { relation = relation; place = place; elements = root place.class values.now }) }
+    ensures { IfOk result (λ r. r ≡ record {
+      relation = relation;
+      place = place;
+      elements =
+          root place.class values.now;
+    }) }
 {
     let elements = root_elements(alloc, place.class, values)?;
     Ok(NewTuple {
@@ -57,7 +62,12 @@ pub(crate) fn add_root<B: Base>(
     place: Place,
     values: &[Option<Value>],
 ) -> Result<(), BaseFault>
-    requires { CanAddTuple B.seen base.old (record { relation = relation; place = place; elements = root place.class values.now }) }
+    requires { CanAddTuple B.seen base.old (record {
+      relation = relation;
+      place = place;
+      elements =
+          root place.class values.now;
+    }) }
     ensures step { IsStep B.seen base.old base.new result }
     ensures access { ChangesAt B.seen place.class base.old base.new }
     ensures done { (B.seen base.new).is_clean → OnOk result ((B.seen base.new).state

@@ -106,7 +106,8 @@ fn take(alloc: Global, tables: &mut TupleMaps, relation: RelNo) -> TupleMap
 
 /// Puts tuples in place of those of a relation.
 fn put(tables: &mut TupleMaps, relation: RelNo, tuples: TupleMap) -> Result<(), AllocError>
-    ensures { OnOk result (tables_of tables.new ≡ with_table (tables_of tables.old) relation (table_of tuples.entries)) }
+    ensures { OnOk result (tables_of tables.new ≡ with_table (tables_of tables.old) relation
+        (table_of tuples.entries)) }
 {
     tables.insert(relation, tuples)?;
     Ok(())

@@ -58,7 +58,8 @@ fn tell_to<R: Files + AllocGlobal>(
     }
 }
 
-/// The words of a run, but for the script, under the policy and the schemes that a head names, as in `POLICY SCHEMES: title`.
+/// The words of a run, but for the script, under the policy and the schemes that a head names, as in `POLICY SCHEMES:
+/// title`.
 pub fn words_of<'a>(head: &'a str) -> [&'a str; 4] {
     let documents = head.split_once(':').map_or(head, |parts| parts.0);
     let (policy, schemes) = documents

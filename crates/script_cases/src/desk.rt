@@ -17,7 +17,8 @@ fn empty_lines(alloc: Global, count: usize) -> Result<Vec<u8>, HostFault> {
     }
 }
 
-/// The bytes of a file: `script` is the script; `full` has as many bytes as a file may have, `long` one more, and `memory` asks for
+/// The bytes of a file: `script` is the script; `full` has as many bytes as a file may have, `long` one more, and
+/// `memory` asks for
 /// more memory than there is.
 pub fn file_of<R: Files>(
     rt: &R,
@@ -66,7 +67,8 @@ fn add_file<R: Files>(
     Ok(())
 }
 
-/// A machine in memory with the files that the words of a command name, and without a store. The script is its standard input.
+/// A machine in memory with the files that the words of a command name, and without a store. The script is its standard
+/// input.
 pub fn machine_for<'a, R: Files + AllocGlobal>(
     rt: &R,
     words: &[&str],

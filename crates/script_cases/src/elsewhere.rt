@@ -65,7 +65,8 @@ fn questions_under<R: Files + AllocGlobal>(rt: &R, policy: &str) -> Result<Vec<u
     }
 }
 
-/// What there is to tell of a run of a script, and then of questions, over lists: nothing where it writes what it does in memory. The words
+/// What there is to tell of a run of a script, and then of questions, over lists: nothing where it writes what it does
+/// in memory. The words
 /// end with policy and schemes.
 pub fn told_by<R: Files + AllocGlobal>(rt: &R, words: &[&str], script: &[u8]) -> &'static str {
     let [.., policy, _] = words else {

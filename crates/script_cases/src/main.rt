@@ -1,4 +1,5 @@
-//! Cases of whole commands over machines in memory, with writers and bases that the program's own machine has not: what they print for
+//! Cases of whole commands over machines in memory, with writers and bases that the program's own machine has not: what
+//! they print for
 //! the tables in `data/`. Adding a case is adding a line there, and its answer to `stdout`.
 #![tactic(auto)]
 

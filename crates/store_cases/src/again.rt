@@ -38,7 +38,8 @@ fn tell_script(bench: &Bench<'_>, head: &str, script: &str, files: &mut Copies, 
     tell_job(bench, job, files, out);
 }
 
-/// Tells what a script prints over the store in files, which are new or those that the case before left: a case is `FIRST LAST POLICY` or
+/// Tells what a script prints over the store in files, which are new or those that the case before left: a case is
+/// `FIRST LAST POLICY` or
 /// `FIRST LAST POLICY SCHEMES`, and its script below.
 pub fn tell(bench: &Bench<'_>, case: &Case<'_>, files: &mut Copies, out: &mut Told) {
     out.push_line(case.head);

@@ -3,7 +3,8 @@ use crate::stops::Plan;
 use case_tables::Told;
 use std::alloc::{AllocError, Global};
 
-/// Where a stop is: 0 in the opening of a store, then in one of the events, and last in the closing; and what is told of it: whether
+/// Where a stop is: 0 in the opening of a store, then in one of the events, and last in the closing; and what is told
+/// of it: whether
 /// its event is done, and its cause.
 #[derive(Clone, Copy)]
 pub struct Place {
@@ -20,7 +21,8 @@ fn holds(contents: &[String], place: usize, found: &Told) -> bool {
     }
 }
 
-/// How many stops left what was before their events, which are not said to be done, and how many what is after them. All others are
+/// How many stops left what was before their events, which are not said to be done, and how many what is after them.
+/// All others are
 /// wrong.
 #[derive(Clone, Copy)]
 struct Left {
@@ -65,7 +67,8 @@ impl Left {
     }
 }
 
-/// How many stops there are, for one cause, how many events are done then, and what is left of what was synced, and of all that was
+/// How many stops there are, for one cause, how many events are done then, and what is left of what was synced, and of
+/// all that was
 /// written.
 #[derive(Clone, Copy)]
 struct Count {

@@ -69,7 +69,8 @@ fn tell_parts(
     Ok(())
 }
 
-/// Tells what is found after a task whose store is not closed, where its log is cut short: how many of the parts leave what is after an event.
+/// Tells what is found after a task whose store is not closed, where its log is cut short: how many of the parts leave
+/// what is after an event.
 pub fn tell_cuts(alloc: Global, plan: &Plan<'_>, out: &mut Told) {
     match do_job(alloc, Job::left(Work::Do(plan.site, plan.task)), plan.start) {
         Some(done) => {

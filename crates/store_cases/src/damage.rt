@@ -18,7 +18,8 @@ fn change_of(files: &Copies, before: &Copies) -> &'static str {
     "unchanged"
 }
 
-/// Tells how the store in files is opened or refused, and what of them is changed by that. The files are those that it leaves then.
+/// Tells how the store in files is opened or refused, and what of them is changed by that. The files are those that it
+/// leaves then.
 fn tell_opening(alloc: Global, site: &Site<'_>, files: &mut Copies, out: &mut Told) {
     match do_job(alloc, Job::left(Work::Do(site, Task::Run(""))), files) {
         Some(done) => {
@@ -39,7 +40,8 @@ fn tell_diagnosis(alloc: Global, site: &Site<'_>, files: &Copies, out: &mut Told
     }
 }
 
-/// Tells how the store in damaged files is refused, twice since the first opening after a change may begin the log anew; and what is found
+/// Tells how the store in damaged files is refused, twice since the first opening after a change may begin the log
+/// anew; and what is found
 /// of it.
 fn tell_refusal(bench: &Bench<'_>, head: &str, files: &mut Copies, out: &mut Told) {
     let names = head.split_once(':').map_or(head, |parts| parts.0);

@@ -11,7 +11,8 @@ use mls_lattice::LabelNo;
 use mls_runs::{HistoryFault, Run};
 use std::alloc::{AllocError, Global};
 
-/// The event of a line for a history, without its mark, if the line is for it: of two with a bar between, that of the history.
+/// The event of a line for a history, without its mark, if the line is for it: of two with a bar between, that of the
+/// history.
 fn event_of<'a>(line: &'a str, history: &str) -> Option<&'a str> {
     let (mark, event) = line.split_once(' ')?;
     if mark != "=" && mark != history {

@@ -1,5 +1,7 @@
-//! Cases of stores in files: what is found in them after a stop, after damage, and when they are opened again. Adding a case is adding
-//! a line in `data/`, and its answer to `stdout`. All of them speak of a few sites, which are read once and lent from then on.
+//! Cases of stores in files: what is found in them after a stop, after damage, and when they are opened again. Adding a
+//! case is adding
+//! a line in `data/`, and its answer to `stdout`. All of them speak of a few sites, which are read once and lent from
+//! then on.
 #![tactic(auto)]
 
 mod again;

@@ -104,7 +104,8 @@ fn push_turned(bench: &Bench<'_>, script: &str, out: &mut Told) {
     }
 }
 
-/// Adds what is found before a migration, or after it: what lists hold under the site, and then what they hold under the earlier one,
+/// Adds what is found before a migration, or after it: what lists hold under the site, and then what they hold under
+/// the earlier one,
 /// which refuses a store that is migrated.
 fn push_migrated(bench: &Bench<'_>, is_done: bool, out: &mut Told) {
     push_under(bench, WIDE, "widened.script", usize::MAX, out);

@@ -78,7 +78,8 @@ pub fn content_in(alloc: Global, plan: &Plan<'_>, copies: &Copies) -> Told {
     content
 }
 
-/// The place of a stop, where there is one: the opening, one of the events, or the closing. A migration is the first event.
+/// The place of a stop, where there is one: the opening, one of the events, or the closing. A migration is the first
+/// event.
 fn place_of(outcome: Outcome, plan: &Plan<'_>) -> Option<Place> {
     let (number, cause) = match outcome {
         Outcome::Unopened(fault) => (0, fault.word()),
@@ -95,7 +96,8 @@ fn place_of(outcome: Outcome, plan: &Plan<'_>) -> Option<Place> {
     })
 }
 
-/// Notes what a stop of a series leaves, or what is left where there is no stop, which is as after a stop in the closing; and answers
+/// Notes what a stop of a series leaves, or what is left where there is no stop, which is as after a stop in the
+/// closing; and answers
 /// whether there was one.
 fn note_done(alloc: Global, plan: &Plan<'_>, done: &Done, calls: u64, counts: &mut Counts) -> bool {
     let found = Found {

@@ -18,7 +18,8 @@ use sqlite::{Alter, Connection, Error, ErrorCode, FileStore, Files, Options};
 use sqlite_disk::{Fuse, Memory};
 use std::alloc::Global;
 
-/// Room for the few pages of these stores, since each opening makes all of it; and the log is copied into the database file soon.
+/// Room for the few pages of these stores, since each opening makes all of it; and the log is copied into the database
+/// file soon.
 fn options() -> Options {
     Options {
         cache_pages: 8,
@@ -110,7 +111,8 @@ impl Outcome {
     }
 }
 
-/// How work ended, what it replied, and the bytes of the files then: those that were written, and those that were synced.
+/// How work ended, what it replied, and the bytes of the files then: those that were written, and those that were
+/// synced.
 #[derive(Drop)]
 pub struct Done {
     pub outcome: Outcome,

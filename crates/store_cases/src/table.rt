@@ -19,7 +19,8 @@ enum Kind {
     Stops(Stops),
 }
 
-/// The files of the tables, what their cases are about, and the script that makes the store of a table, or none where it is new.
+/// The files of the tables, what their cases are about, and the script that makes the store of a table, or none where
+/// it is new.
 static TABLES: [(&str, Kind, &str); 8] = [
     ("again.txt", Kind::Again, ""),
     ("damage.txt", Kind::Damage, "damage.script"),

@@ -105,7 +105,8 @@ impl<B: Base> Faulty<B> {
     fn fail(&mut self) -> BaseFault
         requires { self.old.fuse.failed < 1000000 }
         ensures clean { (B.seen self.new.base).is_clean → (B.seen self.old.base).is_clean }
-        ensures count { (⟦<Faulty<B> as Base>⟧.seen self.old).failures ≤ (⟦<Faulty<B> as Base>⟧.seen self.new).failures }
+        ensures count { (⟦<Faulty<B> as Base>⟧.seen self.old).failures
+            ≤ (⟦<Faulty<B> as Base>⟧.seen self.new).failures }
         ensures fault { IsFault ⟦<Faulty<B> as Base>⟧.seen result self.old self.new }
         ensures served { IsServed result }
         ensures access { NoAccess ⟦<Faulty<B> as Base>⟧.seen self.old self.new }

@@ -49,7 +49,8 @@ fn push_new(last: &Told, next: &Told, out: &mut Told) {
 /// The most calls after which one fails.
 const MOST: u64 = 200;
 
-/// Tells the outcomes of a script where a call fails after none, one, two and so on, up to the one in which all is well. Of outcomes
+/// Tells the outcomes of a script where a call fails after none, one, two and so on, up to the one in which all is
+/// well. Of outcomes
 /// that follow each other and are equal one is told.
 fn tell_outcomes(
     alloc: Global,

@@ -19,7 +19,8 @@ use mls_translang::Event;
 use mls_updates::ListBase;
 use std::alloc::Global;
 
-/// What fails: a call of the base by its store or for want of memory, each call that reads a fragment, or a write of a whole reply or of a
+/// What fails: a call of the base by its store or for want of memory, each call that reads a fragment, or a write of a
+/// whole reply or of a
 /// few bytes; after so many that don't.
 #[derive(Clone, Copy)]
 pub struct Failure {
@@ -73,7 +74,8 @@ impl Failure {
     }
 }
 
-/// Two scripts, the events whose run fails and those that ask afterwards what the base holds, and the transactions that they call.
+/// Two scripts, the events whose run fails and those that ask afterwards what the base holds, and the transactions that
+/// they call.
 #[derive(Clone, Copy)]
 pub struct Scripts<'a> {
     pub events: &'a [Event],
@@ -138,7 +140,8 @@ fn push_answers(
     out.push_indented(text_of(&answers.bytes));
 }
 
-/// Adds how the run of a script ends, the replies before its end, and what the base then holds; and answers whether all was well.
+/// Adds how the run of a script ends, the replies before its end, and what the base then holds; and answers whether all
+/// was well.
 pub fn push_outcome(
     alloc: Global,
     sample: &Sample<'_>,

@@ -32,7 +32,8 @@ fn step_to_fault<B: Base>(engine: &mut Engine<B>, events: &[Event]) -> Option<(u
     None
 }
 
-/// Steps through events over a base, up to the first that fails. The replies are to what is asked of the engine afterwards: the questions,
+/// Steps through events over a base, up to the first that fails. The replies are to what is asked of the engine
+/// afterwards: the questions,
 /// and the events from the one that failed on.
 fn step_over<B: Base>(
     alloc: Global,

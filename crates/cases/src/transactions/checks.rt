@@ -38,7 +38,8 @@ fn named<'a>(txs: &'a [Tx], name: &str) -> Option<&'a Tx> {
     None
 }
 
-/// Adds the answer to a certificate for a transaction: `yes`, or the number of a statement and the rule that is broken there.
+/// Adds the answer to a certificate for a transaction: `yes`, or the number of a statement and the rule that is broken
+/// there.
 fn push_answer(alloc: Global, policy: &Policy, tx: &Tx, text: &str, out: &mut Told) {
     let Some(certificate) = certificate_of(alloc, text) else {
         return out.push("no certificate");

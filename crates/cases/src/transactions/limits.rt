@@ -27,7 +27,8 @@ fn push_parts(count: u16, part: &str, between: &str, text: &mut Told) {
     }
 }
 
-/// Adds what the first four words say: a number, a part that stands so many times, what stands between two, and what stands behind them.
+/// Adds what the first four words say: a number, a part that stands so many times, what stands between two, and what
+/// stands behind them.
 fn push_group(words: &[&str], text: &mut Told) {
     if let [count, part, between, back, ..] = words {
         push_parts(count.parse::<u16>().unwrap_or(0), part, between, text);

@@ -1,6 +1,22 @@
 //! Statements on the table of cells. Its key has `attr` before `label`: the rows of an entity at a key class
 //! are looked up by what the key begins with, and those of a class are chosen among them.
-ghost use Rattle.std.specs.Prelude.{◌≡◌, ◌≢◌, ◌⊎◌, ◌<◌, ◌≤◌, ◌+◌, ◌*◌, length, take, map, filter, IfOk, IfErr, OnOk, OnErr};
+ghost use Rattle.std.specs.Prelude.{
+  ◌≡◌,
+  ◌≢◌,
+  ◌⊎◌,
+  ◌<◌,
+  ◌≤◌,
+  ◌+◌,
+  ◌*◌,
+  length,
+  take,
+  map,
+  filter,
+  IfOk,
+  IfErr,
+  OnOk,
+  OnErr,
+};
 ghost use Rattle.std.specs.Prelude.{IsTrue, IsPermutation};
 ghost use Rattle.sqlite.specs.State.{HasCleanDisk, Executes};
 ghost use Rattle.sqlite.specs.Held.{state};
@@ -21,7 +37,8 @@ use sqlite::types::{ToSql, ValueRef};
 use sqlite::{Alter, Connection, Error, params};
 use std::alloc::{AllocError, Global};
 
-/// The statement that adds 15 cells of one entity and class: four parameters are the key, and each cell has two more. Its first
+/// The statement that adds 15 cells of one entity and class: four parameters are the key, and each cell has two more.
+/// Its first
 /// 61 + 24 n bytes are the statement that adds n of them.
 const ADD_CELLS: &str =
     "INSERT INTO cell (rel, ent, kclass, label, attr, value) VALUES (?1, ?2, ?3, ?4, ?, ?), (?1, ?2, ?3, ?4, ?, ?), (?1, ?2, ?3, ?4, ?, ?), (?1, ?2, ?3, ?4, ?, ?), (?1, ?2, ?3, ?4, ?, ?), (?1, ?2, ?3, ?4, ?, ?), (?1, ?2, ?3, ?4, ?, ?), (?1, ?2, ?3, ?4, ?, ?), (?1, ?2, ?3, ?4, ?, ?), (?1, ?2, ?3, ?4, ?, ?), (?1, ?2, ?3, ?4, ?, ?), (?1, ?2, ?3, ?4, ?, ?), (?1, ?2, ?3, ?4, ?, ?), (?1, ?2, ?3, ?4, ?, ?), (?1, ?2, ?3, ?4, ?, ?)";
@@ -140,7 +157,8 @@ pub fn set_cell<S: Alter>(conn: &mut Connection<S>, cell: &CellRow) -> Result<us
         → IsOne (has_key_of cell.now) (tables_of (state S.Store conn.old).now.trees).cells was
         → OnOk result (Changes (SetsCell cell.now) (state S.Store conn.old) (state S.Store conn.new)) }
     ensures cause { HasCleanDisk (state S.Store conn.new)
-        → (IsTrue (state S.Store conn.old).is_open → IsSchemaReady (state S.Store conn.old).now) → IfErr result IsOfRun }
+        → (IsTrue (state S.Store conn.old).is_open → IsSchemaReady (state S.Store conn.old).now)
+        → IfErr result IsOfRun }
     ensures err { HasCleanDisk (state S.Store conn.new)
         → OnErr result (IsEnded (state S.Store conn.old) (state S.Store conn.new)) }
     ensures clean { HasCleanDisk (state S.Store conn.new) → HasCleanDisk (state S.Store conn.old) }
@@ -179,7 +197,8 @@ pub fn cells_of_class<S: Alter>(
     rel: u32,
     label: u32,
 ) -> Result<Vec<CellRow>, Error>
-    ensures { IsQuery (IsPermutation (filter (is_cell_at rel label) (tables_of (state S.Store conn.old).now.trees).cells))
+    ensures { IsQuery (IsPermutation (filter (is_cell_at rel label)
+        (tables_of (state S.Store conn.old).now.trees).cells))
         cells_of_class (at_values rel label)
         (state S.Store conn.old) (state S.Store conn.new) result }
 {
@@ -198,7 +217,8 @@ pub fn cells_among<S: Alter>(
     rel: u32,
     labels: u64,
 ) -> Result<Vec<CellRow>, Error>
-    ensures { IsQuery (IsPermutation (filter (is_cell_among rel labels) (tables_of (state S.Store conn.old).now.trees).cells))
+    ensures { IsQuery (IsPermutation (filter (is_cell_among rel labels)
+        (tables_of (state S.Store conn.old).now.trees).cells))
         cells_among (among_values rel labels)
         (state S.Store conn.old) (state S.Store conn.new) result }
 {

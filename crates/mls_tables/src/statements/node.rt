@@ -67,7 +67,8 @@ pub fn nodes_of_class<S: Alter>(
     rel: u32,
     label: u32,
 ) -> Result<Vec<NodeRow>, Error>
-    ensures { IsQuery (IsPermutation (filter (is_node_at rel label) (tables_of (state S.Store conn.old).now.trees).nodes))
+    ensures { IsQuery (IsPermutation (filter (is_node_at rel label)
+        (tables_of (state S.Store conn.old).now.trees).nodes))
         nodes_of_class (at_values rel label)
         (state S.Store conn.old) (state S.Store conn.new) result }
 {
@@ -86,7 +87,8 @@ pub fn nodes_among<S: Alter>(
     rel: u32,
     labels: u64,
 ) -> Result<Vec<NodeRow>, Error>
-    ensures { IsQuery (IsPermutation (filter (is_node_among rel labels) (tables_of (state S.Store conn.old).now.trees).nodes))
+    ensures { IsQuery (IsPermutation (filter (is_node_among rel labels)
+        (tables_of (state S.Store conn.old).now.trees).nodes))
         nodes_among (among_values rel labels)
         (state S.Store conn.old) (state S.Store conn.new) result }
 {

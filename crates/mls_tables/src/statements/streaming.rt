@@ -1,4 +1,5 @@
-//! What the rows of queries show: of some rows at once; and of a whole table one at a time, whose rowids are found to differ.
+//! What the rows of queries show: of some rows at once; and of a whole table one at a time, whose rowids are found to
+//! differ.
 ghost use Rattle.std.specs.Prelude.{◌≡◌, ◌++◌, true, [], ◌∷◌, int_lt, IfOk, IfErr, IfSome, OnOk, OnErr};
 ghost use Rattle.sqlite.specs.Given.{IsPlain};
 ghost use Rattle.sqlite.specs.Listing.{understood};
@@ -24,7 +25,8 @@ pub fn select<S: Alter, T: Shown>(
     params: &[ValueRef<'_>],
 ) -> Result<Vec<T>, Error>
     ensures shown { HasCleanDisk (state S.Store conn.new) → IfOk result (λ xs.
-        ShowsSome T.show T.shows sql.now (bound params.now) (state S.Store conn.old) (state S.Store conn.new) xs.items) }
+        ShowsSome T.show T.shows sql.now (bound params.now) (state S.Store conn.old)
+        (state S.Store conn.new) xs.items) }
     ensures refused { HasCleanDisk (state S.Store conn.new) → IfErr result
         (FailsToShow T.reads sql.now (bound params.now) (state S.Store conn.old) (state S.Store conn.new)) }
     ensures clean { HasCleanDisk (state S.Store conn.new) → HasCleanDisk (state S.Store conn.old) }
@@ -78,14 +80,18 @@ fn each<S: Alter, T: Shown>(
     sql: &str,
     at: usize,
 ) -> Result<Result<Vec<T>, AdoptFault>, Error>
-    ensures all { HasCleanDisk (state S.Store conn.new) → IsPlain (understood (state S.Store conn.old).now.schema sql.now)
+    ensures all { HasCleanDisk (state S.Store conn.new)
+        → IsPlain (understood (state S.Store conn.old).now.schema sql.now)
         → IfOk result (λ read. IfOk read (λ xs.
         ShowsAll at T.show T.shows sql.now (state S.Store conn.old) (state S.Store conn.new) xs.items)) }
-    ensures bad { HasCleanDisk (state S.Store conn.new) → IsPlain (understood (state S.Store conn.old).now.schema sql.now)
+    ensures bad { HasCleanDisk (state S.Store conn.new)
+        → IsPlain (understood (state S.Store conn.old).now.schema sql.now)
         → IfOk result (λ read. IfErr read (BlamesOne at T.reads sql.now (state S.Store conn.new))) }
-    ensures same { HasCleanDisk (state S.Store conn.new) → IsPlain (understood (state S.Store conn.old).now.schema sql.now)
+    ensures same { HasCleanDisk (state S.Store conn.new)
+        → IsPlain (understood (state S.Store conn.old).now.schema sql.now)
         → OnOk result (IsUnchanged (state S.Store conn.old) (state S.Store conn.new)) }
-    ensures err { HasCleanDisk (state S.Store conn.new) → IsPlain (understood (state S.Store conn.old).now.schema sql.now)
+    ensures err { HasCleanDisk (state S.Store conn.new)
+        → IsPlain (understood (state S.Store conn.old).now.schema sql.now)
         → OnErr result (KeepsCommit (state S.Store conn.old) (state S.Store conn.new)) }
     ensures clean { HasCleanDisk (state S.Store conn.new) → HasCleanDisk (state S.Store conn.old) }
 {

@@ -38,7 +38,8 @@ pub fn entries<S: Alter>(
     conn: &mut Connection<S>,
     alloc: Global,
 ) -> Result<Vec<AuditRow>, AdoptFault>
-    ensures { ReadsTables (IsWholeTable is_audit_row 4 (λ t. t.audit)) (λ db. AreEntries (map audit_columns (db.trees 4)))
+    ensures { ReadsTables (IsWholeTable is_audit_row 4 (λ t. t.audit))
+        (λ db. AreEntries (map audit_columns (db.trees 4)))
         (state S.Store conn.old) (state S.Store conn.new) result }
 {
     let sql = "SELECT number, bytes FROM audit ORDER BY number";

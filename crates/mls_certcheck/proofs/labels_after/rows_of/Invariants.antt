@@ -7,7 +7,8 @@ abbrev pub invariant-loop-left : goal.invariant-loop-left
 invariant-loop-left l = record {
   within : l.next < length l.lines;
   counted : l.next + l.left ≡ l.place + l.count;
-  read : rows_at l.rows.items l.left (map (λ x. x.now) l.lines) l.next ≡ rows_at [] l.count (map (λ x. x.now) l.lines) l.place;
+  read : rows_at l.rows.items l.left (map (λ x. x.now) l.lines) l.next ≡ rows_at [] l.count
+      (map (λ x. x.now) l.lines) l.place;
 }
 
 abbrev pub decreases-loop-left : goal.decreases-loop-left

@@ -6,6 +6,7 @@ use Rattle.mls_certcheck.proofs.writing.labels_to.Given as goal
 -- what is written of the labels so far, each of which has a text
 abbrev pub invariant-loop-label : goal.invariant-loop-label
 invariant-loop-label l = record {
-  written : string_bytes l.text ≡ (string_bytes l.fn.text ++ l.word) ++ flat_map spaced_label (take l.label-index l.labels);
+  written : string_bytes l.text ≡ (string_bytes l.fn.text ++ l.word) ++ flat_map spaced_label
+      (take l.label-index l.labels);
   fits : AllByRecursion IsLabel (take l.label-index l.labels);
 }

@@ -8,8 +8,10 @@ use Rattle.mls_command.proofs.accounting.accepted_listing.Goals as goal
 
 pub returns-in-Some : goal.returns-in-Some
 returns-in-Some g c =
-    denied_told (g.H.Host.hosting c.args.host.now) c.args.job c.args.inputs.now c.in-Some.denial c.requires (sym c.opening_denial.ensures ∙ c.in-Some.is) _ _ _
-    (subst (Begins (denial_text c.in-Some.denial)) (sym c.listing_of.ensures.text) c.in_ok-text-in-Some.ensures) c.listing_of.ensures.told c.listing_of.ensures.end
+    denied_told (g.H.Host.hosting c.args.host.now) c.args.job c.args.inputs.now c.in-Some.denial c.requires
+    (sym c.opening_denial.ensures ∙ c.in-Some.is) _ _ _
+    (subst (Begins (denial_text c.in-Some.denial))
+    (sym c.listing_of.ensures.text) c.in_ok-text-in-Some.ensures) c.listing_of.ensures.told c.listing_of.ensures.end
 
 pub returns : goal.returns
 returns g c =

@@ -7,4 +7,5 @@ pub returns-in-Ok : goal.returns-in-Ok
 returns-in-Ok g c = asked c.in-Ok.job c.in-Ok.ensures.asked c.finish_account.ensures
 
 pub returns-in-Err : goal.returns-in-Err
-returns-in-Err g c = not_asked c.in-Err.usage c.in-Err.ensures.nothing (untouched (g.H.Host.hosting c.args.host.now)) (Appends-nil _) c.tell_usage.ensures c.status.ensures
+returns-in-Err g c = not_asked c.in-Err.usage c.in-Err.ensures.nothing (untouched (g.H.Host.hosting c.args.host.now))
+    (Appends-nil _) c.tell_usage.ensures c.status.ensures

@@ -14,6 +14,7 @@ loop-tx-preserved c =
     let before = c.loop-tx.answers.items in
     let after = c.push.new.self.items in
     let more : after ≡ before ++ answer ∷ [] = search rules in
-    let grown = all_zipped_more (IsAnswer policy) (take i txs) before (get_or txs i tx) answer c.loop-tx.invariant (search rules) in
+    let grown = all_zipped_more (IsAnswer policy) (take i txs) before (get_or txs i tx) answer c.loop-tx.invariant
+    (search rules) in
     subst (λ l. AreAnswers policy l after) (sym (take_more txs i tx c.loop-tx-test.true))
     (subst (AreAnswers policy (take i txs ++ get_or txs i tx ∷ [])) (sym more) grown)

@@ -9,10 +9,12 @@ use Rattle.mls_command.proofs.documents.explanation_of.Goals as goal
 
 pub returns-in_err-ignored-clause-refused : goal.returns-in_err-ignored-clause-refused
 returns-in_err-ignored-clause-refused g c =
-    same_reason (IsUnexplained c.args.txs.now (named c.args.name)) c.from_residual.result Memory c.from_residual.ensures.1 (no_memory refl)
+    same_reason (IsUnexplained c.args.txs.now
+    (named c.args.name)) c.from_residual.result Memory c.from_residual.ensures.1 (no_memory refl)
 
 pub returns-clause-listing : goal.returns-clause-listing
 returns-clause-listing g c =
     let Ignores = (g.H.Host.hosting c.args.host.now).ignores c.args.documents in
-    if_ok (λ l is. explained_so Ignores c.deref.result.now (subst Ignores (sym c.deref.ensures) c.in_ok-ignored.ensures) l.text.items l.ending c.args.setting.now.policy c.args.setting.now.file.schemes c.args.txs.now (named c.args.name) (string_bytes l.told) is)
+    if_ok (λ l is. explained_so Ignores c.deref.result.now
+    (subst Ignores (sym c.deref.ensures) c.in_ok-ignored.ensures) l.text.items l.ending c.args.setting.now.policy c.args.setting.now.file.schemes c.args.txs.now (named c.args.name) (string_bytes l.told) is)
     c.explained.result c.explained.ensures.listing

@@ -16,6 +16,7 @@ loop-tx-preserved c =
     let before = c.loop-tx.told.items in
     let after = c.push.new.self.items in
     let more : after ≡ before ++ explained ∷ [] = search rules in
-    let grown = all_zipped_more (IsExplanation policy schemes) (take i txs) before (get_or txs i tx) explained c.loop-tx.invariant (search rules) in
+    let grown = all_zipped_more (IsExplanation policy schemes) (take i txs) before
+    (get_or txs i tx) explained c.loop-tx.invariant (search rules) in
     subst (λ l. AreExplained policy schemes l after) (sym (take_more txs i tx c.loop-tx-test.true))
     (subst (AreExplained policy schemes (take i txs ++ get_or txs i tx ∷ [])) (sym more) grown)

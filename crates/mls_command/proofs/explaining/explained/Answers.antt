@@ -7,11 +7,14 @@ use Rattle.mls_command.proofs.explaining.explained.Goals as goal
 
 pub returns-in_err-explained-clause-refused : goal.returns-in_err-explained-clause-refused
 returns-in_err-explained-clause-refused c =
-    same_reason (IsUnexplained c.args.txs.now (named c.args.name)) c.from_residual.result Memory c.from_residual.ensures.1 (no_memory refl)
+    same_reason (IsUnexplained c.args.txs.now
+    (named c.args.name)) c.from_residual.result Memory c.from_residual.ensures.1 (no_memory refl)
 
 pub returns-in_err-listing_of-clause-refused : goal.returns-in_err-listing_of-clause-refused
 returns-in_err-listing_of-clause-refused c =
-    same_reason (IsUnexplained c.args.txs.now (named c.args.name)) c.from_residual-in_err-listing_of.result Memory c.from_residual-in_err-listing_of.ensures.1 (no_memory refl)
+    same_reason (IsUnexplained c.args.txs.now
+    (named c.args.name)) c.from_residual-in_err-listing_of.result Memory c.from_residual-in_err-listing_of.ensures.1
+    (no_memory refl)
 
 pub returns-in-None-clause-refused : goal.returns-in-None-clause-refused
 returns-in-None-clause-refused c = no_name (c.in-None.ensures.none refl) refl

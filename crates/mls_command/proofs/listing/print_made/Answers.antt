@@ -12,7 +12,11 @@ returns-in-Ok g c =
     let l = c.in-Ok.listing in
     listing_printed (λ text told end. IsOkAnd c.args.made (λ m. IsListed m text told end)) (λ reason. reason ≡ Memory) l
     (deed g.W.Write.contents c.args.out.now c.print.new.out g.E.Write.contents c.args.err.now c.print.new.err c.print.result)
-    (subst (λ made. IsOkAnd made (λ m. IsListed m l.text.items (string_bytes l.told) l.ending)) (sym c.in-Ok.is) (refl, refl, refl)) c.print.ensures.print
+    (subst (λ made. IsOkAnd made (λ m. IsListed m l.text.items (string_bytes l.told) l.ending)) (sym c.in-Ok.is) (
+      refl,
+      refl,
+      refl,
+    )) c.print.ensures.print
 
 pub returns-in-Err : goal.returns-in-Err
 returns-in-Err g c = (refl, (Appends-nil _, told_nothing g.E.Write.contents c.args.err.now))

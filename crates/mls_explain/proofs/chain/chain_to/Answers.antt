@@ -15,8 +15,11 @@ loop-labeller-preserved c =
     let p = c.args.policy.now in
     let tx = c.args.tx.now in
     let n = c.loop-labeller.invariant.0 in
-    let s = c.loop-labeller.search in
-    (suc n, round_done p tx (steps tx) (IsBroken tx.hi (body_lines tx) c.args.broken) n s.tails.items s.left.items c.loop-labeller.invariant.1 _ _ c.in_ok-search-2.ensures (subst (AllByRecursion (λ t. is_root p tx t.limit t.root ≡ false)) c.deref.ensures.value (c.tail_with_root.ensures.none c.in_default.is)))
+    let s = c.loop-labeller.search in (
+      suc n,
+      round_done p tx (steps tx) (IsBroken tx.hi
+          (body_lines tx) c.args.broken) n s.tails.items s.left.items c.loop-labeller.invariant.1 _ _ c.in_ok-search-2.ensures (subst (AllByRecursion (λ t. is_root p tx t.limit t.root ≡ false)) c.deref.ensures.value (c.tail_with_root.ensures.none c.in_default.is)),
+    )
 
 pub returns-in-Some : goal.returns-in-Some
 returns-in-Some c =
@@ -25,12 +28,19 @@ returns-in-Some c =
     let s = c.loop-labeller.search in
     let found = c.in-Some.ensures.found in
     subst (IsShortestChain p tx (steps tx) (IsBroken tx.hi (body_lines tx) c.args.broken)) (sym c.in_ok-chain.ensures)
-    (root_found p tx (steps tx) (IsBroken tx.hi (body_lines tx) c.args.broken) c.loop-labeller.invariant.0 s.tails.items s.left.items c.loop-labeller.invariant.1 c.in-Some.tail.now (subst (λ (ts : List Tail). Contains ts c.in-Some.tail.now) c.deref.ensures.value found.0) found.1)
+    (root_found p tx (steps tx) (IsBroken tx.hi
+    (body_lines tx) c.args.broken) c.loop-labeller.invariant.0 s.tails.items s.left.items c.loop-labeller.invariant.1 c.in-Some.tail.now (subst (λ (ts : List Tail). Contains ts c.in-Some.tail.now) c.deref.ensures.value found.0) found.1)
 
 pub returns : goal.returns
 returns c =
     let p = c.args.policy.now in
     let tx = c.args.tx.now in
     let s = c.loop-labeller.search in
-    let none : length s.tails.items ≡ 0 = omega (arith, eqb-true s.tails.len 0 (sym c.is_empty.ensures ∙ c.loop-labeller-test.false), s.tails.ok.0) in
-    none_found p tx (steps tx) (IsBroken tx.hi (body_lines tx) c.args.broken) c.loop-labeller.invariant.0 s.tails.items s.left.items c.loop-labeller.invariant.1 none
+    let none : length s.tails.items ≡ 0 = omega (
+      arith,
+      eqb-true s.tails.len 0 (sym c.is_empty.ensures
+          ∙ c.loop-labeller-test.false),
+      s.tails.ok.0,
+    ) in
+    none_found p tx (steps tx) (IsBroken tx.hi
+    (body_lines tx) c.args.broken) c.loop-labeller.invariant.0 s.tails.items s.left.items c.loop-labeller.invariant.1 none

@@ -9,7 +9,8 @@ use Rattle.mls_explain.proofs.chain.chain_to.Given as goal
 abbrev pub invariant-loop-labeller : goal.invariant-loop-labeller
 invariant-loop-labeller l =
     let tx = l.fn.tx in
-    (n : ℕ) × IsUnderway l.fn.policy tx (steps tx) (IsBroken tx.hi (body_lines tx) l.fn.broken) n l.search.tails.items l.search.left.items
+    (n : ℕ) × IsUnderway l.fn.policy tx (steps tx)
+    (IsBroken tx.hi (body_lines tx) l.fn.broken) n l.search.tails.items l.search.left.items
 
 abbrev pub decreases-loop-labeller : goal.decreases-loop-labeller
 decreases-loop-labeller l = length l.search.tails.items + length l.search.left.items

@@ -17,7 +17,11 @@ returns c =
     c.in_ok-steps.ensures ∙ (λ i. flat_map (λ l. steps_in (vars i) l.flow) ((c.deref.ensures.value ∙ lines) i)) in
     IfOk-weaker c.start.result _ _
     (λ s begun p.
-    subst (λ (hi : ℕ). IsUnderway p tx (steps tx) (IsBroken hi (body_lines tx) c.args.broken) 0 s.tails.items s.left.items) c.hi.ensures.hi
-    (subst (λ (ls : List Line). IsUnderway p tx (steps tx) (IsBroken c.hi.result ls c.args.broken) 0 s.tails.items s.left.items) (c.deref-3.ensures.value ∙ lines)
-    (subst (λ (ss : List Step). IsUnderway p tx ss (IsBroken c.hi.result c.deref-3.result.now c.args.broken) 0 s.tails.items s.left.items) (c.deref-2.ensures.value ∙ all) (begun p tx))))
+    subst (λ (hi : ℕ). IsUnderway p tx (steps tx)
+    (IsBroken hi (body_lines tx) c.args.broken) 0 s.tails.items s.left.items) c.hi.ensures.hi
+    (subst (λ (ls : List Line). IsUnderway p tx (steps tx)
+    (IsBroken c.hi.result ls c.args.broken) 0 s.tails.items s.left.items) (c.deref-3.ensures.value ∙ lines)
+    (subst (λ (ss : List Step). IsUnderway p tx ss
+    (IsBroken c.hi.result c.deref-3.result.now c.args.broken) 0 s.tails.items s.left.items) (c.deref-2.ensures.value
+    ∙ all) (begun p tx))))
     c.start.ensures

@@ -7,4 +7,6 @@ use Rattle.mls_explain.proofs.copies.connection.Goals as goal
 
 pub returns-in-Ok-clause-found : goal.returns-in-Ok-clause-found
 returns-in-Ok-clause-found c =
-    subst₂ (λ (log db : List ℕ). IsFoundIn (image log db) (file_state c.in-Ok.conn).now) (c.holding.ensures ∙ c.in_ok-from_slice.ensures.items) (c.holding-2.ensures ∙ c.in_ok-from_slice-2.ensures.items) (c.in-Ok.ensures.found (memory_files_are_clean c.in-Ok.conn))
+    subst₂ (λ (log db : List ℕ). IsFoundIn (image log db) (file_state c.in-Ok.conn).now) (c.holding.ensures
+    ∙ c.in_ok-from_slice.ensures.items) (c.holding-2.ensures ∙ c.in_ok-from_slice-2.ensures.items)
+    (c.in-Ok.ensures.found (memory_files_are_clean c.in-Ok.conn))

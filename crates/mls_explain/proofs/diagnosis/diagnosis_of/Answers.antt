@@ -9,7 +9,9 @@ use Rattle.mls_explain.specs.Diagnosis.{IsOthersIn, IsBadIn, IsDiagnosis, sound,
 use Rattle.mls_explain.proofs.diagnosis.diagnosis_of.Goals as goal
 
 module _ (policy : Policy) (file : SchemesFile) (log db : List ℕ) where
-  found : (fault : OpenFault) → (fault ≡ OtherPolicy → IsOthersIn policy file log db) → (fault ≡ BadRows → IsBadIn policy file log db) → (fault ≡ Memory → ⊥) → IsDiagnosis policy file log db (Some fault)
+  found : (fault : OpenFault) → (fault ≡ OtherPolicy → IsOthersIn policy file log db)
+      → (fault ≡ BadRows → IsBadIn policy file log db) → (fault ≡ Memory → ⊥) → IsDiagnosis policy file log db
+      (Some fault)
   found Store others rows memory = damaged
   found OtherPolicy others rows memory = of_others (others refl)
   found BadRows others rows memory = bad (rows refl)

@@ -8,7 +8,8 @@ use Rattle.mls_explain.proofs.explaining.text_of.Goals as goal
 pub returns : goal.returns
 returns c =
     let text = printed c.args.policy.now c.args.schemes.now c.args.tx.now in
-    let is : c.deref-2.result.now ≡ utf8_lossy text = c.deref-2.ensures ∙ c.in_ok-printed-2.ensures.lossy ∙ ap utf8_lossy (c.deref.ensures.value ∙ c.in_ok-printed.ensures) in
+    let is : c.deref-2.result.now ≡ utf8_lossy text = c.deref-2.ensures ∙ c.in_ok-printed-2.ensures.lossy
+    ∙ ap utf8_lossy (c.deref.ensures.value ∙ c.in_ok-printed.ensures) in
     record {
       listing = string_bytes c.in_ok-text.text;
       lists = subst (λ t. IsListing (lines t) (string_bytes c.in_ok-text.text)) is c.in_ok-text.ensures;

@@ -5,4 +5,6 @@ use Rattle.mls_explain.proofs.naming.names_of.Given as goal
 
 -- of the labels so far
 abbrev pub invariant-loop-place : goal.invariant-loop-place
-invariant-loop-place l = string_bytes l.text ≡ flat_map (λ d. if is_named l.exact (pair_of l.label) d.value then codes " " ++ d.name else []) (take l.place l.policy.labels)
+invariant-loop-place l = string_bytes l.text
+    ≡ flat_map (λ d. if is_named l.exact (pair_of l.label) d.value then codes " " ++ d.name else [])
+    (take l.place l.policy.labels)

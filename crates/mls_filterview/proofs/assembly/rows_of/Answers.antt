@@ -10,6 +10,7 @@ pub loop-node-preserved : goal.loop-node-preserved
 loop-node-preserved c = record {
   rows = rows_more _ c.loop-node.yielded c.in-Some.node _ _ c.loop-node.invariant.rows (λ q.
       c.in_ok-put_tuple.ensures.updates.0 q
-      ∙ ap (λ (row : Place × List Element). cond (is_at (place_cmp row.0) q) (Some row.1) (get place_cmp c.loop-node.rows q)) (λ i. (c.in_ok-place.ensures.place i, c.in_ok-place.ensures.elements i)));
+      ∙ ap (λ (row : Place × List Element). cond (is_at (place_cmp row.0) q) (Some row.1)
+      (get place_cmp c.loop-node.rows q)) (λ i. (c.in_ok-place.ensures.place i, c.in_ok-place.ensures.elements i)));
   ordered = c.in_ok-put_tuple.ensures.ordered;
 }

@@ -7,4 +7,5 @@ use Rattle.mls_filterview.proofs.checking.is_above_key.Given as goal
 abbrev pub invariant-loop-element : goal.invariant-loop-element
 invariant-loop-element l =
     (l.element-items ≡ l.tuple.elements)
-    × (list_all (λ e. below (labels_of l.policy) l.tuple.key_class e.class) (drop l.element-index l.element-items) ≡ list_all (λ e. below (labels_of l.policy) l.tuple.key_class e.class) l.tuple.elements)
+    × (list_all (λ e. below (labels_of l.policy) l.tuple.key_class e.class) (drop l.element-index l.element-items)
+    ≡ list_all (λ e. below (labels_of l.policy) l.tuple.key_class e.class) l.tuple.elements)

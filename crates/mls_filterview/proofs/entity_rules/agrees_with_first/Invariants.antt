@@ -5,4 +5,5 @@ use Rattle.mls_filterview.proofs.entity_rules.agrees_with_first.Given as goal
 
 abbrev pub invariant-loop-other : goal.invariant-loop-other
 invariant-loop-other l =
-    agrees_with_first (labels_of l.policy) l.tuple l.class (drop l.other-index l.tuples) ≡ agrees_with_first (labels_of l.policy) l.tuple l.class l.tuples
+    agrees_with_first (labels_of l.policy) l.tuple l.class (drop l.other-index l.tuples) ≡ agrees_with_first
+    (labels_of l.policy) l.tuple l.class l.tuples

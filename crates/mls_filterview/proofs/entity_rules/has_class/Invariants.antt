@@ -6,4 +6,5 @@ use Rattle.mls_filterview.proofs.entity_rules.has_class.Given as goal
 
 abbrev pub invariant-loop-other : goal.invariant-loop-other
 invariant-loop-other l =
-    list_any (is_of_class (labels_of l.policy) l.tuple l.class) (drop l.other-index l.tuples) ≡ list_any (is_of_class (labels_of l.policy) l.tuple l.class) l.tuples
+    list_any (is_of_class (labels_of l.policy) l.tuple l.class) (drop l.other-index l.tuples)
+    ≡ list_any (is_of_class (labels_of l.policy) l.tuple l.class) l.tuples

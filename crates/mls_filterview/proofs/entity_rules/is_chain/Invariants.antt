@@ -7,4 +7,6 @@ use Rattle.mls_filterview.proofs.entity_rules.is_chain.Given as goal
 abbrev pub invariant-loop-element : goal.invariant-loop-element
 invariant-loop-element l =
     (l.element-items ≡ l.tuple.elements)
-    × (list_all (λ e. all_classes (is_comparable (labels_of l.policy) e.class) l.tuple) (drop l.element-index l.element-items) ≡ list_all (λ e. all_classes (is_comparable (labels_of l.policy) e.class) l.tuple) l.tuple.elements)
+    × (list_all (λ e. all_classes (is_comparable (labels_of l.policy) e.class) l.tuple)
+    (drop l.element-index l.element-items) ≡ list_all
+    (λ e. all_classes (is_comparable (labels_of l.policy) e.class) l.tuple) l.tuple.elements)

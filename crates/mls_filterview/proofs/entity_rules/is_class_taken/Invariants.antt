@@ -6,4 +6,5 @@ use Rattle.mls_filterview.proofs.entity_rules.is_class_taken.Given as goal
 
 abbrev pub invariant-loop-other : goal.invariant-loop-other
 invariant-loop-other l =
-    list_any (has_same_class (labels_of l.policy) l.tuple) (drop l.other-index l.tuples) ≡ list_any (has_same_class (labels_of l.policy) l.tuple) l.tuples
+    list_any (has_same_class (labels_of l.policy) l.tuple) (drop l.other-index l.tuples)
+    ≡ list_any (has_same_class (labels_of l.policy) l.tuple) l.tuples

@@ -8,4 +8,5 @@ use Rattle.mls_filterview.proofs.filtering.rows_of.Given as goal
 abbrev pub invariant-loop-tuple : goal.invariant-loop-tuple
 invariant-loop-tuple l =
     AllByRecursion (HasClassesBelow (length l.policy.labels)) l.tuple-iterator.rest.items
-    × (l.rows.items ++ map (row_of (labels_of l.policy)) l.tuple-iterator.rest.items ≡ map (row_of (labels_of l.policy)) l.fn.tuples.items)
+    × (l.rows.items ++ map (row_of (labels_of l.policy)) l.tuple-iterator.rest.items
+    ≡ map (row_of (labels_of l.policy)) l.fn.tuples.items)

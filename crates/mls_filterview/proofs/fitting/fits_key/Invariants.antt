@@ -5,4 +5,5 @@ use Rattle.mls_filterview.proofs.fitting.fits_key.Given as goal
 
 abbrev pub invariant-loop-place : goal.invariant-loop-place
 invariant-loop-place l =
-    all_zip (fits_value (labels_of l.policy) l.class) (drop l.place l.attributes) (drop l.place l.key) ≡ all_zip (fits_value (labels_of l.policy) l.class) l.attributes l.key
+    all_zip (fits_value (labels_of l.policy) l.class) (drop l.place l.attributes) (drop l.place l.key)
+    ≡ all_zip (fits_value (labels_of l.policy) l.class) l.attributes l.key

@@ -9,4 +9,5 @@ returns c =
     let rows = c.args.rows.items in
     let set = c.deref-2.ensures.value ∙ c.in_ok-flags.ensures ∙ ap flags c.deref.ensures.value in
     IfOk-weaker c.flagged.result _ _ (λ v e.
-    e ∙ ap (λ (bs : List Bool). tuples_of (flagged bs rows)) set ∙ ap tuples_of (flagged_by (is_max_among rows) rows)) c.flagged.ensures
+    e ∙ ap (λ (bs : List Bool). tuples_of (flagged bs rows)) set ∙ ap tuples_of
+    (flagged_by (is_max_among rows) rows)) c.flagged.ensures

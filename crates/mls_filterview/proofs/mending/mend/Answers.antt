@@ -8,4 +8,9 @@ returns-clause-rows g c = λ clean.
     let seen = c.args.seen.items in
     let own = c.in_ok-own.ensures.rows (c.in_ok-mended.ensures.call.clean clean) in
     subst (λ r. IfOk r (λ v. v.items ≡ mended p c.in_ok-own.own.items seen)) c.in_ok-mended.ensures.value c.put_own.ensures
-    ∙ (λ i. mended (record { key = c.in_ok-own.ensures.key i; key_class = c.in_ok-own.ensures.entity i; class = p.class }) (own i) seen)
+    ∙ (λ i. mended (record {
+      key = c.in_ok-own.ensures.key i;
+      key_class = c.in_ok-own.ensures.entity i;
+      class =
+          p.class;
+    }) (own i) seen)

@@ -13,6 +13,8 @@ returns-clause-rows g c = λ clean.
     let p = c.args.place.now in
     let before = c.in_ok-own.ensures.call.clean clean in
     let stored = c.requires.see.stored (c.in_ok-parts.ensures.read.call.clean before) in
-    let low = entity_low ls T c.args.label stored.0 stored.1 p c.in_ok-parts.parts.nodes c.in_ok-parts.parts.cells (c.in_ok-parts.ensures.parts before) in
+    let low = entity_low ls T c.args.label stored.0 stored.1 p c.in_ok-parts.parts.nodes c.in_ok-parts.parts.cells
+    (c.in_ok-parts.ensures.parts before) in
     subst (λ r. IfOk r (λ v. v.items ≡ rows ls c.args.label (of_entity p T))) c.in_ok-own.ensures.value
-    (IfOk-weaker c.tuples_of.result _ _ (λ v each. each ls stored.0 (of_entity p T) c.args.label (of_entity_stored ls T c.args.label stored.0 stored.1 p) low) c.tuples_of.ensures)
+    (IfOk-weaker c.tuples_of.result _ _ (λ v each. each ls stored.0 (of_entity p T) c.args.label
+    (of_entity_stored ls T c.args.label stored.0 stored.1 p) low) c.tuples_of.ensures)

@@ -13,5 +13,6 @@ loop-row-preserved c =
     let inv = c.loop-row.invariant in
     record {
       front = filter_step before c.loop-row.front.items c.put_row.new.front.items c.loop-row.row-iterator.rest.items rest (filter before rows) c.in-Some.row here inv.front c.in_ok-put_row.ensures.front;
-      back = filter_step behind c.loop-row.back.items c.put_row.new.back.items c.loop-row.row-iterator.rest.items rest (filter behind rows) c.in-Some.row here inv.back c.in_ok-put_row.ensures.back;
+      back = filter_step behind c.loop-row.back.items c.put_row.new.back.items c.loop-row.row-iterator.rest.items rest
+          (filter behind rows) c.in-Some.row here inv.back c.in_ok-put_row.ensures.back;
     }

@@ -4,6 +4,8 @@ use Rattle.mls_filterview.proofs.mending.put_own.Given as goal
 
 abbrev pub invariant-loop-row : goal.invariant-loop-row
 invariant-loop-row l = record {
-  front : l.front.items ++ filter (is_before l.place) l.row-iterator.rest.items ≡ filter (is_before l.place) l.fn.rows.items;
-  back : l.back.items ++ filter (is_behind l.place) l.row-iterator.rest.items ≡ filter (is_behind l.place) l.fn.rows.items;
+  front : l.front.items ++ filter (is_before l.place) l.row-iterator.rest.items
+      ≡ filter (is_before l.place) l.fn.rows.items;
+  back : l.back.items ++ filter (is_behind l.place) l.row-iterator.rest.items
+      ≡ filter (is_behind l.place) l.fn.rows.items;
 }

@@ -16,5 +16,6 @@ invariant-loop-number g l =
       same : (B.seen l.base).is_clean → (B.seen l.base).state ≡ (B.seen l.fn.base).state;
       key : l.place.key ≡ l.fn.place.key;
       key_class : l.place.key_class ≡ l.key_class;
-      parts : (B.seen l.base).is_clean → AreOf (IsOfEntity (labels_of l.policy) ((B.seen l.fn.base).state.now.db l.relation) l.label l.fn.place.key l.key_class l.number) l.nodes.items l.cells.items;
+      parts : (B.seen l.base).is_clean → AreOf (IsOfEntity (labels_of l.policy)
+          ((B.seen l.fn.base).state.now.db l.relation) l.label l.fn.place.key l.key_class l.number) l.nodes.items l.cells.items;
     }

@@ -5,4 +5,5 @@ use Rattle.mls_filterview.proofs.reach.in_order_of_reach.Given as goal
 
 abbrev pub invariant-loop-class : goal.invariant-loop-class
 invariant-loop-class l =
-    l.tuples.items ++ flat_map (of_class l.rows) l.class-iterator.rest.items ≡ flat_map (of_class l.rows) (upward (labels_of l.policy))
+    l.tuples.items ++ flat_map (of_class l.rows) l.class-iterator.rest.items ≡ flat_map (of_class l.rows)
+    (upward (labels_of l.policy))

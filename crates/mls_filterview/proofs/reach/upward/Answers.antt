@@ -7,5 +7,6 @@ use Rattle.mls_filterview.proofs.reach.upward.Goals as goal
 pub returns : goal.returns
 returns c =
     let ls = labels_of c.args.policy.now in
-    let all : c.loop-count.count ≡ suc (length ls) = omega (arith, length-map c.args.policy.now.labels (λ l. l.value)) in
+    let all : c.loop-count.count ≡ suc (length ls) = omega (arith, length-map c.args.policy.now.labels (λ l. l.value))
+    in
     c.loop-count.invariant ∙ ap (λ n. flat_map (of_reach ls) (numbers n)) all

@@ -11,5 +11,7 @@ use Rattle.mls_filterview.proofs.recovering.is_closed.Given as goal
 abbrev pub invariant-loop-element : goal.invariant-loop-element
 invariant-loop-element l =
     (l.at.key ≡ l.place.key) × (l.at.key_class ≡ l.place.key_class)
-    × (list_all (λ e. agrees_with_found (labels_of l.policy) e.class l.elements (get place_cmp l.rows (with_class l.place e.class))) (drop l.element-index l.elements)
-    ≡ list_all (λ e. agrees_with_found (labels_of l.policy) e.class l.elements (get place_cmp l.rows (with_class l.place e.class))) l.elements)
+    × (list_all (λ e. agrees_with_found (labels_of l.policy) e.class l.elements
+    (get place_cmp l.rows (with_class l.place e.class))) (drop l.element-index l.elements)
+    ≡ list_all (λ e. agrees_with_found (labels_of l.policy) e.class l.elements
+    (get place_cmp l.rows (with_class l.place e.class))) l.elements)

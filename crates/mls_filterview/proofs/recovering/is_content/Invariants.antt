@@ -9,5 +9,7 @@ use Rattle.mls_filterview.proofs.recovering.is_content.Given as goal
 
 abbrev pub invariant-loop-place : goal.invariant-loop-place
 invariant-loop-place l =
-    list_all (is_stored_row (length l.policy.labels) (labels_of l.policy) l.scheme (get place_cmp l.rows)) l.place-iterator
-    ≡ list_all (is_stored_row (length l.policy.labels) (labels_of l.policy) l.scheme (get place_cmp l.rows)) l.rows.entries
+    list_all (is_stored_row (length l.policy.labels) (labels_of l.policy) l.scheme
+    (get place_cmp l.rows)) l.place-iterator
+    ≡ list_all (is_stored_row (length l.policy.labels) (labels_of l.policy) l.scheme
+    (get place_cmp l.rows)) l.rows.entries

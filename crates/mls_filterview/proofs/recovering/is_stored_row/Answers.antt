@@ -15,7 +15,8 @@ use Rattle.mls_filterview.proofs.RowRuleLemmas.{row_told}
 use Rattle.mls_filterview.proofs.recovering.is_stored_row.Goals as goal
 
 -- what the first test said
-placed_row : (n : ℕ) (ls : Labels) (p : Place) (es xs : List Element) → xs ≡ es → true ≡ is_placed n ls (p, xs) → is_placed n ls (p, es) ≡ true
+placed_row : (n : ℕ) (ls : Labels) (p : Place) (es xs : List Element) → xs ≡ es → true ≡ is_placed n ls (p, xs)
+    → is_placed n ls (p, es) ≡ true
 placed_row n ls p es xs same h = ap (λ ys. is_placed n ls (p, ys)) (sym same) ∙ sym h
 
 pub is_right_alone-requires-clause-classes : goal.is_right_alone-requires-clause-classes
@@ -23,14 +24,20 @@ is_right_alone-requires-clause-classes c =
     let n = length c.args.policy.now.labels in
     let ls = labels_of c.args.policy.now in
     let placed = placed_row n ls c.args.place.now c.args.elements.now c.deref.result.now c.deref.ensures c.if-not-is_placed.ensures in
-    subst (HasClassesBelow n) (sym c.in_ok-tuple.ensures) (placed-true n ls (c.args.place.now, c.args.elements.now) placed).declared
+    subst (HasClassesBelow n) (sym c.in_ok-tuple.ensures) (placed-true n ls (
+      c.args.place.now,
+      c.args.elements.now,
+    ) placed).declared
 
 pub is_closed-requires-clause-classes : goal.is_closed-requires-clause-classes
 is_closed-requires-clause-classes c =
     let n = length c.args.policy.now.labels in
     let ls = labels_of c.args.policy.now in
     let placed = placed_row n ls c.args.place.now c.args.elements.now c.deref.result.now c.deref.ensures c.if-not-is_placed.ensures in
-    subst (AllByRecursion (λ (e : Element). e.class < n)) (sym c.deref-2.ensures) (placed-true n ls (c.args.place.now, c.args.elements.now) placed).declared.elements
+    subst (AllByRecursion (λ (e : Element). e.class < n)) (sym c.deref-2.ensures) (placed-true n ls (
+      c.args.place.now,
+      c.args.elements.now,
+    ) placed).declared.elements
 
 pub returns : goal.returns
 returns c =
@@ -42,6 +49,10 @@ returns c =
     let es = c.args.elements.now in
     let placed = placed_row n ls p es c.deref.result.now c.deref.ensures c.if-not-is_placed.ensures in
     let alone = ap (is_right_alone ls scheme) (sym c.in_ok-tuple.ensures) ∙ sym c.if-not-is_right_alone.ensures in
-    IfOk-weaker c.is_closed.result (λ b. b ≡ is_closed ls found (p, c.deref-2.result.now)) (λ b. b ≡ is_stored_row n ls scheme found (p, es))
-    (λ b h. h ∙ ap (λ xs. is_closed ls found (p, xs)) c.deref-2.ensures ∙ row_told n ls scheme found (p, es) placed alone)
+    IfOk-weaker c.is_closed.result (λ b. b ≡ is_closed ls found (p, c.deref-2.result.now)) (λ b. b
+    ≡ is_stored_row n ls scheme found (p, es))
+    (λ b h. h ∙ ap (λ xs. is_closed ls found (p, xs)) c.deref-2.ensures ∙ row_told n ls scheme found (
+      p,
+      es,
+    ) placed alone)
     c.is_closed.ensures

@@ -7,4 +7,5 @@ pub returns-then-same : goal.returns-then-same
 returns-then-same c = sym (covers-from c.args.left.now c.args.right.now (inl (search rules)))
 
 pub returns-then-not-is_null : goal.returns-then-not-is_null
-returns-then-not-is_null c = search rules ∙ sym (covers-other c.args.left.now c.args.right.now (search rules) (search rules))
+returns-then-not-is_null c = search rules ∙ sym (covers-other c.args.left.now c.args.right.now (search rules)
+    (search rules))

@@ -18,11 +18,13 @@ returns-clause-low g c = λ clean.
     let T = (B.seen c.args.base.now).state.now.db c.args.relation in
     let low : List ℕ = filter (λ m. below ls m c.args.label) (numbers n) in
     let labels : c.deref.result.now ≡ low =
-    c.deref.ensures.value ∙ subst (λ r. IfOk r (λ v. v.items ≡ low)) c.in_ok-labels.ensures.value c.low_labels.ensures.labels in
+    c.deref.ensures.value ∙ subst (λ r. IfOk r (λ v. v.items
+    ≡ low)) c.in_ok-labels.ensures.value c.low_labels.ensures.labels in
     let here = ap (λ b. (B.seen b).state) c.in_ok-labels.ensures.same in
     IfOk-weaker c.fragments.result _ _
     (λ f found. low_fragments ls T c.args.label n f
-    (subst (λ ms. AreFragments T ms f) labels (subst (λ (s : State). AreFragments (s.now.db c.args.relation) c.deref.result.now f) here found)))
+    (subst (λ ms. AreFragments T ms f) labels
+    (subst (λ (s : State). AreFragments (s.now.db c.args.relation) c.deref.result.now f) here found)))
     (c.fragments.ensures.found clean)
 
 pub returns-clause-access : goal.returns-clause-access
@@ -31,6 +33,8 @@ returns-clause-access g c =
     let all = numbers (length c.args.policy.now.labels) in
     let low : List ℕ = filter (λ m. below ls m c.args.label) all in
     let labels : c.deref.result.now ≡ low =
-    c.deref.ensures.value ∙ subst (λ r. IfOk r (λ v. v.items ≡ low)) c.in_ok-labels.ensures.value c.low_labels.ensures.labels in
+    c.deref.ensures.value ∙ subst (λ r. IfOk r (λ v. v.items
+    ≡ low)) c.in_ok-labels.ensures.value c.low_labels.ensures.labels in
     avoids_then (avoids_some c.in_ok-labels.ensures.access)
-    (among_reads_low ls c.args.label all (subst (λ ms. ReadsAmong g.B.Base.seen ms c.settle.new.base c.fragments.new.self) labels c.fragments.ensures.access))
+    (among_reads_low ls c.args.label all (subst
+    (λ ms. ReadsAmong g.B.Base.seen ms c.settle.new.base c.fragments.new.self) labels c.fragments.ensures.access))

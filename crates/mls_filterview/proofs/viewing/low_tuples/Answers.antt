@@ -12,6 +12,8 @@ returns-clause-tuples g c = λ clean.
     let T = (g.B.Base.seen c.args.base.now).state.now.db c.args.relation in
     let before = c.in_ok-tuples.ensures.call.clean clean in
     let stored = c.requires.stored (c.in_ok-low.ensures.read.call.clean before) in
-    let low = subst (λ k. AreLow ls T c.args.label k c.in_ok-low.low.nodes c.in_ok-low.low.cells) (sym (length-map c.args.policy.now.labels (λ l. l.value))) (c.in_ok-low.ensures.low before) in
+    let low = subst (λ k. AreLow ls T c.args.label k c.in_ok-low.low.nodes c.in_ok-low.low.cells)
+    (sym (length-map c.args.policy.now.labels (λ l. l.value))) (c.in_ok-low.ensures.low before) in
     subst (λ r. IfOk r (λ v. v.items ≡ low_tuples ls c.args.label T)) c.in_ok-tuples.ensures.value
-    (IfOk-weaker c.tuples_by_reach.result _ _ (λ v each. each stored.0 T c.args.label stored.1 low) c.tuples_by_reach.ensures)
+    (IfOk-weaker c.tuples_by_reach.result _ _
+    (λ v each. each stored.0 T c.args.label stored.1 low) c.tuples_by_reach.ensures)

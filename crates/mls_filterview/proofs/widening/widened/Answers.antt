@@ -15,9 +15,11 @@ loop-row-preserved c =
     let wide = c.loop-row.wide.entries in
     let e : Entry = (c.row.inside.place, c.row.inside.elements) in
     let rest : List Entry = c.next.new.self.rest.items in
-    let here : c.loop-row.row-iterator.rest.items ≡ e ∷ rest = c.in-Some.ensures.steps.0 ∙ ap (λ (x : Entry). x ∷ rest) (sym c.row.view_is) in
+    let here : c.loop-row.row-iterator.rest.items ≡ e ∷ rest = c.in-Some.ensures.steps.0 ∙ ap (λ (x : Entry). x ∷ rest)
+    (sym c.row.view_is) in
     record {
-      entries = ap (λ es. es ++ map (widened_entry n) rest) (c.in_ok-put_tuple.ensures.entries ∙ ap (insert_entry place_cmp wide e.0) c.in_ok-wide_elements.ensures)
+      entries = ap (λ es. es ++ map (widened_entry n) rest) (c.in_ok-put_tuple.ensures.entries
+          ∙ ap (insert_entry place_cmp wide e.0) c.in_ok-wide_elements.ensures)
           ∙ changed_more (λ p xs. xs ++ nulls n p.key_class) c.args.rows.entries wide e rest c.entries_of.ensures.ordered (ap (λ es. wide ++ map (widened_entry n) es) (sym here) ∙ c.loop-row.invariant.entries);
       ordered = c.in_ok-put_tuple.ensures.ordered;
     }

@@ -7,6 +7,7 @@ use Rattle.mls_filterview.proofs.widening.widened.Given as goal
 
 abbrev pub invariant-loop-row : goal.invariant-loop-row
 invariant-loop-row l = record {
-  entries : l.wide.entries ++ map (widened_entry l.count) l.row-iterator.rest.items ≡ map (widened_entry l.count) l.fn.rows.entries;
+  entries : l.wide.entries ++ map (widened_entry l.count) l.row-iterator.rest.items
+      ≡ map (widened_entry l.count) l.fn.rows.entries;
   ordered : IsOrdered place_cmp l.wide;
 }

@@ -13,5 +13,6 @@ returns g c clean =
       closed = record { quiet = c.into_store.ensures.quiet; sound = c.into_store.ensures.sound };
       holds = λ on image may.
           subst (λ trees. ∥ HoldsDatabase image trees ∥₁) ((c.into_store.ensures.undone.kept shut).committed on)
-          (holds_commit last g.met.D.Disk.seen_may_stay on (c.into_store.ensures.numbered shut) (c.into_store.ensures.sound shut) c.close.result c.close.ensures clean image may);
+          (holds_commit last g.met.D.Disk.seen_may_stay on (c.into_store.ensures.numbered shut)
+          (c.into_store.ensures.sound shut) c.close.result c.close.ensures clean image may);
     }

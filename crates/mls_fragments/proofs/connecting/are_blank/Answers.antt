@@ -5,4 +5,5 @@ use Rattle.mls_fragments.proofs.connecting.are_blank.Goals as goal
 
 pub returns-in-Ok-clause-blank : goal.returns-in-Ok-clause-blank
 returns-in-Ok-clause-blank g c clean =
-    subst (λ size. IsTrue c.in-Ok.is_blank ↔ IsBlankFile size (image_of g.D.Disk c.args.files.now)) c.page_size.ensures (c.in-Ok.ensures.ok clean)
+    subst (λ size. IsTrue c.in-Ok.is_blank ↔ IsBlankFile size (image_of g.D.Disk c.args.files.now)) c.page_size.ensures
+    (c.in-Ok.ensures.ok clean)

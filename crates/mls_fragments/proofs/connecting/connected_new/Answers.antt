@@ -10,12 +10,17 @@ over-requires g c none = (c.in-Ok.ensures.made (clean_of _ none)).fresh
 
 pub returns-in-Ok-over-clause-made : goal.returns-in-Ok-over-clause-made
 returns-in-Ok-over-clause-made g c clean =
-    let made = c.in-Ok.ensures.made (clean_of (view c.in-Ok.store).is_clean (omega (arith, c.in-Ok-over.ensures.clean))) in
+    let made = c.in-Ok.ensures.made (clean_of (view c.in-Ok.store).is_clean (omega (arith, c.in-Ok-over.ensures.clean)))
+    in
     let opened = c.in-Ok-over.ensures.opens clean in
     let trees = c.in-Ok-over.ensures.trees clean in
     record {
       honest = made.honest;
-      empty = (λ tree low. ap (λ d. d tree) trees ∙ made.empty.0 tree low, ap (λ d. d catalog_tree) trees ∙ made.empty.1);
+      empty = (
+        λ tree low. ap (λ d. d tree) trees ∙ made.empty.0 tree low,
+        ap (λ d. d catalog_tree) trees
+            ∙ made.empty.1,
+      );
       sound = (opened.1 opened.0.is_open).0;
     }
 
@@ -26,6 +31,7 @@ returns-in-Err-over-clause-left g c late =
     let made = c.in-Ok.ensures.made (clean_of (view c.in-Ok.store).is_clean (omega (arith, quiet.clean))) in (
       c.requires.blank made.honest,
       λ found may.
-          let is = settled_at c.in-Ok.store g.met.D.Disk.seen_may_stay found made.is_open (quiet.outcomes found may) ∙ sym made.fresh.clean in
+          let is = settled_at c.in-Ok.store g.met.D.Disk.seen_may_stay found made.is_open (quiet.outcomes found may)
+          ∙ sym made.fresh.clean in
           (λ tree low. ap (λ d. d tree) is ∙ made.empty.0 tree low, ap (λ d. d catalog_tree) is ∙ made.empty.1),
     )

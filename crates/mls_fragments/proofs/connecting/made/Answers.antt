@@ -13,17 +13,28 @@ returns-in-Ok-create-clause-made g c clean =
     let fresh = c.in-Ok.ensures in
     record {
       honest = clean_before c.args.files c.in-Ok.fresh fresh.files (e.honest clean);
-      fresh = record { sound = e.ready.sound (no_doubt _ clean); numbered = e.numbered; clean = e.ready.clean; unmarked = e.ready.unmarked };
+      fresh = record {
+        sound = e.ready.sound (no_doubt _ clean);
+        numbered = e.numbered;
+        clean = e.ready.clean;
+        unmarked = e.ready.unmarked;
+      };
       is_open = e.ready.is_open (no_doubt _ clean);
-      empty = (λ tree low. ap (λ d. d tree) e.ready.clean ∙ e.empty clean tree low, rw clean (catalog_rows _ _ _ ∙ ap (listed_from 0) (e.schema ∙ fresh.none)));
+      empty = (
+        λ tree low. ap (λ d. d tree) e.ready.clean ∙ e.empty clean tree low,
+        rw clean (catalog_rows _ _ _ ∙ ap (listed_from 0) (e.schema ∙ fresh.none)),
+      );
     }
 
 pub returns-in-Err-create-clause-left : goal.returns-in-Err-create-clause-left
 returns-in-Err-create-clause-left g c clean =
     let e = c.in-Err-create.ensures in
     let fresh = c.in-Ok.ensures in
-    let blank = c.requires.blank (clean_before c.args.files c.in-Ok.fresh fresh.files (e.falls clean)) in
-    (blank, λ left may. leaves_blank c.args.files c.in-Ok.fresh fresh.files fresh.size fresh.none blank _ (e.unharmed clean) left may)
+    let blank = c.requires.blank (clean_before c.args.files c.in-Ok.fresh fresh.files (e.falls clean)) in (
+      blank,
+      λ left may. leaves_blank c.args.files c.in-Ok.fresh fresh.files fresh.size fresh.none blank _
+          (e.unharmed clean) left may,
+    )
 
 pub returns-in-Err-clause-left : goal.returns-in-Err-clause-left
 returns-in-Err-clause-left g c clean =

@@ -10,15 +10,20 @@ use Rattle.mls_fragments.proofs.judging.judge.Goals as goal
 
 pub returns-in_err-entries-clause-only : goal.returns-in_err-entries-clause-only
 returns-in_err-entries-clause-only c t all content holds sound =
-    let memory = c.in_err-entries.ensures.only content.audit (IsPermutation-trans _ _ _ holds.audit all.1.1) sound.entries in
+    let memory = c.in_err-entries.ensures.only content.audit
+    (IsPermutation-trans _ _ _ holds.audit all.1.1) sound.entries in
     search rules
 
 pub judge_rows-requires-clause-order : goal.judge_rows-requires-clause-order
-judge_rows-requires-clause-order c = (nodes_in_order c.sort.new.self.items c.in_ok-sort.ensures.sorted, cells_in_order c.sort-2.new.self.items c.in_ok-sort-2.ensures.sorted)
+judge_rows-requires-clause-order c = (
+  nodes_in_order c.sort.new.self.items c.in_ok-sort.ensures.sorted,
+  cells_in_order c.sort-2.new.self.items c.in_ok-sort-2.ensures.sorted,
+)
 
 pub returns-in_err-content-clause-only : goal.returns-in_err-content-clause-only
 returns-in_err-content-clause-only c t all content holds sound =
-    let memory = c.in_err-content.ensures.only t (IsPermutation-trans _ _ _ all.0 c.in_ok-sort.ensures.permutation) (IsPermutation-trans _ _ _ all.1.0 c.in_ok-sort-2.ensures.permutation) content holds sound in
+    let memory = c.in_err-content.ensures.only t (IsPermutation-trans _ _ _ all.0 c.in_ok-sort.ensures.permutation)
+    (IsPermutation-trans _ _ _ all.1.0 c.in_ok-sort-2.ensures.permutation) content holds sound in
     search rules
 
 pub returns-clause-held : goal.returns-clause-held
@@ -27,6 +32,8 @@ returns-clause-held c =
     let cells = c.sort-2.new.self.items in
     let content = content_of c.in_ok-content.content.changes in (
       judged_holds c.args.design.now.policy.now c.args.design.now.file.now.schemes c.args.labels c.args.rows nodes cells c.in_ok-entries.entries content c.in_ok-sort.ensures.permutation c.in_ok-sort-2.ensures.permutation c.in_ok-entries.ensures.numbered
-          (subst (λ list. IsJudged c.args.design.now.policy.now c.args.design.now.file.now.schemes c.args.labels (rows_in nodes cells) list content) c.deref.ensures c.in_ok-content.ensures.judged),
-      content_bytes (labels_of c.args.design.now.policy.now) c.args.design.now.file.now.schemes content (few_labels c.args.design.now.policy.now c.use_invariant.ensures.few_labels) c.in_ok-content.ensures.judged.sound.content,
+          (subst (λ list. IsJudged c.args.design.now.policy.now c.args.design.now.file.now.schemes c.args.labels
+          (rows_in nodes cells) list content) c.deref.ensures c.in_ok-content.ensures.judged),
+      content_bytes (labels_of c.args.design.now.policy.now) c.args.design.now.file.now.schemes content
+          (few_labels c.args.design.now.policy.now c.use_invariant.ensures.few_labels) c.in_ok-content.ensures.judged.sound.content,
     )

@@ -18,7 +18,8 @@ parts-preserved c =
     let f = c.in_ok-found.found in
     let before = c.parts.content.changes in
     let taken = c.in_ok-part.ensures.taken in
-    let joined = subst (λ ts. c.join.new.self.changes ≡ Joins (map (λ t. t.entries) ts) ∷ before) c.deref.ensures.value c.join.ensures in
+    let joined = subst (λ ts. c.join.new.self.changes ≡ Joins (map (λ t. t.entries) ts)
+    ∷ before) c.deref.ensures.value c.join.ensures in
     subst (λ changes. IsUnderWay a.design.now.policy.now a.design.now.file.now.schemes a.labels a.nodes.items a.cells.items a.entries.now c.take_part.new.nodes.items c.take_part.new.cells.items (content_of changes)) (sym joined)
     (goes_on a.design.now.policy.now a.design.now.file.now.schemes a.labels a.nodes.items a.cells.items a.entries.now c.parts.nodes.items c.take_part.new.nodes.items c.parts.cells.items c.take_part.new.cells.items (content_of before) c.parts.invariant taken.0 c.in_ok-part.part
     taken.1 (map (λ t. t.entries) f.tables.items) f.entries c.in_ok-found.ensures.found.held c.in_ok-found.ensures.found.sound c.in_ok-part.ensures.nodes c.in_ok-part.ensures.cells)
@@ -37,9 +38,12 @@ returns-clause-judged c =
     let f = c.in_ok-found-2.found in
     let before = c.parts.content.changes in
     let rest : AllRows = record { nodes = c.parts.nodes; cells = c.parts.cells; entries = c.new.result } in
-    let joined = subst (λ ts. c.join-2.new.self.changes ≡ Joins (map (λ t. t.entries) ts) ∷ before) c.deref-2.ensures.value c.join-2.ensures in
-    subst (λ changes. IsJudged a.design.now.policy.now a.design.now.file.now.schemes a.labels (rows_in a.nodes.items a.cells.items) a.entries.now (content_of changes)) (sym joined)
-    (ends a.design.now.policy.now a.design.now.file.now.schemes a.labels a.nodes.items a.cells.items a.entries.now (content_of before) rest c.parts.invariant c.new.ensures.items
+    let joined = subst (λ ts. c.join-2.new.self.changes ≡ Joins (map (λ t. t.entries) ts)
+    ∷ before) c.deref-2.ensures.value c.join-2.ensures in
+    subst (λ changes. IsJudged a.design.now.policy.now a.design.now.file.now.schemes a.labels
+    (rows_in a.nodes.items a.cells.items) a.entries.now (content_of changes)) (sym joined)
+    (ends a.design.now.policy.now a.design.now.file.now.schemes a.labels a.nodes.items a.cells.items a.entries.now
+    (content_of before) rest c.parts.invariant c.new.ensures.items
     (map (λ t. t.entries) f.tables.items) f.entries c.in_ok-found-2.ensures.found.held c.in_ok-found-2.ensures.found.sound)
 
 pub returns-in_err-found-2-clause-only : goal.returns-in_err-found-2-clause-only

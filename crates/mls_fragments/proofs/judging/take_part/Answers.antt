@@ -24,9 +24,11 @@ returns-clause-taken c =
 pub returns-clause-nodes : goal.returns-clause-nodes
 returns-clause-nodes c =
     subst AreNodesInOrder (sym c.in_ok-split_off.ensures.items)
-    (λ rel ent. still_parted (λ r. before rel ent r.rel r.ent) c.args.nodes.now.items c.last_part-first_node.result.0 (c.requires.nodes rel ent))
+    (λ rel ent. still_parted (λ r. before rel ent r.rel r.ent) c.args.nodes.now.items c.last_part-first_node.result.0
+    (c.requires.nodes rel ent))
 
 pub returns-clause-cells : goal.returns-clause-cells
 returns-clause-cells c =
     subst AreCellsInOrder (sym c.in_ok-split_off-2.ensures.items)
-    (λ rel ent. still_parted (λ r. before rel ent r.rel r.ent) c.args.cells.now.items c.last_part-first_node.result.1 (c.requires.cells rel ent))
+    (λ rel ent. still_parted (λ r. before rel ent r.rel r.ent) c.args.cells.now.items c.last_part-first_node.result.1
+    (c.requires.cells rel ent))

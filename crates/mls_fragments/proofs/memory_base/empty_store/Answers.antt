@@ -10,4 +10,5 @@ pub returns-in-Ok-clause-empty : goal.returns-in-Ok-clause-empty
 returns-in-Ok-clause-empty c =
     let files : Files MemoryFile = record { log = c.new.result; db = c.new-2.result } in
     let conn = c.in-Ok.conn in
-    found_none (image_of over_memory files) (file_state conn).now (c.in-Ok.ensures.found (memory_files_are_clean conn)) c.new-2.ensures
+    found_none (image_of over_memory files) (file_state conn).now
+    (c.in-Ok.ensures.found (memory_files_are_clean conn)) c.new-2.ensures

@@ -22,30 +22,37 @@ use Rattle.mls_fragments.proofs.migrating.find_widened.Goals as goal
 pub before-requires : goal.before-requires
 before-requires c =
     let b = c.requires.before in
-    subst (λ ns. AllZip (λ n s. n ≤ length s.others) ns c.args.design.now.file.now.schemes) (sym c.deref.ensures.value) (extends_few c.args.design.now.policy.now c.args.design.now.file.now.schemes b.text c.args.older.now.counts.items b.extends)
+    subst (λ ns. AllZip (λ n s. n ≤ length s.others) ns c.args.design.now.file.now.schemes) (sym c.deref.ensures.value)
+    (extends_few c.args.design.now.policy.now c.args.design.now.file.now.schemes b.text c.args.older.now.counts.items b.extends)
 
 pub find-requires : goal.find-requires
 find-requires c = record {
-  under = subst (AreUnder (length c.args.design.now.policy.now.labels)) (sym (c.in_ok-before.ensures ∙ ap (λ ns. schemes_before ns c.args.design.now.file.now.schemes) c.deref.ensures.value))
+  under = subst (AreUnder (length c.args.design.now.policy.now.labels))
+      (sym (c.in_ok-before.ensures ∙ ap (λ ns. schemes_before ns c.args.design.now.file.now.schemes) c.deref.ensures.value))
       (before_under (length c.args.design.now.policy.now.labels) c.args.older.now.counts.items c.args.design.now.file.now.schemes c.args.design.now.under);
 }
 
 pub returns-in_err-tables-clause-only : goal.returns-in_err-tables-clause-only
 returns-in_err-tables-clause-only c t all content holds sound =
     let before = c.in_ok-before.ensures ∙ ap (λ ns. schemes_before ns c.args.design.now.file.now.schemes) c.deref.ensures.value in
-    let memory = c.in_err-tables.ensures.only t all content holds (subst (λ (ss : Schemes). IsSoundWithin c.args.design.now.policy.now ss c.args.older.now.labels content) (sym before) sound) in
+    let memory = c.in_err-tables.ensures.only t all content holds
+    (subst (λ (ss : Schemes). IsSoundWithin c.args.design.now.policy.now ss c.args.older.now.labels content)
+    (sym before) sound) in
     search rules
 
 pub widened_tables-requires-clause-counts : goal.widened_tables-requires-clause-counts
 widened_tables-requires-clause-counts c =
     let b = c.requires.before in
-    subst (λ ns. AllZip (λ n s. n ≤ length s.others) ns c.args.design.now.file.now.schemes) (sym c.deref-2.ensures.value) (extends_few c.args.design.now.policy.now c.args.design.now.file.now.schemes b.text c.args.older.now.counts.items b.extends)
+    subst (λ ns. AllZip (λ n s. n ≤ length s.others) ns c.args.design.now.file.now.schemes)
+    (sym c.deref-2.ensures.value) (extends_few c.args.design.now.policy.now c.args.design.now.file.now.schemes b.text c.args.older.now.counts.items b.extends)
 
 pub widened_tables-requires-clause-count : goal.widened_tables-requires-clause-count
 widened_tables-requires-clause-count c =
     let b = c.requires.before in
-    c.in_ok-tables.ensures.found.count ∙ ap length (c.in_ok-before.ensures ∙ ap (λ ns. schemes_before ns c.args.design.now.file.now.schemes) c.deref.ensures.value)
-    ∙ before_long c.args.older.now.counts.items c.args.design.now.file.now.schemes (extends_long c.args.design.now.policy.now c.args.design.now.file.now.schemes b.text c.args.older.now.counts.items b.extends)
+    c.in_ok-tables.ensures.found.count ∙ ap length (c.in_ok-before.ensures
+    ∙ ap (λ ns. schemes_before ns c.args.design.now.file.now.schemes) c.deref.ensures.value)
+    ∙ before_long c.args.older.now.counts.items c.args.design.now.file.now.schemes
+    (extends_long c.args.design.now.policy.now c.args.design.now.file.now.schemes b.text c.args.older.now.counts.items b.extends)
 
 -- ---- what is found
 
@@ -62,25 +69,35 @@ returns-clause-widened c =
     let long = extends_long policy schemes b.text counts b.extends in
     let tables = map (λ t. t.entries) lists in
     let wide = map (λ t. t.entries) c.in_ok-widened_tables.field-0.items in
-    let before : c.in_ok-before.before ≡ schemes_before counts schemes = c.in_ok-before.ensures ∙ ap (λ ns. schemes_before ns schemes) c.deref.ensures.value in
-    let is : wide ≡ wide_tables schemes counts 0 tables = c.in_ok-widened_tables.ensures ∙ ap (λ ns. wide_tables schemes ns 0 tables) c.deref-2.ensures.value in
+    let before : c.in_ok-before.before ≡ schemes_before counts schemes = c.in_ok-before.ensures
+    ∙ ap (λ ns. schemes_before ns schemes) c.deref.ensures.value in
+    let is : wide ≡ wide_tables schemes counts 0 tables = c.in_ok-widened_tables.ensures
+    ∙ ap (λ ns. wide_tables schemes ns 0 tables) c.deref-2.ensures.value in
     let sorted : (relation : ℕ) → IsStrictlySortedBy place_cmp (keys_of (slice_index_or tables relation []))
-    = each_table (λ es. IsStrictlySortedBy place_cmp (keys_of es)) none_sorted tables (all-map (λ es. IsStrictlySortedBy place_cmp (keys_of es)) (λ t. t.entries) lists f.sorted) in
+    = each_table (λ es. IsStrictlySortedBy place_cmp (keys_of es)) none_sorted tables
+    (all-map (λ es. IsStrictlySortedBy place_cmp (keys_of es)) (λ t. t.entries) lists f.sorted) in
     let spelled : (relation : ℕ) → AllByRecursion IsSpelledEntry (slice_index_or tables relation [])
-    = each_table (AllByRecursion IsSpelledEntry) tt tables (all-map (AllByRecursion IsSpelledEntry) (λ t. t.entries) lists f.spelled) in
+    = each_table (AllByRecursion IsSpelledEntry) tt tables (all-map (AllByRecursion IsSpelledEntry)
+    (λ t. t.entries) lists f.spelled) in
     let shorter : length c.in_ok-before.before ≡ length schemes = ap length before ∙ before_long counts schemes long in
     let listed : length wide ≡ length tables = ap length is ∙ wide_length schemes counts 0 tables in
     let counted : length tables ≡ length c.in_ok-before.before = length-map lists (λ t. t.entries) ∙ f.count in
     let count : length wide ≡ length schemes = listed ∙ counted ∙ shorter in
     let all_content = are_content ls schemes wide (λ relation l.
     let within : relation < length schemes = omega (arith, l, count) in
-    let at : scheme_of c.in_ok-before.before relation ≡ scheme_before (slice_index_or counts relation 0) (scheme_of schemes relation) = ap (λ (ss : Schemes). scheme_of ss relation) before ∙ before_at counts schemes relation long within in
+    let at : scheme_of c.in_ok-before.before relation ≡ scheme_before (slice_index_or counts relation 0)
+    (scheme_of schemes relation) = ap (λ (ss : Schemes). scheme_of ss relation) before
+    ∙ before_at counts schemes relation long within in
     content_wide schemes counts tables wide is sorted policy relation within
-    (subst (λ s. 0 < length s.keys) at (scheme_each IsScheme c.in_ok-before.before f.valid.each relation (omega (arith, within, shorter))).some_key)
+    (subst (λ s. 0 < length s.keys) at (scheme_each IsScheme c.in_ok-before.before f.valid.each relation
+    (omega (arith, within, shorter))).some_key)
     (extends_at policy schemes b.text counts b.extends relation within)
-    (subst (λ n. IsUnder n (scheme_before (slice_index_or counts relation 0) (scheme_of schemes relation))) (sym (length-map policy.labels (λ l. l.value)))
+    (subst (λ n. IsUnder n (scheme_before (slice_index_or counts relation 0) (scheme_of schemes relation)))
+    (sym (length-map policy.labels (λ l. l.value)))
     (subst (IsUnder (length policy.labels)) (before_at counts schemes relation long within)
-    (scheme_each (IsUnder (length policy.labels)) (schemes_before counts schemes) (before_under (length policy.labels) counts schemes c.args.design.now.under) relation (omega (arith, within, before_long counts schemes long)))))
+    (scheme_each (IsUnder (length policy.labels)) (schemes_before counts schemes)
+    (before_under (length policy.labels) counts schemes c.args.design.now.under) relation
+    (omega (arith, within, before_long counts schemes long)))))
     (subst (λ s. IsContent ls s (table_in tables relation)) at (f.sound.content relation))) in
     record {
       widened = (
@@ -95,11 +112,19 @@ returns-clause-widened c =
       };
       classes = content_bytes ls schemes (found wide entries) (few_labels policy f.few) all_content;
       holds = λ t nodes cells audit.
-          holds_found ls wide entries t (sorted_wide schemes counts tables wide is sorted) (spelled_wide schemes counts tables wide is spelled)
+          holds_found ls wide entries t (sorted_wide schemes counts tables wide is sorted)
+          (spelled_wide schemes counts tables wide is spelled)
           (λ relation. (length (scheme_of schemes relation).others, (all_content relation).stored)) nodes cells audit;
       listed = λ t all. (f.held t all).audit;
-      spelled = tables_each (AllByRecursion IsSpelledEntry) (λ t. t.entries) c.in_ok-widened_tables.field-0.items (λ relation l. spelled_wide schemes counts tables wide is spelled relation);
-      count = (let few = f.valid.few in omega (arith, listed, counted, few, length-map c.in_ok-widened_tables.field-0.items (λ t. t.entries)));
+      spelled = tables_each (AllByRecursion IsSpelledEntry) (λ t. t.entries) c.in_ok-widened_tables.field-0.items
+          (λ relation l. spelled_wide schemes counts tables wide is spelled relation);
+      count = (let few = f.valid.few in omega (
+        arith,
+        listed,
+        counted,
+        few,
+        length-map c.in_ok-widened_tables.field-0.items (λ t. t.entries),
+      ));
       last = search rules;
     }
 

@@ -9,13 +9,19 @@ use Rattle.mls_fragments.proofs.migrating.widened_tables.Goals as goal
 pub bounds-counts-relation : goal.bounds-counts-relation
 bounds-counts-relation c =
     let within : c.loop-table.relation < length c.args.schemes.now = search rules in
-    omega (arith, within, counts_long (λ n s. n ≤ length s.others) c.args.counts.now c.args.schemes.now c.requires.counts)
+    omega (
+      arith,
+      within,
+      counts_long (λ n s. n
+          ≤ length s.others) c.args.counts.now c.args.schemes.now c.requires.counts,
+    )
 
 pub overflow_sub-len : goal.overflow_sub-len
 overflow_sub-len c =
     let within : c.loop-table.relation < length c.args.schemes.now = search rules in
     subst (λ n. slice_index_or c.args.counts.now c.loop-table.relation 0 ≤ n)
-    (sym (c.len.ensures ∙ ap length (c.others.ensures.others ∙ ap (λ s. s.others) (c.scheme-scheme.ensures.row ∙ ap (scheme_of c.args.schemes.now) c.new.ensures))))
+    (sym (c.len.ensures ∙ ap length (c.others.ensures.others ∙ ap (λ s. s.others) (c.scheme-scheme.ensures.row
+    ∙ ap (scheme_of c.args.schemes.now) c.new.ensures))))
     (count_there (λ n s. n ≤ length s.others) c.args.counts.now c.args.schemes.now c.loop-table.relation 0 no_scheme c.requires.counts within)
 
 pub loop-table-preserved : goal.loop-table-preserved
@@ -25,13 +31,17 @@ loop-table-preserved c =
     let relation = c.loop-table.relation in
     let rest = c.next.new.self.rest.items in
     let long : c.len.result ≡ length (scheme_of schemes relation).others =
-    c.len.ensures ∙ ap length (c.others.ensures.others ∙ ap (λ s. s.others) (c.scheme-scheme.ensures.row ∙ ap (scheme_of schemes) c.new.ensures)) in
+    c.len.ensures ∙ ap length (c.others.ensures.others ∙ ap (λ s. s.others) (c.scheme-scheme.ensures.row
+    ∙ ap (scheme_of schemes) c.new.ensures)) in
     let here : c.loop-table.table-iterator.rest.items ≡ c.in-Some.table ∷ rest = c.in-Some.ensures.steps.0 in
     record {
       count = omega (arith, ap length here, c.loop-table.invariant.count);
-      wide = ap (λ ts. map (λ t. t.entries) ts ++ wide_tables schemes counts (relation + 1) (map (λ t. t.entries) rest)) c.in_ok-push.ensures.items
+      wide = ap (λ ts. map (λ t. t.entries) ts ++ wide_tables schemes counts (relation + 1)
+          (map (λ t. t.entries) rest)) c.in_ok-push.ensures.items
           ∙ table_wide (λ t. t.entries) schemes counts relation c.loop-table.wide.items c.in-Some.table c.in_ok-widened.field-0 rest
-          (c.in_ok-widened.ensures.entries ∙ ap (λ n. map (widened_entry (n - slice_index_or counts relation 0)) c.in-Some.table.entries) long)
-          ∙ ap (λ ts. map (λ t. t.entries) c.loop-table.wide.items ++ wide_tables schemes counts relation (map (λ t. t.entries) ts)) (sym here)
+          (c.in_ok-widened.ensures.entries ∙ ap (λ n. map
+          (widened_entry (n - slice_index_or counts relation 0)) c.in-Some.table.entries) long)
+          ∙ ap (λ ts. map (λ t. t.entries) c.loop-table.wide.items ++ wide_tables schemes counts relation
+          (map (λ t. t.entries) ts)) (sym here)
           ∙ c.loop-table.invariant.wide;
     }

@@ -6,10 +6,12 @@ use Rattle.mls_host.proofs.inputs.policy_of_file.Goals as goal
 
 pub returns-in_err-bytes-clause-refused : goal.returns-in_err-bytes-clause-refused
 returns-in_err-bytes-clause-refused g c =
-    same_reason (IsInputRefused (g.H.Host.hosting c.args.host.now) role.Policy (Some c.args.path.now) RefusesPolicy) c.from_residual.result c.in_err-bytes.field-0.0 c.from_residual.ensures.1
+    same_reason (IsInputRefused (g.H.Host.hosting c.args.host.now) role.Policy
+    (Some c.args.path.now) RefusesPolicy) c.from_residual.result c.in_err-bytes.field-0.0 c.from_residual.ensures.1
     (not_given c.in_err-bytes.ensures.refused)
 
 pub returns-clause-refused : goal.returns-clause-refused
 returns-clause-refused g c =
-    not_read_of (g.H.Host.hosting c.args.host.now) role.Policy (Some c.args.path.now) (RefusesPolicy) c.read_policy.result c.deref.result.now c.in_ok-bytes.bytes.items
+    not_read_of (g.H.Host.hosting c.args.host.now) role.Policy (Some c.args.path.now)
+    (RefusesPolicy) c.read_policy.result c.deref.result.now c.in_ok-bytes.bytes.items
     c.deref.ensures.value c.in_ok-bytes.ensures.given c.read_policy.ensures.refused

@@ -13,11 +13,15 @@ use Rattle.mls_labeller.proofs.FlowLemmas.{rules_meet, lesser_obey}
 use Rattle.mls_labeller.proofs.labelling.labelled.Goals as goal
 
 -- where the least labels break a rule, all of their version do
-none_passes : (v : Version) (p : Policy) (tx : Tx) (x : Certificate) → IsLeast v p tx x → (Rules (claim p tx x) → ⊥) → (other : Certificate) → IsOf v other → Rules (claim p tx other) → ⊥
+none_passes : (v : Version) (p : Policy) (tx : Tx) (x : Certificate) → IsLeast v p tx x → (Rules (claim p tx x) → ⊥)
+    → (other : Certificate) → IsOf v other → Rules (claim p tx other) → ⊥
 none_passes v p tx x least bad other is rules =
-    bad (lesser_obey (labels_of p) tx x other (least.least other is (rules_meet (claim p tx other) rules)) least.meets rules)
+    bad (lesser_obey (labels_of p) tx x other
+    (least.least other is (rules_meet (claim p tx other) rules)) least.meets rules)
 
-said : (v : Version) (p : Policy) (tx : Tx) (r : Result Certificate LabelFault) (stmt : ℕ) (rule : Rule) → IsErrAnd r (λ e. e ≡ NoLabels stmt rule) → ((other : Certificate) → IsOf v other → Rules (claim p tx other) → ⊥) → IfErr r (HasNone v p tx)
+said : (v : Version) (p : Policy) (tx : Tx) (r : Result Certificate LabelFault) (stmt : ℕ) (rule : Rule)
+    → IsErrAnd r (λ e. e ≡ NoLabels stmt rule) → ((other : Certificate) → IsOf v other → Rules (claim p tx other) → ⊥)
+    → IfErr r (HasNone v p tx)
 said v p tx (Ok x) stmt rule h none = tt
 said v p tx (Err e) stmt rule h none = subst (HasNone v p tx) (sym h) none
 
@@ -25,7 +29,8 @@ pub returns-clause-below : goal.returns-clause-below
 returns-clause-below c = λ other is rules.
     let p = c.args.policy.now in
     let tx = c.args.tx.now in
-    let least : IsLeast c.args.version p tx c.in_ok-cert.cert = subst (IsLeast c.args.version p tx) (sym c.in_ok-cert.ensures) c.in_ok-least.ensures in
+    let least : IsLeast c.args.version p tx c.in_ok-cert.cert = subst (IsLeast c.args.version p tx)
+    (sym c.in_ok-cert.ensures) c.in_ok-least.ensures in
     least.least other is (rules_meet (claim p tx other) rules)
 
 pub returns-in_err-check-clause-none : goal.returns-in_err-check-clause-none

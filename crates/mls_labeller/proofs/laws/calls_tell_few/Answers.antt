@@ -21,8 +21,10 @@ returns c' policy tx secure told is schemes read c lists all =
       class = λ w. (place w).0;
       few = λ w. (place w).1;
       alike = λ v w one stored_v stored_w views args.
-          let at_w : get_or lists (place v).0 (seen w) ≡ seen w = ap (λ (k : ℕ). get_or lists k (seen w)) one ∙ (place w).2 in
-          let same : seen v ≡ seen w = sym (place v).2 ∙ get_or_default lists (place v).0 (seen v) (seen w) (place v).1 ∙ at_w in
+          let at_w : get_or lists (place v).0 (seen w) ≡ seen w = ap (λ (k : ℕ). get_or lists k (seen w)) one
+          ∙ (place w).2 in
+          let same : seen v ≡ seen w = sym (place v).2 ∙ get_or_default lists (place v).0 (seen v) (seen w) (place v).1
+          ∙ at_w in
           elim (secure.two_runs c schemes v.db w.db v.args w.args read stored_v stored_w views args) [
             | inl tell ↦ absurd (no_split (seen w) (subst (λ (xs : List Item). Split xs (seen w)) same tell.1))
             | inr look ↦ look

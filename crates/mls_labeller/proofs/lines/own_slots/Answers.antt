@@ -19,7 +19,9 @@ loop-stmt-preserved c =
 pub returns : goal.returns
 returns c =
     let items = c.stmts-stmt-items.result.now in
-    let none : drop c.loop-stmt.stmt-index items ≡ [] = drop_of_length-le items (omega (arith, c.loop-stmt-test.false)) in
+    let none : drop c.loop-stmt.stmt-index items ≡ [] = drop_of_length-le items (omega (arith, c.loop-stmt-test.false))
+    in
     sym (slots_done c.loop-stmt.number c.loop-stmt.slots.items)
     ∙ ap (λ ss. c.loop-stmt.slots.items ++ own_slots c.loop-stmt.number (block_of ss)) (sym none)
-    ∙ c.loop-stmt.invariant.notes ∙ ap (λ b. c.args.slots.now.items ++ own_slots c.args.first b) c.stmts-stmt-items.ensures
+    ∙ c.loop-stmt.invariant.notes ∙ ap (λ b. c.args.slots.now.items
+    ++ own_slots c.args.first b) c.stmts-stmt-items.ensures

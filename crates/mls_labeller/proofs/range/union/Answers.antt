@@ -17,4 +17,6 @@ returns-clause-these c = λ v h. subst (λ l. Contains l v) (sym c.from.ensures)
 pub returns-clause-those : goal.returns-clause-those
 returns-clause-those c = λ v h.
     let all = c.loop-value.all.items in
-    subst (λ l. Contains l v) (sym c.from.ensures) (All-contains (Contains all) c.args.others.now v (subst (All (Contains all)) (take_all c.loop-value.value-index c.args.others.now (omega (arith, c.loop-value-test.false))) c.loop-value.invariant.those) h)
+    subst (λ l. Contains l v) (sym c.from.ensures) (All-contains (Contains all) c.args.others.now v
+    (subst (All (Contains all)) (take_all c.loop-value.value-index c.args.others.now
+    (omega (arith, c.loop-value-test.false))) c.loop-value.invariant.those) h)

@@ -11,7 +11,8 @@ returns-clause-told c =
     let before = c.in_ok-ranges.ranges.vars.items in
     let w = c.in_ok-walked.walked in
     let covers = subst (λ (b : Block). Covers false before b w.ranges.vars.items w.told.items) c.body.ensures.body c.in_ok-walked.ensures.0 in
-    subst (AreTold tx) (sym c.from.ensures) (λ ls schemes args db. (covers.runs ls schemes args [] (start db) c.in_ok-ranges.ensures).1)
+    subst (AreTold tx) (sym c.from.ensures) (λ ls schemes args db. (covers.runs ls schemes args []
+    (start db) c.in_ok-ranges.ensures).1)
 
 pub returns-clause-counted : goal.returns-clause-counted
 returns-clause-counted c few policy schemes reader =

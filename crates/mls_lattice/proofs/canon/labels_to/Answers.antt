@@ -9,4 +9,5 @@ label_to-requires-clause-ranked c =
 pub returns : goal.returns
 returns c =
     c.loop-label.invariant
-    ∙ ap (λ (x : List ℕ). string_bytes c.args.text.now ++ x) (label_lines-taken c.args.levels.now c.args.categories.now c.args.labels.now c.loop-label.label-index c.loop-label-test.false)
+    ∙ ap (λ (x : List ℕ). string_bytes c.args.text.now ++ x)
+    (label_lines-taken c.args.levels.now c.args.categories.now c.args.labels.now c.loop-label.label-index c.loop-label-test.false)

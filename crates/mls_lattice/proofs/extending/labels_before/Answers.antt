@@ -12,7 +12,9 @@ label_to-requires-clause-ranked c =
 pub returns-in-None : goal.returns-in-None
 returns-in-None c =
     let label = c.index-labels-place.result in
-    let line : c.deref.result.now ≡ label_line c.args.levels.now c.args.categories.now (named label) = rw (c.deref.ensures, c.in_ok-label_to.ensures, c.new-line.ensures.bytes) refl in
-    begin-stopped (λ l. label_line c.args.levels.now c.args.categories.now (named l)) c.args.labels.now c.loop-place.place label c.args.text.now c.loop-place.rest.now c.loop-place-test.true
+    let line : c.deref.result.now ≡ label_line c.args.levels.now c.args.categories.now (named label) =
+    rw (c.deref.ensures, c.in_ok-label_to.ensures, c.new-line.ensures.bytes) refl in
+    begin-stopped (λ l. label_line c.args.levels.now c.args.categories.now
+    (named l)) c.args.labels.now c.loop-place.place label c.args.text.now c.loop-place.rest.now c.loop-place-test.true
     c.index-labels-place.is c.loop-place.invariant
     (subst (λ (s : List ℕ). (more : List ℕ) → c.loop-place.rest.now ≢ s ++ more) line c.in-None.ensures)

@@ -12,7 +12,8 @@ pub returns-in_err-right : goal.returns-in_err-right
 returns-in_err-right c =
     let p = err_from_is_err_and c.from_residual.result c.from_residual.ensures.1 in
     let refused = rw c.deref.ensures.value at c.in_err-right.ensures in
-    rw (p.1, p.2) (λ f m. sym c.loop-value.invariant ∙ rows_refused (right_at c.args.users.now) _ _ _ _ _ c.loop-value-test.true c.value-item.is (refused f m))
+    rw (p.1, p.2) (λ f m. sym c.loop-value.invariant ∙ rows_refused
+    (right_at c.args.users.now) _ _ _ _ _ c.loop-value-test.true c.value-item.is (refused f m))
 
 pub loop-value-preserved : goal.loop-value-preserved
 loop-value-preserved c =
@@ -20,7 +21,8 @@ loop-value-preserved c =
     let row = c.in_ok-right.right in
     let read = rw c.deref.ensures.value at c.in_ok-right.ensures in
     rw c.in_ok-push.ensures.items (
-    rows-more c.args.items.now c.loop-value.value-index c.value-item.result c.loop-value-test.true c.value-item.is (right_at c.args.users.now) front row read ∙ c.loop-value.invariant
+    rows-more c.args.items.now c.loop-value.value-index c.value-item.result c.loop-value-test.true c.value-item.is
+    (right_at c.args.users.now) front row read ∙ c.loop-value.invariant
     )
 
 pub returns : goal.returns

@@ -14,7 +14,8 @@ pub returns-in_err-user-clause-reads : goal.returns-in_err-user-clause-reads
 returns-in_err-user-clause-reads c =
     let p = err_from_is_err_and c.from_residual.result c.from_residual.ensures.1 in
     let refused = rw c.deref.ensures.value at c.in_err-user.ensures in
-    rw (p.1, p.2) (λ f m. sym c.loop-value.invariant.0 ∙ rows_refused (user_at (map named c.args.labels.now)) _ _ _ _ _ c.loop-value-test.true c.value-item.is (refused f m))
+    rw (p.1, p.2) (λ f m. sym c.loop-value.invariant.0 ∙ rows_refused
+    (user_at (map named c.args.labels.now)) _ _ _ _ _ c.loop-value-test.true c.value-item.is (refused f m))
 
 pub loop-value-preserved : goal.loop-value-preserved
 loop-value-preserved c =
@@ -22,12 +23,14 @@ loop-value-preserved c =
     let row = c.in_ok-user.user in
     let read = rw c.deref.ensures.value at c.in_ok-user.ensures in
     rw c.in_ok-push.ensures.items (
-      rows-more c.args.items.now c.loop-value.value-index c.value-item.result c.loop-value-test.true c.value-item.is (user_at (map named c.args.labels.now)) front row read ∙ c.loop-value.invariant.0,
+      rows-more c.args.items.now c.loop-value.value-index c.value-item.result c.loop-value-test.true c.value-item.is
+          (user_at (map named c.args.labels.now)) front row read ∙ c.loop-value.invariant.0,
       length_push front row ∙ ap (λ n. n + 1) c.loop-value.invariant.1,
     )
 
 pub returns-clause-reads : goal.returns-clause-reads
-returns-clause-reads c = sym c.loop-value.invariant.0 ∙ rows_over (user_at (map named c.args.labels.now)) _ _ _ c.loop-value-test.false
+returns-clause-reads c = sym c.loop-value.invariant.0
+    ∙ rows_over (user_at (map named c.args.labels.now)) _ _ _ c.loop-value-test.false
 
 pub returns-clause-count : goal.returns-clause-count
 returns-clause-count c = omega arith

@@ -9,5 +9,6 @@ returns c =
     let cell = cell_text c.args.value.now in
     c.in_ok-push_str-2.ensures
     ∙ ap (λ (x : List ℕ). x ++ codes "\n")
-    (c.in_ok-push_cell.ensures ∙ ap (λ (x : List ℕ). x ++ cell) (c.in_ok-push_str.ensures ∙ ap (λ (x : List ℕ). x ++ c.args.deed.now) c.in_ok-push_front.ensures))
+    (c.in_ok-push_cell.ensures ∙ ap (λ (x : List ℕ). x ++ cell) (c.in_ok-push_str.ensures
+    ∙ ap (λ (x : List ℕ). x ++ c.args.deed.now) c.in_ok-push_front.ensures))
     ∙ item_parts c.args.text.now.items (front c.args.to.now.policy.now c.args.to.now.event.now c.args.label) c.args.deed.now cell (codes "\n")

@@ -9,9 +9,11 @@ pub returns-then-is_shown : goal.returns-then-is_shown
 returns-then-is_shown c =
     let site = site_under c.args.to.now.policy.now c.args.to.now.schemes.now in
     IfOk-weaker c.view_bytes.result _ _
-    (λ v h. h ∙ all_heard site c.args.to.now.event.now c.args.reader (sym c.is_shown.ensures ∙ c.if-is_shown.true) (table_texts site c.args.to.now.event.now.command c.args.rows.now)) c.view_bytes.ensures
+    (λ v h. h ∙ all_heard site c.args.to.now.event.now c.args.reader (sym c.is_shown.ensures ∙ c.if-is_shown.true)
+    (table_texts site c.args.to.now.event.now.command c.args.rows.now)) c.view_bytes.ensures
 
 pub returns-else-is_shown : goal.returns-else-is_shown
 returns-else-is_shown c =
     let site = site_under c.args.to.now.policy.now c.args.to.now.schemes.now in
-    c.new.ensures.items ∙ none_heard site c.args.to.now.event.now c.args.reader (sym c.is_shown.ensures ∙ c.if-is_shown.false) (table_texts site c.args.to.now.event.now.command c.args.rows.now)
+    c.new.ensures.items ∙ none_heard site c.args.to.now.event.now c.args.reader (sym c.is_shown.ensures
+    ∙ c.if-is_shown.false) (table_texts site c.args.to.now.event.now.command c.args.rows.now)

@@ -12,7 +12,8 @@ returns-in-Ran c =
 pub returns-in_default : goal.returns-in_default
 returns-in_default c =
     IfOk-weaker c.reply_bytes.result _ _
-    (λ v h. h ∙ plain_seen (site_under c.args.policy.now c.args.schemes.now) c.args.event.now c.args.reader true (sym c.dominates.ensures.order ∙ c.if-dominates.true) c.args.reply.now c.in_default.not-Ran) c.reply_bytes.ensures
+    (λ v h. h ∙ plain_seen (site_under c.args.policy.now c.args.schemes.now) c.args.event.now c.args.reader true
+    (sym c.dominates.ensures.order ∙ c.if-dominates.true) c.args.reply.now c.in_default.not-Ran) c.reply_bytes.ensures
 
 pub returns-in_default-2 : goal.returns-in_default-2
 returns-in_default-2 c =

@@ -9,5 +9,6 @@ returns c =
     let cells = padded c.args.widths.now 0 c.args.names.now in
     c.in_ok-push_str-2.ensures
     ∙ ap (λ (x : List ℕ). x ++ codes "\n")
-    (c.in_ok-push_str.ensures ∙ ap (λ (x : List ℕ). x ++ codes "class") (c.in_ok-push_row.ensures ∙ ap (λ (x : List ℕ). x ++ cells) c.in_ok-push_front.ensures))
+    (c.in_ok-push_str.ensures ∙ ap (λ (x : List ℕ). x ++ codes "class") (c.in_ok-push_row.ensures
+    ∙ ap (λ (x : List ℕ). x ++ cells) c.in_ok-push_front.ensures))
     ∙ item_parts c.args.text.now.items (front c.args.to.now.policy.now c.args.to.now.event.now c.args.to.now.event.now.level) cells (codes "class") (codes "\n")

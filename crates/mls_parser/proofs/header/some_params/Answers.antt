@@ -8,7 +8,10 @@ pub loop-params-preserved : goal.loop-params-preserved
 unfolding next_param param_behind
 loop-params-preserved c =
     let h = c.loop-params.invariant in
-    let more = items_more (next_param c.args.policy.now) ([], 0) c.args.reader.now (c.loop-params.params, c.loop-params.count) c.loop-params.reader h.so_far in
+    let more = items_more (next_param c.args.policy.now) ([], 0) c.args.reader.now (
+      c.loop-params.params,
+      c.loop-params.count,
+    ) c.loop-params.reader h.so_far in
     let less = param_less c.args.policy.now (c.loop-params.params, c.loop-params.count) c.loop-params.reader in
     let is = c.in_ok-next_param.ensures.exact in
     record {

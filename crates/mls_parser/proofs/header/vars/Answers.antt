@@ -13,8 +13,10 @@ loop-vars-preserved c =
     let few = c.in_ok-next.ensures.few in
     let before = h.few in
     record {
-      so_far = things_more (next_var c.args.params.now) 65 ([], 0) c.args.reader.now (64 - c.loop-vars.count) (c.loop-vars.vars, c.loop-vars.count) c.loop-vars.reader h.so_far
-          (c.next_var.new.vars, c.in-Some.next) c.next_var.new.reader (64 - c.in-Some.next) is (omega (arith, less, more));
+      so_far = things_more (next_var c.args.params.now) 65 ([], 0) c.args.reader.now (64 - c.loop-vars.count)
+          (c.loop-vars.vars, c.loop-vars.count) c.loop-vars.reader h.so_far
+          (c.next_var.new.vars, c.in-Some.next) c.next_var.new.reader (64 - c.in-Some.next) is
+          (omega (arith, less, more));
       few = omega (arith, few, before, more);
       most = omega (arith, less, more);
     }

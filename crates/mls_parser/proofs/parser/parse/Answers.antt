@@ -30,12 +30,17 @@ returns-in-Err-clause-judged c =
     λ x right other.
     let bytes = c.args.bytes.now in
     let fault = c.in-Err.fault in
-    let is : c.in_text.result ≡ in_text bytes fault = search rules in
-    (fault, refused_least c.args.policy.now c.args.schemes.now bytes x right fault (c.in-Err.ensures.exact (λ e. other (ap (λ t. t.cause) is ∙ same_cause bytes fault ∙ e))), is)
+    let is : c.in_text.result ≡ in_text bytes fault = search rules in (
+      fault,
+      refused_least c.args.policy.now c.args.schemes.now bytes x right fault
+          (c.in-Err.ensures.exact (λ e. other (ap (λ t. t.cause) is ∙ same_cause bytes fault ∙ e))),
+      is,
+    )
 
 pub returns-in-Err-clause-refused : goal.returns-in-Err-clause-refused
 returns-in-Err-clause-refused c =
     λ other.
     let policy : IsPolicy c.args.policy.now = search rules in
     let schemes : AreSchemes c.args.schemes.now = search rules in
-    never_told c.args.policy.now c.args.schemes.now policy schemes c.args.bytes.now c.in_text.result (returns-in-Err-clause-exact c other)
+    never_told c.args.policy.now c.args.schemes.now policy schemes c.args.bytes.now c.in_text.result
+    (returns-in-Err-clause-exact c other)

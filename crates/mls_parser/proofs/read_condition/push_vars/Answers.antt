@@ -21,6 +21,8 @@ loop-place-preserved c =
     let front = c.args.vars.now in
     let i = c.loop-place.place in
     c.in_ok-push.ensures
-    ∙ ap (λ (xs : List (Name × Kind)). xs ++ (string_bytes c.in_ok-name.name, c.get.result.now.kind) ∷ []) c.loop-place.invariant
-    ∙ ap (λ (n : List ℕ). (front ++ map attribute_var (take i all)) ++ (n, c.get.result.now.kind) ∷ []) c.in_ok-name.ensures.ok
+    ∙ ap (λ (xs : List (Name × Kind)). xs ++ (string_bytes c.in_ok-name.name, c.get.result.now.kind)
+    ∷ []) c.loop-place.invariant
+    ∙ ap (λ (n : List ℕ). (front ++ map attribute_var (take i all)) ++ (n, c.get.result.now.kind)
+    ∷ []) c.in_ok-name.ensures.ok
     ∙ var_more front all i c.name.result.now c.get.result.now c.name.ensures c.get.ensures

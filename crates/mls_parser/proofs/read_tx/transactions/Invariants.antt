@@ -5,7 +5,8 @@ use Rattle.mls_parser.proofs.read_tx.transactions.Given as goal
 
 abbrev pub invariant-loop-drafts : goal.invariant-loop-drafts
 invariant-loop-drafts l = record {
-  so_far : ThingsSoFar (next_transaction l.policy l.schemes) 65 [] l.fn.reader (64 - length l.drafts.items) l.drafts.items l.reader;
+  so_far : ThingsSoFar (next_transaction l.policy l.schemes) 65 [] l.fn.reader
+      (64 - length l.drafts.items) l.drafts.items l.reader;
   most : length l.drafts.items ≤ 64;
 }
 

@@ -7,4 +7,5 @@ use Rattle.mls_queries.proofs.classes.class_of.Given as goal
 abbrev pub invariant-loop-element : goal.invariant-loop-element
 invariant-loop-element l =
     (l.element-items ≡ l.row.elements)
-    × (join_of (labels_of l.policy) (pair_of l.class) (drop l.element-index l.element-items) ≡ tuple_class (labels_of l.policy) l.row)
+    × (join_of (labels_of l.policy) (pair_of l.class) (drop l.element-index l.element-items)
+    ≡ tuple_class (labels_of l.policy) l.row)

@@ -16,11 +16,16 @@ loop-place-preserved c =
     let key = c.loop-place.key.items in
     let value = c.in_ok-copy.field-0 in
     let pushed : c.push.new.self.items ≡ key ++ value ∷ [] = c.in_ok-push.ensures.items in
-    let spelled = subst HasSpelling (sym c.in_ok-copy.ensures) (kind-spelled c.in-Some.value.now c.get.result.now.kind (sym c.if-not-is_kind.ensures)) in
+    let spelled = subst HasSpelling (sym c.in_ok-copy.ensures) (kind-spelled c.in-Some.value.now c.get.result.now.kind
+    (sym c.if-not-is_kind.ensures)) in
     let said : Some value ≡ demanded place test = ap Some c.in_ok-copy.ensures ∙ c.in-Some.ensures in
-    let lt : place < count = (let a = c.loop-place-test.true in let b = c.len-place-end.ensures in let d = ap length c.keys-attributes.ensures.keys in omega (arith, a, b, d)) in
+    let lt : place < count = (let a = c.loop-place-test.true in let b = c.len-place-end.ensures
+    in let d = ap length c.keys-attributes.ensures.keys in omega (arith, a, b, d)) in
     record {
-      spelled = subst (AllByRecursion HasSpelling) (sym pushed) (all_append HasSpelling key (value ∷ []) inv.spelled (spelled, tt));
-      long = (let a = ap length pushed in let b = length-append key (value ∷ []) in let d = inv.long in omega (arith, a, b, d));
-      demands = subst (Demands test count (place + 1)) (sym pushed) (demands_more test count place value key lt said inv.demands);
+      spelled = subst (AllByRecursion HasSpelling) (sym pushed) (all_append HasSpelling key (value ∷ []) inv.spelled
+          (spelled, tt));
+      long = (let a = ap length pushed in let b = length-append key (value ∷ []) in let d = inv.long
+          in omega (arith, a, b, d));
+      demands = subst (Demands test count (place + 1)) (sym pushed)
+          (demands_more test count place value key lt said inv.demands);
     }

@@ -8,7 +8,13 @@ use Rattle.mls_queries.proofs.LookLemmas.{looked_up}
 use Rattle.mls_queries.proofs.finding.find_by_key.Goals as goal
 
 pub look_up-requires-clause-see : goal.look_up-requires-clause-see
-look_up-requires-clause-see g c = record { label = c.requires.label; stored = λ clean. (length c.args.scheme.now.others, (c.requires.content clean).stored) }
+look_up-requires-clause-see g c = record {
+  label = c.requires.label;
+  stored = λ clean. (
+    length c.args.scheme.now.others,
+    (c.requires.content clean).stored,
+  );
+}
 
 pub returns-clause-rows : goal.returns-clause-rows
 returns-clause-rows g c = λ clean.
@@ -20,6 +26,8 @@ returns-clause-rows g c = λ clean.
     let made_of = subst (λ r. IfOk r (λ v. v ≡ c.in_ok-tuples.tuples.items)) c.in_ok-view.ensures.value c.new.ensures in
     let seen = made_of ∙ c.in_ok-tuples.ensures.rows before in
     let by_key = subst AreByKey (sym seen) (rows_by_key ls c.args.label (of_key c.args.key T)) in
-    subst (λ r. IfOk r (λ s. AreByKey view → s ≡ found ls c.args.query.now view)) c.in_ok-found.ensures.value c.select.ensures by_key
+    subst (λ r. IfOk r (λ s. AreByKey view → s
+    ≡ found ls c.args.query.now view)) c.in_ok-found.ensures.value c.select.ensures by_key
     ∙ ap (found ls c.args.query.now) seen
-    ∙ looked_up ls c.args.scheme.now T (c.requires.content (c.in_ok-tuples.ensures.read.call.clean before)) c.args.label c.args.query.now c.args.key c.requires.demanded.demanded
+    ∙ looked_up ls c.args.scheme.now T (c.requires.content
+    (c.in_ok-tuples.ensures.read.call.clean before)) c.args.label c.args.query.now c.args.key c.requires.demanded.demanded

@@ -10,6 +10,8 @@ returns-clause-rows g c = λ clean.
     let ls = labels_of c.args.policy.now in
     let view = c.in_ok-view.view in
     let seen = c.in_ok-view.ensures.rows (c.in_ok-found.ensures.call.clean clean) in
-    let by_key = subst AreByKey (sym seen) (rows_by_key ls c.args.label ((g.B.Base.seen c.args.base.now).state.now.db c.args.relation)) in
-    subst (λ r. IfOk r (λ s. AreByKey view → s ≡ found ls c.args.query.now view)) c.in_ok-found.ensures.value c.select.ensures by_key
+    let by_key = subst AreByKey (sym seen) (rows_by_key ls c.args.label
+    ((g.B.Base.seen c.args.base.now).state.now.db c.args.relation)) in
+    subst (λ r. IfOk r (λ s. AreByKey view → s
+    ≡ found ls c.args.query.now view)) c.in_ok-found.ensures.value c.select.ensures by_key
     ∙ ap (found ls c.args.query.now) seen

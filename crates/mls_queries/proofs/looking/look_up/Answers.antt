@@ -14,4 +14,5 @@ returns-clause-rows g c = λ clean.
     let before = c.in_ok-tuples.ensures.call.clean clean in
     let stored = c.requires.see.stored (c.in_ok-parts.ensures.read.call.clean before) in
     subst (λ r. IfOk r (λ v. v.items ≡ rows ls c.args.label (of_key key T))) c.in_ok-tuples.ensures.value
-    (IfOk-weaker c.seen.result _ _ (λ v each. each stored.0 (of_key key T) (of_key_stored ls T c.args.label key stored.0 stored.1) (c.in_ok-parts.ensures.parts before)) c.seen.ensures)
+    (IfOk-weaker c.seen.result _ _ (λ v each. each stored.0 (of_key key T)
+    (of_key_stored ls T c.args.label key stored.0 stored.1) (c.in_ok-parts.ensures.parts before)) c.seen.ensures)

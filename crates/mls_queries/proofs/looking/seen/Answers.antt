@@ -14,7 +14,8 @@ use Rattle.mls_queries.proofs.looking.seen.Goals as goal
 
 pub filter-requires-clause-classes : goal.filter-requires-clause-classes
 filter-requires-clause-classes c =
-    subst (AllByRecursion (HasClassesBelow (length c.args.policy.now.labels))) (sym (c.deref.ensures.value ∙ c.in_ok-tuples.ensures.tuples))
+    subst (AllByRecursion (HasClassesBelow (length c.args.policy.now.labels)))
+    (sym (c.deref.ensures.value ∙ c.in_ok-tuples.ensures.tuples))
     (known_below (length c.args.policy.now.labels) (map (λ e. tuple_at e.0 e.1) c.in_ok-found.found.entries))
 
 pub returns : goal.returns
@@ -24,6 +25,8 @@ returns c =
     IfOk-weaker c.filter.result _ _ (λ v each n T stored parts.
     each n (low ls label T) (low_stored ls n label T stored) (λ t.
     subst (λ xs. IsAmong t xs ↔ IsIn (low ls label T) t) (sym (c.deref.ensures.value ∙ c.in_ok-tuples.ensures.tuples))
-    (among_low ls n T stored label c.args.parts.nodes c.args.parts.cells parts (get cell_place_cmp c.in_ok-values.values) c.in_ok-values.ensures c.in_ok-found.found.entries
-    c.tuples_of.ensures.ordered c.in_ok-found.ensures.rows (length c.args.policy.now.labels) (length-map c.args.policy.now.labels (λ l. l.value)) t))
+    (among_low ls n T stored label c.args.parts.nodes c.args.parts.cells parts
+    (get cell_place_cmp c.in_ok-values.values) c.in_ok-values.ensures c.in_ok-found.found.entries
+    c.tuples_of.ensures.ordered c.in_ok-found.ensures.rows (length c.args.policy.now.labels)
+    (length-map c.args.policy.now.labels (λ l. l.value)) t))
     ∙ rows_of_low ls label T) c.filter.ensures.rows

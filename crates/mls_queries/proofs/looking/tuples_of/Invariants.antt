@@ -5,5 +5,6 @@ use Rattle.mls_queries.proofs.looking.tuples_of.Given as goal
 
 abbrev pub invariant-loop-place : goal.invariant-loop-place
 invariant-loop-place l =
-    l.tuples.items ++ filter (has_known (length l.policy.labels)) (map (λ e. tuple_at e.0 e.1) l.place-iterator.rest.items)
+    l.tuples.items ++ filter (has_known (length l.policy.labels))
+    (map (λ e. tuple_at e.0 e.1) l.place-iterator.rest.items)
     ≡ filter (has_known (length l.policy.labels)) (map (λ e. tuple_at e.0 e.1) l.fn.found.entries)

@@ -7,7 +7,9 @@ use Rattle.mls_queries.proofs.operator.minus.Goals as goal
 pub returns : goal.returns
 returns c =
     let first : to_z w64 (of_z w64 c.in-Some.first) ≡ c.in-Some.first = grind (arith, to_z-of_z) in
-    let second : to_z w64 (of_z w64 c.in-Some-as_number.second) ≡ c.in-Some-as_number.second = grind (arith, to_z-of_z) in
+    let second : to_z w64 (of_z w64 c.in-Some-as_number.second) ≡ c.in-Some-as_number.second = grind (arith, to_z-of_z)
+    in
     c.number.ensures
-    ∙ of_numbers ◌-ℤ◌ (value_of (datum_of c.args.left)) (value_of (datum_of c.args.right)) c.in-Some.first c.in-Some-as_number.second c.checked_sub.result c.in-Some.ensures c.in-Some-as_number.ensures
+    ∙ of_numbers ◌-ℤ◌ (value_of (datum_of c.args.left))
+    (value_of (datum_of c.args.right)) c.in-Some.first c.in-Some-as_number.second c.checked_sub.result c.in-Some.ensures c.in-Some-as_number.ensures
     (subst (λ n. SomeIff c.checked_sub.result (FitsSigned w64 n) n) (λ i. first i -ℤ second i) c.checked_sub.ensures)

@@ -15,5 +15,6 @@ invariant-loop-number g l =
       mode : (B.seen l.base).state.begun ≡ (B.seen l.fn.base).state.begun;
       same : (B.seen l.base).is_clean → (B.seen l.base).state ≡ (B.seen l.fn.base).state;
       key : l.place.key ≡ l.fn.key;
-      parts : (B.seen l.base).is_clean → AreOf (IsOfKey (labels_of l.policy) ((B.seen l.fn.base).state.now.db l.relation) l.label l.fn.key l.number) l.nodes.items l.cells.items;
+      parts : (B.seen l.base).is_clean → AreOf (IsOfKey (labels_of l.policy)
+          ((B.seen l.fn.base).state.now.db l.relation) l.label l.fn.key l.number) l.nodes.items l.cells.items;
     }

@@ -16,8 +16,11 @@ mend-requires-clause-see g c = record {
   label = c.requires.see.label;
   stored = λ clean.
       let inv = c.loop-place.invariant in
-      let stored = c.requires.see.stored (inv.clean clean) in
-      (stored.0, subst (λ (s : State). IsStored (labels_of c.args.policy.now) stored.0 (s.now.db c.args.relation)) (sym (inv.same clean)) stored.1);
+      let stored = c.requires.see.stored (inv.clean clean) in (
+        stored.0,
+        subst (λ (s : State). IsStored (labels_of c.args.policy.now) stored.0 (s.now.db c.args.relation))
+            (sym (inv.same clean)) stored.1,
+      );
 }
 
 pub loop-place-preserved : goal.loop-place-preserved
@@ -41,18 +44,23 @@ loop-place-preserved g c =
       named = (subst (AllByRecursion (IsNamed (length c.args.policy.now.labels))) here inv.named).1;
       agrees = λ clean.
           let before = m.read.call.clean clean in
-          let is = m.rows clean ∙ ap (λ (s : State). mended p (rows ls label (of_entity p (s.now.db c.args.relation))) ts) (inv.same before) in
+          let is = m.rows clean ∙ ap (λ (s : State). mended p
+          (rows ls label (of_entity p (s.now.db c.args.relation))) ts) (inv.same before) in
           subst (λ xs. AgreesWith (rows ls label T) (record { tuples = xs; written = rest })) (sym is)
-          (mended_agrees ls label T p rest ts (subst (λ ws. AgreesWith (rows ls label T) (record { tuples = ts; written = ws })) here (inv.agrees before)));
+          (mended_agrees ls label T p rest ts (subst (λ ws. AgreesWith (rows ls label T)
+          (record { tuples = ts; written = ws })) here (inv.agrees before)));
     }
 
 pub returns-clause-rows : goal.returns-clause-rows
 returns-clause-rows g c = λ clean.
-    let now = rows (labels_of c.args.policy.now) c.args.label ((g.B.Base.seen c.args.base.now).state.now.db c.args.relation) in
+    let now = rows (labels_of c.args.policy.now) c.args.label
+    ((g.B.Base.seen c.args.base.now).state.now.db c.args.relation) in
     let ts = c.loop-place.tuples.items in
     let none : length c.loop-place.place-iterator.rest.items ≡ 0 = search rules in
-    let nil : c.loop-place.place-iterator.rest.items ≡ [] = nil_from_length c.loop-place.place-iterator.rest.items none in
-    none_written now ts (subst (λ ws. AgreesWith now (record { tuples = ts; written = ws })) nil (c.loop-place.invariant.agrees clean))
+    let nil : c.loop-place.place-iterator.rest.items ≡ [] = nil_from_length c.loop-place.place-iterator.rest.items none
+    in
+    none_written now ts (subst (λ ws. AgreesWith now (record { tuples = ts; written = ws })) nil
+    (c.loop-place.invariant.agrees clean))
 
 pub returns-in_err-tuples-clause-access : goal.returns-in_err-tuples-clause-access
 returns-in_err-tuples-clause-access g c = avoids_then c.loop-place.invariant.access c.in_err-tuples.ensures.access

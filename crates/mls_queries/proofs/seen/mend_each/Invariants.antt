@@ -16,5 +16,10 @@ invariant-loop-place g l =
       mode : (B.seen l.base).state.begun ≡ (B.seen l.fn.base).state.begun;
       same : (B.seen l.base).is_clean → (B.seen l.base).state ≡ (B.seen l.fn.base).state;
       named : AllByRecursion (IsNamed (length l.policy.labels)) l.place-iterator.rest.items;
-      agrees : (B.seen l.base).is_clean → AgreesWith (rows (labels_of l.policy) l.label ((B.seen l.fn.base).state.now.db l.relation)) (record { tuples = l.tuples.items; written = l.place-iterator.rest.items });
+      agrees : (B.seen l.base).is_clean → AgreesWith (rows (labels_of l.policy) l.label
+          ((B.seen l.fn.base).state.now.db l.relation)) (record {
+            tuples = l.tuples.items;
+            written =
+                l.place-iterator.rest.items;
+          });
     }

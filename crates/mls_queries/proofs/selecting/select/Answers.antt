@@ -5,4 +5,5 @@ use Rattle.mls_queries.proofs.selecting.select.Goals as goal
 
 pub returns-then-asks_nothing : goal.returns-then-asks_nothing
 returns-then-asks_nothing c = λ s.
-    c.whole.ensures ∙ finds_all (labels_of c.args.policy.now) c.args.query.now c.args.view (sym c.asks_nothing.ensures ∙ c.if-asks_nothing.true)
+    c.whole.ensures ∙ finds_all (labels_of c.args.policy.now) c.args.query.now c.args.view (sym c.asks_nothing.ensures
+    ∙ c.if-asks_nothing.true)

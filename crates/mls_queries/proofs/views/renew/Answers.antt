@@ -10,7 +10,8 @@ returns c = λ es e is.
     let p = unwrap_or c.args.written.now no_place in
     let last = the_last cache es e is c.in-Some.key c.in-Some.seen (sym c.in-Some.is ∙ c.pop_lru.ensures.value) in
     let left = c.pop_lru.ensures.entries ∙ popped cache es e is in
-    let view : c.in-Some-noting.seen ≡ noted p e.1 = c.in-Some-noting.ensures.noted ∙ ap (λ (x : Entry). noted p x.1) last in
+    let view : c.in-Some-noting.seen ≡ noted p e.1 = c.in-Some-noting.ensures.noted
+    ∙ ap (λ (x : Entry). noted p x.1) last in
     elim c.put.ensures [
       | inl same ↦ inr (same ∙ left)
       | inr put ↦ inl (

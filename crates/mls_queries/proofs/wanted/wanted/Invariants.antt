@@ -6,4 +6,5 @@ use Rattle.mls_queries.proofs.wanted.wanted.Given as goal
 
 abbrev pub invariant-loop-place : goal.invariant-loop-place
 invariant-loop-place l =
-    l.wanted.items ≡ filter (λ p. is_wanted (labels_of l.policy) l.query (slice_index_or l.rows p no_tuple)) (take l.place-index l.places)
+    l.wanted.items ≡ filter (λ p. is_wanted (labels_of l.policy) l.query (slice_index_or l.rows p no_tuple))
+    (take l.place-index l.places)

@@ -7,6 +7,8 @@ pub returns-in-Ok-first_pattern-clause-found : goal.returns-in-Ok-first_pattern-
 returns-in-Ok-first_pattern-clause-found g c clean content holds =
     let p = c.args.place.now in
     let patterns = c.in_ok-patterns.patterns.items in
-    let some = subst (λ k. IsPermutation (map (λ n. n.pattern) (filter (is_node k) c.args.store.now.now.nodes)) patterns) c.in-Ok.ensures.made (c.in_ok-patterns.ensures.found clean) in
+    let some = subst (λ k. IsPermutation (map (λ n. n.pattern)
+    (filter (is_node k) c.args.store.now.now.nodes)) patterns) c.in-Ok.ensures.made
+    (c.in_ok-patterns.ensures.found clean) in
     c.in-Ok-first_pattern.ensures ∙ ap (λ (l : List (List ℕ)). slice_get l 0) c.deref.ensures.value
     ∙ shows_pattern c.args.store.now.now content c.args.relation p holds c.requires.key patterns some

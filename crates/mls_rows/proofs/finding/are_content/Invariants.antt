@@ -6,4 +6,5 @@ use Rattle.mls_rows.specs.Changes.{table_in}
 use Rattle.mls_rows.proofs.finding.are_content.Given as goal
 
 abbrev pub invariant-loop-relation : goal.invariant-loop-relation
-invariant-loop-relation l = (relation : ℕ) → relation < l.relation → IsContent (labels_of l.policy) (scheme_of l.schemes relation) (table_in (map (λ t. t.entries) l.tables) relation)
+invariant-loop-relation l = (relation : ℕ) → relation < l.relation → IsContent (labels_of l.policy)
+    (scheme_of l.schemes relation) (table_in (map (λ t. t.entries) l.tables) relation)

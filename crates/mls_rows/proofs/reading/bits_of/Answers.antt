@@ -19,6 +19,7 @@ returns c = λ m.
     let labels = c.args.labels.now in
     let fits : c.loop-label.bits < 2 ^ 64 = search rules in
     elim (cases_lt m 64) [
-      | inl few ↦ c.loop-label.invariant m few ∙ ap (list_any (λ k. nat_eq m k)) (take_all c.loop-label.label-index labels c.loop-label-test.false)
+      | inl few ↦ c.loop-label.invariant m few ∙ ap (list_any (λ k. nat_eq m k))
+          (take_all c.loop-label.label-index labels c.loop-label-test.false)
       | inr high ↦ high_bit c.loop-label.bits m fits high labels c.requires
     ]

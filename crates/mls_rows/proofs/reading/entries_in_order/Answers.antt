@@ -8,7 +8,8 @@ use Rattle.mls_rows.proofs.reading.entries_in_order.Goals as goal
 pub returns-then-not-are_numbered-clause-only : goal.returns-then-not-are_numbered-clause-only
 returns-then-not-are_numbered-clause-only c list same =
     let rows = sorted_entries list _ _ same c.in_ok-sort.ensures.permutation c.in_ok-sort.ensures.sorted in
-    absurd (true≢false (sym (rising 1 list) ∙ ap (are_numbered (pos 1)) (sym (c.deref.ensures.value ∙ rows)) ∙ sym c.are_numbered.ensures ∙ c.if-not-are_numbered.true))
+    absurd (true≢false (sym (rising 1 list) ∙ ap (are_numbered (pos 1)) (sym (c.deref.ensures.value ∙ rows))
+    ∙ sym c.are_numbered.ensures ∙ c.if-not-are_numbered.true))
 
 pub returns-clause-found : goal.returns-clause-found
 returns-clause-found c list same =

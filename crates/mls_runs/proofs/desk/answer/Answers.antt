@@ -9,4 +9,6 @@ returns-in-empty-clause-done g c = λ clean.
 pub returns-in-len1-up-clause-done : goal.returns-in-len1-up-clause-done
 returns-in-len1-up-clause-done g c = λ clean.
     done_first (site c.args.engine.now) (world_of g.B.Base.seen c.args.engine.now) c.event-item.result c.event-item.result c.args.events.now c.in-len1-up.len_at_least c.event-item.is c.requires.one
-    (g.W.Write.contents c.args.out.now) (g.W.Write.contents c.run_to.new.out) (world_of g.B.Base.seen c.run_to.new.engine) c.run_to.result (c.run_to.ensures.ok clean) (c.run_to.ensures.err clean) c.run_to.ensures.fault
+    (g.W.Write.contents c.args.out.now) (g.W.Write.contents c.run_to.new.out)
+    (world_of g.B.Base.seen c.run_to.new.engine) c.run_to.result (c.run_to.ensures.ok clean)
+    (c.run_to.ensures.err clean) c.run_to.ensures.fault

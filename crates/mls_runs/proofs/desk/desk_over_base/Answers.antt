@@ -30,11 +30,15 @@ returns-clause-desk g c = λ clean.
     let left = (g.B.Base.seen c.finish.result).state.now in
     let sessions = sessions_of new.sessions.items in
     let back = given_back g.B.Base.seen at c.new-engine.result new c.finish.result c.new-engine.ensures.site c.serve-outcome.ensures.continues.kept c.finish.ensures in
-    let distinct : AreDistinct (site_labels at) = subst (λ (s : Site). AreDistinct (site_labels s)) c.new-engine.ensures.site c.new-engine.result.site.distinct in
-    let start = c.requires.rest.sound (subst (λ b. (g.B.Base.seen b).is_clean) c.new-engine.ensures.base (c.serve-outcome.ensures.continues.clean was)) in
+    let distinct : AreDistinct (site_labels at) =
+    subst (λ (s : Site). AreDistinct (site_labels s)) c.new-engine.ensures.site c.new-engine.result.site.distinct in
+    let start = c.requires.rest.sound (subst (λ b. (g.B.Base.seen b).is_clean) c.new-engine.ensures.base
+    (c.serve-outcome.ensures.continues.clean was)) in
     let before = g.L.TypedLines.remaining c.args.lines.now in
     let after = g.L.TypedLines.remaining c.serve-outcome.new.lines in
     let Broken = g.L.TypedLines.breaks c.serve-outcome.new.lines in
     let Wrote = IsAppended g.W.Write.contents c.args.out.now c.serve-outcome.new.out in
     desk_at g.L.TypedLines.echo at sessions first left before after Broken Wrote c.serve-outcome.result distinct c.requires.may.read c.requires.may.certified start (back.rest.sound clean)
-    (service_at g.L.TypedLines.echo before after Broken Wrote c.serve-outcome.result _ at _ (first_world at first) _ (world_at at sessions left) c.new-engine.ensures.site c.new-engine.ensures.world back.world (c.serve-outcome.ensures.service was))
+    (service_at g.L.TypedLines.echo before after Broken Wrote c.serve-outcome.result _ at _ (first_world at first) _
+    (world_at at sessions left) c.new-engine.ensures.site c.new-engine.ensures.world back.world
+    (c.serve-outcome.ensures.service was))

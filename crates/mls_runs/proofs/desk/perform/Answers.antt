@@ -8,12 +8,14 @@ use Rattle.mls_runs.proofs.desk.perform.Goals as goal
 
 pub returns-in-Lost-clause-done : goal.returns-in-Lost-clause-done
 returns-in-Lost-clause-done g c = λ clean.
-    done_none (site c.args.engine.now) (world_of g.B.Base.seen c.args.engine.now) (events_of c.args.fate.now) (ap events_of c.in-Lost.is) (g.W.Write.contents c.args.out.now) _
+    done_none (site c.args.engine.now) (world_of g.B.Base.seen c.args.engine.now) (events_of c.args.fate.now)
+    (ap events_of c.in-Lost.is) (g.W.Write.contents c.args.out.now) _
 
 pub returns-in-Lost-clause-continues : goal.returns-in-Lost-clause-continues
 returns-in-Lost-clause-continues g c =
     let at = site c.args.engine.now in
-    goes_nowhere g.B.Base.seen c.args.engine.now c.requires.ready _ (λ is. subst (FateFits at.policy at.schemes) c.in-Lost.is c.requires.line.fits is)
+    goes_nowhere g.B.Base.seen c.args.engine.now c.requires.ready _
+    (λ is. subst (FateFits at.policy at.schemes) c.in-Lost.is c.requires.line.fits is)
 
 pub returns-in_default-clause-done : goal.returns-in_default-clause-done
 returns-in_default-clause-done g c = λ clean.

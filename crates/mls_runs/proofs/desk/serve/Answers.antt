@@ -13,7 +13,8 @@ use Rattle.mls_runs.proofs.desk.serve.Goals as goal
 pub loop-init : goal.loop-init
 loop-init g c = (
   goes_nowhere g.B.Base.seen c.args.engine.now c.requires.ready (Ok tt) tt,
-  so_far_start g.B.Base.seen g.L.TypedLines.echo c.args.engine.now (g.L.TypedLines.remaining c.args.lines.now) (g.W.Write.contents c.args.out.now) c.requires.ready,
+  so_far_start g.B.Base.seen g.L.TypedLines.echo c.args.engine.now (g.L.TypedLines.remaining c.args.lines.now)
+      (g.W.Write.contents c.args.out.now) c.requires.ready,
 )
 
 pub follow-requires-clause-ready : goal.follow-requires-clause-ready
@@ -21,7 +22,8 @@ follow-requires-clause-ready g c = c.loop.invariant.1.heard.kept.ready
 
 pub follow-requires-clause-line : goal.follow-requires-clause-line
 follow-requires-clause-line g c = record {
-  fits = fits_at (site c.loop.engine) (site c.args.engine.now) c.args.policy.now c.args.schemes.now (ap site_of_run c.loop.invariant.1.heard.kept.site) c.requires.policy c.requires.schemes _ c.next_fate-fate.ensures.fits;
+  fits = fits_at (site c.loop.engine) (site c.args.engine.now) c.args.policy.now c.args.schemes.now
+      (ap site_of_run c.loop.invariant.1.heard.kept.site) c.requires.policy c.requires.schemes _ c.next_fate-fate.ensures.fits;
   one = one_event g.L.TypedLines.echo c.args.policy.now c.args.schemes.now _ _ _ _ _ _ c.next_fate-fate.ensures.read;
 }
 
@@ -43,13 +45,16 @@ returns-in_err-follow-clause-service g c = λ clean.
       read = heard_at g.L.TypedLines.echo (site c.args.engine.now) c.args.policy.now c.args.schemes.now _ _ _ _ _ _ c.requires.policy c.requires.schemes c.next_fate-fate.ensures.read;
       fits = fits_at (site c.args.engine.now) (site c.args.engine.now) c.args.policy.now c.args.schemes.now refl c.requires.policy c.requires.schemes _ c.next_fate-fate.ensures.fits;
     } in
-    carried (λ r. IsService g.L.TypedLines.echo (site c.args.engine.now) given over Broken (IsAppended g.W.Write.contents c.args.out.now c.follow.new.out) r (world_of g.B.Base.seen c.args.engine.now) (world_of g.B.Base.seen c.follow.new.engine))
+    carried (λ r. IsService g.L.TypedLines.echo (site c.args.engine.now) given over Broken
+    (IsAppended g.W.Write.contents c.args.out.now c.follow.new.out) r (world_of g.B.Base.seen c.args.engine.now)
+    (world_of g.B.Base.seen c.follow.new.engine))
     c.from_residual.result c.in_err-follow.field-0.0 c.from_residual.ensures.1
     (broken g.B.Base.seen g.L.TypedLines.echo c.args.engine.now given was c.loop.engine left is c.loop.invariant.1 c.next_fate-fate.result over shown Broken heard
     c.follow.new.engine (g.W.Write.contents c.follow.new.out) c.follow.ensures.continues.clean c.follow.ensures.continues.kept c.in_err-follow.field-0.0 clean (c.in_err-follow.ensures.followed clean))
 
 pub returns-then-is_last-clause-continues : goal.returns-then-is_last-clause-continues
-returns-then-is_last-clause-continues g c = goes_on g.B.Base.seen c.args.engine.now c.loop.engine c.follow.new.engine tt c.loop.invariant.0 tt _ c.in_ok-follow.ensures.continues
+returns-then-is_last-clause-continues g c =
+    goes_on g.B.Base.seen c.args.engine.now c.loop.engine c.follow.new.engine tt c.loop.invariant.0 tt _ c.in_ok-follow.ensures.continues
 
 pub returns-then-is_last-clause-service : goal.returns-then-is_last-clause-service
 returns-then-is_last-clause-service g c = λ clean.
@@ -65,7 +70,9 @@ returns-then-is_last-clause-service g c = λ clean.
       fits = fits_at (site c.args.engine.now) (site c.args.engine.now) c.args.policy.now c.args.schemes.now refl c.requires.policy c.requires.schemes _ c.next_fate-fate.ensures.fits;
     } in
     let same = c.ending_if.ensures ∙ ap ending_if c.is_failed.ensures in
-    subst (λ e. IsService g.L.TypedLines.echo (site c.args.engine.now) given over Broken (IsAppended g.W.Write.contents c.args.out.now c.follow.new.out) (Ok e) (world_of g.B.Base.seen c.args.engine.now) (world_of g.B.Base.seen c.follow.new.engine)) (sym same)
+    subst (λ e. IsService g.L.TypedLines.echo (site c.args.engine.now) given over Broken
+    (IsAppended g.W.Write.contents c.args.out.now c.follow.new.out) (Ok e)
+    (world_of g.B.Base.seen c.args.engine.now) (world_of g.B.Base.seen c.follow.new.engine)) (sym same)
     (over_last g.B.Base.seen g.L.TypedLines.echo c.args.engine.now given was c.loop.engine left is c.loop.invariant.1 c.next_fate-fate.result over shown Broken heard
     c.follow.new.engine (g.W.Write.contents c.follow.new.out) c.follow.ensures.continues.clean c.follow.ensures.continues.kept c.in_ok-follow.ensures.found c.in_ok-follow.ensures.followed (sym c.is_last.ensures ∙ c.if-is_last.true) clean)
 
@@ -83,7 +90,8 @@ loop-preserved g c =
       fits = fits_at (site c.args.engine.now) (site c.args.engine.now) c.args.policy.now c.args.schemes.now refl c.requires.policy c.requires.schemes _ c.next_fate-fate.ensures.fits;
     } in (
       goes_on g.B.Base.seen c.args.engine.now c.loop.engine c.follow.new.engine tt c.loop.invariant.0 tt tt c.in_ok-follow.ensures.continues,
-      subst (λ b. SoFar g.B.Base.seen g.L.TypedLines.echo c.args.engine.now given was c.follow.new.engine over (g.W.Write.contents c.follow.new.out) b) (sym c.is_last.ensures ∙ c.if-is_last.false)
+      subst (λ b. SoFar g.B.Base.seen g.L.TypedLines.echo c.args.engine.now given was c.follow.new.engine over
+          (g.W.Write.contents c.follow.new.out) b) (sym c.is_last.ensures ∙ c.if-is_last.false)
           (so_far_more g.B.Base.seen g.L.TypedLines.echo c.args.engine.now given was c.loop.engine left is c.loop.invariant.1 c.next_fate-fate.result over shown Broken heard
           c.follow.new.engine (g.W.Write.contents c.follow.new.out) c.follow.ensures.continues.clean c.follow.ensures.continues.kept c.in_ok-follow.ensures.found c.in_ok-follow.ensures.followed),
     )
@@ -93,5 +101,7 @@ returns-clause-continues g c = worn_frame g.B.Base.seen c.args.engine.now c.loop
 
 pub returns-clause-service : goal.returns-clause-service
 returns-clause-service g c = λ clean.
-    worn_out g.B.Base.seen g.L.TypedLines.echo c.args.engine.now (g.L.TypedLines.remaining c.args.lines.now) (g.W.Write.contents c.args.out.now) c.loop.engine (g.L.TypedLines.remaining c.loop.lines) (g.W.Write.contents c.loop.out) c.loop.invariant.1
+    worn_out g.B.Base.seen g.L.TypedLines.echo c.args.engine.now (g.L.TypedLines.remaining c.args.lines.now)
+    (g.W.Write.contents c.args.out.now) c.loop.engine (g.L.TypedLines.remaining c.loop.lines)
+    (g.W.Write.contents c.loop.out) c.loop.invariant.1
     (g.L.TypedLines.breaks c.loop.lines) _ refl clean

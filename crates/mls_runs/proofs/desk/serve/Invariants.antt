@@ -6,5 +6,6 @@ use Rattle.mls_runs.proofs.desk.serve.Given as goal
 abbrev pub invariant-loop : goal.invariant-loop
 invariant-loop g l =
     WentWell g.B.Base.seen l.fn.engine l.engine
-    × SoFar g.B.Base.seen g.L.TypedLines.echo l.fn.engine (g.L.TypedLines.remaining l.fn.lines) (g.W.Write.contents l.fn.out)
+    × SoFar g.B.Base.seen g.L.TypedLines.echo l.fn.engine (g.L.TypedLines.remaining l.fn.lines)
+    (g.W.Write.contents l.fn.out)
     l.engine (g.L.TypedLines.remaining l.lines) (g.W.Write.contents l.out) false

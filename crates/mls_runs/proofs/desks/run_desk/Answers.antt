@@ -10,11 +10,13 @@ use Rattle.mls_runs.proofs.DeskEndLemmas.{Ends, desk_before, desk_over_stored}
 use Rattle.mls_runs.proofs.desks.run_desk.Goals as goal
 
 pub over_store-requires : goal.over_store-requires
-over_store-requires g c = let i = c.args.inputs in may_serve i.setting _ i.transactions c.in_ok-stored.stored c.requires.read c.in_ok-stored.ensures
+over_store-requires g c = let i = c.args.inputs
+    in may_serve i.setting _ i.transactions c.in_ok-stored.stored c.requires.read c.in_ok-stored.ensures
 
 pub returns-in_err-stored-clause-desk : goal.returns-in_err-stored-clause-desk
 returns-in_err-stored-clause-desk g c =
-    desk_before (hosted g.H.Host.hosting g.H.Lines.TypedLines.echo c.args.host.now c.args.host.now) c.args.inputs (named c.args.store) (IsAppended g.W.Write.contents c.args.out.now c.args.out.now)
+    desk_before (hosted g.H.Host.hosting g.H.Lines.TypedLines.echo c.args.host.now c.args.host.now) c.args.inputs
+    (named c.args.store) (IsAppended g.W.Write.contents c.args.out.now c.args.out.now)
     c.from_residual.result c.from_residual.ensures.1 (Appends-nil _)
 
 pub returns-clause-desk : goal.returns-clause-desk
@@ -22,14 +24,19 @@ returns-clause-desk g c =
     let h = hosted g.H.Host.hosting g.H.Lines.TypedLines.echo c.args.host.now c.over_store.new.host in
     let new = c.over_store.new.work in
     let i = c.args.inputs in
-    subst (λ (out : g.row.W.Denot). Ends h i (named c.args.store) (IsAppended g.W.Write.contents c.args.out.now out) c.over_store.result) (search rules)
-    (desk_over_stored h i (named c.args.store) (IsAppended g.W.Write.contents c.args.out.now new.out.now) c.in_ok-stored.stored
-    (g.H.Lines.TypedLines.remaining c.lines-lines.result) (g.H.Lines.TypedLines.remaining new.lines.now) (g.H.Lines.TypedLines.breaks new.lines.now)
+    subst (λ (out : g.row.W.Denot). Ends h i (named c.args.store)
+    (IsAppended g.W.Write.contents c.args.out.now out) c.over_store.result) (search rules)
+    (desk_over_stored h i (named c.args.store)
+    (IsAppended g.W.Write.contents c.args.out.now new.out.now) c.in_ok-stored.stored
+    (g.H.Lines.TypedLines.remaining c.lines-lines.result) (g.H.Lines.TypedLines.remaining new.lines.now)
+    (g.H.Lines.TypedLines.breaks new.lines.now)
     (subst (λ blocks. AreStoredWith i.setting.policy blocks i.transactions c.in_ok-stored.stored) c.deref.ensures c.in_ok-stored.ensures) c.lines-lines.ensures.typed (c.lines-lines.ensures.broken new.lines.now)
-    (new ≡ _) (λ same. subst (λ (out : g.row.W.Denot). IsAppended g.W.Write.contents c.args.out.now out []) (sym (ap (λ work. work.out.now) same)) (Appends-nil _))
+    (new ≡ _) (λ same. subst (λ (out : g.row.W.Denot). IsAppended g.W.Write.contents c.args.out.now out [])
+    (sym (ap (λ work. work.out.now) same)) (Appends-nil _))
     c.over_store.result c.over_store.ensures.ends)
 
 pub returns-in_err-stored-clause-caused : goal.returns-in_err-stored-clause-caused
 returns-in_err-stored-clause-caused g c =
-    caused_before (hosted g.H.Host.hosting g.H.Lines.TypedLines.echo c.args.host.now c.args.host.now) (named c.args.store) c.from_residual.result Memory c.from_residual.ensures.1
+    caused_before (hosted g.H.Host.hosting g.H.Lines.TypedLines.echo c.args.host.now c.args.host.now)
+    (named c.args.store) c.from_residual.result Memory c.from_residual.ensures.1
     (untouched (g.H.Host.hosting c.args.host.now))

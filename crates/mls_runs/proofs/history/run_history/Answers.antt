@@ -16,7 +16,9 @@ returns-in-Err-clause-broken g c =
     let rest = c.next.new.self.rest.items in
     let now = c.run_over_files-outcome.result.1 in
     let goes = subst (λ rs. Goes g.D.Disk policy file c.args.audience c.args.runs.items c.args.files before l.yielded rs l.number l.left after) c.in-Some.ensures.steps.0 l.invariant in
-    let broken = subst (λ r. IfErr r (IsBrokenOff g.D.Disk policy file c.args.audience l.left [] (run_of policy file.schemes c.in-Some.run') (IsAppended g.W.Write.contents l.out c.run_over_files-outcome.new.out) now))
+    let broken = subst (λ r. IfErr r (IsBrokenOff g.D.Disk policy file c.args.audience l.left []
+    (run_of policy file.schemes c.in-Some.run')
+    (IsAppended g.W.Write.contents l.out c.run_over_files-outcome.new.out) now))
     c.in-Err.is c.run_over_files-outcome.ensures.broken in
     goes_broken g.D.Disk policy file c.args.audience c.args.runs.items c.args.files before c.use_invariant.ensures.distinct c.requires.prepared l.yielded rest c.in-Some.run' l.number l.left now after last goes c.in-Err.cause broken
 
@@ -31,7 +33,9 @@ loop-run-preserved g c =
     let rest = c.next.new.self.rest.items in
     let now = c.run_over_files-outcome.result.1 in
     let goes = subst (λ rs. Goes g.D.Disk policy file c.args.audience c.args.runs.items c.args.files before l.yielded rs l.number l.left after) c.in-Some.ensures.steps.0 l.invariant in
-    let whole = subst (λ r. OnOk r (AreRunsOver g.D.Disk policy file c.args.audience l.left (run_of policy file.schemes c.in-Some.run' ∷ []) (IsAppended g.W.Write.contents l.out c.run_over_files-outcome.new.out) now))
+    let whole = subst (λ r. OnOk r (AreRunsOver g.D.Disk policy file c.args.audience l.left
+    (run_of policy file.schemes c.in-Some.run' ∷ [])
+    (IsAppended g.W.Write.contents l.out c.run_over_files-outcome.new.out) now))
     c.in_default.is c.run_over_files-outcome.ensures.whole in
     goes_more g.D.Disk policy file c.args.audience c.args.runs.items c.args.files before c.use_invariant.ensures.distinct c.requires.prepared l.yielded rest c.in-Some.run' l.number l.left now after last goes whole
 
@@ -39,4 +43,6 @@ pub returns-clause-whole : goal.returns-clause-whole
 returns-clause-whole g c =
     let l = c.loop-run in
     let none : l.run-iterator.rest.items ≡ [] = nil_from_length _ (search rules) in
-    goes_whole g.D.Disk c.args.policy.now c.args.file.now c.args.audience c.args.runs.items c.args.files (g.W.Write.contents c.args.out.now) l.yielded l.run-iterator.rest.items l.number l.left (g.W.Write.contents l.out) l.invariant none
+    goes_whole g.D.Disk c.args.policy.now c.args.file.now c.args.audience c.args.runs.items c.args.files
+    (g.W.Write.contents c.args.out.now) l.yielded l.run-iterator.rest.items l.number l.left
+    (g.W.Write.contents l.out) l.invariant none

@@ -13,7 +13,12 @@ use Rattle.mls_runs.proofs.HistoryLemmas.{ready_run, run_alone, closed_whole, cl
 use Rattle.mls_runs.proofs.history.run_over_files.Goals as goal
 
 pub returns-in-Err-clause-broken : goal.returns-in-Err-clause-broken
-returns-in-Err-clause-broken g c = record { was = c.args.files; runs = (Appends-nil _, refl); refused = c.in-Err.ensures.refused }
+returns-in-Err-clause-broken g c = record {
+  was = c.args.files;
+  runs = (Appends-nil _, refl);
+  refused =
+      c.in-Err.ensures.refused;
+}
 
 pub returns-in-Ok-close_files-clause-whole : goal.returns-in-Ok-close_files-clause-whole
 returns-in-Ok-close_files-clause-whole g c =
@@ -25,10 +30,16 @@ returns-in-Ok-close_files-clause-whole g c =
     let first = (state_of c.in-Ok.base).now in
     let left = (state_of c.run_over_base-outcome.result.1).now in
     let begins : IsClean c.in-Ok.base.tables → BeginsIn g.D.Disk policy file c.args.files first
-    = λ base. (c.in-Ok.ensures.clean base, base_is_taken (FindsHoldings (image_of g.D.Disk c.args.files)) policy file c.in-Ok.base (c.in-Ok.ensures.over base)) in
-    let run : IsClean c.run_over_base-outcome.result.1.tables → IsRun at c.args.audience.now c.args.run.events.items wrote outcome first left
+    = λ base. (
+      c.in-Ok.ensures.clean base,
+      base_is_taken
+          (FindsHoldings (image_of g.D.Disk c.args.files)) policy file c.in-Ok.base (c.in-Ok.ensures.over base),
+    ) in
+    let run : IsClean c.run_over_base-outcome.result.1.tables
+    → IsRun at c.args.audience.now c.args.run.events.items wrote outcome first left
     = λ was. subst (λ o. IsRun at o c.args.run.events.items wrote outcome first left) c.same_audience-audience.ensures
-    (subst (λ es. IsRun at c.same_audience-audience.result es wrote outcome first left) c.deref.ensures.value (c.run_over_base-outcome.ensures.run was)) in
+    (subst (λ es. IsRun at c.same_audience-audience.result es wrote outcome first left) c.deref.ensures.value
+    (c.run_over_base-outcome.ensures.run was)) in
     closed_whole g.D.Disk policy file c.args.audience.now c.requires.distinct c.args.files c.in-Ok-close_files.files c.args.run.stored c.args.run.events.items wrote first left
     (ready_run policy file.schemes c.args.run c.requires.prepared) c.in-Ok.ensures.sound outcome c.ended.result c.ended.ensures (λ clean.
     let was = c.in-Ok-close_files.ensures.clean clean in
@@ -45,10 +56,16 @@ returns-in-Ok-close_files-clause-broken g c =
     let first = (state_of c.in-Ok.base).now in
     let left = (state_of c.run_over_base-outcome.result.1).now in
     let begins : IsClean c.in-Ok.base.tables → BeginsIn g.D.Disk policy file c.args.files first
-    = λ base. (c.in-Ok.ensures.clean base, base_is_taken (FindsHoldings (image_of g.D.Disk c.args.files)) policy file c.in-Ok.base (c.in-Ok.ensures.over base)) in
-    let run : IsClean c.run_over_base-outcome.result.1.tables → IsRun at c.args.audience.now c.args.run.events.items wrote outcome first left
+    = λ base. (
+      c.in-Ok.ensures.clean base,
+      base_is_taken
+          (FindsHoldings (image_of g.D.Disk c.args.files)) policy file c.in-Ok.base (c.in-Ok.ensures.over base),
+    ) in
+    let run : IsClean c.run_over_base-outcome.result.1.tables
+    → IsRun at c.args.audience.now c.args.run.events.items wrote outcome first left
     = λ was. subst (λ o. IsRun at o c.args.run.events.items wrote outcome first left) c.same_audience-audience.ensures
-    (subst (λ es. IsRun at c.same_audience-audience.result es wrote outcome first left) c.deref.ensures.value (c.run_over_base-outcome.ensures.run was)) in
+    (subst (λ es. IsRun at c.same_audience-audience.result es wrote outcome first left) c.deref.ensures.value
+    (c.run_over_base-outcome.ensures.run was)) in
     closed_broken g.D.Disk policy file c.args.audience.now c.requires.distinct c.args.files c.in-Ok-close_files.files c.args.run.stored c.args.run.events.items wrote first left
     (ready_run policy file.schemes c.args.run c.requires.prepared) c.in-Ok.ensures.sound outcome c.ended.result c.ended.ensures (λ clean.
     let was = c.in-Ok-close_files.ensures.clean clean in
@@ -67,10 +84,15 @@ returns-clause-broken g c clean =
     let was = c.in-Err-close_files.ensures.unclosed.clean clean in
     let base = c.run_over_base-outcome.ensures.leaves.clean was in
     let begins : BeginsIn g.D.Disk policy file c.args.files first
-    = (c.in-Ok.ensures.clean base, base_is_taken (FindsHoldings (image_of g.D.Disk c.args.files)) policy file c.in-Ok.base (c.in-Ok.ensures.over base)) in
+    = (
+      c.in-Ok.ensures.clean base,
+      base_is_taken
+          (FindsHoldings (image_of g.D.Disk c.args.files)) policy file c.in-Ok.base (c.in-Ok.ensures.over base),
+    ) in
     let run : IsRun at c.args.audience.now c.args.run.events.items wrote outcome first left
     = subst (λ o. IsRun at o c.args.run.events.items wrote outcome first left) c.same_audience-audience.ensures
-    (subst (λ es. IsRun at c.same_audience-audience.result es wrote outcome first left) c.deref.ensures.value (c.run_over_base-outcome.ensures.run was)) in
+    (subst (λ es. IsRun at c.same_audience-audience.result es wrote outcome first left) c.deref.ensures.value
+    (c.run_over_base-outcome.ensures.run was)) in
     let may = c.in-Err-close_files.ensures.unclosed.may was in (
       outcome,
       left,

@@ -6,7 +6,8 @@ use Rattle.mls_runs.proofs.marks.write_mark.Goals as goal
 
 pub returns-in-TooLong : goal.returns-in-TooLong
 returns-in-TooLong g c =
-    subst (λ (f : Fate). IsMarked (mark_of f) (g.W.Write.contents c.args.out.now) (g.W.Write.contents c.write_bytes.new.out) c.write_bytes.result) (sym c.in-TooLong.is) c.write_bytes.ensures
+    subst (λ (f : Fate). IsMarked (mark_of f) (g.W.Write.contents c.args.out.now)
+    (g.W.Write.contents c.write_bytes.new.out) c.write_bytes.result) (sym c.in-TooLong.is) c.write_bytes.ensures
 
 pub returns-in-Err : goal.returns-in-Err
 returns-in-Err g c = record {

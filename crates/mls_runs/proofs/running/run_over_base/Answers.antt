@@ -11,7 +11,8 @@ use Rattle.mls_sessions.specs.Access.{ArePermitted}
 use Rattle.mls_runs.proofs.running.run_over_base.Goals as goal
 
 pub run_to-outcome-requires-clause-fits : goal.run_to-outcome-requires-clause-fits
-run_to-outcome-requires-clause-fits g c = subst (λ at. EventsFit at c.args.events.now) (sym c.new-engine.ensures.site) c.requires.may.fits
+run_to-outcome-requires-clause-fits g c = subst (λ at. EventsFit at c.args.events.now)
+    (sym c.new-engine.ensures.site) c.requires.may.fits
 
 pub returns-clause-leaves : goal.returns-clause-leaves
 returns-clause-leaves g c =
@@ -26,11 +27,27 @@ returns-clause-run g c = λ clean.
     let left = (g.B.Base.seen c.finish.result).state.now in
     let sessions = sessions_of new.sessions.items in
     let back = given_back g.B.Base.seen at c.new-engine.result new c.finish.result c.new-engine.ensures.site c.run_to-outcome.ensures.continues.kept c.finish.ensures in
-    run_at at c.args.audience sessions (g.B.Base.seen c.args.base).state.now left c.args.events.now (g.W.Write.contents c.args.out.now) (g.W.Write.contents c.run_to-outcome.new.out) c.run_to-outcome.result (back.rest.sound clean)
-    (subst (λ w. IsEngineRun at c.args.audience (first_world at (g.B.Base.seen c.args.base).state.now) c.args.events.now (g.W.Write.contents c.args.out.now) (g.W.Write.contents c.run_to-outcome.new.out) w c.run_to-outcome.result) back.world
-    (subst (λ v. IsEngineRun at c.args.audience v c.args.events.now (g.W.Write.contents c.args.out.now) (g.W.Write.contents c.run_to-outcome.new.out) (world_at (site_of_run new.site) sessions (g.B.Base.seen new.base).state.now) c.run_to-outcome.result) c.new-engine.ensures.world
-    (subst (λ s. IsEngineRun s c.args.audience (world_of g.B.Base.seen c.new-engine.result) c.args.events.now (g.W.Write.contents c.args.out.now) (g.W.Write.contents c.run_to-outcome.new.out) (world_at (site_of_run new.site) sessions (g.B.Base.seen new.base).state.now) c.run_to-outcome.result) c.new-engine.ensures.site
-    (record { ok = c.run_to-outcome.ensures.ok was; err = c.run_to-outcome.ensures.err was; fault = c.run_to-outcome.ensures.fault; integrity = c.run_to-outcome.ensures.integrity was; secret = c.run_to-outcome.ensures.secret was }))))
+    run_at at c.args.audience sessions (g.B.Base.seen c.args.base).state.now left c.args.events.now
+    (g.W.Write.contents c.args.out.now) (g.W.Write.contents c.run_to-outcome.new.out) c.run_to-outcome.result
+    (back.rest.sound clean)
+    (subst (λ w. IsEngineRun at c.args.audience (first_world at (g.B.Base.seen c.args.base).state.now) c.args.events.now
+    (g.W.Write.contents c.args.out.now) (g.W.Write.contents c.run_to-outcome.new.out) w c.run_to-outcome.result) back.world
+    (subst (λ v. IsEngineRun at c.args.audience v c.args.events.now (g.W.Write.contents c.args.out.now)
+    (g.W.Write.contents c.run_to-outcome.new.out) (world_at (site_of_run new.site) sessions
+    (g.B.Base.seen new.base).state.now) c.run_to-outcome.result) c.new-engine.ensures.world
+    (subst (λ s. IsEngineRun s c.args.audience (world_of g.B.Base.seen c.new-engine.result) c.args.events.now
+    (g.W.Write.contents c.args.out.now) (g.W.Write.contents c.run_to-outcome.new.out)
+    (world_at (site_of_run new.site) sessions
+    (g.B.Base.seen new.base).state.now) c.run_to-outcome.result) c.new-engine.ensures.site
+    (record {
+      ok = c.run_to-outcome.ensures.ok was;
+      err = c.run_to-outcome.ensures.err was;
+      fault =
+          c.run_to-outcome.ensures.fault;
+      integrity = c.run_to-outcome.ensures.integrity was;
+      secret =
+          c.run_to-outcome.ensures.secret was;
+    }))))
 
 pub returns-clause-access : goal.returns-clause-access
 returns-clause-access g c =

@@ -20,7 +20,8 @@ over_store-requires g c =
 
 pub returns-in_err-stored-clause-run : goal.returns-in_err-stored-clause-run
 returns-in_err-stored-clause-run g c =
-    not_begun (hosted g.H.Host.hosting g.H.Lines.TypedLines.echo c.args.host.now c.args.host.now) c.args.inputs (named c.args.store) c.args.is_table (IsAppended g.W.Write.contents c.args.out.now c.args.out.now)
+    not_begun (hosted g.H.Host.hosting g.H.Lines.TypedLines.echo c.args.host.now c.args.host.now) c.args.inputs
+    (named c.args.store) c.args.is_table (IsAppended g.W.Write.contents c.args.out.now c.args.out.now)
     c.from_residual.result c.from_residual.ensures.1 (Appends-nil _)
 
 pub returns-clause-run : goal.returns-clause-run
@@ -29,13 +30,16 @@ returns-clause-run g c =
     let new = c.over_store.new.work in
     let wrote = IsAppended g.W.Write.contents c.args.out.now new.out.now in
     let i = c.args.inputs in
-    subst (λ (out : g.row.W.Denot). Ends h i (named c.args.store) c.args.is_table (IsAppended g.W.Write.contents c.args.out.now out) c.over_store.result) (search rules)
+    subst (λ (out : g.row.W.Denot). Ends h i (named c.args.store) c.args.is_table
+    (IsAppended g.W.Write.contents c.args.out.now out) c.over_store.result) (search rules)
     (script_run h i (named c.args.store) c.args.is_table wrote c.in_ok-stored.stored
     (subst (λ blocks. AreStoredWith i.setting.policy blocks i.transactions c.in_ok-stored.stored) c.deref.ensures c.in_ok-stored.ensures)
-    (new ≡ _) (λ same. subst (λ (out : g.row.W.Denot). IsAppended g.W.Write.contents c.args.out.now out []) (sym (ap (λ work. work.out.now) same)) (Appends-nil _))
+    (new ≡ _) (λ same. subst (λ (out : g.row.W.Denot). IsAppended g.W.Write.contents c.args.out.now out [])
+    (sym (ap (λ work. work.out.now) same)) (Appends-nil _))
     c.form_of.result _ c.form_of.ensures c.deref-2.ensures c.over_store.result c.over_store.ensures.ends)
 
 pub returns-in_err-stored-clause-caused : goal.returns-in_err-stored-clause-caused
 returns-in_err-stored-clause-caused g c =
-    caused_before (hosted g.H.Host.hosting g.H.Lines.TypedLines.echo c.args.host.now c.args.host.now) (named c.args.store) c.from_residual.result Memory c.from_residual.ensures.1
+    caused_before (hosted g.H.Host.hosting g.H.Lines.TypedLines.echo c.args.host.now c.args.host.now)
+    (named c.args.store) c.from_residual.result Memory c.from_residual.ensures.1
     (untouched (g.H.Host.hosting c.args.host.now))

@@ -6,5 +6,6 @@ use Rattle.mls_runs.proofs.shell.converse.Given as goal
 abbrev pub invariant-loop-before : goal.invariant-loop-before
 invariant-loop-before g l =
     WentWell g.B.Base.seen l.fn.engine l.engine
-    × SoFar g.B.Base.seen g.E.Write.contents g.X.Explains.explaining g.L.TypedLines.echo l.session l.fn.engine l.fn.err (g.L.TypedLines.remaining l.fn.lines) (g.W.Write.contents l.fn.out)
+    × SoFar g.B.Base.seen g.E.Write.contents g.X.Explains.explaining g.L.TypedLines.echo l.session l.fn.engine l.fn.err
+    (g.L.TypedLines.remaining l.fn.lines) (g.W.Write.contents l.fn.out)
     l.before l.engine l.err (g.L.TypedLines.remaining l.lines) (g.W.Write.contents l.out) l.was_opened l.tally false

@@ -8,7 +8,12 @@ returns-in-Ok-clause-absent g c = λ is.
 
 pub returns-in-Ok-clause-there : goal.returns-in-Ok-clause-there
 returns-in-Ok-clause-there g c = λ is.
-    inl (c.in-Ok.files.log.items, c.in-Ok.files.db.items, c.in-Ok.ensures.shown, some_there c.in-Ok.files.log.items c.in-Ok.files.db.items (sym c.are_empty.ensures ∙ is))
+    inl (
+      c.in-Ok.files.log.items,
+      c.in-Ok.files.db.items,
+      c.in-Ok.ensures.shown,
+      some_there c.in-Ok.files.log.items c.in-Ok.files.db.items (sym c.are_empty.ensures ∙ is),
+    )
 
 pub returns-in-Err-clause-there : goal.returns-in-Err-clause-there
 returns-in-Err-clause-there g c = λ is. inr (_, c.in-Err.ensures.hidden)

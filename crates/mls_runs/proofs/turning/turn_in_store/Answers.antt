@@ -25,10 +25,21 @@ returns-clause-ends g c =
       there = c.is_absent.ensures.there c.if-is_absent.false;
       turned = λ honest.
           let clean = c.keep-closed.ensures.honest.0 honest in
-          record { first = _; left = _; begins = c.in-Ok.ensures.kept (c.turn-outcome.ensures.clean clean); kept = c.keep-closed.ensures.kept honest; leads = turning setting Wrote _ _ c.turn-outcome.result (c.turn-outcome.ensures.turned clean) c.in-Ok.ensures.sound };
+          record {
+            first = _;
+            left = _;
+            begins = c.in-Ok.ensures.kept (c.turn-outcome.ensures.clean clean);
+            kept =
+                c.keep-closed.ensures.kept honest;
+            leads = turning setting Wrote _ _ c.turn-outcome.result
+                (c.turn-outcome.ensures.turned clean) c.in-Ok.ensures.sound;
+          };
     } in
-    subst (λ (r : Result (Unit {0}) Stop). IsEnd Turns (λ reason. IsTurnRefused (g.H.Host.hosting c.keep-closed.new.self) setting (Some c.args.path.now) reason × Wrote []) r) (sym c.ended.ensures)
-    (ended_so Turns (λ reason. IsTurnRefused (g.H.Host.hosting c.keep-closed.new.self) setting (Some c.args.path.now) reason × Wrote []) c.turn-outcome.result c.keep-closed.result ran)
+    subst (λ (r : Result (Unit {0}) Stop). IsEnd Turns
+    (λ reason. IsTurnRefused (g.H.Host.hosting c.keep-closed.new.self) setting (Some c.args.path.now) reason
+    × Wrote []) r) (sym c.ended.ensures)
+    (ended_so Turns (λ reason. IsTurnRefused (g.H.Host.hosting c.keep-closed.new.self) setting
+    (Some c.args.path.now) reason × Wrote []) c.turn-outcome.result c.keep-closed.result ran)
 
 pub returns-in-Err-clause-caused : goal.returns-in-Err-clause-caused
 returns-in-Err-clause-caused g c = c.in-Err.ensures.same
@@ -37,11 +48,17 @@ pub returns-clause-caused : goal.returns-clause-caused
 returns-clause-caused g c =
     let h = hosted g.H.Host.hosting g.H.Lines.TypedLines.echo c.args.host.now c.keep-closed.new.self in
     subst (λ (r : Result (Unit {0}) Stop). IsCaused h (Some c.args.path.now) r) (sym c.ended.ensures)
-    (caused_in_store h c.args.path.now c.turn-outcome.result c.keep-closed.result (g.H.Store.Base.seen c.in-Ok.base).failures (g.H.Store.Base.seen c.turn-outcome.new.base).failures
-    c.keep-closed.ensures.closed.1 c.keep-closed.ensures.closed.0 c.keep-closed.ensures.failed.1 (λ honest. c.turn-outcome.ensures.store))
+    (caused_in_store h c.args.path.now c.turn-outcome.result c.keep-closed.result
+    (g.H.Store.Base.seen c.in-Ok.base).failures (g.H.Store.Base.seen c.turn-outcome.new.base).failures
+    c.keep-closed.ensures.closed.1 c.keep-closed.ensures.closed.0 c.keep-closed.ensures.failed.1
+    (λ honest. c.turn-outcome.ensures.store))
 
 pub returns-then-is_absent-clause-ends : goal.returns-then-is_absent-clause-ends
-returns-then-is_absent-clause-ends g c = (absent c.args.path.now refl (c.is_absent.ensures.absent c.if-is_absent.true) refl, Appends-nil _)
+returns-then-is_absent-clause-ends g c = (
+  absent c.args.path.now refl
+      (c.is_absent.ensures.absent c.if-is_absent.true) refl,
+  Appends-nil _,
+)
 
 pub returns-then-is_absent-clause-caused : goal.returns-then-is_absent-clause-caused
 returns-then-is_absent-clause-caused g c = untouched (g.H.Host.hosting c.args.host.now)

@@ -10,13 +10,15 @@ pub returns-in-None-clause-ends : goal.returns-in-None-clause-ends
 returns-in-None-clause-ends g c =
     let Wrote = IsAppended g.W.Write.contents c.args.out.now c.args.out.now in
     no_list c.args.setting.now Wrote (hosted g.H.Host.hosting g.H.Lines.TypedLines.echo c.args.host.now c.args.host.now)
-    (λ store reason. IsTurnRefused (g.H.Host.hosting c.args.host.now) c.args.setting.now store reason × Wrote []) c.args.store c.in-None.is (Appends-nil _)
+    (λ store reason. IsTurnRefused (g.H.Host.hosting c.args.host.now) c.args.setting.now store reason
+    × Wrote []) c.args.store c.in-None.is (Appends-nil _)
 
 pub returns-in-Some-clause-ends : goal.returns-in-Some-clause-ends
 returns-in-Some-clause-ends g c =
     let Wrote = IsAppended g.W.Write.contents c.args.out.now c.turn_in_store.new.out in
     at_store c.args.setting.now Wrote (hosted g.H.Host.hosting g.H.Lines.TypedLines.echo c.args.host.now c.turn_in_store.new.host)
-    (λ store reason. IsTurnRefused (g.H.Host.hosting c.turn_in_store.new.host) c.args.setting.now store reason × Wrote []) c.args.store c.in-Some.path c.in-Some.is c.turn_in_store.result c.turn_in_store.ensures.ends
+    (λ store reason. IsTurnRefused (g.H.Host.hosting c.turn_in_store.new.host) c.args.setting.now store reason
+    × Wrote []) c.args.store c.in-Some.path c.in-Some.is c.turn_in_store.result c.turn_in_store.ensures.ends
 
 pub returns-in-None-clause-caused : goal.returns-in-None-clause-caused
 returns-in-None-clause-caused g c =
@@ -24,4 +26,5 @@ returns-in-None-clause-caused g c =
 
 pub returns-in-Some-clause-caused : goal.returns-in-Some-clause-caused
 returns-in-Some-clause-caused g c =
-    caused_at (hosted g.H.Host.hosting g.H.Lines.TypedLines.echo c.args.host.now c.turn_in_store.new.host) c.args.store (Some c.in-Some.path) c.in-Some.is c.turn_in_store.result c.turn_in_store.ensures.caused
+    caused_at (hosted g.H.Host.hosting g.H.Lines.TypedLines.echo c.args.host.now c.turn_in_store.new.host) c.args.store
+    (Some c.in-Some.path) c.in-Some.is c.turn_in_store.result c.turn_in_store.ensures.caused

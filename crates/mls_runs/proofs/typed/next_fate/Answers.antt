@@ -24,10 +24,25 @@ returns-in-Ok-TooLong-clause-read g c =
     }
 
 pub returns-in-Err-Unreadable-clause-read : goal.returns-in-Err-Unreadable-clause-read
-returns-in-Err-Unreadable-clause-read g c = record { read = read_lost g.L.TypedLines.echo (IsShellFate c.args.policy.now c.args.schemes.now c.args.session.now) _ _ _ _ _ Unreadable tt (λ u. rw c.in-Err-Unreadable.field-0-is at c.in-Err-Unreadable.ensures.cause) c.in-Err-Unreadable.ensures.lost; known = λ found. c.requires }
+returns-in-Err-Unreadable-clause-read g c = record {
+  read = read_lost g.L.TypedLines.echo
+      (IsShellFate c.args.policy.now c.args.schemes.now c.args.session.now) _ _ _ _ _ Unreadable tt
+      (λ u. rw c.in-Err-Unreadable.field-0-is at c.in-Err-Unreadable.ensures.cause) c.in-Err-Unreadable.ensures.lost;
+  known = λ found. c.requires;
+}
 
 pub returns-in-Err-Memory-clause-read : goal.returns-in-Err-Memory-clause-read
-returns-in-Err-Memory-clause-read g c = record { read = read_lost g.L.TypedLines.echo (IsShellFate c.args.policy.now c.args.schemes.now c.args.session.now) _ _ _ _ _ (Lost Memory) (λ is. cc) (λ u. absurd (lost_read Memory u)) c.in-Err-Memory.ensures.lost; known = λ found. absurd (true≢false found) }
+returns-in-Err-Memory-clause-read g c = record {
+  read = read_lost g.L.TypedLines.echo
+      (IsShellFate c.args.policy.now c.args.schemes.now c.args.session.now) _ _ _ _ _ (Lost Memory) (λ is. cc)
+      (λ u. absurd (lost_read Memory u)) c.in-Err-Memory.ensures.lost;
+  known = λ found. absurd (true≢false found);
+}
 
 pub returns-in-Err-Output-clause-read : goal.returns-in-Err-Output-clause-read
-returns-in-Err-Output-clause-read g c = record { read = read_lost g.L.TypedLines.echo (IsShellFate c.args.policy.now c.args.schemes.now c.args.session.now) _ _ _ _ _ (Lost Write) (λ is. cc) (λ u. absurd (lost_read Write u)) c.in-Err-Output.ensures.lost; known = λ found. absurd (true≢false found) }
+returns-in-Err-Output-clause-read g c = record {
+  read = read_lost g.L.TypedLines.echo
+      (IsShellFate c.args.policy.now c.args.schemes.now c.args.session.now) _ _ _ _ _ (Lost Write) (λ is. cc)
+      (λ u. absurd (lost_read Write u)) c.in-Err-Output.ensures.lost;
+  known = λ found. absurd (true≢false found);
+}

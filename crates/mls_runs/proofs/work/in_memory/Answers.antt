@@ -15,7 +15,11 @@ use Rattle.mls_host.proofs.StoppingLemmas.{ended_in_memory}
 use Rattle.mls_runs.proofs.work.in_memory.Goals as goal
 
 pub over-outcome-requires-clause-rest : goal.over-outcome-requires-clause-rest
-over-outcome-requires-clause-rest g c = record { idle = ap (λ (s : State). s.begun) c.in-Ok.ensures.content; sound = λ _. none_sound c.args.setting.now.policy c.args.setting.now.file.schemes _ c.in-Ok.ensures.content }
+over-outcome-requires-clause-rest g c = record {
+  idle = ap (λ (s : State). s.begun) c.in-Ok.ensures.content;
+  sound =
+      λ _. none_sound c.args.setting.now.policy c.args.setting.now.file.schemes _ c.in-Ok.ensures.content;
+}
 
 pub returns-in-Err-clause-ends : goal.returns-in-Err-clause-ends
 returns-in-Err-clause-ends g c = (refl, refl)
@@ -29,7 +33,11 @@ returns-clause-ends g c =
     let Leads : Result End RunFault → Content → Content → Type 0
     = g.K.Work.leads c.args.work.now new (site_of c.args.setting.now.policy c.args.setting.now.file.schemes c.args.stored) in
     let Ends : Result End RunFault → Type 0 = λ end. (last : Content) × Leads end no_content last in
-    let led : Ends end = (left, subst (λ (x : State). Leads end x.now left) c.in-Ok.ensures.content (c.over-outcome.ensures.led c.close.ensures.clean)) in
+    let led : Ends end = (
+      left,
+      subst (λ (x : State). Leads end x.now left) c.in-Ok.ensures.content
+          (c.over-outcome.ensures.led c.close.ensures.clean),
+    ) in
     let Nothing : Reason → Type 0 = λ reason. (reason ≡ Store stores.Memory) × (new ≡ c.args.work.now) in
     subst (λ (r : Result End Stop). IsEnd Ends Nothing r) (sym c.ended.ensures) (ended_so Ends Nothing end (Ok tt) led)
 

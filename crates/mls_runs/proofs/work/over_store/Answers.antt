@@ -28,7 +28,9 @@ returns-in-None-clause-caused g c =
 
 pub returns-in-Err-clause-ends : goal.returns-in-Err-clause-ends
 returns-in-Err-clause-ends g c = (
-  subst (λ (s : Option (Bor (List ℕ))). IsBarred (g.H.Host.hosting c.store.new.self) c.args.setting.now.policy c.args.setting.now.file (named s) (Store c.in-Err.fault)) (sym c.in-Some.is)
+  subst (λ (s : Option (Bor (List ℕ))). IsBarred
+      (g.H.Host.hosting c.store.new.self) c.args.setting.now.policy c.args.setting.now.file (named s)
+      (Store c.in-Err.fault)) (sym c.in-Some.is)
       (c.in-Err.fault, c.in-Err.ensures.barred, refl),
   refl,
 )
@@ -45,14 +47,23 @@ returns-clause-ends g c =
     let end = c.over-outcome.result.0 in
     let Leads : Result End RunFault → Content → Content → Type 0
     = g.K.Work.leads c.args.work.now new (site_of c.args.setting.now.policy c.args.setting.now.file.schemes c.args.stored) in
-    let Ends : Result End RunFault → Type 0 = IsOverStore h c.args.setting.now.policy c.args.setting.now.file (Some path.now) Leads in
+    let Ends : Result End RunFault → Type 0 = IsOverStore h c.args.setting.now.policy c.args.setting.now.file
+    (Some path.now) Leads in
     let led : Ends end = λ honest.
     let clean = c.keep-closed.ensures.honest.0 honest in
-    record { first = _; left = _; begins = c.in-Ok.ensures.kept (c.over-outcome.ensures.leaves.clean clean); kept = c.keep-closed.ensures.kept honest; leads = c.over-outcome.ensures.led clean } in
+    record {
+      first = _;
+      left = _;
+      begins = c.in-Ok.ensures.kept (c.over-outcome.ensures.leaves.clean clean);
+      kept =
+          c.keep-closed.ensures.kept honest;
+      leads = c.over-outcome.ensures.led clean;
+    } in
     let Nothing : Option (List ℕ) → Reason → Type 0
     = λ store reason. IsBarred (g.H.Host.hosting c.keep-closed.new.self) c.args.setting.now.policy c.args.setting.now.file store reason × (new ≡ c.args.work.now) in
     from_store h c.args.setting.now.file c.args.setting.now.policy Leads Nothing c.args.store c.ended.result path c.in-Some.is
-    (subst (λ (r : Result End Stop). IsEnd Ends (Nothing (Some path.now)) r) (sym c.ended.ensures) (ended_so Ends (Nothing (Some path.now)) end c.keep-closed.result led))
+    (subst (λ (r : Result End Stop). IsEnd Ends (Nothing (Some path.now)) r) (sym c.ended.ensures)
+    (ended_so Ends (Nothing (Some path.now)) end c.keep-closed.result led))
 
 pub returns-clause-caused : goal.returns-clause-caused
 returns-clause-caused g c =
@@ -60,5 +71,7 @@ returns-clause-caused g c =
     let path = c.in-Some.path in
     caused_at h c.args.store (Some path) c.in-Some.is c.ended.result
     (subst (λ (r : Result g.row.K-End.Denot Stop). IsCaused h (Some path.now) r) (sym c.ended.ensures)
-    (caused_in_store h path.now c.over-outcome.result.0 c.keep-closed.result (g.H.Store.Base.seen c.in-Ok.base).failures (g.H.Store.Base.seen c.over-outcome.result.1).failures
-    c.keep-closed.ensures.closed.1 c.keep-closed.ensures.closed.0 c.keep-closed.ensures.failed.1 (λ honest. c.over-outcome.ensures.leaves.store (c.keep-closed.ensures.honest.0 honest))))
+    (caused_in_store h path.now c.over-outcome.result.0 c.keep-closed.result (g.H.Store.Base.seen c.in-Ok.base).failures
+    (g.H.Store.Base.seen c.over-outcome.result.1).failures
+    c.keep-closed.ensures.closed.1 c.keep-closed.ensures.closed.0 c.keep-closed.ensures.failed.1
+    (λ honest. c.over-outcome.ensures.leaves.store (c.keep-closed.ensures.honest.0 honest))))

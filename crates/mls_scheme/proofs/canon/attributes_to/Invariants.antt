@@ -3,4 +3,5 @@ use Rattle.mls_scheme.specs.Canon.{attribute_line}
 use Rattle.mls_scheme.proofs.canon.attributes_to.Given as goal
 
 abbrev pub invariant-loop-place : goal.invariant-loop-place
-invariant-loop-place l = string_bytes l.text ≡ string_bytes l.fn.text ++ flat_map (attribute_line l.policy l.word) (take l.place l.attributes)
+invariant-loop-place l = string_bytes l.text ≡ string_bytes l.fn.text ++ flat_map (attribute_line l.policy l.word)
+    (take l.place l.attributes)

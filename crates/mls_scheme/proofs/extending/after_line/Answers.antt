@@ -5,5 +5,6 @@ use Rattle.mls_scheme.proofs.extending.after_line.Goals as goal
 
 pub returns : goal.returns
 returns c =
-    subst (λ (p : List ℕ). MatchOption c.strip_prefix.result ((more : List ℕ) → c.args.text.now ≢ p ++ more) (λ x. c.args.text.now ≡ p ++ x.now)) c.as_bytes.ensures.value
+    subst (λ (p : List ℕ). MatchOption c.strip_prefix.result ((more : List ℕ) → c.args.text.now ≢ p ++ more)
+    (λ x. c.args.text.now ≡ p ++ x.now)) c.as_bytes.ensures.value
     (strip_prefix_is Decides-eqb c.args.text.now c.as_bytes.result.now c.strip_prefix.result c.strip_prefix.ensures.cases)

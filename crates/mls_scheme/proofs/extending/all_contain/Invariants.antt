@@ -6,4 +6,5 @@ use Rattle.mls_scheme.proofs.extending.all_contain.Given as goal
 
 abbrev pub invariant-loop-place : goal.invariant-loop-place
 invariant-loop-place l =
-    AllByRecursion (Contains (labels_of l.policy) l.low l.high) (drop l.place l.attributes) ↔ AllByRecursion (Contains (labels_of l.policy) l.low l.high) (drop l.count l.attributes)
+    AllByRecursion (Contains (labels_of l.policy) l.low l.high) (drop l.place l.attributes)
+    ↔ AllByRecursion (Contains (labels_of l.policy) l.low l.high) (drop l.count l.attributes)

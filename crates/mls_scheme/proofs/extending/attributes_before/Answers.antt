@@ -10,7 +10,11 @@ returns-in-None c =
     let line = attribute_line c.args.policy.now (codes "attribute") in
     let a : Attribute = (c.name-name.result.now, c.get.result.now) in
     let there = attribute_there c.args.attributes.now c.loop-place.place c.name-name.result.now c.get.result.now c.name-name.ensures c.get.ensures in
-    let is : c.deref.result.now ≡ line a = rw (c.deref.ensures, c.in_ok-attribute_to.ensures, c.new-line.ensures.bytes) refl in
+    let is : c.deref.result.now ≡ line a = rw (
+      c.deref.ensures,
+      c.in_ok-attribute_to.ensures,
+      c.new-line.ensures.bytes,
+    ) refl in
     begin-stopped line c.args.attributes.now c.loop-place.place a c.args.text.now c.loop-place.rest.now there.1 there.0 c.loop-place.invariant
     (subst (λ (s : List ℕ). (more : List ℕ) → c.loop-place.rest.now ≢ s ++ more) is c.in-None.ensures)
 
@@ -18,7 +22,11 @@ pub loop-place-preserved : goal.loop-place-preserved
 loop-place-preserved c =
     let line = attribute_line c.args.policy.now (codes "attribute") in
     let a : Attribute = (c.name-name.result.now, c.get.result.now) in
-    let is : c.deref.result.now ≡ line a = rw (c.deref.ensures, c.in_ok-attribute_to.ensures, c.new-line.ensures.bytes) refl in
+    let is : c.deref.result.now ≡ line a = rw (
+      c.deref.ensures,
+      c.in_ok-attribute_to.ensures,
+      c.new-line.ensures.bytes,
+    ) refl in
     let front = flat_map line (take c.loop-place.place c.args.attributes.now) in
     let after = c.in-Some.after.now in
     c.loop-place.invariant

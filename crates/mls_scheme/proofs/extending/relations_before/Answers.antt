@@ -10,9 +10,11 @@ returns-in_default-clause-none c =
     let i = c.loop-scheme.scheme-index in
     let s = c.scheme-item.result in
     let rest = c.loop-scheme.rest.now in
-    let here : drop i all ≡ s ∷ drop (i + 1) all = drop_more all i s c.loop-scheme-test.true ∙ ap (λ (x : Scheme). x ∷ drop (i + 1) all) (sym c.scheme-item.is) in
+    let here : drop i all ≡ s ∷ drop (i + 1) all = drop_more all i s c.loop-scheme-test.true
+    ∙ ap (λ (x : Scheme). x ∷ drop (i + 1) all) (sym c.scheme-item.is) in
     let before = subst (λ (xs : List Scheme). Before c.args.policy.now all c.args.text.now c.loop-scheme.counts.items xs rest) here c.loop-scheme.invariant in
-    λ e. before-none c.args.policy.now all c.args.text.now c.loop-scheme.counts.items s (drop (i + 1) all) rest before (λ m other past begins. none_has _ _ c.in_default.is (c.in_ok-count.ensures.only m other past begins))
+    λ e. before-none c.args.policy.now all c.args.text.now c.loop-scheme.counts.items s (drop (i + 1) all) rest before
+    (λ m other past begins. none_has _ _ c.in_default.is (c.in_ok-count.ensures.only m other past begins))
 
 pub loop-scheme-preserved : goal.loop-scheme-preserved
 loop-scheme-preserved c =
@@ -20,10 +22,14 @@ loop-scheme-preserved c =
     let i = c.loop-scheme.scheme-index in
     let s = c.scheme-item.result in
     let rest = c.loop-scheme.rest.now in
-    let here : drop i all ≡ s ∷ drop (i + 1) all = drop_more all i s c.loop-scheme-test.true ∙ ap (λ (x : Scheme). x ∷ drop (i + 1) all) (sym c.scheme-item.is) in
+    let here : drop i all ≡ s ∷ drop (i + 1) all = drop_more all i s c.loop-scheme-test.true
+    ∙ ap (λ (x : Scheme). x ∷ drop (i + 1) all) (sym c.scheme-item.is) in
     let before = subst (λ (xs : List Scheme). Before c.args.policy.now all c.args.text.now c.loop-scheme.counts.items xs rest) here c.loop-scheme.invariant in
-    subst (λ (counts : List ℕ). Before c.args.policy.now all c.args.text.now counts (drop (i + 1) all) c.in-Some.after.now) (sym c.in_ok-push.ensures.items)
-    (before-more c.args.policy.now all c.args.text.now c.loop-scheme.counts.items s (drop (i + 1) all) rest c.in-Some.count c.in-Some.after.now before (some_has _ _ _ c.in-Some.is c.in_ok-count.ensures.found)
+    subst (λ (counts : List ℕ). Before c.args.policy.now all c.args.text.now counts
+    (drop (i + 1) all) c.in-Some.after.now) (sym c.in_ok-push.ensures.items)
+    (before-more c.args.policy.now all c.args.text.now c.loop-scheme.counts.items s
+    (drop (i + 1) all) rest c.in-Some.count c.in-Some.after.now before
+    (some_has _ _ _ c.in-Some.is c.in_ok-count.ensures.found)
     (λ m other past begins. some_is _ _ _ c.in-Some.is (c.in_ok-count.ensures.only m other past begins)))
 
 pub returns-then-is_empty-clause-found : goal.returns-then-is_empty-clause-found
@@ -32,7 +38,8 @@ returns-then-is_empty-clause-found c =
     let rest = c.loop-scheme.rest.now in
     let over = drop_all c.loop-scheme.scheme-index all c.loop-scheme-test.false in
     let before = subst (λ (xs : List Scheme). Before c.args.policy.now all c.args.text.now c.loop-scheme.counts.items xs rest) over c.loop-scheme.invariant in
-    before-all c.args.policy.now all c.args.text.now c.loop-scheme.counts.items rest before (empty_of rest (sym c.is_empty.ensures ∙ c.if-is_empty.true))
+    before-all c.args.policy.now all c.args.text.now c.loop-scheme.counts.items rest before
+    (empty_of rest (sym c.is_empty.ensures ∙ c.if-is_empty.true))
 
 pub returns-else-is_empty-clause-none : goal.returns-else-is_empty-clause-none
 returns-else-is_empty-clause-none c =
@@ -40,4 +47,5 @@ returns-else-is_empty-clause-none c =
     let rest = c.loop-scheme.rest.now in
     let over = drop_all c.loop-scheme.scheme-index all c.loop-scheme-test.false in
     let before = subst (λ (xs : List Scheme). Before c.args.policy.now all c.args.text.now c.loop-scheme.counts.items xs rest) over c.loop-scheme.invariant in
-    λ e. before-left c.args.policy.now all c.args.text.now c.loop-scheme.counts.items rest before (full_of rest (sym c.is_empty.ensures ∙ c.if-is_empty.false))
+    λ e. before-left c.args.policy.now all c.args.text.now c.loop-scheme.counts.items rest before
+    (full_of rest (sym c.is_empty.ensures ∙ c.if-is_empty.false))

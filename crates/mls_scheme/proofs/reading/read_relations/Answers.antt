@@ -18,4 +18,5 @@ loop-value-preserved c =
 pub returns : goal.returns
 returns c =
     sym c.loop-value.invariant
-    ∙ ap (λ l. gather (scheme_at c.args.policy.now) c.loop-value.relations.items (items_view l)) (drop_all c.loop-value.value-index c.args.items.now c.loop-value-test.false)
+    ∙ ap (λ l. gather (scheme_at c.args.policy.now) c.loop-value.relations.items (items_view l))
+    (drop_all c.loop-value.value-index c.args.items.now c.loop-value-test.false)

@@ -18,7 +18,8 @@ bounds-counts-place c =
 pub before-requires : goal.before-requires
 before-requires c =
     let there = count_there AtMost c.args.counts.now c.args.relations.now c.loop-place.place 0 c.index-relations-place.result c.requires c.loop-place-test.true in
-    subst (λ (s : Scheme). AtMost (get_or c.args.counts.now c.loop-place.place 0) s) (sym c.index-relations-place.is) there
+    subst (λ (s : Scheme). AtMost (get_or c.args.counts.now c.loop-place.place 0) s)
+    (sym c.index-relations-place.is) there
 
 pub loop-place-preserved : goal.loop-place-preserved
 loop-place-preserved c =
@@ -29,8 +30,10 @@ loop-place-preserved c =
     let s = c.index-relations-place.result in
     c.in_ok-push.ensures.items
     ∙ ap (λ (xs : List Scheme). xs ++ c.in_ok-copy.copy ∷ []) c.loop-place.invariant
-    ∙ ap (λ (x : Scheme). schemes_before (take i counts) (take i relations) ++ x ∷ []) (c.in_ok-copy.ensures ∙ ap (λ (x : Scheme). scheme_before (get_or counts i 0) x) c.index-relations-place.is)
-    ∙ sym (before_more counts relations i 0 s (subst (λ n. i < n) (sym long) c.loop-place-test.true) c.loop-place-test.true)
+    ∙ ap (λ (x : Scheme). schemes_before (take i counts) (take i relations) ++ x ∷ []) (c.in_ok-copy.ensures
+    ∙ ap (λ (x : Scheme). scheme_before (get_or counts i 0) x) c.index-relations-place.is)
+    ∙ sym (before_more counts relations i 0 s
+    (subst (λ n. i < n) (sym long) c.loop-place-test.true) c.loop-place-test.true)
 
 pub returns : goal.returns
 returns c =

@@ -13,7 +13,8 @@ entry_bytes-requires c = (
 pub returns-clause-spelled : goal.returns-clause-spelled
 returns-clause-spelled c =
     spelled_as c.entry_bytes.result _ _
-    (λ i. Called c.args.event.now.level ((c.in_ok-user.ensures ∙ c.user_name.ensures.same) i) ((c.in_ok-session.ensures ∙ c.deref.ensures) i) (c.in_ok-transaction.ensures i)) (
+    (λ i. Called c.args.event.now.level ((c.in_ok-user.ensures ∙ c.user_name.ensures.same) i)
+    ((c.in_ok-session.ensures ∙ c.deref.ensures) i) (c.in_ok-transaction.ensures i)) (
       copy_is_short c.in_ok-user.user _ c.in_ok-user.ensures c.user_name.ensures.name,
       copy_is_short c.in_ok-session.session _ (c.in_ok-session.ensures ∙ c.deref.ensures) c.requires.session,
       copy_is_short c.in_ok-transaction.transaction _ c.in_ok-transaction.ensures c.requires.name,

@@ -27,7 +27,8 @@ loop-item-preserved g c =
       count = (let a = inv.count in let b = one.step.call.count in omega (arith, a, b));
       begun = one.step.mode;
       way = λ h. entered_more f c.args.released.now c.loop-item.item-index c.item-item.result c.loop-item-test.true c.item-item.is
-          (g.B.Base.seen c.args.base.now).state (g.B.Base.seen c.loop-item.base).state (g.B.Base.seen c.enter_release.new.base).state (inv.way (one.step.call.clean h)) (one.entered.done h);
+          (g.B.Base.seen c.args.base.now).state (g.B.Base.seen c.loop-item.base).state
+          (g.B.Base.seen c.enter_release.new.base).state (inv.way (one.step.call.clean h)) (one.entered.done h);
       spelled = each_more f c.args.released.now c.loop-item.item-index c.item-item.result c.loop-item-test.true c.item-item.is HasSpelling inv.spelled one.entered.spelled.0;
     }
 
@@ -35,9 +36,12 @@ pub returns-clause-entered : goal.returns-clause-entered
 returns-clause-entered g c =
     let f = release_entry (site_of_run c.args.site.now) c.args.event.now c.args.user in
     record {
-      done = λ clean. entered_all f c.args.released.now c.loop-item.item-index c.loop-item-test.false (g.B.Base.seen c.args.base.now).state (g.B.Base.seen c.loop-item.base).state (c.loop-item.invariant.way clean);
+      done = λ clean. entered_all f c.args.released.now c.loop-item.item-index c.loop-item-test.false
+          (g.B.Base.seen c.args.base.now).state (g.B.Base.seen c.loop-item.base).state
+          (c.loop-item.invariant.way clean);
       spelled = each_all f c.args.released.now c.loop-item.item-index c.loop-item-test.false HasSpelling c.loop-item.invariant.spelled;
     }
 
 pub returns-in_err-enter_release-clause-access : goal.returns-in_err-enter_release-clause-access
-returns-in_err-enter_release-clause-access g c = avoids_then c.loop-item.invariant.access c.in_err-enter_release.ensures.access
+returns-in_err-enter_release-clause-access g c =
+    avoids_then c.loop-item.invariant.access c.in_err-enter_release.ensures.access

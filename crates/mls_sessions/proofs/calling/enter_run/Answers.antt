@@ -14,9 +14,14 @@ returns-clause-entered g c =
     let es = map (release_entry (site_of_run c.args.site.now) c.args.event.now c.args.user) c.args.released.now in
     let call = Called c.args.event.now.level (user_name c.args.site.now.policy.now.users c.args.user) c.args.event.now.session c.args.name.now in
     record {
-      done = λ clean. on_ok_weaker c.enter_releases.result (λ h. h ∙ ap (λ s. with_entries s es) (c.in_ok-enter_call.ensures.entered.done (c.enter_releases.ensures.step.call.clean clean)) ∙ first_entered (g.B.Base.seen c.args.base.now).state call es)
+      done = λ clean. on_ok_weaker c.enter_releases.result (λ h. h ∙ ap (λ s. with_entries s es)
+          (c.in_ok-enter_call.ensures.entered.done (c.enter_releases.ensures.step.call.clean clean)) ∙ first_entered
+          (g.B.Base.seen c.args.base.now).state call es)
           (c.enter_releases.ensures.entered.done clean);
-      spelled = on_ok_weaker c.enter_releases.result (λ h. (c.in_ok-enter_call.ensures.entered.spelled.0, h)) c.enter_releases.ensures.entered.spelled;
+      spelled = on_ok_weaker c.enter_releases.result (λ h. (
+        c.in_ok-enter_call.ensures.entered.spelled.0,
+        h,
+      )) c.enter_releases.ensures.entered.spelled;
     }
 
 pub returns-clause-access : goal.returns-clause-access

@@ -14,7 +14,8 @@ entry_bytes-requires c = (
 pub returns-clause-spelled : goal.returns-clause-spelled
 returns-clause-spelled c =
     spelled_as c.entry_bytes.result _ _
-    (λ i. Released c.args.item.now.0 ((c.in_ok-user.ensures ∙ c.user_name.ensures.same) i) ((c.in_ok-session.ensures ∙ c.deref.ensures) i) (c.in_ok-value.ensures i)) (
+    (λ i. Released c.args.item.now.0 ((c.in_ok-user.ensures ∙ c.user_name.ensures.same) i)
+    ((c.in_ok-session.ensures ∙ c.deref.ensures) i) (c.in_ok-value.ensures i)) (
       copy_is_short c.in_ok-user.user _ c.in_ok-user.ensures c.user_name.ensures.name,
       copy_is_short c.in_ok-session.session _ (c.in_ok-session.ensures ∙ c.deref.ensures) c.requires.session,
       value_is_short c.in_ok-value.value _ c.in_ok-value.ensures c.requires.item.kind,

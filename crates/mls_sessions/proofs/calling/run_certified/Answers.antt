@@ -16,7 +16,8 @@ evaluate_in-requires g c =
       call = record {
         under = c.args.site.now.under;
         read = c.requires.may.read;
-        args = subst (ArgsFit c.args.certified.now.tx) (sym (c.deref.ensures.value ∙ made ∙ ap (λ (t : Tx). fitted t.params c.args.args.now) c.tx.ensures))
+        args = subst (ArgsFit c.args.certified.now.tx)
+            (sym (c.deref.ensures.value ∙ made ∙ ap (λ (t : Tx). fitted t.params c.args.args.now) c.tx.ensures))
             (fitted_fit c.args.certified.now.tx c.args.args.now c.requires.may.count);
         content = λ clean. (c.requires.found.sound clean).content;
       };
@@ -25,7 +26,8 @@ evaluate_in-requires g c =
     })
 
 pub returns-clause-access : goal.returns-clause-access
-returns-clause-access g c = λ cert rules. avoids_then (avoids_some c.in_ok-args.ensures.access) (c.evaluate_in.ensures.access cert rules)
+returns-clause-access g c = λ cert rules. avoids_then (avoids_some c.in_ok-args.ensures.access)
+    (c.evaluate_in.ensures.access cert rules)
 
 pub returns-in_err-args-clause-access : goal.returns-in_err-args-clause-access
 returns-in_err-args-clause-access g c = λ cert rules. avoids_some c.in_err-args.ensures.access

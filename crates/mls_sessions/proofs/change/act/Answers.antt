@@ -19,4 +19,5 @@ returns-in-Write-clause-access g c =
     let site = site_of_run c.args.site.now in
     let e = c.args.event.now in
     let asked = subst (IsEffectOf site e) c.in-Write.is c.requires.may.asked in
-    level_permitted g.B.Base.seen c.args.base.now c.write.new.base site e (ceiling_of_write site e.level e.command asked) c.write.ensures.access
+    level_permitted g.B.Base.seen c.args.base.now c.write.new.base site e
+    (ceiling_of_write site e.level e.command asked) c.write.ensures.access

@@ -11,9 +11,12 @@ returns-clause-done g c = record {
   done = λ clean.
       let site = site_of_run c.args.site.now in
       let entry = denial_entry site c.args.event.now c.args.user c.args.denial in
-      denied_over site (g.B.Base.seen c.args.base.now).state (g.B.Base.seen c.audit_add.new.self).state c.args.event.now c.args.user c.args.denial c.in_ok-bytes.bytes.items c.requires.may.fits.level
+      denied_over site (g.B.Base.seen c.args.base.now).state
+      (g.B.Base.seen c.audit_add.new.self).state c.args.event.now c.args.user c.args.denial c.in_ok-bytes.bytes.items c.requires.may.fits.level
       (subst (λ r. OnOk r (HasSpelling entry)) c.in_ok-bytes.ensures.value c.denial_bytes.ensures.spelled)
       (subst (λ r. IfOk r (λ v. v.items ≡ entry_spelling entry)) c.in_ok-bytes.ensures.value c.denial_bytes.ensures.bytes)
-      (c.in_ok-audit_add.ensures.done clean ∙ ap (with_entry (g.B.Base.seen c.settle.new.base).state) c.deref.ensures.value ∙ ap (λ b. with_entry (g.B.Base.seen b).state c.in_ok-bytes.bytes.items) c.in_ok-bytes.ensures.same);
+      (c.in_ok-audit_add.ensures.done clean ∙ ap
+      (with_entry (g.B.Base.seen c.settle.new.base).state) c.deref.ensures.value
+      ∙ ap (λ b. with_entry (g.B.Base.seen b).state c.in_ok-bytes.bytes.items) c.in_ok-bytes.ensures.same);
   known = tt;
 }

@@ -25,5 +25,6 @@ returns-clause-views g c =
     let fits = subst (CommandFits policy schemes) c.in-Write.is c.requires.may.fits.command in
     let done = c.in_ok-outcome.ensures in
     kept_written policy g.B.Base.seen scheme (length scheme.others) relation at wr c.args.base.now c.write.new.base c.in_ok-outcome.outcome c.args.views.now c.follow.new.self
-    done.change.call.clean (λ k. ((c.requires.found.sound (done.change.call.clean k)).content relation).stored) done.done
+    done.change.call.clean (λ k. ((c.requires.found.sound
+    (done.change.call.clean k)).content relation).stored) done.done
     (key_class_within policy scheme at c.requires.may.fits.level wr fits.1) c.requires.found.views c.follow.ensures

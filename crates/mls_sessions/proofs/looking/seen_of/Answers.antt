@@ -12,6 +12,9 @@ visible-requires-clause-entries c =
 pub returns-clause-known : goal.returns-clause-known
 returns-clause-known c =
     IfOk-weaker c.visible.result _ _
-    (λ v h. subst (AreBelow (length c.args.policy.now.labels)) (sym (h ∙ ap (visible (labels_of c.args.policy.now) c.args.label) (c.deref.ensures.value ∙ c.in_ok-entries.ensures.exact)))
-    (visible_known (length c.args.policy.now.labels) (labels_of c.args.policy.now) c.args.label _ (entries_known (length c.args.policy.now.labels) c.args.strings.now)))
+    (λ v h. subst (AreBelow (length c.args.policy.now.labels))
+    (sym (h ∙ ap (visible (labels_of c.args.policy.now) c.args.label) (c.deref.ensures.value
+    ∙ c.in_ok-entries.ensures.exact)))
+    (visible_known (length c.args.policy.now.labels) (labels_of c.args.policy.now) c.args.label _
+    (entries_known (length c.args.policy.now.labels) c.args.strings.now)))
     c.visible.ensures

@@ -12,13 +12,16 @@ returns-in-Err-clause-continues g c =
       clean = step.turn.clean;
       count = step.turn.count;
       kept = step.kept;
-      store = λ h k. step.turn.fault.store (only_store c.in-Err.fault step.turn.fault.served (sym c.cause_of.ensures ∙ ap (λ (f : RunFault). f.cause) (sym c.fault_at.ensures) ∙ k));
+      store = λ h k. step.turn.fault.store (only_store c.in-Err.fault step.turn.fault.served (sym c.cause_of.ensures
+          ∙ ap (λ (f : RunFault). f.cause) (sym c.fault_at.ensures) ∙ k));
     }
 
 pub returns-in-Err-clause-stopped : goal.returns-in-Err-clause-stopped
 returns-in-Err-clause-stopped g c = λ h.
     let before = g.W.Write.contents c.args.out.now in
-    subst (λ (f : RunFault). IsHalted (site c.args.engine.now) c.args.audience.now (world_of g.B.Base.seen c.args.engine.now) c.args.event.now before before (world_of g.B.Base.seen c.step.new.self) f.cause f.done) (sym c.fault_at.ensures)
+    subst (λ (f : RunFault). IsHalted (site c.args.engine.now) c.args.audience.now
+    (world_of g.B.Base.seen c.args.engine.now) c.args.event.now before before
+    (world_of g.B.Base.seen c.step.new.self) f.cause f.done) (sym c.fault_at.ensures)
     (halted_before g.B.Base.seen c.args.engine.now c.step.new.self c.args.audience.now c.args.event.now before before c.cause_of.result (c.in-Err.ensures.answers.turn.fault.same h))
 
 pub returns-in-Err-text_of-clause-continues : goal.returns-in-Err-text_of-clause-continues
@@ -30,14 +33,18 @@ returns-in-Err-text_of-clause-continues g c =
       kept = noted g.B.Base.seen c.args.engine.now c.step.new.self c.next_notice-engine.result step.kept;
       store = λ h k.
           absurd (not_store c.in-Err-text_of.cause (c.in-Err-text_of.ensures.failed
-          (reply_known g.B.Base.seen c.args.engine.now c.step.new.self c.args.event.now c.in-Ok.reply (c.in-Ok.ensures.answers.done h) step.kept.site
-          c.requires.ready (step.turn.clean h) c.requires.fits)) (ap (λ (f : RunFault). f.cause) (sym c.fault_at-in-Err-text_of.ensures) ∙ k));
+          (reply_known g.B.Base.seen c.args.engine.now c.step.new.self c.args.event.now c.in-Ok.reply
+          (c.in-Ok.ensures.answers.done h) step.kept.site
+          c.requires.ready (step.turn.clean h) c.requires.fits)) (ap (λ (f : RunFault). f.cause)
+          (sym c.fault_at-in-Err-text_of.ensures) ∙ k));
     }
 
 pub returns-in-Err-text_of-clause-stopped : goal.returns-in-Err-text_of-clause-stopped
 returns-in-Err-text_of-clause-stopped g c = λ h.
     let before = g.W.Write.contents c.args.out.now in
-    subst (λ (f : RunFault). IsHalted (site c.args.engine.now) c.args.audience.now (world_of g.B.Base.seen c.args.engine.now) c.args.event.now before before (world_of g.B.Base.seen c.step.new.self) f.cause f.done) (sym c.fault_at-in-Err-text_of.ensures)
+    subst (λ (f : RunFault). IsHalted (site c.args.engine.now) c.args.audience.now
+    (world_of g.B.Base.seen c.args.engine.now) c.args.event.now before before
+    (world_of g.B.Base.seen c.step.new.self) f.cause f.done) (sym c.fault_at-in-Err-text_of.ensures)
     (halted_unprinted g.B.Base.seen c.args.engine.now c.step.new.self c.args.audience.now c.args.event.now before before c.in-Ok.reply (c.in-Ok.ensures.answers.done h) c.in-Err-text_of.cause)
 
 pub returns-in-Ok-write_whole-clause-continues : goal.returns-in-Ok-write_whole-clause-continues
@@ -51,4 +58,5 @@ returns-in-Ok-write_whole-clause-continues g c =
     }
 
 pub returns-in-Ok-write_whole-clause-noticed : goal.returns-in-Ok-write_whole-clause-noticed
-returns-in-Ok-write_whole-clause-noticed g c = λ h. c.next_notice-engine.ensures ∙ ap (λ r. last_of (notice_of r) c.args.engine.now.notice) (c.in-Ok.ensures.answers.done h).reply
+returns-in-Ok-write_whole-clause-noticed g c = λ h. c.next_notice-engine.ensures
+    ∙ ap (λ r. last_of (notice_of r) c.args.engine.now.notice) (c.in-Ok.ensures.answers.done h).reply

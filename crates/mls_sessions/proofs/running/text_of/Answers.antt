@@ -9,4 +9,5 @@ use Rattle.mls_sessions.proofs.running.text_of.Goals as goal
 pub returns-in-Ok-clause-done : goal.returns-in-Ok-clause-done
 returns-in-Ok-clause-done c =
     c.in-Ok.ensures
-    ∙ ap (λ l. printed (heard (site_labels (site_of_run c.args.site.now)) c.args.audience.now.reader l)) (lines_under c.args.audience.now.form (site_of_run c.args.site.now) c.args.event.now c.args.reply.now)
+    ∙ ap (λ l. printed (heard (site_labels (site_of_run c.args.site.now)) c.args.audience.now.reader l))
+    (lines_under c.args.audience.now.form (site_of_run c.args.site.now) c.args.event.now c.args.reply.now)

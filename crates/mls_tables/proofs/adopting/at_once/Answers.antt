@@ -38,5 +38,7 @@ returns-clause-says g c =
     λ clean has.
     let read = c.commit.ensures.clean clean in
     let begun = begins (c.read.ensures.clean read) in
-    let there = tables_begun old first mid new begun has in
-    (subst (λ db. g.T.ReadOut.says db c.in_ok-found.found) begun.now (c.in_ok-found.ensures.says read there), has_read old first mid new begun (c.in_ok-found.ensures.same read there) (commits clean))
+    let there = tables_begun old first mid new begun has in (
+      subst (λ db. g.T.ReadOut.says db c.in_ok-found.found) begun.now (c.in_ok-found.ensures.says read there),
+      has_read old first mid new begun (c.in_ok-found.ensures.same read there) (commits clean),
+    )

@@ -15,6 +15,7 @@ returns-in-Err-clause-reading g c =
       clean = λ clean. read.clean (end.clean clean);
       schema = tt;
       was_open = λ clean. tt;
-      left = λ clean. kept_ended (state g.S.Store c.args.conn.now) (state g.S.Store c.of_database.new.conn) (state g.S.Store c.end.new.conn) (read.left (end.clean clean)) (end.ended clean);
+      left = λ clean. kept_ended (state g.S.Store c.args.conn.now) (state g.S.Store c.of_database.new.conn)
+          (state g.S.Store c.end.new.conn) (read.left (end.clean clean)) (end.ended clean);
       bad = λ clean. read.bad (end.clean clean);
     }

@@ -6,10 +6,12 @@ use Rattle.mls_tables.specs.Rows.{are_numbered}
 use Rattle.mls_tables.proofs.decode.are_numbered.Goals as goal
 
 -- the test of one entry
-are_numbered-drop : (n : ℤ) (entries : List AuditRow) (i : ℕ) (a : AuditRow) → i < length entries → a ≡ get_or entries i a
+are_numbered-drop : (n : ℤ) (entries : List AuditRow) (i : ℕ) (a : AuditRow) → i < length entries
+    → a ≡ get_or entries i a
     → are_numbered n (drop i entries) ≡ (int_eq a.number n && are_numbered (n +ℤ pos 1) (drop (i + 1) entries))
 are_numbered-drop n entries i a within is =
-    at_drop_more (are_numbered n) entries i a within ∙ ap (λ (b : AuditRow). int_eq b.number n && are_numbered (n +ℤ pos 1) (drop (i + 1) entries)) (sym is)
+    at_drop_more (are_numbered n) entries i a within ∙ ap (λ (b : AuditRow). int_eq b.number n && are_numbered
+    (n +ℤ pos 1) (drop (i + 1) entries)) (sym is)
 
 pub returns-then-ne : goal.returns-then-ne
 returns-then-ne c =

@@ -5,4 +5,5 @@ use Rattle.mls_tokens.proofs.lines.read_part.Given as goal
 
 abbrev pub invariant-loop : goal.invariant-loop
 invariant-loop g l =
-    (length l.line.items ≡ l.counter) × HasNoFeed l.line.items × Consumes (g.S.Source.remaining l.initial.input) (g.S.Source.remaining l.input) l.line.items
+    (length l.line.items ≡ l.counter) × HasNoFeed l.line.items × Consumes (g.S.Source.remaining l.initial.input)
+    (g.S.Source.remaining l.input) l.line.items

@@ -4,7 +4,8 @@ use Rattle.mls_tokens.proofs.lines.read_typed.Goals as goal
 pub returns-in_err-skip_line-in-Full-clause-lost : goal.returns-in_err-skip_line-in-Full-clause-lost
 returns-in_err-skip_line-in-Full-clause-lost g c =
     let (text, one, long, read) = rw c.in-Full.is at c.in_ok-line.ensures.part in
-    on_err c.from_residual-in_err-skip_line-in-Full.result (taken_more _ _ _ text read c.in_err-skip_line-in-Full.ensures.lost)
+    on_err c.from_residual-in_err-skip_line-in-Full.result
+    (taken_more _ _ _ text read c.in_err-skip_line-in-Full.ensures.lost)
 
 pub returns-in_ok-skip_line-in-Full-clause-typed : goal.returns-in_ok-skip_line-in-Full-clause-typed
 returns-in_ok-skip_line-in-Full-clause-typed g c =

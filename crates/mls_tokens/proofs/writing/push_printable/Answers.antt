@@ -6,4 +6,5 @@ pub loop-byte-preserved : goal.loop-byte-preserved
 loop-byte-preserved c = written_more printable_byte _ _ _ _ c.loop-byte.invariant _ c.loop-byte-test.true c.in_ok-push_byte.ensures
 
 pub returns : goal.returns
-returns c = rw (← c.as_bytes-byte-items.ensures.value) (written_all printable_byte _ _ _ _ c.loop-byte.invariant c.loop-byte-test.false)
+returns c = rw (← c.as_bytes-byte-items.ensures.value)
+    (written_all printable_byte _ _ _ _ c.loop-byte.invariant c.loop-byte-test.false)

@@ -6,7 +6,8 @@ use Rattle.mls_translang.proofs.print_block.+print.Given as goal
 
 -- what is left, put after what was put, is the whole
 abbrev pub invariant-block_to-loop-stmt : goal.invariant-block_to-loop-stmt
-invariant-block_to-loop-stmt l = IsLeft l.names (drop l.stmt-index l.stmt-items) l.out (block_of l.stmt-items) l.initial.out
+invariant-block_to-loop-stmt l = IsLeft l.names (drop l.stmt-index l.stmt-items) l.out
+    (block_of l.stmt-items) l.initial.out
 
 -- ---- how deep
 

@@ -10,6 +10,7 @@ returns c =
     let i = c.args.set.now.0 in
     let name : c.name.result.now ≡ (other_of scheme i).0 =
     same_Some c.name.result.now (other_of scheme i).0
-    (sym c.name.ensures ∙ ap (λ (as' : List Attribute). option_map (λ (a : Attribute). a.0) (slice_get as' i)) c.others.ensures.others
+    (sym c.name.ensures ∙ ap (λ (as' : List Attribute). option_map (λ (a : Attribute). a.0)
+    (slice_get as' i)) c.others.ensures.others
     ∙ ap (option_map (λ (a : Attribute). a.0)) (slice_get-get_or scheme.others i no_attribute c.requires)) in
     grind (arith, common_steps, name)

@@ -12,7 +12,8 @@ invariant-run_block-loop-stmt g l = record {
   count : (g.B.Base.seen l.fn.base).failures ≤ (g.B.Base.seen l.base).failures;
   access : Accesses l.call g.B.Base.seen (block_of l.stmt-items) l.fn.base l.base;
   between : Between l.call (block_of l.stmt-items) → Between l.call (block_of (drop l.stmt-index l.stmt-items));
-  ran : IsFrameRun l.call g.B.Base.seen (run_of l.call (block_of (take l.stmt-index l.stmt-items)) (around_of l.fn.frame)) l.fn.base l.base l.fn.frame l.frame;
+  ran : IsFrameRun l.call g.B.Base.seen (run_of l.call (block_of (take l.stmt-index l.stmt-items))
+      (around_of l.fn.frame)) l.fn.base l.base l.fn.frame l.frame;
   may : MayRunBlock l.call (around_of l.fn.frame) (block_of (drop l.stmt-index l.stmt-items));
   size : statements (block_of (drop l.stmt-index l.stmt-items)) ≤ statements (block_of l.stmt-items);
 }
@@ -23,7 +24,8 @@ invariant-run_rows-loop-place g l = record {
   clean : (g.B.Base.seen l.base).is_clean → (g.B.Base.seen l.fn.base).is_clean;
   count : (g.B.Base.seen l.fn.base).failures ≤ (g.B.Base.seen l.base).failures;
   access : Accesses l.call g.B.Base.seen l.body l.fn.base l.base;
-  ran : IsFrameRun l.call g.B.Base.seen (rows_of l.call l.body (around_of l.fn.frame) (take l.place l.rows)) l.fn.base l.base l.fn.frame l.frame;
+  ran : IsFrameRun l.call g.B.Base.seen (rows_of l.call l.body (around_of l.fn.frame)
+      (take l.place l.rows)) l.fn.base l.base l.fn.frame l.frame;
 }
 
 -- ---- how deep

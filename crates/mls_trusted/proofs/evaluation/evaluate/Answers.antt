@@ -12,7 +12,9 @@ evaluate_in-requires g c = record {
     read = c.requires.read;
     args = c.requires.args;
     content = λ clean.
-        subst (λ s. AreContent (labels_of c.args.policy.now) c.args.schemes.now s.now.db) (sym (c.in_ok-begin.ensures.done clean)) (c.requires.content (c.in_ok-begin.ensures.outside.call.clean clean));
+        subst (λ s. AreContent (labels_of c.args.policy.now) c.args.schemes.now s.now.db)
+        (sym (c.in_ok-begin.ensures.done clean)) (c.requires.content
+        (c.in_ok-begin.ensures.outside.call.clean clean));
   };
   begun = c.in_ok-begin.ensures.outside.mode;
   views = search rules;
@@ -26,19 +28,26 @@ returns-clause-called g c =
       items = c.in_ok-run.ensures.called.items;
       done = λ clean.
           let before = last.change.call.clean clean in
-          commits_run (labels_of c.args.policy.now) c.args.schemes.now c.args.certified.now.tx c.args.args.now (seen c.args.base.now).state (seen c.begin.new.self).state (seen c.evaluate_in.new.base).state
-          (seen c.commit.new.self).state c.in_ok-run.run' (c.in_ok-begin.ensures.done (c.in_ok-run.ensures.step.call.clean before)) (c.in_ok-run.ensures.called.done before) (last.done clean);
-      content = λ clean. subst (λ s. AreContent (labels_of c.args.policy.now) c.args.schemes.now s.now.db) (sym (last.done clean)) (c.in_ok-run.ensures.called.content (last.change.call.clean clean));
+          commits_run (labels_of c.args.policy.now) c.args.schemes.now c.args.certified.now.tx c.args.args.now
+          (seen c.args.base.now).state (seen c.begin.new.self).state (seen c.evaluate_in.new.base).state
+          (seen c.commit.new.self).state c.in_ok-run.run' (c.in_ok-begin.ensures.done
+          (c.in_ok-run.ensures.step.call.clean before)) (c.in_ok-run.ensures.called.done before) (last.done clean);
+      content = λ clean. subst (λ s. AreContent (labels_of c.args.policy.now) c.args.schemes.now s.now.db)
+          (sym (last.done clean)) (c.in_ok-run.ensures.called.content (last.change.call.clean clean));
     }
 
 pub returns-in_err-begin-clause-access : goal.returns-in_err-begin-clause-access
 returns-in_err-begin-clause-access g c = λ cert rules. avoids_some c.in_err-begin.ensures.access
 
 pub returns-in_err-run-clause-access : goal.returns-in_err-run-clause-access
-returns-in_err-run-clause-access g c = λ cert rules. avoids_then (avoids_some c.in_ok-begin.ensures.access) (c.in_err-run.ensures.access cert rules)
+returns-in_err-run-clause-access g c = λ cert rules. avoids_then (avoids_some c.in_ok-begin.ensures.access)
+    (c.in_err-run.ensures.access cert rules)
 
 pub returns-in_err-commit-clause-access : goal.returns-in_err-commit-clause-access
-returns-in_err-commit-clause-access g c = λ cert rules. avoids_then (avoids_then (avoids_some c.in_ok-begin.ensures.access) (c.in_ok-run.ensures.access cert rules)) (avoids_some c.in_err-commit.ensures.access)
+returns-in_err-commit-clause-access g c = λ cert rules. avoids_then
+    (avoids_then (avoids_some c.in_ok-begin.ensures.access) (c.in_ok-run.ensures.access cert rules))
+    (avoids_some c.in_err-commit.ensures.access)
 
 pub returns-clause-access : goal.returns-clause-access
-returns-clause-access g c = λ cert rules. avoids_then (avoids_then (avoids_some c.in_ok-begin.ensures.access) (c.in_ok-run.ensures.access cert rules)) (avoids_some c.in_ok-commit.ensures.access)
+returns-clause-access g c = λ cert rules. avoids_then (avoids_then (avoids_some c.in_ok-begin.ensures.access)
+    (c.in_ok-run.ensures.access cert rules)) (avoids_some c.in_ok-commit.ensures.access)

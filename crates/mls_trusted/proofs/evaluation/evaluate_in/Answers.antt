@@ -23,29 +23,52 @@ use Rattle.mls_trusted.proofs.evaluation.evaluate_in.Goals as goal
 
 pub run_block-requires-clause-ready : goal.run_block-requires-clause-ready
 run_block-requires-clause-ready g c =
-    let call : Call = record { alloc = c.args.alloc; policy = c.args.policy; schemes = c.args.schemes; tx = c.tx.result; args = c.args.args } in
+    let call : Call = record {
+      alloc = c.args.alloc;
+      policy = c.args.policy;
+      schemes = c.args.schemes;
+      tx = c.tx.result;
+      args = c.args.args;
+    } in
     let is = IfOk-at_ok (λ (x : Frame). x.views ≡ c.take_all.result) c.in_ok-frame.ensures.value c.new.ensures.views in
     let views = subst (AreViews c.args.policy.now g.B.Base.seen c.settle.new.base) (sym (is ∙ c.take_all.ensures.all))
-    (subst (λ b. AreViews c.args.policy.now g.B.Base.seen b c.args.views.now) (sym c.in_ok-frame.ensures.same) c.requires.views) in
+    (subst (λ b. AreViews c.args.policy.now g.B.Base.seen b c.args.views.now)
+    (sym c.in_ok-frame.ensures.same) c.requires.views) in
     record {
       under = c.requires.call.under;
       begun = ap (λ b. (g.B.Base.seen b).state.begun) c.in_ok-frame.ensures.same ∙ c.requires.begun;
-      content = λ k. subst (λ b. AreContent (labels_of c.args.policy.now) c.args.schemes.now (g.B.Base.seen b).state.now.db) (sym c.in_ok-frame.ensures.same) (c.requires.call.content (c.in_ok-frame.ensures.call.clean k));
+      content = λ k. subst (λ b. AreContent (labels_of c.args.policy.now) c.args.schemes.now
+          (g.B.Base.seen b).state.now.db) (sym c.in_ok-frame.ensures.same)
+          (c.requires.call.content (c.in_ok-frame.ensures.call.clean k));
       frame = IfOk-at_ok (IsFrame call) c.in_ok-frame.ensures.value c.new.ensures.frame;
       views = views;
     }
 
 pub run_block-requires-clause-may : goal.run_block-requires-clause-may
 run_block-requires-clause-may g c =
-    let call : Call = record { alloc = c.args.alloc; policy = c.args.policy; schemes = c.args.schemes; tx = c.tx.result; args = c.args.args } in
+    let call : Call = record {
+      alloc = c.args.alloc;
+      policy = c.args.policy;
+      schemes = c.args.schemes;
+      tx = c.tx.result;
+      args = c.args.args;
+    } in
     let f = c.in_ok-frame.frame in
     let none = IfOk-at_ok (λ (x : Frame). x.rows.items ≡ []) c.in_ok-frame.ensures.value c.new.ensures.rows in
     subst (MayRunBlock call (around_of f)) (sym c.body.ensures.body)
-    (start_may call c.body.ensures.valid (subst (IsReadUnder c.args.policy.now c.args.schemes.now) (sym c.tx.ensures) c.requires.call.read) (subst (λ (x : Tx). ArgsFit x c.args.args.now) (sym c.tx.ensures) c.requires.call.args) f none)
+    (start_may call c.body.ensures.valid (subst (IsReadUnder c.args.policy.now c.args.schemes.now)
+    (sym c.tx.ensures) c.requires.call.read) (subst (λ (x : Tx). ArgsFit x c.args.args.now)
+    (sym c.tx.ensures) c.requires.call.args) f none)
 
 pub returns-clause-called : goal.returns-clause-called
 returns-clause-called g c =
-    let call : Call = record { alloc = c.args.alloc; policy = c.args.policy; schemes = c.args.schemes; tx = c.tx.result; args = c.args.args } in
+    let call : Call = record {
+      alloc = c.args.alloc;
+      policy = c.args.policy;
+      schemes = c.args.schemes;
+      tx = c.tx.result;
+      args = c.args.args;
+    } in
     let f = c.in_ok-frame.frame in
     let seen = g.B.Base.seen in
     let ls = labels_of c.args.policy.now in
@@ -53,11 +76,17 @@ returns-clause-called g c =
       items = gives_items call c.run_block.new.frame c.into_parts-run.result.0 c.into_parts-run.ensures.emitted c.into_parts-run.ensures.released c.in_ok-run_block.ensures.ran.ready.frame;
       done = λ clean.
           let none = IfOk-at_ok (λ (x : Frame). x.rows.items ≡ []) c.in_ok-frame.ensures.value c.new.ensures.rows in
-          let first = IfOk-at_ok (λ (x : Frame). (db : Database) → progress_of db x ≡ start db) c.in_ok-frame.ensures.value c.new.ensures.start in
-          let ran = subst (λ (x : Block). IsFrameRun call seen (run_of call x (around_of f)) c.settle.new.base c.run_block.new.base f c.run_block.new.frame) c.body.ensures.body c.in_ok-run_block.ensures.ran in
+          let first = IfOk-at_ok (λ (x : Frame). (db : Database) → progress_of db x
+          ≡ start db) c.in_ok-frame.ensures.value c.new.ensures.start in
+          let ran = subst (λ (x : Block). IsFrameRun call seen
+          (run_of call x (around_of f)) c.settle.new.base c.run_block.new.base f c.run_block.new.frame) c.body.ensures.body c.in_ok-run_block.ensures.ran in
           let evaluated = gives_run call seen c.settle.new.base c.run_block.new.base f c.run_block.new.frame c.into_parts-run.result.0 first none ran c.into_parts-run.ensures.emitted c.into_parts-run.ensures.released clean in
-          subst (λ (x : Tx). let run = run_tx ls c.args.schemes.now x c.args.args.now (seen c.args.base.now).state.now.db in IsEvaluated run (with_database (seen c.args.base.now).state run.db) (seen c.run_block.new.base).state c.into_parts-run.result.0) c.tx.ensures
-          (subst (λ b. let run = run_tx ls c.args.schemes.now c.tx.result.now c.args.args.now (seen b).state.now.db in IsEvaluated run (with_database (seen b).state run.db) (seen c.run_block.new.base).state c.into_parts-run.result.0) c.in_ok-frame.ensures.same evaluated);
+          subst (λ (x : Tx). let run = run_tx ls c.args.schemes.now x c.args.args.now
+          (seen c.args.base.now).state.now.db in IsEvaluated run (with_database (seen c.args.base.now).state run.db)
+          (seen c.run_block.new.base).state c.into_parts-run.result.0) c.tx.ensures
+          (subst (λ b. let run = run_tx ls c.args.schemes.now c.tx.result.now c.args.args.now (seen b).state.now.db
+          in IsEvaluated run (with_database (seen b).state run.db)
+          (seen c.run_block.new.base).state c.into_parts-run.result.0) c.in_ok-frame.ensures.same evaluated);
       content = λ clean. c.in_ok-run_block.ensures.ran.ready.content clean;
     }
 
@@ -67,8 +96,10 @@ returns-clause-access g c = λ cert rules.
     let seen = g.B.Base.seen in
     let here = subst (λ (x : Tx). Rules (claim c.args.policy.now x cert)) (sym c.tx.ensures) rules in
     let tx = c.tx.result.now in
-    let between = subst (BlockBetween ls tx.lo tx.hi) (sym c.body.ensures.body) (body_between (claim c.args.policy.now tx cert) here) in
-    subst (λ (x : Tx). NoWriteDown seen ls x.hi x.lo c.args.base.now c.run_block.new.base) c.tx.ensures (avoids_then (avoids_some c.in_ok-frame.ensures.access) (c.in_ok-run_block.ensures.access between))
+    let between = subst (BlockBetween ls tx.lo tx.hi) (sym c.body.ensures.body)
+    (body_between (claim c.args.policy.now tx cert) here) in
+    subst (λ (x : Tx). NoWriteDown seen ls x.hi x.lo c.args.base.now c.run_block.new.base) c.tx.ensures
+    (avoids_then (avoids_some c.in_ok-frame.ensures.access) (c.in_ok-run_block.ensures.access between))
 
 pub returns-in_err-run_block-clause-access : goal.returns-in_err-run_block-clause-access
 returns-in_err-run_block-clause-access g c = λ cert rules.
@@ -76,8 +107,10 @@ returns-in_err-run_block-clause-access g c = λ cert rules.
     let seen = g.B.Base.seen in
     let here = subst (λ (x : Tx). Rules (claim c.args.policy.now x cert)) (sym c.tx.ensures) rules in
     let tx = c.tx.result.now in
-    let between = subst (BlockBetween ls tx.lo tx.hi) (sym c.body.ensures.body) (body_between (claim c.args.policy.now tx cert) here) in
-    subst (λ (x : Tx). NoWriteDown seen ls x.hi x.lo c.args.base.now c.run_block.new.base) c.tx.ensures (avoids_then (avoids_some c.in_ok-frame.ensures.access) (c.in_err-run_block.ensures.access between))
+    let between = subst (BlockBetween ls tx.lo tx.hi) (sym c.body.ensures.body)
+    (body_between (claim c.args.policy.now tx cert) here) in
+    subst (λ (x : Tx). NoWriteDown seen ls x.hi x.lo c.args.base.now c.run_block.new.base) c.tx.ensures
+    (avoids_then (avoids_some c.in_ok-frame.ensures.access) (c.in_err-run_block.ensures.access between))
 
 pub returns-in_err-frame-clause-access : goal.returns-in_err-frame-clause-access
 returns-in_err-frame-clause-access g c = λ cert rules. avoids_some c.in_err-frame.ensures.access

@@ -5,5 +5,6 @@ use Rattle.mls_trusted.proofs.plain.emit.Goals as goal
 
 pub returns : goal.returns
 returns c =
-    emit_step c.args.call.now c.args.frame.now c.requires.frame c.args.value.now c.in_ok-value.value (c.in_ok-value.ensures ∙ ap (λ env. value_in env c.args.value.now) c.environment.ensures)
+    emit_step c.args.call.now c.args.frame.now c.requires.frame c.args.value.now c.in_ok-value.value
+    (c.in_ok-value.ensures ∙ ap (λ env. value_in env c.args.value.now) c.environment.ensures)
     c.args.label (record c.args.frame.now { emitted = c.push.new.self }) c.requires.may c.in_ok-push.ensures.items

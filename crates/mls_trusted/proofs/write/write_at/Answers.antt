@@ -30,19 +30,22 @@ returns-clause-ran g c =
     let at = c.args.at in
     let writing = c.args.write.now in
     let is = IfOk-at_ok (λ x. x ≡ write_in (env_in call.args.now f) writing) c.in_ok-valued.ensures.value c.evaluated.ensures in
-    let within = subst (λ (x : Write). key_class_of at x < length call.policy.now.labels) (sym is) (key_class_declared call f relation at c.args.outcome writing c.requires.may) in
+    let within = subst (λ (x : Write). key_class_of at x < length call.policy.now.labels) (sym is)
+    (key_class_declared call f relation at c.args.outcome writing c.requires.may) in
     run_written call f relation at writing c.args.outcome g.B.Base.seen c.args.base.now c.settle.new.base c.write.new.base c.wrote.new.self c.in_ok-done.done
     c.in_ok-valued.valued c.in_ok-valued.ensures.same is c.requires.ready c.requires.may c.in_ok-done.ensures c.wrote.ensures.vars within c.wrote.ensures.views
 
 pub returns-clause-access : goal.returns-clause-access
 returns-clause-access g c = λ b.
     let call = c.args.call.now in
-    avoids_then (avoids_some c.in_ok-valued.ensures.access) (no_down_wider (labels_of call.policy.now) c.args.at c.args.at call.tx.now.hi call.tx.now.lo b.0.1 b.0.0 c.in_ok-done.ensures.access)
+    avoids_then (avoids_some c.in_ok-valued.ensures.access)
+    (no_down_wider (labels_of call.policy.now) c.args.at c.args.at call.tx.now.hi call.tx.now.lo b.0.1 b.0.0 c.in_ok-done.ensures.access)
 
 pub returns-in_err-done-clause-access : goal.returns-in_err-done-clause-access
 returns-in_err-done-clause-access g c = λ b.
     let call = c.args.call.now in
-    avoids_then (avoids_some c.in_ok-valued.ensures.access) (no_down_wider (labels_of call.policy.now) c.args.at c.args.at call.tx.now.hi call.tx.now.lo b.0.1 b.0.0 c.in_err-done.ensures.access)
+    avoids_then (avoids_some c.in_ok-valued.ensures.access)
+    (no_down_wider (labels_of call.policy.now) c.args.at c.args.at call.tx.now.hi call.tx.now.lo b.0.1 b.0.0 c.in_err-done.ensures.access)
 
 pub returns-in_err-valued-clause-access : goal.returns-in_err-valued-clause-access
 returns-in_err-valued-clause-access g c = λ b. avoids_some c.in_err-valued.ensures.access

@@ -15,10 +15,14 @@ returns-clause-done g c = λ clean es is.
     let relation = c.args.tuple.now.relation in
     let n = node_of (entry_of c.args.tuple.now) in
     let T = (g.B.Base.seen c.args.base.now).state.now.db relation in
-    let node : c.in_ok-parts.parts.node ≡ n = subst (λ r. IfOk r (λ x. x.node ≡ n)) c.in_ok-parts.ensures.value c.parts_of.ensures.node in
-    let own = subst (λ r. IfOk r (λ x. x.cells.items ≡ cells_of (entry_of c.args.tuple.now))) c.in_ok-parts.ensures.value c.parts_of.ensures.cells in
-    let same : (g.B.Base.seen c.settle.new.base).state ≡ (g.B.Base.seen c.args.base.now).state = ap (λ b. (g.B.Base.seen b).state) c.in_ok-parts.ensures.same in
-    on_ok_weaker c.add.result (λ e. e ∙ (λ i. with_relation (same i) relation (insert ((same i).now.db relation) (place_of_node (node i)) es)))
+    let node : c.in_ok-parts.parts.node ≡ n =
+    subst (λ r. IfOk r (λ x. x.node ≡ n)) c.in_ok-parts.ensures.value c.parts_of.ensures.node in
+    let own = subst (λ r. IfOk r (λ x. x.cells.items
+    ≡ cells_of (entry_of c.args.tuple.now))) c.in_ok-parts.ensures.value c.parts_of.ensures.cells in
+    let same : (g.B.Base.seen c.settle.new.base).state ≡ (g.B.Base.seen c.args.base.now).state =
+    ap (λ b. (g.B.Base.seen b).state) c.in_ok-parts.ensures.same in
+    on_ok_weaker c.add.result (λ e. e ∙ (λ i. with_relation (same i) relation (insert ((same i).now.db relation)
+    (place_of_node (node i)) es)))
     (c.add.ensures.done clean es
     (made_same ((g.B.Base.seen c.settle.new.base).state.now.db relation) T c.in_ok-parts.parts.node n c.deref.result.now _ es (ap (λ x. x.now.db relation) same) node (c.deref.ensures.value ∙ own) is))
 
@@ -26,9 +30,12 @@ pub add-requires : goal.add-requires
 add-requires g c =
     let relation = c.args.tuple.now.relation in
     let n = node_of (entry_of c.args.tuple.now) in
-    let node : c.in_ok-parts.parts.node ≡ n = subst (λ r. IfOk r (λ x. x.node ≡ n)) c.in_ok-parts.ensures.value c.parts_of.ensures.node in
-    let own = subst (λ r. IfOk r (λ x. x.cells.items ≡ cells_of (entry_of c.args.tuple.now))) c.in_ok-parts.ensures.value c.parts_of.ensures.cells in
-    subst (λ b. CanAdd g.B.Base.seen b relation c.in_ok-parts.parts.node c.deref.result.now) (sym c.in_ok-parts.ensures.same)
+    let node : c.in_ok-parts.parts.node ≡ n =
+    subst (λ r. IfOk r (λ x. x.node ≡ n)) c.in_ok-parts.ensures.value c.parts_of.ensures.node in
+    let own = subst (λ r. IfOk r (λ x. x.cells.items
+    ≡ cells_of (entry_of c.args.tuple.now))) c.in_ok-parts.ensures.value c.parts_of.ensures.cells in
+    subst (λ b. CanAdd g.B.Base.seen b relation c.in_ok-parts.parts.node c.deref.result.now)
+    (sym c.in_ok-parts.ensures.same)
     (subst (λ k. CanAdd g.B.Base.seen c.args.base.now relation k c.deref.result.now) (sym node)
     (subst (CanAdd g.B.Base.seen c.args.base.now relation n) (sym (c.deref.ensures.value ∙ own)) (record {
       key = c.requires.key;
@@ -45,5 +52,7 @@ returns-clause-step g c =
 pub returns-clause-access : goal.returns-clause-access
 returns-clause-access g c =
     let n = node_of (entry_of c.args.tuple.now) in
-    let node : c.in_ok-parts.parts.node ≡ n = subst (λ r. IfOk r (λ x. x.node ≡ n)) c.in_ok-parts.ensures.value c.parts_of.ensures.node in
-    avoids_then (avoids_some c.in_ok-parts.ensures.access) (subst (λ k. ChangesAt g.B.Base.seen k.label c.settle.new.base c.add.new.self) node c.add.ensures.access)
+    let node : c.in_ok-parts.parts.node ≡ n =
+    subst (λ r. IfOk r (λ x. x.node ≡ n)) c.in_ok-parts.ensures.value c.parts_of.ensures.node in
+    avoids_then (avoids_some c.in_ok-parts.ensures.access)
+    (subst (λ k. ChangesAt g.B.Base.seen k.label c.settle.new.base c.add.new.self) node c.add.ensures.access)

@@ -19,7 +19,8 @@ pub returns-then-not-is_done-clause-done : goal.returns-then-not-is_done-clause-
 returns-then-not-is_done-clause-done g c = λ clean scheme.
     let s = (g.B.Base.seen c.args.base.now).state in
     left_same c.args.relation s (g.B.Base.seen c.pattern.new.self).state c.own_outcome-outcome.result _ _
-    (c.own_outcome-outcome.ensures scheme (get (s.now.db c.args.relation) c.args.place.now) (c.in_ok-found.ensures.found clean)) (sym c.if-not-is_done.ensures) (c.in_ok-found.ensures.read.same clean)
+    (c.own_outcome-outcome.ensures scheme (get (s.now.db c.args.relation) c.args.place.now)
+    (c.in_ok-found.ensures.found clean)) (sym c.if-not-is_done.ensures) (c.in_ok-found.ensures.read.same clean)
 
 pub set_each-requires : goal.set_each-requires
 set_each-requires g c =
@@ -34,11 +35,14 @@ set_each-requires g c =
       sets = c.requires.sets;
       there = λ clean.
           let first = c.own_outcome-outcome.ensures no_scheme (get T p) (c.in_ok-found.ensures.found clean) in
-          let passed = all_passed (own_refusals ls no_scheme p.class p.key_class sets (get T p)) refl (ap is_done (sym first) ∙ sym c.if-not-is_done.ensures) in
+          let passed = all_passed (own_refusals ls no_scheme p.class p.key_class sets (get T p)) refl
+          (ap is_done (sym first) ∙ sym c.if-not-is_done.ensures) in
           let found = (found_if ls p.class p.key_class p.class (get T p) passed.0).0 in
           let start = c.in_ok-found.ensures.read.call.clean clean in
-          subst (λ x. AllByRecursion (λ r. HasCell (x.now.db c.args.relation) p r.0) sets) (sym (c.in_ok-found.ensures.read.same clean))
-          (cells_there p T (unwrap_or (get T p) []) found sets (c.requires.fits start (unwrap_or (get T p) []) found) passed.1.0);
+          subst (λ x. AllByRecursion (λ r. HasCell (x.now.db c.args.relation) p r.0) sets)
+          (sym (c.in_ok-found.ensures.read.same clean))
+          (cells_there p T (unwrap_or (get T p) []) found sets
+          (c.requires.fits start (unwrap_or (get T p) []) found) passed.1.0);
     }
 
 pub returns-clause-done : goal.returns-clause-done
@@ -49,8 +53,11 @@ returns-clause-done g c = λ clean scheme.
     let before = c.in_ok-set_each.ensures.step.call.clean clean in
     let same = c.in_ok-found.ensures.read.same before in
     left_done c.args.relation s (g.B.Base.seen c.set_each.new.base).state c.own_outcome-outcome.result _ _
-    (c.own_outcome-outcome.ensures scheme (get (s.now.db c.args.relation) p) (c.in_ok-found.ensures.found before)) (sym c.if-not-is_done.ensures)
-    (c.in_ok-set_each.ensures.done clean ∙ (λ i. with_relation (same i) c.args.relation (set_each p sets ((same i).now.db c.args.relation))) ∙ ap (with_relation s c.args.relation) (all_set p sets (s.now.db c.args.relation)))
+    (c.own_outcome-outcome.ensures scheme (get (s.now.db c.args.relation) p) (c.in_ok-found.ensures.found before))
+    (sym c.if-not-is_done.ensures)
+    (c.in_ok-set_each.ensures.done clean ∙ (λ i. with_relation (same i) c.args.relation
+    (set_each p sets ((same i).now.db c.args.relation))) ∙ ap (with_relation s c.args.relation)
+    (all_set p sets (s.now.db c.args.relation)))
 
 pub returns-then-not-is_done-clause-access : goal.returns-then-not-is_done-clause-access
 returns-then-not-is_done-clause-access g c =
@@ -62,13 +69,15 @@ pub returns-clause-access : goal.returns-clause-access
 returns-clause-access g c =
     let ls = labels_of c.args.policy.now in
     let w = c.args.place.now.class in
-    avoids_then (low_reads_no_down ls w w (at_reads_low ls w w (below-refl ls w) c.in_ok-found.ensures.access)) (at_changes_high ls w w w (below-refl ls w) c.in_ok-set_each.ensures.access)
+    avoids_then (low_reads_no_down ls w w (at_reads_low ls w w (below-refl ls w) c.in_ok-found.ensures.access))
+    (at_changes_high ls w w w (below-refl ls w) c.in_ok-set_each.ensures.access)
 
 pub returns-in_err-set_each-clause-access : goal.returns-in_err-set_each-clause-access
 returns-in_err-set_each-clause-access g c =
     let ls = labels_of c.args.policy.now in
     let w = c.args.place.now.class in
-    avoids_then (low_reads_no_down ls w w (at_reads_low ls w w (below-refl ls w) c.in_ok-found.ensures.access)) (at_changes_high ls w w w (below-refl ls w) c.in_err-set_each.ensures.access)
+    avoids_then (low_reads_no_down ls w w (at_reads_low ls w w (below-refl ls w) c.in_ok-found.ensures.access))
+    (at_changes_high ls w w w (below-refl ls w) c.in_err-set_each.ensures.access)
 
 pub returns-in_err-found-clause-access : goal.returns-in_err-found-clause-access
 returns-in_err-found-clause-access g c =

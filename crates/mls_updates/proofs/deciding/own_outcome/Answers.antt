@@ -12,8 +12,11 @@ returns-then-names_inherited c = λ scheme es e.
     let xs = c.in-Some.pattern in
     let known = sym c.in-Some.is ∙ e in
     let tuple = found_pattern es xs known in
-    let other = sym (other_named es xs known w sets) ∙ ap (λ ys. list_any (λ r. not (nat_eq (slice_index_or ys r.0 0) w)) sets) (sym c.deref.ensures) ∙ sym c.if-names_inherited.ensures in
-    own_passed (labels_of c.args.policy.now) scheme w c.args.place.now.key_class es (ap is_some tuple.1) (sym c.if-not-dominates.ensures.order) sets true _ other refl
+    let other = sym (other_named es xs known w sets)
+    ∙ ap (λ ys. list_any (λ r. not (nat_eq (slice_index_or ys r.0 0) w)) sets) (sym c.deref.ensures)
+    ∙ sym c.if-names_inherited.ensures in
+    own_passed (labels_of c.args.policy.now) scheme w c.args.place.now.key_class es (ap is_some tuple.1)
+    (sym c.if-not-dominates.ensures.order) sets true _ other refl
 
 pub returns-then-has_null_above : goal.returns-then-has_null_above
 returns-then-has_null_above c = λ scheme es e.
@@ -22,8 +25,11 @@ returns-then-has_null_above c = λ scheme es e.
     let xs = c.in-Some.pattern in
     let known = sym c.in-Some.is ∙ e in
     let tuple = found_pattern es xs known in
-    let other = sym (other_named es xs known w sets) ∙ ap (λ ys. list_any (λ r. not (nat_eq (slice_index_or ys r.0 0) w)) sets) (sym c.deref.ensures) ∙ sym c.if-names_inherited.ensures in
-    own_passed (labels_of c.args.policy.now) scheme w c.args.place.now.key_class es (ap is_some tuple.1) (sym c.if-not-dominates.ensures.order) sets false true other (sym c.if-has_null_above.ensures)
+    let other = sym (other_named es xs known w sets)
+    ∙ ap (λ ys. list_any (λ r. not (nat_eq (slice_index_or ys r.0 0) w)) sets) (sym c.deref.ensures)
+    ∙ sym c.if-names_inherited.ensures in
+    own_passed (labels_of c.args.policy.now) scheme w c.args.place.now.key_class es (ap is_some tuple.1)
+    (sym c.if-not-dominates.ensures.order) sets false true other (sym c.if-has_null_above.ensures)
 
 pub returns : goal.returns
 returns c = λ scheme es e.
@@ -32,5 +38,8 @@ returns c = λ scheme es e.
     let xs = c.in-Some.pattern in
     let known = sym c.in-Some.is ∙ e in
     let tuple = found_pattern es xs known in
-    let other = sym (other_named es xs known w sets) ∙ ap (λ ys. list_any (λ r. not (nat_eq (slice_index_or ys r.0 0) w)) sets) (sym c.deref.ensures) ∙ sym c.if-names_inherited.ensures in
-    own_passed (labels_of c.args.policy.now) scheme w c.args.place.now.key_class es (ap is_some tuple.1) (sym c.if-not-dominates.ensures.order) sets false false other (sym c.if-has_null_above.ensures)
+    let other = sym (other_named es xs known w sets)
+    ∙ ap (λ ys. list_any (λ r. not (nat_eq (slice_index_or ys r.0 0) w)) sets) (sym c.deref.ensures)
+    ∙ sym c.if-names_inherited.ensures in
+    own_passed (labels_of c.args.policy.now) scheme w c.args.place.now.key_class es (ap is_some tuple.1)
+    (sym c.if-not-dominates.ensures.order) sets false false other (sym c.if-has_null_above.ensures)

@@ -13,12 +13,17 @@ pub returns-then-not-is_done-clause-done : goal.returns-then-not-is_done-clause-
 returns-then-not-is_done-clause-done g c = λ clean scheme.
     let s = (g.B.Base.seen c.args.base.now).state in
     left_same c.args.relation s (g.B.Base.seen c.has_tuple.new.base).state c.drop_outcome-outcome.result _ _
-    (c.drop_outcome-outcome.ensures scheme (get (s.now.db c.args.relation) c.args.place) (sym (c.in_ok-found.ensures.found clean))) (sym c.if-not-is_done.ensures) (c.in_ok-found.ensures.read.same clean)
+    (c.drop_outcome-outcome.ensures scheme (get (s.now.db c.args.relation) c.args.place)
+    (sym (c.in_ok-found.ensures.found clean))) (sym c.if-not-is_done.ensures)
+    (c.in_ok-found.ensures.read.same clean)
 
 pub drop_above-requires-clause-stored : goal.drop_above-requires-clause-stored
 drop_above-requires-clause-stored g c = λ clean.
-    let stored = c.requires.stored (c.in_ok-found.ensures.read.call.clean clean) in
-    (stored.0, subst (λ x. IsStored (labels_of c.args.policy.now) stored.0 (x.now.db c.args.relation)) (sym (c.in_ok-found.ensures.read.same clean)) stored.1)
+    let stored = c.requires.stored (c.in_ok-found.ensures.read.call.clean clean) in (
+      stored.0,
+      subst (λ x. IsStored (labels_of c.args.policy.now) stored.0 (x.now.db c.args.relation))
+          (sym (c.in_ok-found.ensures.read.same clean)) stored.1,
+    )
 
 pub returns-clause-done : goal.returns-clause-done
 returns-clause-done g c = λ clean scheme.
@@ -26,8 +31,11 @@ returns-clause-done g c = λ clean scheme.
     let before = c.in_ok-drop_above.ensures.step.call.clean clean in
     let same = c.in_ok-found.ensures.read.same before in
     left_done c.args.relation s (g.B.Base.seen c.drop_above.new.base).state c.drop_outcome-outcome.result _ _
-    (c.drop_outcome-outcome.ensures scheme (get (s.now.db c.args.relation) c.args.place) (sym (c.in_ok-found.ensures.found before))) (sym c.if-not-is_done.ensures)
-    (c.in_ok-drop_above.ensures.done clean ∙ (λ i. with_relation (same i) c.args.relation (retain_keys ((same i).now.db c.args.relation) (λ q. not (is_above (labels_of c.args.policy.now) c.args.place q)))))
+    (c.drop_outcome-outcome.ensures scheme (get (s.now.db c.args.relation) c.args.place)
+    (sym (c.in_ok-found.ensures.found before))) (sym c.if-not-is_done.ensures)
+    (c.in_ok-drop_above.ensures.done clean ∙ (λ i. with_relation (same i) c.args.relation
+    (retain_keys ((same i).now.db c.args.relation)
+    (λ q. not (is_above (labels_of c.args.policy.now) c.args.place q)))))
 
 pub returns-then-not-is_done-clause-access : goal.returns-then-not-is_done-clause-access
 returns-then-not-is_done-clause-access g c =
@@ -39,13 +47,15 @@ pub returns-clause-access : goal.returns-clause-access
 returns-clause-access g c =
     let ls = labels_of c.args.policy.now in
     let w = c.args.place.class in
-    avoids_then (low_reads_no_down ls w w (at_reads_low ls w w (below-refl ls w) c.in_ok-found.ensures.access)) c.in_ok-drop_above.ensures.access
+    avoids_then (low_reads_no_down ls w w (at_reads_low ls w w
+    (below-refl ls w) c.in_ok-found.ensures.access)) c.in_ok-drop_above.ensures.access
 
 pub returns-in_err-drop_above-clause-access : goal.returns-in_err-drop_above-clause-access
 returns-in_err-drop_above-clause-access g c =
     let ls = labels_of c.args.policy.now in
     let w = c.args.place.class in
-    avoids_then (low_reads_no_down ls w w (at_reads_low ls w w (below-refl ls w) c.in_ok-found.ensures.access)) c.in_err-drop_above.ensures.access
+    avoids_then (low_reads_no_down ls w w (at_reads_low ls w w
+    (below-refl ls w) c.in_ok-found.ensures.access)) c.in_err-drop_above.ensures.access
 
 pub returns-in_err-found-clause-access : goal.returns-in_err-found-clause-access
 returns-in_err-found-clause-access g c =

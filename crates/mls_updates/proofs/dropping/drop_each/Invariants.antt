@@ -15,7 +15,9 @@ invariant-loop-class g l =
       begun : t.begun ≡ true;
       key : l.place.key ≡ l.fn.place.key;
       key_class : l.place.key_class ≡ l.fn.place.key_class;
-      alone : (g.B.Base.seen l.base).is_clean → AreAlone l.fn.place (drop l.class-index l.classes) (t.now.db l.relation);
+      alone : (g.B.Base.seen l.base).is_clean → AreAlone l.fn.place (drop l.class-index l.classes)
+          (t.now.db l.relation);
       way : (g.B.Base.seen l.base).is_clean
-          → with_relation t l.relation (drop_each l.fn.place (drop l.class-index l.classes) (t.now.db l.relation)) ≡ with_relation s l.relation (drop_each l.fn.place l.classes (s.now.db l.relation));
+          → with_relation t l.relation (drop_each l.fn.place (drop l.class-index l.classes) (t.now.db l.relation))
+          ≡ with_relation s l.relation (drop_each l.fn.place l.classes (s.now.db l.relation));
     }

@@ -7,10 +7,12 @@ use Rattle.mls_updates.proofs.IntervalLemmas.{one_in, one_out, column_among}
 use Rattle.mls_updates.proofs.interval.in_intervals.Goals as goal
 
 pub in_interval-requires-clause-low : goal.in_interval-requires-clause-low
-in_interval-requires-clause-low c = (column_among (length c.args.policy.now.labels) c.args.attributes.now c.requires.among c.loop-place.place c.get.result.now c.get.ensures).0
+in_interval-requires-clause-low c = (column_among
+    (length c.args.policy.now.labels) c.args.attributes.now c.requires.among c.loop-place.place c.get.result.now c.get.ensures).0
 
 pub in_interval-requires-clause-high : goal.in_interval-requires-clause-high
-in_interval-requires-clause-high c = (column_among (length c.args.policy.now.labels) c.args.attributes.now c.requires.among c.loop-place.place c.get.result.now c.get.ensures).1
+in_interval-requires-clause-high c = (column_among
+    (length c.args.policy.now.labels) c.args.attributes.now c.requires.among c.loop-place.place c.get.result.now c.get.ensures).1
 
 pub returns-then-not-in_interval : goal.returns-then-not-in_interval
 returns-then-not-in_interval c =
@@ -24,4 +26,5 @@ pub returns : goal.returns
 returns c =
     let l = c.loop-place-test.false in
     let n = c.len-place-end.ensures in
-    sym (ap (list_all (in_interval (labels_of c.args.policy.now) c.args.class)) (drop_all c.loop-place.place c.args.attributes.now (omega (arith, l, n)))) ∙ c.loop-place.invariant
+    sym (ap (list_all (in_interval (labels_of c.args.policy.now) c.args.class))
+    (drop_all c.loop-place.place c.args.attributes.now (omega (arith, l, n)))) ∙ c.loop-place.invariant

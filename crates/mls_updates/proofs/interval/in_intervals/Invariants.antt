@@ -6,4 +6,5 @@ use Rattle.mls_updates.proofs.interval.in_intervals.Given as goal
 
 abbrev pub invariant-loop-place : goal.invariant-loop-place
 invariant-loop-place l =
-    list_all (in_interval (labels_of l.policy) l.class) (drop l.place l.attributes) ≡ list_all (in_interval (labels_of l.policy) l.class) l.attributes
+    list_all (in_interval (labels_of l.policy) l.class) (drop l.place l.attributes)
+    ≡ list_all (in_interval (labels_of l.policy) l.class) l.attributes

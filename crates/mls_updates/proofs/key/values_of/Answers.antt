@@ -9,7 +9,9 @@ loop-value-preserved-in_default c =
 pub loop-value-preserved : goal.loop-value-preserved
 loop-value-preserved c =
     c.in_ok-push.ensures.items ∙ (λ j. c.loop-value.invariant j ++ c.in_ok-copy.ensures j ∷ [])
-    ∙ sym (key_some c.args.key.now c.loop-value.value-index c.value-item.result c.in-Some.value c.loop-value-test.true (sym c.value-item.is ∙ c.in-Some.is))
+    ∙ sym (key_some c.args.key.now c.loop-value.value-index c.value-item.result c.in-Some.value c.loop-value-test.true
+    (sym c.value-item.is ∙ c.in-Some.is))
 
 pub returns : goal.returns
-returns c = c.loop-value.invariant ∙ ap (filter_map (λ v. v)) (take_all c.loop-value.value-index c.args.key.now c.loop-value-test.false)
+returns c = c.loop-value.invariant ∙ ap (filter_map (λ v. v))
+    (take_all c.loop-value.value-index c.args.key.now c.loop-value-test.false)

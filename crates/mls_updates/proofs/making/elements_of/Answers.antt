@@ -18,8 +18,10 @@ loop-attr-preserved c =
     let m = c.index-pattern-attr.result in
     let item : ℕ → ℕ → Element = λ k n. record { value = unwrap_or (held (with_class p n, k)) None; class = n } in
     ap (λ es. es ++ elements_from held p (attr + 1) (drop (attr + 1) pattern))
-    (c.in_ok-push.ensures.items ∙ (λ i. front ++ record { value = c.in_ok-value.ensures i; class = m } ∷ []) ∙ ap (λ n. front ++ item attr n ∷ []) c.index-pattern-attr.is)
-    ∙ numbered_more item (elements_from held p) (λ k n ns. refl) front pattern attr m c.loop-attr-test.true ∙ c.loop-attr.invariant
+    (c.in_ok-push.ensures.items ∙ (λ i. front ++ record { value = c.in_ok-value.ensures i; class = m } ∷ [])
+    ∙ ap (λ n. front ++ item attr n ∷ []) c.index-pattern-attr.is)
+    ∙ numbered_more item (elements_from held p) (λ k n ns. refl) front pattern attr m c.loop-attr-test.true
+    ∙ c.loop-attr.invariant
 
 pub returns : goal.returns
 returns c =

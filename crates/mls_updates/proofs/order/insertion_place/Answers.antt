@@ -10,7 +10,8 @@ returns-then-dominates c =
     let m = c.index-order-place.result in
     let l = c.loop-place-test.true in
     record {
-      exact = place_found ls c.args.label c.args.order.now c.loop-place.place m c.loop-place.invariant l (ap (λ k. below ls k c.args.label) (sym c.index-order-place.is) ∙ sym c.if-dominates.ensures.order);
+      exact = place_found ls c.args.label c.args.order.now c.loop-place.place m c.loop-place.invariant l
+          (ap (λ k. below ls k c.args.label) (sym c.index-order-place.is) ∙ sym c.if-dominates.ensures.order);
       within = omega (arith, l);
     }
 

@@ -4,4 +4,5 @@ use Rattle.mls_updates.proofs.DownwardLemmas.{before}
 use Rattle.mls_updates.proofs.order.insertion_place.Given as goal
 
 abbrev pub invariant-loop-place : goal.invariant-loop-place
-invariant-loop-place l = l.place + before (labels_of l.policy) l.label (drop l.place l.order) ≡ before (labels_of l.policy) l.label l.order
+invariant-loop-place l = l.place + before (labels_of l.policy) l.label (drop l.place l.order)
+    ≡ before (labels_of l.policy) l.label l.order

@@ -31,8 +31,10 @@ returns-clause-found g c = λ clean.
     let o = option_map classes (get ((g.B.Base.seen c.args.base.now).state.now.db c.args.relation) p) in
     let low = sym c.if-not-dominates.ensures.order in
     let up = sym c.if-not-dominates-2.ensures.order in
-    IfOk-weaker c.pattern.result (λ pattern. pattern ≡ o) _ (λ pattern e. e ∙ sym (λ i. cond (low i && up i) o None)) (c.pattern.ensures.found clean)
+    IfOk-weaker c.pattern.result (λ pattern. pattern ≡ o) _ (λ pattern e. e ∙ sym (λ i. cond (low i && up i) o None))
+    (c.pattern.ensures.found clean)
 
 pub returns-clause-access : goal.returns-clause-access
 returns-clause-access g c =
-    at_reads_low (labels_of c.args.policy.now) c.args.w c.args.place.now.class (sym c.if-not-dominates-2.ensures.order) c.pattern.ensures.access
+    at_reads_low (labels_of c.args.policy.now) c.args.w c.args.place.now.class
+    (sym c.if-not-dominates-2.ensures.order) c.pattern.ensures.access

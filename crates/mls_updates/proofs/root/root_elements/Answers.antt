@@ -11,7 +11,9 @@ loop-value-preserved c =
     let values = c.args.values.now in
     let i = c.loop-value.value-index in
     c.in_ok-push.ensures.items ∙ (λ j. c.loop-value.invariant j ++ f (c.in_ok-copy_value.ensures j) ∷ [])
-    ∙ ap (λ v. map f (take i values) ++ f v ∷ []) c.value-item.is ∙ sym (map_more f values i c.value-item.result c.loop-value-test.true)
+    ∙ ap (λ v. map f (take i values) ++ f v ∷ []) c.value-item.is
+    ∙ sym (map_more f values i c.value-item.result c.loop-value-test.true)
 
 pub returns : goal.returns
-returns c = c.loop-value.invariant ∙ ap (root c.args.class) (take_all c.loop-value.value-index c.args.values.now c.loop-value-test.false)
+returns c = c.loop-value.invariant ∙ ap (root c.args.class)
+    (take_all c.loop-value.value-index c.args.values.now c.loop-value-test.false)

@@ -7,15 +7,19 @@ use Rattle.mls_updates.proofs.sets.is_outside.Goals as goal
 
 pub in_interval-requires-clause-low : goal.in_interval-requires-clause-low
 in_interval-requires-clause-low c =
-    let at = subst (λ all. option_map column_of (slice_get all c.args.attr) ≡ Some c.get.result.now) c.others.ensures.others c.get.ensures in
+    let at = subst (λ all. option_map column_of (slice_get all c.args.attr)
+    ≡ Some c.get.result.now) c.others.ensures.others c.get.ensures in
     (column_among (length c.args.policy.now.labels) c.args.scheme.now.others c.requires.under.others c.args.attr c.get.result.now at).0
 
 pub in_interval-requires-clause-high : goal.in_interval-requires-clause-high
 in_interval-requires-clause-high c =
-    let at = subst (λ all. option_map column_of (slice_get all c.args.attr) ≡ Some c.get.result.now) c.others.ensures.others c.get.ensures in
+    let at = subst (λ all. option_map column_of (slice_get all c.args.attr)
+    ≡ Some c.get.result.now) c.others.ensures.others c.get.ensures in
     (column_among (length c.args.policy.now.labels) c.args.scheme.now.others c.requires.under.others c.args.attr c.get.result.now at).1
 
 pub returns : goal.returns
 returns c =
-    let at = subst (λ all. option_map column_of (slice_get all c.args.attr) ≡ Some c.get.result.now) c.others.ensures.others c.get.ensures in
-    ap not (c.in_interval.ensures ∙ ap (in_column (labels_of c.args.policy.now) c.args.class) (sym (column_at c.args.scheme.now.others c.args.attr c.get.result.now at c.requires.attr)))
+    let at = subst (λ all. option_map column_of (slice_get all c.args.attr)
+    ≡ Some c.get.result.now) c.others.ensures.others c.get.ensures in
+    ap not (c.in_interval.ensures ∙ ap (in_column (labels_of c.args.policy.now) c.args.class)
+    (sym (column_at c.args.scheme.now.others c.args.attr c.get.result.now at c.requires.attr)))

@@ -13,5 +13,6 @@ invariant-loop-left g l =
       access : ChangesAt g.B.Base.seen l.place.class l.fn.base l.base;
       count : (g.B.Base.seen l.fn.base).failures ≤ (g.B.Base.seen l.base).failures;
       begun : t.begun ≡ true;
-      way : (g.B.Base.seen l.base).is_clean → t ≡ with_relation s l.relation (set_each l.place (drop l.left l.sets) (s.now.db l.relation));
+      way : (g.B.Base.seen l.base).is_clean → t ≡ with_relation s l.relation (set_each l.place (drop l.left l.sets)
+          (s.now.db l.relation));
     }

@@ -6,5 +6,6 @@ use Rattle.mls_updates.proofs.tables.drop_at.Goals as goal
 
 pub returns : goal.returns
 returns c =
-    c.in_ok-put.ensures ∙ put_back (tables_of c.args.tables.now) (tables_of c.take-tuples.new.tables) c.args.relation _ _ c.take-tuples.ensures.others
+    c.in_ok-put.ensures ∙ put_back (tables_of c.args.tables.now)
+    (tables_of c.take-tuples.new.tables) c.args.relation _ _ c.take-tuples.ensures.others
     (c.remove_tuple.ensures ∙ ap (λ T. remove T c.args.place.now) c.take-tuples.ensures.taken)

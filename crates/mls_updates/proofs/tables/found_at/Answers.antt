@@ -8,4 +8,5 @@ use Rattle.mls_updates.proofs.tables.found_at.Goals as goal
 
 pub returns-in-None : goal.returns-in-None
 returns-in-None c =
-    sym (ap (λ o. get (table_of (option_map_or (λ m. m.entries) o [])) c.args.place.now) (sym c.in-None.ensures.value) ∙ ap (λ T. get T c.args.place.now) no_table ∙ get-empty place_cmp c.args.place.now)
+    sym (ap (λ o. get (table_of (option_map_or (λ m. m.entries) o [])) c.args.place.now) (sym c.in-None.ensures.value)
+    ∙ ap (λ T. get T c.args.place.now) no_table ∙ get-empty place_cmp c.args.place.now)

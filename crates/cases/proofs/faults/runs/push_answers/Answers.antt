@@ -7,6 +7,8 @@ run_over-requires-clause-serves c =
     let sample = c.args.sample.now in
     record {
       under = sample.under;
-      read = subst (λ xs. AreRead (site_of sample.policy.now sample.schemes.now xs)) (sym c.none_stored-none.ensures) tt;
-      certified = subst (λ xs. AreCertified (site_of sample.policy.now sample.schemes.now xs)) (sym c.none_stored-none.ensures) tt;
+      read = subst (λ xs. AreRead (site_of sample.policy.now sample.schemes.now xs))
+          (sym c.none_stored-none.ensures) tt;
+      certified = subst (λ xs. AreCertified (site_of sample.policy.now sample.schemes.now xs))
+          (sym c.none_stored-none.ensures) tt;
     }

@@ -14,8 +14,11 @@ loop-tx-preserved c =
     let more : c.push.new.self.items ≡ c.loop-tx.stored.items ++ one ∷ [] = search rules in
     let next = c.in-Some.ensures.steps.0 in
     record {
-      read = subst (AllByRecursion (λ s. IsReadUnder policy schemes (tx_of s))) (sym more) (all_by_recursion_push (λ s. IsReadUnder policy schemes (tx_of s)) c.loop-tx.stored.items one inv.read c.in_ok-one.ensures.read);
-      certified = subst (AllByRecursion (IsCertifiedUnder policy)) (sym more) (all_by_recursion_push (IsCertifiedUnder policy) c.loop-tx.stored.items one inv.certified c.in_ok-one.ensures.certified);
+      read = subst (AllByRecursion (λ s. IsReadUnder policy schemes (tx_of s))) (sym more)
+          (all_by_recursion_push (λ s. IsReadUnder policy schemes
+          (tx_of s)) c.loop-tx.stored.items one inv.read c.in_ok-one.ensures.read);
+      certified = subst (AllByRecursion (IsCertifiedUnder policy)) (sym more)
+          (all_by_recursion_push (IsCertifiedUnder policy) c.loop-tx.stored.items one inv.certified c.in_ok-one.ensures.certified);
       rest = (subst (AllByRecursion (IsReadUnder policy schemes)) next inv.rest).1;
     }
 

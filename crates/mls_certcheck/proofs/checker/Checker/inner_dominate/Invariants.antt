@@ -12,6 +12,10 @@ use Rattle.mls_certcheck.proofs.checker.Checker.inner_dominate.Given as goal
 -- what is left, tested from here, is the whole
 abbrev pub invariant-loop-stmt : goal.invariant-loop-stmt
 invariant-loop-stmt l = record {
-  number : l.number + statements (block_of (drop l.stmt-index l.stmt-items)) ≡ l.first + statements (block_of l.stmt-items);
-  tests : list_all (λ t. pair_of l.bound ⊑ slot_label (claim_of l.self) t) (map (λ m. Statement m) (directs l.number (block_of (drop l.stmt-index l.stmt-items)))) ≡ list_all (λ t. pair_of l.bound ⊑ slot_label (claim_of l.self) t) (map (λ m. Statement m) (directs l.first (block_of l.stmt-items)));
+  number : l.number + statements (block_of (drop l.stmt-index l.stmt-items)) ≡ l.first + statements
+      (block_of l.stmt-items);
+  tests : list_all (λ t. pair_of l.bound ⊑ slot_label (claim_of l.self) t)
+      (map (λ m. Statement m) (directs l.number (block_of (drop l.stmt-index l.stmt-items))))
+      ≡ list_all (λ t. pair_of l.bound ⊑ slot_label (claim_of l.self) t)
+      (map (λ m. Statement m) (directs l.first (block_of l.stmt-items)));
 }

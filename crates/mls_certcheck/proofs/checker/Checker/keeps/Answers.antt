@@ -10,4 +10,6 @@ pub returns-then-not-kept : goal.returns-then-not-kept
 returns-then-not-kept c =
     let k = claim_of c.args.self.now in
     let count : c.len-place-end.result ≡ length k.tx.vars = cc in
-    sym (below_fails (length k.tx.vars) (λ x. is_target c.args.but x || after k c.args.from x ⊑ after k c.args.to x) c.loop-place.place (omega (arith, count, c.loop-place-test.true)) (sym c.kept.ensures ∙ c.if-not-kept.true))
+    sym (below_fails (length k.tx.vars) (λ x. is_target c.args.but x
+    || after k c.args.from x ⊑ after k c.args.to x) c.loop-place.place
+    (omega (arith, count, c.loop-place-test.true)) (sym c.kept.ensures ∙ c.if-not-kept.true))

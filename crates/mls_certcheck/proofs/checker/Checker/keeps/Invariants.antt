@@ -7,4 +7,5 @@ use Rattle.mls_certcheck.proofs.checker.Checker.keeps.Given as goal
 
 -- so far it holds
 abbrev pub invariant-loop-place : goal.invariant-loop-place
-invariant-loop-place l = all_below l.place (λ x. is_target l.but x || after (claim_of l.self) l.from x ⊑ after (claim_of l.self) l.to x) ≡ true
+invariant-loop-place l = all_below l.place (λ x. is_target l.but x || after (claim_of l.self) l.from x ⊑ after
+    (claim_of l.self) l.to x) ≡ true

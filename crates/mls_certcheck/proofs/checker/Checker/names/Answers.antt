@@ -7,4 +7,5 @@ use Rattle.mls_certcheck.proofs.checker.Checker.names.Goals as goal
 pub loop-expr-preserved : goal.loop-expr-preserved
 loop-expr-preserved c =
     let h = c.args.here.now in
-    join_next (claim_of c.args.self.now) (names h.before (loops_of h.loops)) c.args.exprs.now c.loop-expr.expr-index c.expr-item.result _ _ _ c.loop-expr-test.true c.expr-item.is c.loop-expr.invariant c.label.ensures c.join-bound.ensures
+    join_next (claim_of c.args.self.now) (names h.before
+    (loops_of h.loops)) c.args.exprs.now c.loop-expr.expr-index c.expr-item.result _ _ _ c.loop-expr-test.true c.expr-item.is c.loop-expr.invariant c.label.ensures c.join-bound.ensures

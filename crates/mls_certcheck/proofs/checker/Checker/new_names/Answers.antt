@@ -16,4 +16,5 @@ loop-set-preserved c =
     let values = map (λ (s : ℕ × Expr). s.1) sets in
     let within : i < length values = omega (arith, length-map sets (λ (s : ℕ × Expr). s.1), c.loop-set-test.true) in
     join_next (claim_of c.args.self.now) (names h.before (loops_of h.loops)) values i set.1 _ _ _ within
-    (ap (λ (s : ℕ × Expr). s.1) c.set-item.is ∙ sym (get_or-map (λ (s : ℕ × Expr). s.1) sets i set set.1 c.loop-set-test.true)) c.loop-set.invariant c.label.ensures c.join-bound.ensures
+    (ap (λ (s : ℕ × Expr). s.1) c.set-item.is
+    ∙ sym (get_or-map (λ (s : ℕ × Expr). s.1) sets i set set.1 c.loop-set-test.true)) c.loop-set.invariant c.label.ensures c.join-bound.ensures

@@ -15,7 +15,8 @@ invariant-block-loop-stmt g l =
       counts : l.number + statements left ≡ l.self.number + statements all;
       size : statements left ≤ statements all;
       shallow : l.self.loops.count + depth left ≤ 16;
-      walk : (r : _) (w : _) → g.V.Visit.visits l.visitor (walked_lines l.self.vars l.number l.self.around l.before (loops_of l.self.loops) left) r w → g.V.Visit.visits l.initial.visitor (block_lines l.self all) r w;
+      walk : (r : _) (w : _) → g.V.Visit.visits l.visitor (walked_lines l.self.vars l.number l.self.around l.before
+          (loops_of l.self.loops) left) r w → g.V.Visit.visits l.initial.visitor (block_lines l.self all) r w;
     }
 
 -- ---- how deep

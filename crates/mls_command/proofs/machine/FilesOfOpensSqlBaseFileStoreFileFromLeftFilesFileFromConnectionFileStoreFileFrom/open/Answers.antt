@@ -5,4 +5,5 @@ use Rattle.mls_command.proofs.machine.FilesOfOpensSqlBaseFileStoreFileFromLeftFi
 
 pub returns-in-Ok-clause-held : goal.returns-in-Ok-clause-held
 returns-in-Ok-clause-held g c clean =
-    base_is_taken (FindsHoldings (image_at g.F.Start)) c.args.policy.now c.args.file.now c.in-Ok.base (c.in-Ok.ensures.over clean)
+    base_is_taken (FindsHoldings (image_at g.F.Start)) c.args.policy.now c.args.file.now c.in-Ok.base
+    (c.in-Ok.ensures.over clean)

@@ -23,4 +23,5 @@ returns c =
     let k = c.loop-entry in
     let s = c.args.self.now in
     let items = c.deref-entry-items.result.now in
-    subst (λ ls. IsRound s.tails.items ls k.next.tails.items k.next.left.items) (take_all k.entry-index items (omega (arith, c.loop-entry-test.false)) ∙ c.deref-entry-items.ensures.value) k.invariant
+    subst (λ ls. IsRound s.tails.items ls k.next.tails.items k.next.left.items) (take_all k.entry-index items
+    (omega (arith, c.loop-entry-test.false)) ∙ c.deref-entry-items.ensures.value) k.invariant

@@ -4,4 +4,5 @@ use Rattle.mls_explain.proofs.search.Search.next.Given as goal
 
 -- of the steps so far
 abbrev pub invariant-loop-entry : goal.invariant-loop-entry
-invariant-loop-entry l = IsRound l.self.tails.items (take l.entry-index l.entry-items) l.next.tails.items l.next.left.items
+invariant-loop-entry l = IsRound l.self.tails.items
+    (take l.entry-index l.entry-items) l.next.tails.items l.next.left.items

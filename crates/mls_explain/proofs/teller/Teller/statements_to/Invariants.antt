@@ -6,4 +6,6 @@ use Rattle.mls_explain.proofs.teller.Teller.statements_to.Given as goal
 -- what was told, with what is left, is all
 abbrev pub invariant-loop-place : goal.invariant-loop-place
 invariant-loop-place l =
-    string_bytes l.text ++ flat_map (statement_line l.self.policy.now l.self.tx.now.vars l.rows) (enumerate_from l.place (drop l.place l.labels)) ≡ string_bytes l.initial.text ++ statement_lines l.self.policy.now l.self.tx.now.vars l.rows l.labels
+    string_bytes l.text ++ flat_map (statement_line l.self.policy.now l.self.tx.now.vars l.rows)
+    (enumerate_from l.place (drop l.place l.labels)) ≡ string_bytes l.initial.text
+    ++ statement_lines l.self.policy.now l.self.tx.now.vars l.rows l.labels

@@ -16,8 +16,10 @@ returns-in-Ok-clause-kept g c clean =
           let copied = c.in-Ok.ensures.copied closed in
           let held = c.into_connection-conn.ensures.held copied.was_clean copied.was_open row.0 row.1 in
           let idle = c.into_connection-conn.ensures.mode copied.was_clean copied.was_open in
-          let settled = c.is_settled-settled.ensures.settled (settled_in _ _ c.is_settled-settled.ensures.value idle) copied.was_open in
-          closed_keep c.into_connection-conn.result (holdings_of row.0 (state_of c.args.self).now) settled (c.is_settled-settled.ensures.sound copied.was_open) held c.in-Ok.files copied;
+          let settled = c.is_settled-settled.ensures.settled
+          (settled_in _ _ c.is_settled-settled.ensures.value idle) copied.was_open in
+          closed_keep c.into_connection-conn.result (holdings_of row.0 (state_of c.args.self).now) settled
+          (c.is_settled-settled.ensures.sound copied.was_open) held c.in-Ok.files copied;
     }
 
 pub returns-in-Err-clause-unclosed : goal.returns-in-Err-clause-unclosed
@@ -39,8 +41,11 @@ returns-in-Err-clause-unclosed g c =
                   let disk = c.in-Err.ensures.was_clean closed in
                   let held = c.into_connection-conn.ensures.held disk on row.0 row.1 in
                   let idle = c.into_connection-conn.ensures.mode disk on in
-                  let settled = c.is_settled-settled.ensures.settled (settled_in _ _ c.is_settled-settled.ensures.value idle) on in
-                  unclosed_find conn (holdings_of row.0 (state_of c.args.self).now) settled (c.is_settled-settled.ensures.sound on) held g.met.D.Disk.seen_may_stay on trees (shut.2.quiet.outcomes trees may);
+                  let settled = c.is_settled-settled.ensures.settled
+                  (settled_in _ _ c.is_settled-settled.ensures.value idle) on in
+                  unclosed_find conn (holdings_of row.0 (state_of c.args.self).now) settled
+                  (c.is_settled-settled.ensures.sound on) held g.met.D.Disk.seen_may_stay on trees
+                  (shut.2.quiet.outcomes trees may);
             },
           );
     }

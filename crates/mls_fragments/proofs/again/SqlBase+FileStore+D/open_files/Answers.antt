@@ -8,7 +8,9 @@ pub returns-in-Ok-adopt-clause-over : goal.returns-in-Ok-adopt-clause-over
 returns-in-Ok-adopt-clause-over g c clean =
     let over = c.in-Ok-adopt.ensures.over clean in
     let db = (file_state c.in-Ok.conn).now in
-    base_among (HasHoldings db) (FindsHoldings (image_of g.D.Disk c.args.files)) c.args.policy.now c.args.file.now c.in-Ok-adopt.base (λ h has. (db, c.in-Ok.ensures.found over.0, has)) over.1
+    base_among (HasHoldings db) (FindsHoldings
+    (image_of g.D.Disk c.args.files)) c.args.policy.now c.args.file.now c.in-Ok-adopt.base
+    (λ h has. (db, c.in-Ok.ensures.found over.0, has)) over.1
 
 pub returns-in-Ok-adopt-clause-clean : goal.returns-in-Ok-adopt-clause-clean
 returns-in-Ok-adopt-clause-clean g c clean = c.in-Ok.ensures.clean (c.in-Ok-adopt.ensures.over clean).0
@@ -17,4 +19,9 @@ pub returns-in-Err-clause-refused : goal.returns-in-Err-clause-refused
 returns-in-Err-clause-refused g c = unopened c.in-Err.ensures.fault c.in-Err.ensures.unopened
 
 pub returns-in-Err-adopt-clause-refused : goal.returns-in-Err-adopt-clause-refused
-returns-in-Err-adopt-clause-refused g c = unadopted c.in-Err-adopt.conn (record { was = c.in-Ok.conn; found = c.in-Ok.ensures.found; unadopted = c.in-Err-adopt.ensures.refused }) c.left.ensures
+returns-in-Err-adopt-clause-refused g c = unadopted c.in-Err-adopt.conn (record {
+  was = c.in-Ok.conn;
+  found =
+      c.in-Ok.ensures.found;
+  unadopted = c.in-Err-adopt.ensures.refused;
+}) c.left.ensures

@@ -23,25 +23,37 @@ use Rattle.mls_fragments.proofs.OpeningLemmas.{not_other, not_bad}
 use Rattle.mls_fragments.proofs.base.SqlBase.adopt.Goals as goal
 
 pub returns-then-has_nothing-clause-new : goal.returns-then-has_nothing-clause-new
-returns-then-has_nothing-clause-new g c none = IfOk-weaker c.created.result _ _ (λ b is. ap (λ (s : State). s.now) is) c.created.ensures.content
+returns-then-has_nothing-clause-new g c none = IfOk-weaker c.created.result _ _
+    (λ b is. ap (λ (s : State). s.now) is) c.created.ensures.content
 
 pub returns-then-has_nothing-clause-sound : goal.returns-then-has_nothing-clause-sound
 returns-then-has_nothing-clause-sound g c =
-    IfOk-weaker c.created.result _ _ (λ b is. subst (λ (s : State). IsSoundContent c.args.policy.now c.args.file.now.schemes s.now) (sym is) (nothing_sound c.args.policy.now c.args.file.now.schemes)) c.created.ensures.content
+    IfOk-weaker c.created.result _ _ (λ b is. subst
+    (λ (s : State). IsSoundContent c.args.policy.now c.args.file.now.schemes s.now) (sym is)
+    (nothing_sound c.args.policy.now c.args.file.now.schemes)) c.created.ensures.content
 
-made_ok : {E : Type 0} (policy : Policy) (file : SchemesFile) (old : Shown) (r : Result BaseState E) → old.now.schema ≡ no_schema
+made_ok : {E : Type 0} (policy : Policy) (file : SchemesFile) (old : Shown) (r : Result BaseState E) → old.now.schema
+    ≡ no_schema
     → IfOk r (λ b. state_of b ≡ record { now = no_content; kept = no_content; begun = false })
-    → IfOk r (λ b. IsClean b.tables → HasCleanDisk old × (b.tables.now ≡ described (version_number (later policy.version file.version)) (lattice.lattice_of policy) (scheme.canon_of policy file.version file.schemes)))
+    → IfOk r (λ b. IsClean b.tables → HasCleanDisk old
+    × (b.tables.now ≡ described (version_number (later policy.version file.version)) (lattice.lattice_of policy)
+    (scheme.canon_of policy file.version file.schemes)))
     → IfOk r (λ b. IsClean b.tables → HasCleanDisk old × IsBaseOf (HasHoldings old.now) policy file b)
-made_ok policy file old (Ok b) none is tables = λ h. ((tables h).0, base_made policy file old.now b none (ap (λ (s : State). s.now) is) (tables h).1)
+made_ok policy file old (Ok b) none is tables = λ h. (
+  (tables h).0,
+  base_made policy file old.now b none
+      (ap (λ (s : State). s.now) is) (tables h).1,
+)
 made_ok policy file old (Err e) none is tables = tt
 
 pub returns-then-has_nothing-clause-over : goal.returns-then-has_nothing-clause-over
 returns-then-has_nothing-clause-over g c =
-    made_ok c.args.policy.now c.args.file.now (state g.S.Store c.args.conn) c.created.result (c.has_nothing.ensures.0 c.if-has_nothing.true) c.created.ensures.content c.created.ensures.described
+    made_ok c.args.policy.now c.args.file.now (state g.S.Store c.args.conn) c.created.result
+    (c.has_nothing.ensures.0 c.if-has_nothing.true) c.created.ensures.content c.created.ensures.described
 
 module _ {A C : Type 0} (shown : C → Shown) (policy : Policy) (file : SchemesFile) (old : Shown) where
-  unmade : (r : Result A (OpenFault × C)) → IfErr r (λ e. IsUnmade old (shown e.1) e.0) → IfErr r (λ e. IsUnadopted policy file old (shown e.1) e.0)
+  unmade : (r : Result A (OpenFault × C)) → IfErr r (λ e. IsUnmade old (shown e.1) e.0)
+      → IfErr r (λ e. IsUnadopted policy file old (shown e.1) e.0)
   unmade (Ok a) is = tt
   unmade (Err e) is = record {
     refused = is.refused;
@@ -51,7 +63,9 @@ module _ {A C : Type 0} (shown : C → Shown) (policy : Policy) (file : SchemesF
     kept = λ none clean. is.kept clean;
   }
 
-  unopened : (r : Result A (OpenFault × C)) → (old.now.schema ≡ no_schema → ⊥) → IfErr r (λ e. IsUnopened policy file old (shown e.1) e.0) → IfErr r (λ e. IsUnadopted policy file old (shown e.1) e.0)
+  unopened : (r : Result A (OpenFault × C)) → (old.now.schema ≡ no_schema → ⊥)
+      → IfErr r (λ e. IsUnopened policy file old (shown e.1) e.0)
+      → IfErr r (λ e. IsUnadopted policy file old (shown e.1) e.0)
   unopened (Ok a) some is = tt
   unopened (Err e) some is = record {
     refused = is.refused;
@@ -62,23 +76,30 @@ module _ {A C : Type 0} (shown : C → Shown) (policy : Policy) (file : SchemesF
   }
 
 pub returns-then-has_nothing-clause-refused : goal.returns-then-has_nothing-clause-refused
-returns-then-has_nothing-clause-refused g c = unmade (state g.S.Store) c.args.policy.now c.args.file.now (state g.S.Store c.args.conn) c.created.result c.created.ensures.unmade
+returns-then-has_nothing-clause-refused g c = unmade (state g.S.Store) c.args.policy.now c.args.file.now
+    (state g.S.Store c.args.conn) c.created.result c.created.ensures.unmade
 
 pub returns-clause-over : goal.returns-clause-over
 returns-clause-over g c = c.opened.ensures.over
 
-sound_of : (policy : Policy) (schemes : Schemes) (b : BaseState) → HoldsContent policy schemes b → IsSoundContent policy schemes (state_of b).now
+sound_of : (policy : Policy) (schemes : Schemes) (b : BaseState) → HoldsContent policy schemes b
+    → IsSoundContent policy schemes (state_of b).now
 sound_of policy schemes b holds = holds.sound
 
-mode_of : (policy : Policy) (schemes : Schemes) (b : BaseState) → HoldsContent policy schemes b → (state_of b).begun ≡ false
+mode_of : (policy : Policy) (schemes : Schemes) (b : BaseState) → HoldsContent policy schemes b → (state_of b).begun
+    ≡ false
 mode_of policy schemes b holds = holds.mode
 
 pub returns-clause-sound : goal.returns-clause-sound
-returns-clause-sound g c = IfOk-weaker c.opened.result _ _ (sound_of c.args.policy.now c.args.file.now.schemes) c.opened.ensures.content
+returns-clause-sound g c = IfOk-weaker c.opened.result _ _
+    (sound_of c.args.policy.now c.args.file.now.schemes) c.opened.ensures.content
 
 pub returns-clause-mode : goal.returns-clause-mode
-returns-clause-mode g c = IfOk-weaker c.opened.result _ _ (mode_of c.args.policy.now c.args.file.now.schemes) c.opened.ensures.content
+returns-clause-mode g c = IfOk-weaker c.opened.result _ _
+    (mode_of c.args.policy.now c.args.file.now.schemes) c.opened.ensures.content
 
 pub returns-clause-refused : goal.returns-clause-refused
 returns-clause-refused g c =
-    unopened (state g.S.Store) c.args.policy.now c.args.file.now (state g.S.Store c.args.conn) c.opened.result (λ none. absurd (true≢false (sym (c.has_nothing.ensures.1 none) ∙ c.if-has_nothing.false))) c.opened.ensures.unopened
+    unopened (state g.S.Store) c.args.policy.now c.args.file.now (state g.S.Store c.args.conn) c.opened.result
+    (λ none. absurd (true≢false (sym (c.has_nothing.ensures.1 none)
+    ∙ c.if-has_nothing.false))) c.opened.ensures.unopened

@@ -6,7 +6,8 @@ use Rattle.mls_fragments.proofs.base.SqlBase.over_found.Goals as goal
 pub invariant_of-result : goal.invariant_of-result
 invariant_of-result g c = record {
   now = λ h. c.requires.noted h;
-  kept = λ h. noted_copied c.args.store.kept c.args.found c.copy.new.self c.copy.ensures.content c.copy.ensures.last (subst (λ rows. IsNoted rows c.args.found) (sym (c.requires.kept h)) (c.requires.noted h));
+  kept = λ h. noted_copied c.args.store.kept c.args.found c.copy.new.self c.copy.ensures.content c.copy.ensures.last
+      (subst (λ rows. IsNoted rows c.args.found) (sym (c.requires.kept h)) (c.requires.noted h));
   content = λ e. c.copy.ensures.content;
   number = λ e. c.copy.ensures.last;
 }

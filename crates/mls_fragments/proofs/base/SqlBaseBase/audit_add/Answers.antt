@@ -12,4 +12,8 @@ invariant_of-self g c =
     let next = c.append.ensures.last ∙ to_z-of_z fits ∙ c.in-Ok.ensures.number ∙ ap (λ n. n +ℤ pos 1) back in
     based_on c.self.inside.store c.add_entry.new.store here _ c.self.inside.kept c.self.invariant c.in-Ok.ensures.step.call.clean c.in-Ok.ensures.step.mode (λ h. (c.in-Ok.ensures.done h).1)
     (λ h was. noted_entry _ _ here _ was c.args.bytes.now c.append.ensures.content next
-    (subst (λ n. AddsEntry (record { number = n +ℤ pos 1; bytes = c.args.bytes.now }) c.self.inside.store.now c.add_entry.new.store.now) back (c.in-Ok.ensures.done h).0))
+    (subst (λ n. AddsEntry (record {
+      number = n +ℤ pos 1;
+      bytes =
+          c.args.bytes.now;
+    }) c.self.inside.store.now c.add_entry.new.store.now) back (c.in-Ok.ensures.done h).0))

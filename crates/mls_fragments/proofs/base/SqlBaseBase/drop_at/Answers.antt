@@ -10,7 +10,9 @@ pub invariant_of-self : goal.invariant_of-self
 invariant_of-self g c =
     let relation = c.args.relation in
     let p = c.args.place.now in
-    let alone = subst (λ (v : BaseState). IsClean v.tables → IsAlone ((content_of v.now).db relation) p) (sym c.self.view_is) c.requires.alone in
+    let alone = subst (λ (v : BaseState). IsClean v.tables → IsAlone ((content_of v.now).db relation) p)
+    (sym c.self.view_is) c.requires.alone in
     let clean = c.in-Ok.ensures.step.call.clean in
     based_on c.self.inside.store c.drop_tuple.new.store c.self.inside.now _ c.self.inside.kept c.self.invariant clean c.in-Ok.ensures.step.mode (λ h. (c.in-Ok.ensures.done h).1)
-    (λ h was. noted_rest _ _ c.self.inside.now _ was relation p c.drop_at.ensures refl c.requires.key (alone (clean h)) (c.in-Ok.ensures.done h).0)
+    (λ h was. noted_rest _ _ c.self.inside.now _ was relation p c.drop_at.ensures refl c.requires.key (alone (clean h))
+    (c.in-Ok.ensures.done h).0)

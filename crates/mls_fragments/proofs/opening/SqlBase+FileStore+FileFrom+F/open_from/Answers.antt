@@ -9,7 +9,9 @@ pub returns-in-Ok-adopt-clause-over : goal.returns-in-Ok-adopt-clause-over
 returns-in-Ok-adopt-clause-over g c clean =
     let over = c.in-Ok-adopt.ensures.over clean in
     let db = (file_state c.in-Ok.conn).now in
-    base_among (HasHoldings db) (FindsHoldings (image_at g.F.Start)) c.args.policy.now c.args.file.now c.in-Ok-adopt.base (λ h has. (db, c.in-Ok.ensures.found over.0, has)) over.1
+    base_among (HasHoldings db) (FindsHoldings
+    (image_at g.F.Start)) c.args.policy.now c.args.file.now c.in-Ok-adopt.base
+    (λ h has. (db, c.in-Ok.ensures.found over.0, has)) over.1
 
 pub returns-in-Err-adopt-clause-refused : goal.returns-in-Err-adopt-clause-refused
 returns-in-Err-adopt-clause-refused g c = record {

@@ -10,6 +10,11 @@ returns c =
     let r = c.args.row in
     let i = c.args.place in
     let v = c.index_mut.result.now in
-    let within : r < length l.rows.items = omega (arith, row_there (rows_of l) r i c.requires, length-map l.rows.items (λ row. row.items)) in
-    let here : get_or (rows_of l) r [] ≡ v.items = get_or-map (λ row. row.items) l.rows.items r v [] within ∙ ap (λ row. row.items) (sym c.index_mut.ensures.value) in
+    let within : r < length l.rows.items = omega (
+      arith,
+      row_there (rows_of l) r i c.requires,
+      length-map l.rows.items (λ row. row.items),
+    ) in
+    let here : get_or (rows_of l) r [] ≡ v.items = get_or-map (λ row. row.items) l.rows.items r v [] within
+    ∙ ap (λ row. row.items) (sym c.index_mut.ensures.value) in
     map-set (λ row. row.items) l.rows.items r _ ∙ (λ t. set (rows_of l) r (set (sym here t) i c.args.label))

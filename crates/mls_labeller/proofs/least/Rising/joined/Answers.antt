@@ -15,5 +15,7 @@ loop-source-preserved c =
     let ss = c.args.sources.now in
     let i = c.loop-source.source-index in
     let s = c.source-item.result in
-    let more : take (i + 1) ss ≡ take i ss ++ s ∷ [] = take_more ss i s c.loop-source-test.true ∙ ap (λ a. take i ss ++ a ∷ []) (sym c.source-item.is) in
-    subst (λ l. IsJoin at l (pair_of c.join-label.result)) (sym more) (join_both at (take i ss) (s ∷ []) _ _ _ c.loop-source.invariant (join_one at s _ c.source.ensures) c.join-label.ensures)
+    let more : take (i + 1) ss ≡ take i ss ++ s ∷ [] = take_more ss i s c.loop-source-test.true
+    ∙ ap (λ a. take i ss ++ a ∷ []) (sym c.source-item.is) in
+    subst (λ l. IsJoin at l (pair_of c.join-label.result)) (sym more) (join_both at (take i ss)
+    (s ∷ []) _ _ _ c.loop-source.invariant (join_one at s _ c.source.ensures) c.join-label.ensures)

@@ -9,6 +9,12 @@ use Rattle.mls_labeller.proofs.least.Rising.keep.Goals as goal
 pub raise-rose-requires-clause-due : goal.raise-rose-requires-clause-due
 raise-rose-requires-clause-due c = λ other m.
     let i = c.loop-place.place in
-    let within : i < length c.args.self.now.labeller.tx.now.vars = omega (arith, c.loop-place-test.true, c.len-place-end.ensures, ap length c.vars.ensures.vars) in
+    let within : i < length c.args.self.now.labeller.tx.now.vars = omega (
+      arith,
+      c.loop-place-test.true,
+      c.len-place-end.ensures,
+      ap length c.vars.ensures.vars,
+    ) in
     let up = c.requires.due other m i within (λ e. true≢false (sym (c.is_it.ensures.1 e) ∙ c.if-not-is_it.true)) in
-    subst (Dominates (after (claim_at c.args.self.now other) c.args.to i)) (sym c.held-low.ensures) (Dominates-trans _ _ _ up (c.loop-place.invariant.stands.below other m (Variable c.args.from i)))
+    subst (Dominates (after (claim_at c.args.self.now other) c.args.to i)) (sym c.held-low.ensures)
+    (Dominates-trans _ _ _ up (c.loop-place.invariant.stands.below other m (Variable c.args.from i)))

@@ -6,4 +6,5 @@ use Rattle.mls_labeller.proofs.least.Rising.keep.Given as goal
 
 -- the labels of the variables so far have risen
 abbrev pub invariant-loop-place : goal.invariant-loop-place
-invariant-loop-place l = Rises l.self (λ c. (x : ℕ) → x < l.place → (l.but ≡ Some x → ⊥) → Dominates (after c l.to x) (after c l.from x)) (rows_of l.initial.labels) (rows_of l.labels) l.rose
+invariant-loop-place l = Rises l.self (λ c. (x : ℕ) → x < l.place → (l.but ≡ Some x → ⊥)
+    → Dominates (after c l.to x) (after c l.from x)) (rows_of l.initial.labels) (rows_of l.labels) l.rose

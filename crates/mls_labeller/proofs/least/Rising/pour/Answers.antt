@@ -15,7 +15,9 @@ raise-rose-requires-clause-due c =
     let k = c.args.self.now in
     let ss = c.args.sources.now in
     join_due k ss (pair_of c.joined-low.result) (rows_of c.args.labels.now) c.joined-low.ensures _ c.requires.stands
-    (λ other m. all_at (λ t. IsAbove (claim_at k other) (slot_label (claim_at k other) t) ss) c.args.targets.now c.loop-slot.slot-index (Variable 0 0) c.loop-slot-test.true (c.requires.due other m))
+    (λ other m. all_at (λ t. IsAbove (claim_at k other)
+    (slot_label (claim_at k other) t) ss) c.args.targets.now c.loop-slot.slot-index
+    (Variable 0 0) c.loop-slot-test.true (c.requires.due other m))
 
 pub loop-slot-preserved : goal.loop-slot-preserved
 loop-slot-preserved c =
@@ -24,7 +26,11 @@ loop-slot-preserved c =
     let t = get_or ts i (Variable 0 0) in
     let over : Claim → Slot → Type 0 = λ a s. Dominates (slot_label a s) (pair_of c.joined-low.result) in
     let more = take_more ts i (Variable 0 0) c.loop-slot-test.true in
-    rises_then c.args.self.now (λ a. AllByRecursion (over a) (take i ts)) (λ a. over a t) _ (λ a f g. subst (AllByRecursion (over a)) (sym more) (all_append (over a) (take i ts) (t ∷ []) f (g, tt))) _ _ _ _ _ c.loop-slot.invariant c.raise-rose.ensures
+    rises_then c.args.self.now (λ a. AllByRecursion (over a) (take i ts)) (λ a. over a t) _
+    (λ a f g. subst (AllByRecursion (over a)) (sym more) (all_append (over a) (take i ts) (t ∷ []) f (
+      g,
+      tt,
+    ))) _ _ _ _ _ c.loop-slot.invariant c.raise-rose.ensures
 
 pub returns : goal.returns
 returns c =
@@ -34,4 +40,5 @@ returns c =
     let y = rows_of c.loop-slot.labels in
     let all = take_all c.loop-slot.slot-index c.args.targets.now (omega (arith, c.loop-slot-test.false)) in
     rises_pour k c.args.sources.now low x c.joined-low.ensures c.args.targets.now y c.loop-slot.rose
-    (subst (λ ts. Rises k (λ a. AllByRecursion (λ t. Dominates (slot_label a t) low) ts) x y c.loop-slot.rose) all c.loop-slot.invariant)
+    (subst (λ ts. Rises k (λ a. AllByRecursion
+    (λ t. Dominates (slot_label a t) low) ts) x y c.loop-slot.rose) all c.loop-slot.invariant)

@@ -7,4 +7,5 @@ use Rattle.mls_labeller.proofs.least.Rising.pour.Given as goal
 
 -- the labels have risen by the slots so far
 abbrev pub invariant-loop-slot : goal.invariant-loop-slot
-invariant-loop-slot l = Rises l.self (λ c. AllByRecursion (λ t. Dominates (slot_label c t) (pair_of l.low)) (take l.slot-index l.targets)) (rows_of l.initial.labels) (rows_of l.labels) l.rose
+invariant-loop-slot l = Rises l.self (λ c. AllByRecursion (λ t. Dominates (slot_label c t) (pair_of l.low))
+    (take l.slot-index l.targets)) (rows_of l.initial.labels) (rows_of l.labels) l.rose

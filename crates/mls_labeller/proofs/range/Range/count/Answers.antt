@@ -11,7 +11,8 @@ use Rattle.mls_labeller.proofs.range.Range.count.Goals as goal
 use Rattle.mls_labeller.proofs.range.Range.count.Goals.{in-Some-default, in-None-Some, in-None-None}
 
 -- so many values, and null
-counted : (r : Range) (values : List (Option Value)) (count : ℕ) → ((x : Value) → Admits r (Some x) → Contains values (Some x)) → length values + from_bool r.null ≤ count
+counted : (r : Range) (values : List (Option Value)) (count : ℕ) → ((x : Value) → Admits r (Some x)
+    → Contains values (Some x)) → length values + from_bool r.null ≤ count
     → (all : List (Option Value)) × (length all ≤ count) × HasValues r all
 counted r values count has few =
     let long = long_append values (nulls r.null) in
@@ -25,7 +26,8 @@ returns c few = elim c.match-self.branch [
       let vs = w.in-Some-default.values in
       let is : r.listed ≡ Some vs = search rules in
       let long = long_map (λ x. Some x) vs in
-      counted r (map (λ x. Some x) vs) c.saturating_add.result (λ x admits. has_map (λ x. Some x) vs x (subst (λ l. IsAmong l x) is admits.0))
+      counted r (map (λ x. Some x) vs) c.saturating_add.result (λ x admits. has_map (λ x. Some x) vs x
+      (subst (λ l. IsAmong l x) is admits.0))
       (omega (arith, few, long, w.len.ensures, w.values-is, c.from.ensures, c.saturating_add.ensures))
   | in-None-Some w ↦
       let r = c.args.self.now in
@@ -33,7 +35,8 @@ returns c few = elim c.match-self.branch [
       let is : r.bounds ≡ Some b = search rules in
       let ns = w.count-values.ensures (omega (arith, few, w.values-is, c.saturating_add.ensures)) in
       let long = long_map (λ n. Some (Int n)) ns.0 in
-      counted r (map (λ n. Some (Int n)) ns.0) c.saturating_add.result (λ x admits. integers_listed b ns.0 ns.2 x (subst (λ o. IsBetween o x) is admits.1))
+      counted r (map (λ n. Some (Int n)) ns.0) c.saturating_add.result (λ x admits. integers_listed b ns.0 ns.2 x
+      (subst (λ o. IsBetween o x) is admits.1))
       (omega (arith, few, long, ns.1, w.values-is, c.from.ensures, c.saturating_add.ensures))
   | in-None-None w ↦ absurd (omega (arith, few, w.values-is, c.saturating_add.ensures))
 ]

@@ -4,17 +4,21 @@ use Rattle.mls_labeller.specs.Ranges.{Admits, Includes, any_value, Wider}
 use Rattle.mls_labeller.proofs.ranges.Ranges.joined.Goals as goal
 
 -- one more range
-wider_push : (f : ℕ → Range) (rs : List Range) (r : Range) → ((x : ℕ) → Includes (slice_index_or rs x any_value) (f x)) → Includes r (f (length rs))
+wider_push : (f : ℕ → Range) (rs : List Range) (r : Range) → ((x : ℕ) → Includes (slice_index_or rs x any_value) (f x))
+    → Includes r (f (length rs))
     → (x : ℕ) → Includes (slice_index_or (rs ++ r ∷ []) x any_value) (f x)
 wider_push f [] r h k zero = k
 wider_push f [] r h k (suc x) = h (suc x)
 wider_push f (q ∷ rs) r h k zero = h 0
 wider_push f (q ∷ rs) r h k (suc x) = wider_push (λ y. f (suc y)) rs r (λ y. h (suc y)) k x
 
-wider_next : (rs old new : List Range) (r this : Range) (i : ℕ) → length old ≡ i → new ≡ old ++ r ∷ [] → this ≡ slice_index_or rs i any_value → Includes r this → Wider rs old → Wider rs new
+wider_next : (rs old new : List Range) (r this : Range) (i : ℕ) → length old ≡ i → new ≡ old ++ r ∷ []
+    → this ≡ slice_index_or rs i any_value → Includes r this → Wider rs old → Wider rs new
 wider_next rs old new r this i count is at h k =
-    let here : slice_index_or rs (length old) any_value ≡ this = ap (λ n. slice_index_or rs n any_value) count ∙ sym at in
-    subst (Wider rs) (sym is) (wider_push (λ x. slice_index_or rs x any_value) old r k (λ v e. h v (subst (λ (q : Range). Admits q v) here e)))
+    let here : slice_index_or rs (length old) any_value ≡ this = ap (λ n. slice_index_or rs n any_value) count ∙ sym at
+    in
+    subst (Wider rs) (sym is) (wider_push (λ x. slice_index_or rs x any_value) old r k
+    (λ v e. h v (subst (λ (q : Range). Admits q v) here e)))
 
 pub loop-place-preserved : goal.loop-place-preserved
 loop-place-preserved c =

@@ -25,7 +25,8 @@ stmts-returns-clause-exact t c =
 pub stmts-loop-alloc-preserved : goal.stmts-loop-alloc-preserved
 stmts-loop-alloc-preserved t c =
     let off : takes_sign RightBrace c.loop-alloc.reader ≡ None = search rules in
-    let is : stmt_at c.args.depth c.args.self.now c.loop-alloc.count c.loop-alloc.reader ≡ Ok ((c.in_ok-next.next, c.in_ok-next.so_far), c.stmt.new.reader) = search rules in
+    let is : stmt_at c.args.depth c.args.self.now c.loop-alloc.count c.loop-alloc.reader
+    ≡ Ok ((c.in_ok-next.next, c.in_ok-next.so_far), c.stmt.new.reader) = search rules in
     subst (λ (xs : List Stmt). StmtsSoFar c.args.depth c.args.self.now c.args.count c.args.reader.now xs c.in_ok-next.so_far c.stmt.new.reader) (sym c.in_ok-push.ensures.items)
     (stmts_more c.args.depth c.args.self.now c.args.count c.args.reader.now c.loop-alloc.stmts.items c.loop-alloc.count c.loop-alloc.reader c.loop-alloc.invariant off
     c.in_ok-next.next c.in_ok-next.so_far c.stmt.new.reader is c.in_ok-next.ensures.counted.0 c.in_ok-next.ensures.counted.1)

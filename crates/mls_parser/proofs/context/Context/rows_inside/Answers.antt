@@ -16,8 +16,10 @@ pub returns-clause-rows : goal.returns-clause-rows
 returns-clause-rows c =
     c.loop-around.invariant
     ∙ ap (λ (rows : List LoopRow). record { name = c.args.row.now; relation = c.args.relation } ∷ rows)
-    (take_all c.loop-around.around-index c.self.inside.rows.now c.loop-around-test.false ∙ ap (λ (p : Context). p.scope.rows) c.self.view_is)
+    (take_all c.loop-around.around-index c.self.inside.rows.now c.loop-around-test.false
+    ∙ ap (λ (p : Context). p.scope.rows) c.self.view_is)
 
 pub returns-clause-place : goal.returns-clause-place
 returns-clause-place c =
-    context_more c.args.self.now c.loop-around.rows.items c.args.row.now c.args.relation (subst IsContext c.self.view_is c.self.invariant) c.requires.room c.requires.known (returns-clause-rows c)
+    context_more c.args.self.now c.loop-around.rows.items c.args.row.now c.args.relation
+    (subst IsContext c.self.view_is c.self.invariant) c.requires.room c.requires.known (returns-clause-rows c)

@@ -11,7 +11,9 @@ look-requires-clause-named g c =
 
 pub look-requires-clause-agrees : goal.look-requires-clause-agrees
 look-requires-clause-agrees g c = λ clean.
-    if_found_rows (labels_of c.args.policy.now) (g.B.Base.seen c.args.base.now).state.now.db c.args.relation c.args.label c.args.self.now (c.requires.views.rows clean) c.take-kept.result c.take-kept.ensures.found
+    if_found_rows (labels_of c.args.policy.now)
+    (g.B.Base.seen c.args.base.now).state.now.db c.args.relation c.args.label c.args.self.now
+    (c.requires.views.rows clean) c.take-kept.result c.take-kept.ensures.found
 
 pub returns-in-Ok-clause-views : goal.returns-in-Ok-clause-views
 returns-in-Ok-clause-views g c =

@@ -15,7 +15,8 @@ returns-clause-views g c =
       | inl same ↦ subst are (sym same) c.resolved.ensures.views
       | inr put ↦ subst are (sym put) (
           kept_put policy g.B.Base.seen base c.args.relation c.args.label c.in_ok-tuples.tuples c.resolved.new.self c.requires.see.label
-          (λ clean. c.in_ok-tuples.ensures.rows clean ∙ ap (λ (s : State). rows (labels_of policy) c.args.label (s.now.db c.args.relation)) (sym (c.in_ok-tuples.ensures.read.same clean)))
+          (λ clean. c.in_ok-tuples.ensures.rows clean ∙ ap (λ (s : State). rows (labels_of policy) c.args.label
+          (s.now.db c.args.relation)) (sym (c.in_ok-tuples.ensures.read.same clean)))
           c.resolved.ensures.views
           )
     ]

@@ -11,7 +11,8 @@ pub returns-in-Ok-clause-kept : goal.returns-in-Ok-clause-kept
 returns-in-Ok-clause-kept c = λ clean.
     let over = (c.in-Ok.ensures.over clean).1 in record {
       had = over.had;
-      was = subst (λ o. MatchOption o ⊥ (λ conn. HasHoldings (state over_memory conn).now over.had)) c.in-Some.ensures.value over.was;
+      was = subst (λ o. MatchOption o ⊥ (λ conn. HasHoldings
+          (state over_memory conn).now over.had)) c.in-Some.ensures.value over.was;
       row = over.row;
       takes = over.takes;
     }
@@ -21,17 +22,21 @@ returns-in-Err-clause-barred c =
     let old = state over_memory c.in-Some.conn in
     let new = state over_memory c.in-Err.conn in
     let back = c.in-Err.ensures.refused.refused (memory_is_clean c.in-Err.conn) in
-    let settled = c.is_autocommit-in-Err.ensures.settled (c.is_autocommit-in-Err.ensures.value ∙ ap not (back.mode refl)) refl in
+    let settled = c.is_autocommit-in-Err.ensures.settled (c.is_autocommit-in-Err.ensures.value
+    ∙ ap not (back.mode refl)) refl in
     let was = c.is_autocommit.ensures.settled c.if-not-is_autocommit.false refl in
     subst (IsUnopenedFor c.args.policy.now c.args.file.now (Some (shown c.in-Err.conn))) (sym c.in_memory_fault.ensures)
-    (barred c.args.policy.now c.args.file.now new.in_transaction old.now new.now (handed_back old new back refl settled was) c.in-Err.fault
-    (c.in-Err.ensures.refused.texts (memory_is_clean c.in-Err.conn)) (c.in-Err.ensures.refused.bad (memory_is_clean c.in-Err.conn)))
+    (barred c.args.policy.now c.args.file.now new.in_transaction old.now new.now
+    (handed_back old new back refl settled was) c.in-Err.fault
+    (c.in-Err.ensures.refused.texts (memory_is_clean c.in-Err.conn)) (c.in-Err.ensures.refused.bad
+    (memory_is_clean c.in-Err.conn)))
 
 pub returns-in-Err-clause-same : goal.returns-in-Err-clause-same
 returns-in-Err-clause-same c = λ path held.
     let old = state over_memory c.in-Some.conn in
     let new = state over_memory c.in-Err.conn in
     let back = c.in-Err.ensures.refused.refused (memory_is_clean c.in-Err.conn) in
-    let settled = c.is_autocommit-in-Err.ensures.settled (c.is_autocommit-in-Err.ensures.value ∙ ap not (back.mode refl)) refl in
+    let settled = c.is_autocommit-in-Err.ensures.settled (c.is_autocommit-in-Err.ensures.value
+    ∙ ap not (back.mode refl)) refl in
     let was = c.is_autocommit.ensures.settled c.if-not-is_autocommit.false refl in
     same_held (λ conn. (state over_memory conn).now) c.args.self.now.store c.in-Some.conn c.in-Err.conn c.in-Some.ensures.value (handed_back old new back refl settled was) held

@@ -9,5 +9,7 @@ AtMost n s = n ≤ length s.others
 
 pub new-requires : goal.new-requires
 new-requires c =
-    let valid = before_are c.args.counts.now c.args.self.now (counts_long AtMost c.args.counts.now c.args.self.now c.requires) c.use_invariant.ensures in
-    subst AreSchemes (sym (c.in_ok-older.ensures ∙ ap (λ (xs : List Scheme). schemes_before c.args.counts.now xs) c.relations.ensures)) valid
+    let valid = before_are c.args.counts.now c.args.self.now
+    (counts_long AtMost c.args.counts.now c.args.self.now c.requires) c.use_invariant.ensures in
+    subst AreSchemes (sym (c.in_ok-older.ensures
+    ∙ ap (λ (xs : List Scheme). schemes_before c.args.counts.now xs) c.relations.ensures)) valid

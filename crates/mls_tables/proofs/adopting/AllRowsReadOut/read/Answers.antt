@@ -5,13 +5,16 @@ use Rattle.mls_tables.proofs.adopting.AllRowsReadOut.read.Goals as goal
 
 pub returns-in_err-nodes : goal.returns-in_err-nodes
 returns-in_err-nodes g c =
-    refused (state g.S.Store c.args.conn.now) (state g.S.Store c.nodes.new.conn) c.in_err-nodes.field-0.0 c.from_residual.result c.from_residual.ensures.1 (λ db (all : AreRead db). all.0) c.in_err-nodes.ensures
+    refused (state g.S.Store c.args.conn.now)
+    (state g.S.Store c.nodes.new.conn) c.in_err-nodes.field-0.0 c.from_residual.result c.from_residual.ensures.1
+    (λ db (all : AreRead db). all.0) c.in_err-nodes.ensures
 
 pub returns-in_err-cells : goal.returns-in_err-cells
 returns-in_err-cells g c =
     let old = state g.S.Store c.args.conn.now in
     let new = state g.S.Store c.cells.new.conn in
-    refused old new c.in_err-cells.field-0.0 c.from_residual-in_err-cells.result c.from_residual-in_err-cells.ensures.1 (λ db (all : AreRead db). all.1.0)
+    refused old new c.in_err-cells.field-0.0 c.from_residual-in_err-cells.result c.from_residual-in_err-cells.ensures.1
+    (λ db (all : AreRead db). all.1.0)
     (read_after old (state g.S.Store c.nodes.new.conn) new _ _ c.in_ok-nodes.ensures c.in_err-cells.ensures)
 
 pub returns-in_err-entries : goal.returns-in_err-entries
@@ -20,7 +23,8 @@ returns-in_err-entries g c =
     let mid = state g.S.Store c.cells.new.conn in
     let new = state g.S.Store c.entries.new.conn in
     refused old new c.in_err-entries.field-0.0 c.from_residual-in_err-entries.result c.from_residual-in_err-entries.ensures.1 (λ db (all : AreRead db). all.1.1)
-    (read_after old mid new _ _ (read_after old (state g.S.Store c.nodes.new.conn) mid _ _ c.in_ok-nodes.ensures c.in_ok-cells.ensures) c.in_err-entries.ensures)
+    (read_after old mid new _ _ (read_after old
+    (state g.S.Store c.nodes.new.conn) mid _ _ c.in_ok-nodes.ensures c.in_ok-cells.ensures) c.in_err-entries.ensures)
 
 pub returns : goal.returns
 returns g c =

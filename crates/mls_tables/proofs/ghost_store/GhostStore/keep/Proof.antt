@@ -38,7 +38,12 @@ keep_spec 𝓤 𝓛 𝓜 𝓡 wired =
     enter ! _ _ _ _ _ $ alloc_all ! (λ l. pass_all ! refl ((tt, tt), tt) $
     fsplit3 ! $ move ! (1 ∷ 2 ∷ 3 ∷ []) $ opens ! tt T.the_row b o (λ us.
     sets ! (of_opd ! (unit_lit !)) refl (tt, tt) $
-    move ! (1 ∷ []) $ use1 𝓛 (‵ ((T.the_row).own_val (kept r.now g) us)) (id⊢ 𝓤 _) $ move ! (1 ∷ 0 ∷ []) $ closes ! tt T.the_row (kept r.now g) us b o $
+    move ! (1 ∷ []) $ use1 𝓛 (‵ ((T.the_row).own_val (kept r.now g) us)) (id⊢ 𝓤 _) $ move !
+    (1 ∷ 0 ∷ []) $ closes ! tt T.the_row (kept r.now g) us b o $
     returns ! (look_at ! 0 refl) $ free_all ! refl $ keep ! (3 ∷ 0 ∷ 1 ∷ 2 ∷ []) $
-    suffices ! _ (ends_at 𝓛 f.ended stayed c ((κs, qs, bounds, a, (vs, tt)), g) vunit tt (kept r.now g, tt) (tt, tt)) $ says ! refl $
-    group ! 3 $ nothing ! $ move ! (1 ∷ 0 ∷ []) $ join ! $ nothing ! $ move ! (2 ∷ 0 ∷ []) $ join ! $ frame ! $ frame ! $ feq_i ! (List Val) (vunit ∷ []) (vunit ∷ []) refl $ done !)))
+    suffices ! _ (ends_at 𝓛 f.ended stayed c ((κs, qs, bounds, a, (vs, tt)), g) vunit tt (kept r.now g, tt) (
+      tt,
+      tt,
+    )) $ says ! refl $
+    group ! 3 $ nothing ! $ move ! (1 ∷ 0 ∷ []) $ join ! $ nothing ! $ move !
+    (2 ∷ 0 ∷ []) $ join ! $ frame ! $ frame ! $ feq_i ! (List Val) (vunit ∷ []) (vunit ∷ []) refl $ done !)))

@@ -8,7 +8,8 @@ pub returns-clause-wrote : goal.returns-clause-wrote
 returns-clause-wrote g c =
     let old = state g.S.Store c.args.conn.now in
     let new = state g.S.Store c.execute.new.self in
-    wrote old new _ _ c.execute.result (λ ready. clears_entries old new ready c.execute.result) (λ ready. clear_entries_fails old new c.execute.result ready) c.execute.ensures.runs c.execute.ensures.survives
+    wrote old new _ _ c.execute.result (λ ready. clears_entries old new ready c.execute.result)
+    (λ ready. clear_entries_fails old new c.execute.result ready) c.execute.ensures.runs c.execute.ensures.survives
 
 pub returns-clause-runs : goal.returns-clause-runs
 returns-clause-runs g c = c.execute.ensures.runs

@@ -13,5 +13,6 @@ invariant-loop-some g l =
     (goal.iterator-loop-some g).can_next l.some-iterator
     × (goal.iterator-loop-some g).is_finite l.some-iterator
     × (chunks_size l.some-iterator ≡ 15)
-    × ((done : List OwnCell) × (done ++ chunks_rest l.some-iterator ≡ l.cells) × IsSoFar (AddsCells (map (cell_beside l.node) done)) (state g.S.Store l.fn.conn) (state g.S.Store l.conn)
+    × ((done : List OwnCell) × (done ++ chunks_rest l.some-iterator ≡ l.cells)
+    × IsSoFar (AddsCells (map (cell_beside l.node) done)) (state g.S.Store l.fn.conn) (state g.S.Store l.conn)
     × HasAddedSoFar l.node done (state g.S.Store l.fn.conn) (state g.S.Store l.conn))

@@ -19,9 +19,12 @@ returns-clause-wrote g c =
     let old = state g.S.Store c.args.conn.now in
     let new = state g.S.Store c.execute.new.self in
     let text = c.adding.result.now in
-    let means : AddsOwn text (length cells) = subst (λ it. AddsOwn it (length cells)) (sym c.adding.ensures) (add_own_is (length cells) c.requires.some c.requires.few) in
+    let means : AddsOwn text (length cells) = subst (λ it. AddsOwn it (length cells)) (sym c.adding.ensures)
+    (add_own_is (length cells) c.requires.some c.requires.few) in
     let params : bound c.deref.result.now ≡ own_values node cells = search rules in
-    writes_within old new c.execute.result (wrote old new text (own_values node cells) c.execute.result (λ ready. adds_own old new ready node cells text c.execute.result means) (λ ready. add_own_fails old new c.execute.result ready node cells text means)
+    writes_within old new c.execute.result (wrote old new text (own_values node cells) c.execute.result
+    (λ ready. adds_own old new ready node cells text c.execute.result means)
+    (λ ready. add_own_fails old new c.execute.result ready node cells text means)
     (subst (λ ps. HasCleanDisk new → Executes text ps old new c.execute.result) params c.execute.ensures.runs) c.execute.ensures.survives)
 
 pub returns-clause-did : goal.returns-clause-did
@@ -31,10 +34,13 @@ returns-clause-did g c now within =
     let old = state g.S.Store c.args.conn.now in
     let new = state g.S.Store c.execute.new.self in
     let text = c.adding.result.now in
-    let is : text ≡ add_cells (length cells) = c.adding.ensures ∙ is_cut (length cells) c.requires.some c.requires.few in
-    let means : AddsOwn text (length cells) = subst (λ it. AddsOwn it (length cells)) (sym c.adding.ensures) (add_own_is (length cells) c.requires.some c.requires.few) in
+    let is : text ≡ add_cells (length cells) = c.adding.ensures ∙ is_cut (length cells) c.requires.some c.requires.few
+    in
+    let means : AddsOwn text (length cells) = subst (λ it. AddsOwn it (length cells)) (sym c.adding.ensures)
+    (add_own_is (length cells) c.requires.some c.requires.few) in
     let params : bound c.deref.result.now ≡ own_values node cells = search rules in
-    some_done old new node cells text is means within.ready c.execute.result (subst (λ ps. Executes text ps old new c.execute.result) params (c.execute.ensures.runs now))
+    some_done old new node cells text is means within.ready c.execute.result
+    (subst (λ ps. Executes text ps old new c.execute.result) params (c.execute.ensures.runs now))
 
 pub returns-clause-stopped : goal.returns-clause-stopped
 returns-clause-stopped g c now within =
@@ -43,7 +49,10 @@ returns-clause-stopped g c now within =
     let old = state g.S.Store c.args.conn.now in
     let new = state g.S.Store c.execute.new.self in
     let text = c.adding.result.now in
-    let is : text ≡ add_cells (length cells) = c.adding.ensures ∙ is_cut (length cells) c.requires.some c.requires.few in
-    let means : AddsOwn text (length cells) = subst (λ it. AddsOwn it (length cells)) (sym c.adding.ensures) (add_own_is (length cells) c.requires.some c.requires.few) in
+    let is : text ≡ add_cells (length cells) = c.adding.ensures ∙ is_cut (length cells) c.requires.some c.requires.few
+    in
+    let means : AddsOwn text (length cells) = subst (λ it. AddsOwn it (length cells)) (sym c.adding.ensures)
+    (add_own_is (length cells) c.requires.some c.requires.few) in
     let params : bound c.deref.result.now ≡ own_values node cells = search rules in
-    some_stopped old new node cells text is means within.ready c.execute.result (subst (λ ps. Executes text ps old new c.execute.result) params (c.execute.ensures.runs now))
+    some_stopped old new node cells text is means within.ready c.execute.result
+    (subst (λ ps. Executes text ps old new c.execute.result) params (c.execute.ensures.runs now))

@@ -15,4 +15,7 @@ IsAscii-text : IsAscii ADD_CELLS.now
 IsAscii-text = ascii_from ADD_CELLS.now refl
 
 pub range-requires-clause-end_boundary : goal.range-requires-clause-end_boundary
-range-requires-clause-end_boundary c = (omega arith, λ a b. absurd (omega (arith, IsAscii-text (61 + 24 * c.args.count))))
+range-requires-clause-end_boundary c = (
+  omega arith,
+  λ a b. absurd (omega (arith, IsAscii-text (61 + 24 * c.args.count))),
+)

@@ -9,5 +9,13 @@ use Rattle.mls_tables.proofs.statements.cell.cells_of_class.Goals as goal
 
 pub returns : goal.returns
 returns g c =
-    finds_cells (state g.S.Store c.args.conn.now) (state g.S.Store c.select.new.conn) cells_of_class (Int (pos c.args.rel) ∷ Int (pos c.args.label) ∷ []) by_label (is_cell_at c.args.rel c.args.label) (cell_at_label c.args.rel c.args.label) cells_of_class_is cells_of_class_takes
-    c.select.result c.select.ensures.clean (rw (c.params-to_sql.ensures, c.params-to_sql-2.ensures) at c.select.ensures.shown) (rw (c.params-to_sql.ensures, c.params-to_sql-2.ensures) at c.select.ensures.refused)
+    finds_cells (state g.S.Store c.args.conn.now) (state g.S.Store c.select.new.conn) cells_of_class
+    (Int (pos c.args.rel) ∷ Int (pos c.args.label) ∷ []) by_label (is_cell_at c.args.rel c.args.label)
+    (cell_at_label c.args.rel c.args.label) cells_of_class_is cells_of_class_takes
+    c.select.result c.select.ensures.clean (rw (
+      c.params-to_sql.ensures,
+      c.params-to_sql-2.ensures,
+    ) at c.select.ensures.shown) (rw (
+      c.params-to_sql.ensures,
+      c.params-to_sql-2.ensures,
+    ) at c.select.ensures.refused)

@@ -8,4 +8,5 @@ pub returns : goal.returns
 returns g c =
     let old = state g.S.Store c.args.conn.now in
     let new = state g.S.Store c.execute.new.self in
-    wrote old new _ _ c.execute.result (λ ready. clears_cells old new ready c.execute.result) (λ ready. clear_cells_fails old new c.execute.result ready) c.execute.ensures.runs c.execute.ensures.survives
+    wrote old new _ _ c.execute.result (λ ready. clears_cells old new ready c.execute.result)
+    (λ ready. clear_cells_fails old new c.execute.result ready) c.execute.ensures.runs c.execute.ensures.survives

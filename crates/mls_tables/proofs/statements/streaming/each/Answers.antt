@@ -34,7 +34,8 @@ returns-in_err-advance-clause-err g c clean plain =
     let new = state g.S.Store c.advance.new.self.conn.now in
     let late : HasCleanDisk new = search rules in
     let was = c.rows.invariant.2 (omega (arith, c.advance.ensures.survives.clean)) plain in
-    let kept : KeepsCommit old new = stopped_keeps old mid new _ was.2 (rw c.in_err-advance.was at (c.advance.ensures.kept late)) in
+    let kept : KeepsCommit old new = stopped_keeps old mid new _ was.2 (rw c.in_err-advance.was at
+    (c.advance.ensures.kept late)) in
     search rules
 
 pub returns-in_default-clause-all : goal.returns-in_default-clause-all
@@ -47,9 +48,12 @@ returns-in_default-clause-all g c clean plain =
     let late : HasCleanDisk new = search rules in
     let was = c.rows.invariant.2 (omega (arith, c.advance.ensures.survives.clean)) plain in
     let none : row_if now.has_row now.conn.now ≡ None = search rules in
-    let shown : Shown sql [] mid new was.0 = subst (GivesOn g.S.Store sql [] c.rows.rows.conn.now now.conn.now was.0) none ((rw c.in_ok-advance.was at (c.advance.ensures.ok late)) sql [] was.0 was.1) in
+    let shown : Shown sql [] mid new was.0 = subst
+    (GivesOn g.S.Store sql [] c.rows.rows.conn.now now.conn.now was.0) none
+    ((rw c.in_ok-advance.was at (c.advance.ensures.ok late)) sql [] was.0 was.1) in
     let all : ShowsAll c.args.at g.T.Shown.show g.T.Shown.shows sql old new c.rows.found.items =
-    all_kept c.args.at g.T.Shown.show g.T.Shown.shows sql old new was.0 c.rows.found.items c.rows.last (shown_from sql old mid new plain was.2 was.0 shown) was.3 in
+    all_kept c.args.at g.T.Shown.show g.T.Shown.shows sql old new was.0 c.rows.found.items c.rows.last
+    (shown_from sql old mid new plain was.2 was.0 shown) was.3 in
     search rules
 
 pub returns-in-Err-clause-bad : goal.returns-in-Err-clause-bad
@@ -61,7 +65,8 @@ returns-in-Err-clause-bad g c clean plain =
     let was = c.rows.invariant.2 (omega (arith, c.advance.ensures.survives.clean)) plain in
     let some : row_if now.has_row now.conn.now ≡ Some row = search rules in
     let given : HasGiven g.S.Store sql [] now.conn.now (was.0 ++ row ∷ []) =
-    subst (GivesOn g.S.Store sql [] c.rows.rows.conn.now now.conn.now was.0) some ((rw c.in_ok-advance.was at (c.advance.ensures.ok late)) sql [] was.0 was.1) in
+    subst (GivesOn g.S.Store sql [] c.rows.rows.conn.now now.conn.now was.0) some
+    ((rw c.in_ok-advance.was at (c.advance.ensures.ok late)) sql [] was.0 was.1) in
     let one : BlamesOne c.args.at g.T.Shown.reads sql (state g.S.Store now.conn.now) c.in-Err.fault =
     λ is. (was.0, row, given_begin g.S.Store sql [] now.conn.now (was.0 ++ row ∷ []) given, c.in-Err.ensures.bad is) in
     search rules
@@ -80,8 +85,15 @@ rows-preserved g c =
           let was = c.rows.invariant.2 (omega (arith, moved.survives.clean)) plain in
           let some : row_if now.has_row now.conn.now ≡ Some row = search rules in
           let given : HasGiven g.S.Store sql [] now.conn.now (was.0 ++ row ∷ []) =
-          subst (GivesOn g.S.Store sql [] c.rows.rows.conn.now now.conn.now was.0) some ((rw c.in_ok-advance.was at (moved.ok late)) sql [] was.0 was.1) in
-          let same = unchanged_then old mid (state g.S.Store now.conn.now) was.2 (rw c.in_ok-advance.was at (moved.same late)) in
-          let kept = one_kept c.args.at g.T.Shown.show g.T.Shown.shows was.0 c.rows.found.items _ c.rows.last row c.in-Ok.id was.3 c.in-Ok.ensures.kept c.in-Ok.ensures.read c.in-Ok.ensures.above in
-          (was.0 ++ row ∷ [], given, same, subst (λ n. IsKept c.args.at g.T.Shown.show g.T.Shown.shows (was.0 ++ row ∷ []) c.keep.new.found.items (Some n)) (grind (arith, common_steps)) kept),
+          subst (GivesOn g.S.Store sql [] c.rows.rows.conn.now now.conn.now was.0) some
+          ((rw c.in_ok-advance.was at (moved.ok late)) sql [] was.0 was.1) in
+          let same = unchanged_then old mid (state g.S.Store now.conn.now) was.2 (rw c.in_ok-advance.was at
+          (moved.same late)) in
+          let kept = one_kept c.args.at g.T.Shown.show g.T.Shown.shows was.0 c.rows.found.items _ c.rows.last row c.in-Ok.id was.3 c.in-Ok.ensures.kept c.in-Ok.ensures.read c.in-Ok.ensures.above in (
+            was.0 ++ row ∷ [],
+            given,
+            same,
+            subst (λ n. IsKept c.args.at g.T.Shown.show g.T.Shown.shows (was.0 ++ row
+                ∷ []) c.keep.new.found.items (Some n)) (grind (arith, common_steps)) kept,
+          ),
     )

@@ -14,4 +14,5 @@ invariant-rows g l =
     (l.rows.conn.ghost_name ≡ l.initial.rows.conn.ghost_name)
     × (HasCleanDisk now → HasCleanDisk old)
     × (HasCleanDisk now → IsPlain (understood old.now.schema l.sql)
-    → (given : List Row) × HasGiven g.S.Store l.sql [] l.rows.conn.now given × IsUnchanged old now × IsKept l.at g.T.Shown.show g.T.Shown.shows given l.found.items l.last)
+    → (given : List Row) × HasGiven g.S.Store l.sql [] l.rows.conn.now given × IsUnchanged old now
+    × IsKept l.at g.T.Shown.show g.T.Shown.shows given l.found.items l.last)

@@ -12,10 +12,18 @@ returns-in-Ok g c =
       all = each.all;
       same = λ now plain. always_ok c.in-Ok.read _ (each.same now plain);
       bad = λ now plain. IfErr-weaker c.in-Ok.read _ _ (λ e one is. (each.same now plain, one)) (each.bad now plain);
-      left = λ now plain. always_err c.in-Ok.read _ (keeps (state g.S.Store c.args.conn.now) (state g.S.Store c.each.new.conn) (inl (each.same now plain)));
+      left = λ now plain. always_err c.in-Ok.read _ (keeps (state g.S.Store c.args.conn.now)
+          (state g.S.Store c.each.new.conn) (inl (each.same now plain)));
     }
 
 pub returns-in-Err : goal.returns-in-Err
 returns-in-Err g c =
     let each = c.in-Err.ensures in
-    record { clean = each.clean; all = λ now plain. tt; same = λ now plain. tt; bad = λ now plain is. absurd (c.of_store.ensures is); left = each.err }
+    record {
+      clean = each.clean;
+      all = λ now plain. tt;
+      same = λ now plain. tt;
+      bad = λ now plain is. absurd
+          (c.of_store.ensures is);
+      left = each.err;
+    }

@@ -3,4 +3,5 @@ use Rattle.mls_tables.proofs.StreamingLemmas.{reads_cells}
 use Rattle.mls_tables.proofs.statements.whole.cells.Goals as goal
 
 pub returns : goal.returns
-returns g c = reads_cells (state g.S.Store c.args.conn.now) (state g.S.Store c.whole.new.conn) c.whole.result c.whole.ensures
+returns g c = reads_cells (state g.S.Store c.args.conn.now)
+    (state g.S.Store c.whole.new.conn) c.whole.result c.whole.ensures

@@ -17,7 +17,9 @@ returns-in-Err g c =
     let after : TableState = table_state new left.begun left.store.noted.failures left.store.noted.rows in
     let call : IsStoreCall before after (Err c.abandon_after.result) = search rules in
     let begun : t.begun ≡ true = subst (λ (v : TableState). v.begun ≡ true) (sym c.self.view_is) c.requires.begun in
-    subst (λ (v : TableState). IsStoreWrite (AddsCells (map (cell_beside c.args.node.now) c.args.cells.now)) (AreCellsRefused c.args.node.now c.args.cells.now v) v after (Err c.abandon_after.result)) c.self.view_is (record {
+    subst (λ (v : TableState). IsStoreWrite (AddsCells (map (cell_beside c.args.node.now) c.args.cells.now))
+    (AreCellsRefused c.args.node.now c.args.cells.now v) v after (Err c.abandon_after.result)) c.self.view_is
+    (record {
       call = call;
       mode = tt;
       done = λ _. tt;

@@ -17,7 +17,9 @@ returns-in-Err g c =
     let before : TableState = table_state old t.begun t.notes.noted.failures t.notes.noted.rows in
     let after : TableState = table_state new left.begun left.store.noted.failures left.store.noted.rows in
     let call : IsStoreCall before after (Err c.abandon_after.result) = search rules in
-    subst (λ (v : TableState). IsStoreWrite (DropsCells c.args.key.now) (IsRefused drop_cells (class_values c.args.key.now) v) v after (Err c.abandon_after.result)) c.self.view_is (record {
+    subst (λ (v : TableState). IsStoreWrite (DropsCells c.args.key.now)
+    (IsRefused drop_cells (class_values c.args.key.now) v) v after (Err c.abandon_after.result)) c.self.view_is
+    (record {
       call = call;
       mode = tt;
       done = λ _. tt;

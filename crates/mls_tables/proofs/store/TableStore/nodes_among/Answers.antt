@@ -16,7 +16,10 @@ returns-in-Err g c =
     let before : TableState = table_state old t.begun t.notes.noted.failures t.notes.noted.rows in
     let after : TableState = table_state new left.begun left.store.noted.failures left.store.noted.rows in
     let call : IsStoreCall before after (Err c.abandon_after.result) = search rules in
-    subst (λ (v : TableState). IsStoreQuery (IsPermutation (filter (is_node_among c.args.rel c.args.labels) v.now.nodes)) (IsUnread nodes_among (among_values c.args.rel c.args.labels) v) v after (Err c.abandon_after.result)) c.self.view_is (record {
+    subst (λ (v : TableState). IsStoreQuery (IsPermutation
+    (filter (is_node_among c.args.rel c.args.labels) v.now.nodes))
+    (IsUnread nodes_among (among_values c.args.rel c.args.labels) v) v after
+    (Err c.abandon_after.result)) c.self.view_is (record {
       call = call;
       mode = tt;
       found = λ _. tt;

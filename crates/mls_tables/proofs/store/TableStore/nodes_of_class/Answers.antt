@@ -16,7 +16,9 @@ returns-in-Err g c =
     let before : TableState = table_state old t.begun t.notes.noted.failures t.notes.noted.rows in
     let after : TableState = table_state new left.begun left.store.noted.failures left.store.noted.rows in
     let call : IsStoreCall before after (Err c.abandon_after.result) = search rules in
-    subst (λ (v : TableState). IsStoreQuery (IsPermutation (filter (is_node_at c.args.rel c.args.label) v.now.nodes)) (IsUnread nodes_of_class (at_values c.args.rel c.args.label) v) v after (Err c.abandon_after.result)) c.self.view_is (record {
+    subst (λ (v : TableState). IsStoreQuery (IsPermutation (filter (is_node_at c.args.rel c.args.label) v.now.nodes))
+    (IsUnread nodes_of_class (at_values c.args.rel c.args.label) v) v after
+    (Err c.abandon_after.result)) c.self.view_is (record {
       call = call;
       mode = tt;
       found = λ _. tt;

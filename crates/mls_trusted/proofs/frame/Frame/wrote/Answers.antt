@@ -11,5 +11,6 @@ returns-clause-vars c =
 
 pub returns-clause-views : goal.returns-clause-views
 returns-clause-views c =
-    subst (AreLeftBy (labels_of c.args.call.now.policy.now) c.args.relation c.args.at (named c.args.at c.args.write.now) c.args.outcome c.args.self.now.views)
+    subst (AreLeftBy (labels_of c.args.call.now.policy.now) c.args.relation c.args.at
+    (named c.args.at c.args.write.now) c.args.outcome c.args.self.now.views)
     (sym c.set_outcome.ensures.views) c.follow.ensures

@@ -75,12 +75,13 @@ impl Broken {
 }
 
 impl Base for Broken {
-    ghost use Rattle.std.specs.Prelude.{◌≡◌, ◌<◌, false};
+    ghost use Rattle.std.specs.Prelude.{◌≡◌, ◌<◌, false, []};
     ghost use Rattle.mls_filterview.specs.Content.{no_content, nowhere};
 
     // Of what is read it notes its own label alone: a call that asks for that fails.
     ghost seen = { λ b. record {
       state = record { now = no_content; kept = no_content; begun = false };
+      about = [];
       failures = b.failures;
       is_clean = ⊥;
       asked = λ m. (m ≡ b.broken) × (0 < b.failures);

@@ -41,9 +41,10 @@ module _ {Self : Type 0} (seen : Self → Seen) where
     pub mode : (seen new).state.begun ≡ begun_after e (seen old).state.begun
     pub content : (seen new).is_clean → (seen new).state ≡ after e (seen old).state
 
-  -- a store that is clean after the call was clean before it
+  -- a store that is clean after the call was clean before it, and what describes it is as it was
   pub record IsCall {A : Type 0} (old new : Self) (result : Result A BaseFault) : Type 0 where
     pub clean : (seen new).is_clean → (seen old).is_clean
+    pub about : (seen new).is_clean → (seen new).about ≡ (seen old).about
     pub count : (seen old).failures ≤ (seen new).failures
     pub fault : IfErr result (λ e. IsFault e old new)
 

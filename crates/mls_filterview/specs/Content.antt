@@ -1,5 +1,5 @@
 -- What a base holds: a table for each relation, and the audit list.
-use Rattle.std.specs.Prelude.{ℕ, Bool, true, false, if◌then◌else◌, nat_eq, List, [], ◌∷◌, ◌++◌}
+use Rattle.std.specs.Prelude.{ℕ, ℤ, Bool, true, false, if◌then◌else◌, nat_eq, List, [], ◌∷◌, ◌++◌}
 use Rattle.std.specs.FinMap.{empty}
 use Rattle.mls_scheme.specs.Table.{Table, Database}
 use Rattle.mls_filterview.specs.declared.base.BaseFault.{BaseFault}
@@ -22,11 +22,19 @@ pub record State : Type 0 where
   pub kept : Content
   pub begun : Bool
 
--- what contracts see of a base: its state, how many calls of its store have failed, that the store gives back what was
--- written
--- to it, the labels whose fragments were read, and those at which a tuple or an element was added, set or dropped
+-- a row that describes a store: its number, the version of the layout, and the texts of policy and schemes
+pub record About : Type 0 where
+  pub number : ℤ
+  pub version : ℤ
+  pub lattice : List ℕ
+  pub schemes : List ℕ
+
+-- what contracts see of a base: its state, what describes its store, how many calls of its store have failed, that the
+-- store gives back what was written to it, the labels whose fragments were read, and those at which a tuple or an
+-- element was added, set or dropped
 pub record Seen : Type 1 where
   pub state : State
+  pub about : List About
   pub failures : ℕ
   pub is_clean : Type 0
   pub asked : ℕ → Type 0

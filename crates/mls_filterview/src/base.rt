@@ -52,13 +52,13 @@ impl<T: Drop> From<AllocFailed<T>> for BaseFault {
 
 /// Where tuples are kept.
 ///
-/// Contracts see the content now, that of the last commit, and whether a change is begun; how many calls of the store
-/// have failed; and whether the store gives back what was written to it. A store can be found unclean at any call and
-/// never becomes clean again, so what is said of content after a call has the premise that the store is clean then.
+/// Contracts see the content now, that of the last commit, and whether a change is begun; what describes the store,
+/// which no call changes; how many calls of the store have failed; and whether the store gives back what was written
+/// to it. A store can be found unclean at any call and never becomes clean again, so what is said of content after a
+/// call has the premise that the store is clean then.
 ///
-/// They see at which labels the base was read and changed, whatever a call answers: `access` says of each call where it
-/// may do
-/// so. So no answer and no fault of what calls a base can depend on a label that its own `access` leaves out.
+/// They see at which labels the base was read and changed, whatever a call answers: `access` says of each call where
+/// it may do so. So no answer and no fault of what calls a base can depend on a label that its own `access` leaves out.
 ///
 /// Whether a change is begun is known without that premise: an `Ok` of `begin` begins one, an `Ok` of `commit`
 /// and of `rollback`, and each `Store` and `Memory`, ends it, and every other answer keeps it. `NotBegun` and
@@ -201,6 +201,7 @@ pub trait Base {
 /// before it answers the fault: the state is then as if it had failed at once.
 pub fn abandon<B: Base>(base: &mut B)
     ensures clean { (B.seen base.new).is_clean → (B.seen base.old).is_clean }
+    ensures about { (B.seen base.new).is_clean → (B.seen base.new).about ≡ (B.seen base.old).about }
     ensures access { NoAccess B.seen base.old base.new }
     ensures count { (B.seen base.old).failures ≤ (B.seen base.new).failures }
     ensures mode { (B.seen base.new).state.begun ≡ false }

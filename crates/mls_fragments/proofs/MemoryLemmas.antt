@@ -42,6 +42,7 @@ module _ {Self A : Type 0} (seen : Self → Seen) (old new : Self) where
       let failed = subst (IsCall seen old new) is call in
       record {
         clean = failed.clean;
+        about = failed.about;
         count = omega arith;
         fault = record {
           store = λ e. absurd cc;
@@ -60,6 +61,12 @@ module _ {Self A : Type 0} (seen : Self → Seen) (old new : Self) where
   -- a call that answers so where it did not fail
   pub memory_answer : (r : Result A BaseFault) → r ≢ Err Store → IsCall seen old new r
       → IsCall (forgiven seen) old new r
-  memory_answer r other call = record { clean = call.clean; count = omega arith; fault = faults r other call.fault }
+  memory_answer r other call = record {
+    clean = call.clean;
+    about = call.about;
+    count = omega arith;
+    fault =
+        faults r other call.fault;
+  }
 
 pub ruleset memory_calls = (memory_call, memory_answer)

@@ -32,12 +32,13 @@ use Rattle.mls_rows.proofs.DroppingLemmas.{holds_rest}
 -- rows that are written in a change
 pub based_on : (t u : TableState) (here new last : Noted) → IsBased t here last → (IsClean u → IsClean t)
     → u.begun ≡ true → (IsClean u → u.kept ≡ t.kept)
-    → (IsClean u → IsNoted t.now here → IsNoted u.now new) → IsBased u new last
+    → (IsClean u → IsNoted t.now here → IsNoted u.now new × (u.now.meta ≡ t.now.meta)) → IsBased u new last
 based_on t u here new last based clean mode kept noted = record {
-  now = λ h. noted h (based.now (clean h));
+  now = λ h. (noted h (based.now (clean h))).0;
   kept = λ h. subst (λ rows. IsNoted rows last) (sym (kept h)) (based.kept (clean h));
   content = λ e. absurd (true≢false (sym mode ∙ e));
   number = λ e. absurd (true≢false (sym mode ∙ e));
+  row = λ h. (noted h (based.now (clean h))).1 ∙ based.row (clean h) ∙ sym (ap (λ (x : Tables). x.meta) (kept h));
 }
 
 -- each row of a base can be read
@@ -90,42 +91,60 @@ module _ (t u : Tables) (here new : Noted) (was : IsNoted t here) where
       → IsSpelledKey n.key → AllByRecursion (IsCellOf n) cells → get (c.db relation) (place_of_node n) ≡ None
       → (es : List Element) × IsMadeOf (c.db relation) n cells es
       → (n.key_class < 256) × (n.label < 256) → AddsTuple (node_row relation n) (map (cell_row relation) cells) t u
-      → IsNoted u new
-  noted_tuple relation n cells changes last key each none made small adds = noted_as u new _ changes (last ∙ was.last)
-      (meta_stays t u (ap (λ (x : Tables). x.meta) adds.rest) was.meta) (tuple_bytes c relation was.classes n _ small)
-      (subst (λ es. Holds u (record c { db = with_table c.db relation (insert (c.db relation) (place_of_node n) es) }))
-      (sym (elements_made (c.db relation) (get (c.db relation)) (λ q. refl) n cells made.0 made.1))
-      (holds_tuple t u c relation n cells made.0 was.holds key each none made.1 adds))
+      → IsNoted u new × (u.meta ≡ t.meta)
+  noted_tuple relation n cells changes last key each none made small adds = (
+    noted_as u new _ changes (last ∙ was.last) (meta_stays t u (ap (λ (x : Tables). x.meta) adds.rest) was.meta)
+        (tuple_bytes c relation was.classes n _ small)
+        (subst (λ es. Holds u (record c {
+          db = with_table c.db relation
+              (insert (c.db relation) (place_of_node n) es);
+        })) (sym (elements_made (c.db relation) (get (c.db relation))
+        (λ q. refl) n cells made.0 made.1))
+        (holds_tuple t u c relation n cells made.0 was.holds key each none made.1 adds)),
+    ap (λ (x : Tables). x.meta) adds.rest,
+  )
 
   pub noted_value : (relation : ℕ) (p : Place) (attr : ℕ) (v : Option Value) → new.content.changes
       ≡ Sets relation p attr v ∷ here.content.changes → new.last ≡ here.last
       → IsSpelledKey p.key → IfSome v HasSpelling → HasCell (c.db relation) p attr
-      → SetsCell (value_row relation p attr v) t u → IsNoted u new
-  noted_value relation p attr v changes last key value there sets = noted_as u new _ changes (last ∙ was.last)
-      (meta_stays t u (ap (λ (x : Tables). x.meta) sets.0) was.meta) (value_bytes c relation was.classes p attr v)
-      (holds_value t u c relation p attr v was.holds key value there sets)
+      → SetsCell (value_row relation p attr v) t u → IsNoted u new × (u.meta ≡ t.meta)
+  noted_value relation p attr v changes last key value there sets = (
+    noted_as u new _ changes (last ∙ was.last)
+        (meta_stays t u (ap (λ (x : Tables). x.meta) sets.0) was.meta) (value_bytes c relation was.classes p attr v)
+        (holds_value t u c relation p attr v was.holds key value there sets),
+    ap (λ (x : Tables). x.meta) sets.0,
+  )
 
   pub noted_rest : (relation : ℕ) (p : Place) → new.content.changes ≡ Drops relation p ∷ here.content.changes
       → new.last ≡ here.last
-      → IsSpelledKey p.key → IsAlone (c.db relation) p → DropsTuple relation p t u → IsNoted u new
-  noted_rest relation p changes last key alone drops = noted_as u new _ changes (last ∙ was.last)
-      (meta_stays t u (ap (λ (x : Tables). x.meta) drops) was.meta) (rest_bytes c relation was.classes p)
-      (holds_rest t u c relation p was.holds key alone _ refl drops)
+      → IsSpelledKey p.key → IsAlone (c.db relation) p → DropsTuple relation p t u → IsNoted u new × (u.meta ≡ t.meta)
+  noted_rest relation p changes last key alone drops = (
+    noted_as u new _ changes (last ∙ was.last)
+        (meta_stays t u (ap (λ (x : Tables). x.meta) drops) was.meta) (rest_bytes c relation was.classes p)
+        (holds_rest t u c relation p was.holds key alone _ refl drops),
+    ap (λ (x : Tables). x.meta) drops,
+  )
 
   pub noted_entry : (bytes : List ℕ) → new.content.changes ≡ Appends bytes ∷ here.content.changes
       → new.last ≡ here.last +ℤ pos 1
-      → AddsEntry (record { number = here.last +ℤ pos 1; bytes = bytes }) t u → IsNoted u new
+      → AddsEntry (record { number = here.last +ℤ pos 1; bytes = bytes }) t u → IsNoted u new × (u.meta ≡ t.meta)
   noted_entry bytes changes last adds =
-      let next : here.last +ℤ pos 1 ≡ pos (length c.audit + 1) = ap (λ n. n +ℤ pos 1) was.last in
-      noted_as u new _ changes (last ∙ next ∙ ap pos (sym (length-append c.audit (bytes ∷ []))))
-      (meta_stays t u (ap (λ (x : Tables). x.meta) adds.0) was.meta) was.classes
-      (holds_entry t u c bytes was.holds (subst (λ n. AddsEntry (record { number = n; bytes = bytes }) t u) next adds))
+      let next : here.last +ℤ pos 1 ≡ pos (length c.audit + 1) = ap (λ n. n +ℤ pos 1) was.last in (
+        noted_as u new _ changes (last ∙ next ∙ ap pos (sym (length-append c.audit (bytes ∷ []))))
+            (meta_stays t u (ap (λ (x : Tables). x.meta) adds.0) was.meta) was.classes
+            (holds_entry t u c bytes was.holds (subst
+            (λ n. AddsEntry (record { number = n; bytes = bytes }) t u) next adds)),
+        ap (λ (x : Tables). x.meta) adds.0,
+      )
 
   pub noted_clear : new.content.changes ≡ Clears ∷ here.content.changes → new.last ≡ pos 0 → ClearsEntries t u
-      → IsNoted u new
-  noted_clear changes last clears = noted_as u new _ changes last
-      (meta_stays t u (ap (λ (x : Tables). x.meta) clears) was.meta) was.classes
-      (holds_no_entries t u c was.holds clears)
+      → IsNoted u new × (u.meta ≡ t.meta)
+  noted_clear changes last clears = (
+    noted_as u new _ changes last
+        (meta_stays t u (ap (λ (x : Tables). x.meta) clears) was.meta) was.classes
+        (holds_no_entries t u c was.holds clears),
+    ap (λ (x : Tables). x.meta) clears,
+  )
 
 -- the state in a change, with a tuple more
 pub state_added : (t u : TableState) (here last : Noted) (changes : List Change) (relation : ℕ) (n : Node)

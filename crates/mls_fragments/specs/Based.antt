@@ -1,9 +1,9 @@
 -- A base over the tables of a store.
 use Rattle.std.proofs.Common.{ap}
-use Rattle.std.specs.Prelude.{◌≡◌, pos, Bool, List, false, if◌then◌else◌, length}
+use Rattle.std.specs.Prelude.{◌≡◌, pos, Bool, List, false, if◌then◌else◌, length, map}
 use Rattle.mls_lattice.specs.Policy.{Policy}
 use Rattle.mls_scheme.specs.declared.file.SchemesFile.{SchemesFile}
-use Rattle.mls_filterview.specs.Content.{Content, State}
+use Rattle.mls_filterview.specs.Content.{About, Content, State}
 use Rattle.mls_filterview.specs.declared.base.BaseFault.{BaseFault}
 use Rattle.mls_filterview.specs.declared.base.BaseFault.TheVariants as base
 use Rattle.mls_tables.specs.declared.store.StoreFault.{StoreFault}
@@ -34,6 +34,16 @@ state_with now kept begun = record { now = now; kept = if begun then kept else n
 abbrev pub state_of : BaseState → State
 state_of b = state_with (content_of b.now) (content_of b.kept) b.tables.begun
 
+-- what callers see of the rows that describe a store
+abbrev pub about_of : List MetaRow → List About
+about_of rows = map (λ row. record {
+  number = row.id;
+  version = row.version;
+  lattice = row.lattice;
+  schemes =
+      row.schemes;
+}) rows
+
 -- outside a change all is as at the last commit
 pub settled : (b : BaseState) → (state_of b).begun ≡ false → (state_of b).kept ≡ (state_of b).now
 settled b e = ap (λ begun. if begun then content_of b.kept else content_of b.now) e
@@ -50,12 +60,14 @@ pub record IsNoted (rows : Tables) (n : Noted) : Type 0 where
   pub classes : HasByteClasses (content_of n.content.changes)
   pub last : n.last ≡ pos (length (content_of n.content.changes).audit)
 
--- the rows now hold what is noted now, and those of the last commit what was noted then; outside a change they are one
+-- the rows now hold what is noted now, and those of the last commit what was noted then; outside a change they are one;
+-- the same row describes both
 pub record IsBased (t : TableState) (here last : Noted) : Type 0 where
   pub now : IsClean t → IsNoted t.now here
   pub kept : IsClean t → IsNoted t.kept last
   pub content : t.begun ≡ false → last.content.changes ≡ here.content.changes
   pub number : t.begun ≡ false → last.last ≡ here.last
+  pub row : IsClean t → t.now.meta ≡ t.kept.meta
 
 -- what the base's tables have: this row describes the store, and the others hold the content now
 abbrev pub HasRow : BaseState → MetaRow → Type 0

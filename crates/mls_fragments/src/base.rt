@@ -136,11 +136,12 @@ macro_rules! change {
 impl<S: Alter> Base for SqlBase<S> {
     ghost use Rattle.mls_filterview.specs.Content.{nowhere};
     ghost use Rattle.mls_tables.specs.Store.{IsClean};
-    ghost use Rattle.mls_fragments.specs.Based.{state_of, settled};
+    ghost use Rattle.mls_fragments.specs.Based.{state_of, about_of, settled};
 
     // It keeps no note of where it was read or changed.
     ghost seen = { λ b. record {
       state = state_of b;
+      about = about_of b.tables.kept.meta;
       failures = b.tables.failures;
       is_clean = IsClean b.tables;
       asked = nowhere;

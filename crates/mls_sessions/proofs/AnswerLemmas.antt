@@ -177,6 +177,7 @@ module _ (site : Site) where
 pub record Running {B : Type 0} (seen : B → Seen) (audience : Audience) (es : List Event) (first : Engine B)
     (start : Option (List ℕ)) (i : ℕ) (now : Engine B) (held : Option (List ℕ)) : Type 0 where
   pub clean : (seen now.base).is_clean → (seen first.base).is_clean
+  pub about : (seen now.base).is_clean → (seen now.base).about ≡ (seen first.base).about
   pub count : (seen first.base).failures ≤ (seen now.base).failures
   pub access : ArePermitted seen (site first) es first.base now.base
   pub kept : IsKept seen first now
@@ -195,6 +196,7 @@ module _ {B : Type 0} (seen : B → Seen) (audience : Audience) (es : List Event
   unfolding end_of run_lines notice_in
   running_start ready = record {
     clean = λ c. c;
+    about = λ c. refl;
     count = omega arith;
     access = permitted_start seen (site first) es first.base;
     kept = record { site = refl; ready = ready_noted seen first None ready };
@@ -226,19 +228,21 @@ module _ {B : Type 0} (seen : B → Seen) (audience : Audience) (es : List Event
         (subst (λ at. IsPermitted seen at e now.base new.base) same_site one) r.access
 
     pub running_more : (seen now.base).failures ≤ (seen new.base).failures
-        → IsPermitted seen (site now) e now.base new.base → IsKept seen now new
+        → IsPermitted seen (site now) e now.base new.base → ((seen new.base).is_clean → (seen new.base).about
+        ≡ (seen now.base).about) → IsKept seen now new
         → ((seen new.base).is_clean → IsEventAnswered (site now) audience (world_of seen now) e held after
         (world_of seen new))
         → ((seen new.base).is_clean → new.notice ≡ last_of
         (notice_of (step (site now) (world_of seen now) e).reply) now.notice)
         → Running seen audience es first start (i + 1) new after
-    running_more count access kept answer notice =
+    running_more count access about kept answer notice =
         let h : (seen new.base).is_clean → IsEventAnswered (site first) audience (at i) e held after
         (world_of seen new) =
         λ c. moved (λ p v. IsEventAnswered p audience v e held after (world_of seen new)) (site now) (site first)
         (world_of seen now) (at i) same_site (r.world (clean c)) (answer c) in
         record {
           clean = λ c. r.clean (clean c);
+          about = λ c. about c ∙ r.about (clean c);
           count = least r.count count;
           access = access_more access;
           kept = record { site = kept.site ∙ r.kept.site; ready = kept.ready };

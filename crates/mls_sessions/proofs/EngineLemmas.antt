@@ -142,9 +142,10 @@ module _ {B : Type 0} (seen : B → Seen) (old : Engine B) (ready : IsEngineRead
     Over r = IfOk r (IsStepOver (site old) X (now old.base) (now b))
 
     over_turn : (r : Result Reply BaseFault) → IsTurn seen now old.base b r → IsEngineTurn seen old new r
-    over_turn (Ok r) t = record { clean = t.clean; count = t.count; fault = tt }
+    over_turn (Ok r) t = record { clean = t.clean; about = t.about; count = t.count; fault = tt }
     over_turn (Err e) t = record {
       clean = t.clean;
+      about = t.about;
       count = t.count;
       fault = record {
         served = t.fault.served;
@@ -231,7 +232,7 @@ module _ {B : Type 0} (seen : B → Seen) (old : Engine B) (ready : IsEngineRead
         ≡ with_session (sessions_of old.sessions.items) event.level event.session None → s ≡ closed w event
         → Answered with_them (Ok Closed)
     answers_closed h is = record {
-      turn = record { clean = λ c. c; count = omega arith; fault = tt };
+      turn = record { clean = λ c. c; about = λ c. refl; count = omega arith; fault = tt };
       kept = them_kept;
       done = λ c. record {
         reply = ap (λ (t : Step). t.reply) (sym is);
@@ -245,9 +246,10 @@ module _ {B : Type 0} (seen : B → Seen) (old : Engine B) (ready : IsEngineRead
 
     opened_turn : (r : Result Reply BaseFault) → IfErr r (λ e. e ≡ faults.Memory)
         → OnErr r (sessions.items ≡ old.sessions.items) → IsEngineTurn seen old with_them r
-    opened_turn (Ok r) memory same = record { clean = λ c. c; count = omega arith; fault = tt }
+    opened_turn (Ok r) memory same = record { clean = λ c. c; about = λ c. refl; count = omega arith; fault = tt }
     opened_turn (Err e) memory same = record {
       clean = λ c. c;
+      about = λ c. refl;
       count = omega arith;
       fault = record {
         served = memory_served e memory;

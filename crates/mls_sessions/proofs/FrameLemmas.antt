@@ -34,41 +34,38 @@ module _ {B : Type 0} (seen : B → Seen) where
       → IfErr r (λ f. f.cause ≡ Store → ⊥) → Goes e e r
   goes_nowhere e ready (Ok a) h = record {
     clean = λ c. c;
+    about = λ c. refl;
     count = omega arith;
-    kept = record {
-      site = refl;
-      ready =
-          ready;
-    };
+    kept =
+        record { site = refl; ready = ready };
     store = λ c. tt;
   }
   goes_nowhere e ready (Err f) h = record {
     clean = λ c. c;
+    about = λ c. refl;
     count = omega arith;
-    kept = record {
-      site = refl;
-      ready =
-          ready;
-    };
+    kept =
+        record { site = refl; ready = ready };
     store = λ c is. absurd (h is);
   }
 
   -- the first of it stopped
   pub goes_first : {A C : Type 0} (a b : Engine B) (f : RunFault) → Goes {A = A} a b (Err f) → Goes {A = C} a b (Err f)
-  goes_first a b f h = record { clean = h.clean; count = h.count; kept = h.kept; store = h.store }
+  goes_first a b f h = record { clean = h.clean; about = h.about; count = h.count; kept = h.kept; store = h.store }
 
   -- all is done, or memory stops it
   module _ {A C : Type 0} (a b : Engine B) (x : A) (h : Goes a b (Ok x)) where
     pub goes_well : (y : C) → Goes a b (Ok y)
-    goes_well y = record { clean = h.clean; count = h.count; kept = h.kept; store = λ is. tt }
+    goes_well y = record { clean = h.clean; about = h.about; count = h.count; kept = h.kept; store = λ is. tt }
 
     pub worn_frame : (f : RunFault) → f.cause ≡ Memory → Goes {A = C} a b (Err f)
     worn_frame f memory = record {
       clean = h.clean;
+      about = h.about;
       count = h.count;
       kept = h.kept;
-      store = λ is store. absurd
-          (let e : Memory ≡ Store = sym memory ∙ store in cc);
+      store =
+          λ is store. absurd (let e : Memory ≡ Store = sym memory ∙ store in cc);
     }
 
   module _ {A C D : Type 0} (a b c : Engine B) (x : A) (h : Goes a b (Ok x)) where
@@ -76,6 +73,7 @@ module _ {B : Type 0} (seen : B → Seen) where
     pub goes_on : (y : C) (z : D) → Goes b c (Ok y) → Goes a c (Ok z)
     goes_on y z k = record {
       clean = λ is. h.clean (k.clean is);
+      about = λ is. k.about is ∙ h.about (k.clean is);
       count = least h.count k.count;
       kept = record { site = k.kept.site ∙ h.kept.site; ready = k.kept.ready };
       store = λ is. tt;
@@ -84,6 +82,7 @@ module _ {B : Type 0} (seen : B → Seen) where
     pub goes_to : (f : RunFault) → Goes {A = C} b c (Err f) → Goes {A = D} a c (Err f)
     goes_to f k = record {
       clean = λ is. h.clean (k.clean is);
+      about = λ is. k.about is ∙ h.about (k.clean is);
       count = least h.count k.count;
       kept = record { site = k.kept.site ∙ h.kept.site; ready = k.kept.ready };
       store = λ is s. less h.count (k.store is s);
@@ -94,7 +93,7 @@ module _ {B : Type 0} (seen : B → Seen) where
       → left ≡ new.base → Goes old new r → Leaves seen base left r
   left_behind base old new left r from to h =
       subst (λ b. Leaves seen base b r) (sym to) (subst (λ b. Leaves seen b new.base r) from
-      (record { clean = h.clean; idle = h.kept.ready.rest.idle; count = h.count; store = h.store }))
+      (record { clean = h.clean; about = h.about; idle = h.kept.ready.rest.idle; count = h.count; store = h.store }))
 
   -- at the site that it kept to, the base is at rest, and the world is the one that the engine held
   pub record GivesBack (at : Site) (new : Engine B) (left : B) : Type 0 where

@@ -69,6 +69,7 @@ module _ {B : Type 0} (seen : B → Seen) where
   -- where a call of it failed
   pub record Continues {A : Type 0} (old new : Engine B) (result : Result A RunFault) : Type 0 where
     pub clean : (seen new.base).is_clean → (seen old.base).is_clean
+    pub about : (seen new.base).is_clean → (seen new.base).about ≡ (seen old.base).about
     pub count : (seen old.base).failures ≤ (seen new.base).failures
     pub kept : IsKept old new
     pub store : (seen new.base).is_clean → IfErr result (λ f. f.cause ≡ Store
@@ -77,6 +78,7 @@ module _ {B : Type 0} (seen : B → Seen) where
   -- the same of a base that is given back: no change is begun
   pub record Leaves {A : Type 0} (old new : B) (result : Result A RunFault) : Type 0 where
     pub clean : (seen new).is_clean → (seen old).is_clean
+    pub about : (seen new).is_clean → (seen new).about ≡ (seen old).about
     pub idle : (seen new).state.begun ≡ false
     pub count : (seen old).failures ≤ (seen new).failures
     pub store : (seen new).is_clean → IfErr result (λ f. f.cause ≡ Store → (seen old).failures < (seen new).failures)

@@ -60,6 +60,7 @@ module _ {Self : Type 0} (seen : Self → Seen) where
   pub record HasTurned (policy : Policy) (reader : Option ℕ) (Wrote : List ℕ → Type 0) (old new : Self)
       (result : Result (Unit {0}) RunFault) : Type 0 where
     pub clean : (seen new).is_clean → (seen old).is_clean
+    pub about : (seen new).is_clean → (seen new).about ≡ (seen old).about
     pub count : (seen old).failures ≤ (seen new).failures
     pub access : NoAccess seen old new
     pub idle : (seen new).state.begun ≡ false

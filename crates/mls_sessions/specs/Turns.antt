@@ -31,9 +31,10 @@ module _ {Self : Type 0} {Held : Type 0} (seen : Self → Seen) (held : Self →
     pub store : e ≡ faults.Store → (seen old).failures < (seen new).failures
     pub same : (seen new).is_clean → held new ≡ held old
 
-  -- a store that is clean after the event was clean before it
+  -- a store that is clean after the event was clean before it, and what describes it is as it was
   pub record IsTurn {A : Type 0} (old new : Self) (result : Result A BaseFault) : Type 0 where
     pub clean : (seen new).is_clean → (seen old).is_clean
+    pub about : (seen new).is_clean → (seen new).about ≡ (seen old).about
     pub count : (seen old).failures ≤ (seen new).failures
     pub fault : IfErr result (λ e. IsUndone e old new)
 

@@ -122,6 +122,7 @@ module _ {B : Type 0} (seen : B → Seen) (policy : Policy) (schemes : Schemes) 
     change = step_change seen a a (Ok KeyNull) begun (record {
       call = record {
         clean = λ k. k;
+        about = λ k. refl;
         count = omega arith;
         fault = tt;
       };
@@ -168,6 +169,7 @@ module _ {Self : Type 0} (seen : Self → Seen) {A : Type 0} (old mid new : Self
       → IfErr r IsServed → IsCall seen mid new r → IsCall seen old new r
   later_call q r first served second = record {
     clean = λ h. first.clean (second.clean h);
+    about = λ h. second.about h ∙ first.about (second.clean h);
     count = (let n = first.count in let m = second.count in omega (arith, n, m));
     fault = later_fault first.count second.clean r served second.fault;
   }

@@ -1,5 +1,5 @@
 //! A base in memory.
-ghost use Rattle.std.specs.Prelude.{◌≡◌, false, is_some, None};
+ghost use Rattle.std.specs.Prelude.{◌≡◌, false, [], is_some, None};
 ghost use Rattle.mls_filterview.specs.Content.{no_content, nowhere, failed};
 ghost use Rattle.mls_updates.specs.States.{state_of, state-settled};
 
@@ -56,6 +56,7 @@ impl Base for ListBase {
     // It keeps no note of where it was read or changed.
     ghost seen = { λ b. record {
       state = state_of b.held b.saved;
+      about = [];
       failures = 0;
       is_clean = Unit {0};
       asked = nowhere;

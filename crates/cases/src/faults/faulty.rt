@@ -108,6 +108,7 @@ impl<B: Base> Faulty<B> {
         ensures count { (⟦<Faulty<B> as Base>⟧.seen self.old).failures
             ≤ (⟦<Faulty<B> as Base>⟧.seen self.new).failures }
         ensures fault { IsFault ⟦<Faulty<B> as Base>⟧.seen result self.old self.new }
+        ensures about { (B.seen self.new.base).is_clean → (B.seen self.new.base).about ≡ (B.seen self.old.base).about }
         ensures served { IsServed result }
         ensures access { NoAccess ⟦<Faulty<B> as Base>⟧.seen self.old self.new }
     {
@@ -124,6 +125,7 @@ impl<B: Base> Faulty<B> {
 impl<B: Base> Base for Faulty<B> {
     ghost seen = { λ b. record {
       state = (B.seen b.base).state;
+      about = (B.seen b.base).about;
       failures = (B.seen b.base).failures + b.fuse.failed;
       is_clean = (B.seen b.base).is_clean;
       asked = (B.seen b.base).asked;

@@ -20,6 +20,7 @@ loop-number-preserved-then-not-is_between g c =
     let label = c.args.label in
     record {
       clean = inv.clean;
+      about = inv.about;
       access = inv.access;
       count = inv.count;
       mode = inv.mode;
@@ -44,6 +45,8 @@ loop-number-preserved g c =
     let label = c.args.label in
     record {
       clean = λ clean. inv.clean (f.ensures.read.call.clean (c.in_ok-settle.ensures.call.clean clean));
+      about = λ clean. (let before = c.in_ok-settle.ensures.call.clean clean in c.in_ok-settle.ensures.call.about clean
+          ∙ f.ensures.read.call.about before ∙ inv.about (f.ensures.read.call.clean before));
       access = avoids_then (avoids_then inv.access
           (at_reads_low ls label c.new-class.result (and_parts (below ls c.args.key_class c.new-class.result)
           (below ls c.new-class.result label) (sym c.if-not-is_between.ensures)).1 f.ensures.access))
@@ -92,7 +95,7 @@ returns-in_err-part-clause-read g c =
     let B = g.B.Base in
     let inv = c.loop-number.invariant in
     fault_read B.seen c.args.base.now c.loop-number.base c.entity.new.self c.in_err-part.field-0.0 c.from_residual.result
-    inv.clean inv.count inv.mode inv.same c.in_err-part.ensures.read.call c.in_err-part.ensures.read.served
+    inv.clean inv.about inv.count inv.mode inv.same c.in_err-part.ensures.read.call c.in_err-part.ensures.read.served
     (search rules)
 
 pub returns-in_err-settle-clause-read : goal.returns-in_err-settle-clause-read
@@ -102,8 +105,9 @@ returns-in_err-settle-clause-read g c =
     let f = c.in_ok-part.ensures.read in
     let first = inv.count in let second = f.call.count in
     fault_read B.seen c.args.base.now c.entity.new.self c.settle.new.base c.in_err-settle.field-0.0 c.from_residual-in_err-settle.result
-    (λ h. inv.clean (f.call.clean h)) (omega (arith, first, second)) (f.mode ∙ inv.mode) (λ h. f.same h
-    ∙ inv.same (f.call.clean h)) c.in_err-settle.ensures.call c.in_err-settle.ensures.served (search rules)
+    (λ h. inv.clean (f.call.clean h)) (λ h. f.call.about h ∙ inv.about (f.call.clean h)) (omega (arith, first, second))
+    (f.mode ∙ inv.mode) (λ h. f.same h ∙ inv.same
+    (f.call.clean h)) c.in_err-settle.ensures.call c.in_err-settle.ensures.served (search rules)
 
 pub returns-in_err-part-clause-access : goal.returns-in_err-part-clause-access
 returns-in_err-part-clause-access g c =

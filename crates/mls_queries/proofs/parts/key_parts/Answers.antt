@@ -29,6 +29,7 @@ loop-number-preserved-then-not-dominates g c =
     let ls = labels_of c.args.policy.now in
     record {
       clean = inv.clean;
+      about = inv.about;
       access = inv.access;
       count = inv.count;
       mode = inv.mode;
@@ -51,6 +52,8 @@ loop-number-preserved g c =
     let ls = labels_of c.args.policy.now in
     record {
       clean = λ clean. inv.clean (f.ensures.read.call.clean (c.in_ok-settle.ensures.call.clean clean));
+      about = λ clean. (let before = c.in_ok-settle.ensures.call.clean clean in c.in_ok-settle.ensures.call.about clean
+          ∙ f.ensures.read.call.about before ∙ inv.about (f.ensures.read.call.clean before));
       access = avoids_then (avoids_then inv.access f.ensures.access) (avoids_some c.in_ok-settle.ensures.access);
       count = (let x = inv.count in let y = f.ensures.read.call.count in let z = c.in_ok-settle.ensures.call.count
           in omega (arith, x, y, z));
@@ -93,7 +96,7 @@ returns-in_err-parts-clause-read g c =
     let B = g.B.Base in
     let inv = c.loop-number.invariant in
     fault_read B.seen c.args.base.now c.loop-number.base c.entity_parts.new.base c.in_err-parts.field-0.0 c.from_residual.result
-    inv.clean inv.count inv.mode inv.same c.in_err-parts.ensures.read.call c.in_err-parts.ensures.read.served
+    inv.clean inv.about inv.count inv.mode inv.same c.in_err-parts.ensures.read.call c.in_err-parts.ensures.read.served
     (search rules)
 
 pub returns-in_err-settle-clause-read : goal.returns-in_err-settle-clause-read
@@ -103,8 +106,9 @@ returns-in_err-settle-clause-read g c =
     let f = c.in_ok-parts.ensures.read in
     let first = inv.count in let second = f.call.count in
     fault_read B.seen c.args.base.now c.entity_parts.new.base c.settle.new.base c.in_err-settle.field-0.0 c.from_residual-in_err-settle.result
-    (λ h. inv.clean (f.call.clean h)) (omega (arith, first, second)) (f.mode ∙ inv.mode) (λ h. f.same h
-    ∙ inv.same (f.call.clean h)) c.in_err-settle.ensures.call c.in_err-settle.ensures.served (search rules)
+    (λ h. inv.clean (f.call.clean h)) (λ h. f.call.about h ∙ inv.about (f.call.clean h)) (omega (arith, first, second))
+    (f.mode ∙ inv.mode) (λ h. f.same h ∙ inv.same
+    (f.call.clean h)) c.in_err-settle.ensures.call c.in_err-settle.ensures.served (search rules)
 
 pub returns-in_err-parts-clause-access : goal.returns-in_err-parts-clause-access
 returns-in_err-parts-clause-access g c = avoids_then c.loop-number.invariant.access c.in_err-parts.ensures.access

@@ -37,6 +37,7 @@ loop-place-preserved g c =
     let here = c.in-Some.ensures.steps.0 in
     record {
       clean = λ clean. inv.clean (m.read.call.clean clean);
+      about = λ clean. m.read.call.about clean ∙ inv.about (m.read.call.clean clean);
       access = avoids_then inv.access m.access;
       count = (let x = inv.count in let y = m.read.call.count in omega (arith, x, y));
       mode = m.read.mode ∙ inv.mode;

@@ -11,6 +11,7 @@ invariant-loop-place g l =
     let B = g.B.Base in
     record {
       clean : (B.seen l.base).is_clean → (B.seen l.fn.base).is_clean;
+      about : (B.seen l.base).is_clean → (B.seen l.base).about ≡ (B.seen l.fn.base).about;
       access : NoReadUp B.seen (labels_of l.policy) l.label l.fn.base l.base;
       count : (B.seen l.fn.base).failures ≤ (B.seen l.base).failures;
       mode : (B.seen l.base).state.begun ≡ (B.seen l.fn.base).state.begun;

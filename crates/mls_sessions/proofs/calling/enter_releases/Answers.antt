@@ -1,4 +1,4 @@
-use Rattle.std.proofs.Common.{arith, refl}
+use Rattle.std.proofs.Common.{arith, refl, ◌∙◌}
 use Rattle.mls_audit.specs.Spelling.{HasSpelling}
 use Rattle.mls_machine.specs.Machine.{release_entry}
 use Rattle.mls_sessions.specs.Sessions.{site_of_run}
@@ -9,6 +9,7 @@ use Rattle.mls_sessions.proofs.calling.enter_releases.Goals as goal
 pub loop-item-init : goal.loop-item-init
 loop-item-init g c = record {
   clean = λ h. h;
+  about = λ h. refl;
   access = avoids_same refl;
   count = omega arith;
   begun = c.requires.may.begun;
@@ -23,6 +24,7 @@ loop-item-preserved g c =
     let one = c.in_ok-enter_release.ensures in
     record {
       clean = λ h. inv.clean (one.step.call.clean h);
+      about = λ h. one.step.call.about h ∙ inv.about (one.step.call.clean h);
       access = avoids_then inv.access one.access;
       count = (let a = inv.count in let b = one.step.call.count in omega (arith, a, b));
       begun = one.step.mode;

@@ -14,6 +14,7 @@ invariant-loop-item g l =
     let es = map (release_entry (site_of_run l.site) l.event l.user) (take l.item-index l.released) in
     record {
       clean : (g.B.Base.seen l.base).is_clean → (g.B.Base.seen l.fn.base).is_clean;
+      about : (g.B.Base.seen l.base).is_clean → (g.B.Base.seen l.base).about ≡ (g.B.Base.seen l.fn.base).about;
       access : NoAccess g.B.Base.seen l.fn.base l.base;
       count : (g.B.Base.seen l.fn.base).failures ≤ (g.B.Base.seen l.base).failures;
       begun : t.begun ≡ true;

@@ -10,6 +10,7 @@ returns-in-Err-clause-continues g c =
     let step = c.in-Err.ensures.answers in
     record {
       clean = step.turn.clean;
+      about = step.turn.about;
       count = step.turn.count;
       kept = step.kept;
       store = λ h k. step.turn.fault.store (only_store c.in-Err.fault step.turn.fault.served (sym c.cause_of.ensures
@@ -29,6 +30,7 @@ returns-in-Err-text_of-clause-continues g c =
     let step = c.step.ensures.answers in
     record {
       clean = step.turn.clean;
+      about = step.turn.about;
       count = step.turn.count;
       kept = noted g.B.Base.seen c.args.engine.now c.step.new.self c.next_notice-engine.result step.kept;
       store = λ h k.
@@ -52,6 +54,7 @@ returns-in-Ok-write_whole-clause-continues g c =
     let step = c.step.ensures.answers in
     record {
       clean = step.turn.clean;
+      about = step.turn.about;
       count = step.turn.count;
       kept = noted g.B.Base.seen c.args.engine.now c.step.new.self c.next_notice-engine.result step.kept;
       store = λ h. tt;

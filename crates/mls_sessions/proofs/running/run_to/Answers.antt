@@ -26,7 +26,7 @@ pub loop-place-preserved : goal.loop-place-preserved
 loop-place-preserved g c = running_more g.B.Base.seen c.args.audience c.args.events.now c.args.engine.now
     (g.W.Write.contents c.args.out.now)
     c.loop-place.place c.loop-place.engine (g.W.Write.contents c.loop-place.out) c.loop-place.invariant c.index-events-place.result c.loop-place-test.true (search rules)
-    c.answer.new.engine (g.W.Write.contents c.answer.new.out) c.answer.ensures.continues.clean c.answer.ensures.continues.count c.answer.ensures.access c.answer.ensures.continues.kept (search rules) (search rules)
+    c.answer.new.engine (g.W.Write.contents c.answer.new.out) c.answer.ensures.continues.clean c.answer.ensures.continues.count c.answer.ensures.access c.answer.ensures.continues.about c.answer.ensures.continues.kept (search rules) (search rules)
 
 pub returns-in_err-answer-clause-integrity : goal.returns-in_err-answer-clause-integrity
 returns-in_err-answer-clause-integrity g c = λ h. keep_integrity

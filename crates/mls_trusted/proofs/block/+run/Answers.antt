@@ -24,6 +24,7 @@ run_block-loop-stmt-init g t c =
     let around = around_of c.args.frame.now in
     record {
       clean = λ h. h;
+      about = λ h. refl;
       access = λ b. avoids_same refl;
       between = λ b. b;
       count = omega arith;
@@ -45,6 +46,7 @@ run_block-loop-stmt-preserved g t c =
     let ls = labels_of call.policy.now in
     record {
       clean = λ h. inv.clean (one.call.clean h);
+      about = λ h. one.call.about h ∙ inv.about (one.call.clean h);
       access = λ b. avoids_then (inv.access b) (one.access
           (between_here ls call.tx.now.lo call.tx.now.hi xs i x c.stmt-item.is c.loop-stmt-test.true
           (inv.between b)).0);
@@ -142,6 +144,8 @@ run_rows-loop-place-preserved g t c =
     ∙ ap (λ y. take i xs ++ y ∷ []) (sym is) in
     record {
       clean = λ h. inv.clean (subst (λ b. (g.B.Base.seen b).is_clean) same (one.call.clean h));
+      about = λ h. one.call.about h ∙ ap (λ b. (g.B.Base.seen b).about) same
+          ∙ inv.about (subst (λ b. (g.B.Base.seen b).is_clean) same (one.call.clean h));
       access = λ b. avoids_then (avoids_then (inv.access b) (avoids_some c.in_ok-row.ensures.access)) (one.access b);
       count = (let a = inv.count in let b = one.call.count in let d = ap (λ b. (g.B.Base.seen b).failures) same
           in omega (arith, a, b, d));

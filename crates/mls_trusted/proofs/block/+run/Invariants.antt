@@ -1,4 +1,4 @@
-use Rattle.std.proofs.Common.{◌+◌, ◌*◌, ◌≤◌, [], ◌∷◌, drop, take}
+use Rattle.std.proofs.Common.{◌≡◌, ◌+◌, ◌*◌, ◌≤◌, [], ◌∷◌, drop, take}
 use Rattle.mls_translang.specs.Tree.{statements}
 use Rattle.mls_translang.specs.Blocks.{block_of}
 use Rattle.mls_trusted.specs.Ends.{Between, Accesses}
@@ -10,6 +10,7 @@ abbrev pub invariant-run_block-loop-stmt : goal.invariant-run_block-loop-stmt
 invariant-run_block-loop-stmt g l = record {
   clean : (g.B.Base.seen l.base).is_clean → (g.B.Base.seen l.fn.base).is_clean;
   count : (g.B.Base.seen l.fn.base).failures ≤ (g.B.Base.seen l.base).failures;
+  about : (g.B.Base.seen l.base).is_clean → (g.B.Base.seen l.base).about ≡ (g.B.Base.seen l.fn.base).about;
   access : Accesses l.call g.B.Base.seen (block_of l.stmt-items) l.fn.base l.base;
   between : Between l.call (block_of l.stmt-items) → Between l.call (block_of (drop l.stmt-index l.stmt-items));
   ran : IsFrameRun l.call g.B.Base.seen (run_of l.call (block_of (take l.stmt-index l.stmt-items))
@@ -23,6 +24,7 @@ abbrev pub invariant-run_rows-loop-place : goal.invariant-run_rows-loop-place
 invariant-run_rows-loop-place g l = record {
   clean : (g.B.Base.seen l.base).is_clean → (g.B.Base.seen l.fn.base).is_clean;
   count : (g.B.Base.seen l.fn.base).failures ≤ (g.B.Base.seen l.base).failures;
+  about : (g.B.Base.seen l.base).is_clean → (g.B.Base.seen l.base).about ≡ (g.B.Base.seen l.fn.base).about;
   access : Accesses l.call g.B.Base.seen l.body l.fn.base l.base;
   ran : IsFrameRun l.call g.B.Base.seen (rows_of l.call l.body (around_of l.fn.frame)
       (take l.place l.rows)) l.fn.base l.base l.fn.frame l.frame;

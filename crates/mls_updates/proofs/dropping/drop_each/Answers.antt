@@ -29,6 +29,7 @@ loop-class-preserved g c =
     let rest : List ℕ → Table → Table = λ ks S. drop_each c.args.place ks S in
     record {
       clean = λ h. inv.clean (c.in_ok-drop_one.ensures.step.call.clean h);
+      about = λ h. c.in_ok-drop_one.ensures.step.call.about h ∙ inv.about (c.in_ok-drop_one.ensures.step.call.clean h);
       access = avoids_then inv.access (at_changes_among _ c.args.classes.now (subst (λ m. IsAmong m c.args.classes.now)
           (sym c.class-item.is) (among_here c.args.classes.now c.loop-class.class-index c.class-item.result c.loop-class-test.true)) c.in_ok-drop_one.ensures.access);
       count = (let a = inv.count in let b = c.in_ok-drop_one.ensures.step.call.count in omega (arith, a, b));

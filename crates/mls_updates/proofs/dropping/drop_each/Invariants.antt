@@ -10,6 +10,7 @@ invariant-loop-class g l =
     let t = (g.B.Base.seen l.base).state in
     record {
       clean : (g.B.Base.seen l.base).is_clean → (g.B.Base.seen l.fn.base).is_clean;
+      about : (g.B.Base.seen l.base).is_clean → (g.B.Base.seen l.base).about ≡ (g.B.Base.seen l.fn.base).about;
       access : ChangesAmong g.B.Base.seen l.classes l.fn.base l.base;
       count : (g.B.Base.seen l.fn.base).failures ≤ (g.B.Base.seen l.base).failures;
       begun : t.begun ≡ true;

@@ -24,6 +24,7 @@ loop-left-init g c =
     let sets = c.args.sets.now in
     record {
       clean = λ clean. clean;
+      about = λ clean. refl;
       access = avoids_same refl;
       count = omega arith;
       begun = c.requires.begun;
@@ -52,6 +53,7 @@ loop-left-preserved g c =
     ∙ sym (set_next p sets i x within T) in
     record {
       clean = λ clean. c.loop-left.invariant.clean (call.clean clean);
+      about = λ clean. call.about clean ∙ c.loop-left.invariant.about (call.clean clean);
       access = avoids_then c.loop-left.invariant.access c.in_ok-set_one.ensures.access;
       count = (let before = c.loop-left.invariant.count in let after = call.count in omega (arith, before, after));
       begun = c.in_ok-set_one.ensures.step.mode;

@@ -1,4 +1,5 @@
-use Rattle.std.proofs.Common.{sym, ◌∙◌}
+use Rattle.std.proofs.Common.{sym, ap, ◌∙◌}
+use Rattle.mls_tables.specs.Rows.{Tables}
 use Rattle.mls_fragments.proofs.NotedLemmas.{noted_none}
 use Rattle.mls_fragments.proofs.base.SqlBase.over_new.Goals as goal
 
@@ -9,4 +10,5 @@ invariant_of-result g c = record {
       (m.4 ∙ m.3) c.new-2.ensures.content c.new-2.ensures.last);
   content = λ e. c.new-2.ensures.content ∙ sym c.new.ensures.content;
   number = λ e. c.new-2.ensures.last ∙ sym c.new.ensures.last;
+  row = λ h. (let m = c.requires.new h in ap (λ (t : Tables). t.meta) (sym m.4));
 }

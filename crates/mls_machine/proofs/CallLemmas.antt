@@ -1,7 +1,6 @@
 -- Two steps at one level that c dominates, from worlds that look alike to c: calls of one transaction, whose arguments
--- look
--- alike to c, and two events that look alike to c.
-use Rattle.std.proofs.Common.{◌≡◌, ℕ, Bool, true, false, not, ◌&&◌, ◌||◌, List, [], ◌∷◌, ◌++◌, length, map, Option, Some, None, refl, sym, ap, ◌∙◌, subst, inl, inr, ◌⊎◌, true≢false, nat_eq, IfSome, eqb-true}
+-- look alike to c, and two events that look alike to c.
+use Rattle.std.proofs.Common.{◌≡◌, ℕ, Bool, true, false, not, ◌&&◌, ◌||◌, List, [], ◌∷◌, ◌++◌, length, map, Option, Some, None, refl, sym, ap, ◌∙◌, subst, inl, inr, ◌⊎◌, nat_eq, IfSome, eqb-true, option_map, unwrap_or}
 use Rattle.std.proofs.lemmas.List.{length-map}
 use Rattle.std.proofs.lemmas.List.Elements.{filter-append}
 use Rattle.mls_lattice.specs.Labels.{below, AreDistinct}
@@ -20,16 +19,17 @@ use Rattle.mls_machine.specs.declared.reply.Denial.{Denial}
 use Rattle.mls_machine.specs.declared.reply.Denial.TheVariants.{Ds, Ss, Star, Trust, Arguments}
 use Rattle.mls_machine.specs.declared.reply.Reply.TheVariants.{Ran}
 use Rattle.mls_certcheck.specs.declared.stored.Stored.{Stored}
-use Rattle.mls_certcheck.specs.declared.stored.Stored.TheVariants.{Certified, Plain}
-use Rattle.mls_certcheck.specs.Stored.{tx_of}
+use Rattle.mls_certcheck.specs.declared.stored.Stored.TheVariants as stored
+use Rattle.mls_certcheck.specs.declared.certified.Certified.{Certified}
 use Rattle.mls_certcheck.specs.Site.{Site, site_labels}
 use Rattle.mls_machine.specs.Denying.{first_denial, clearance_of, trusted_of, exceed, execute_mode, lacks_rights_on, lie_outside, stored_named, are_wrong_at, fitted, call_denials}
 use Rattle.mls_machine.specs.Machine.{World, Step, unless, denial_entry, denied, call_entries, called, call_step, step_at, step}
 use Rattle.mls_machine.specs.Output.{line, call_texts, item_lines, reply_lines}
-use Rattle.mls_machine.specs.Observation.{AreStored, params_of, blanked, shown, glimpse, IsBelowCeiling, IsNoCall, out, released_in, reply_shown}
+use Rattle.mls_machine.specs.Observation.{AreStored, params_of, blanked, shown, glimpse, is_called, IsNoCall, out, released_in, reply_shown}
 use Rattle.mls_machine.proofs.LowLemmas.{LowAgree}
 use Rattle.mls_machine.proofs.DenyingLemmas.{may_run}
-use Rattle.mls_machine.proofs.CalledLemmas.{certified_of, WhereCalled, IsSafe}
+use Rattle.mls_machine.specs.Telling.{Test}
+use Rattle.mls_machine.proofs.CalledLemmas.{certified_of, WhereCalled, IsSafe, IsJudged, WhereJudged}
 use Rattle.mls_machine.proofs.ArgumentLemmas.{fitted_count, same_count, same_wrong, same_fitted}
 use Rattle.mls_machine.proofs.ItemLemmas.{lines_of, lines_seen, entries_of, entries_seen}
 use Rattle.mls_machine.proofs.AlikeLemmas.{alike_entries, alike_step}
@@ -43,19 +43,19 @@ pub record StepsAlike (site : Site) (c : ℕ) (e x : Event) (s t : Step) : Type 
       (released_in t.reply)
   pub reply : reply_shown (site_labels site) c s.reply ≡ reply_shown (site_labels site) c t.reply
 
--- or what they release to c tells them apart, which is where c is not above all that the call can read
-abbrev pub SplitOrAlike : Site → ℕ → Event → Event → Step → Step → Type 0
-SplitOrAlike site c e x s t =
+-- or what they release to c tells them apart, which is where by a test the call can tell c something
+abbrev pub SplitOrAlike : Test → Site → ℕ → Event → Event → Step → Step → Type 0
+SplitOrAlike tells site c e x s t =
     (Split (seen_items (site_labels site) c (released_in s.reply)) (seen_items (site_labels site) c
-    (released_in t.reply)) × (IsBelowCeiling site c e.command → ⊥))
+    (released_in t.reply)) × (is_called site (tells site c) e.command ≡ true))
     ⊎ StepsAlike site c e x s t
 
 -- an event with another command
 abbrev pub twin : Event → Command → Event
 twin e command = record { level = e.level; session = e.session; command = command }
 
-module _ (site : Site) (distinct : AreDistinct (site_labels site)) (c : ℕ) (v w : World) (sv : AreStored site v.db)
-    (sw : AreStored site w.db) (h : LowAgree (site_labels site) c v w) (e : Event)
+module _ (tells : Test) (site : Site) (distinct : AreDistinct (site_labels site)) (c : ℕ) (v w : World)
+    (sv : AreStored site v.db) (sw : AreStored site w.db) (h : LowAgree (site_labels site) c v w) (e : Event)
     (sees : below (site_labels site) e.level c ≡ true) where
   -- ---- two calls
 
@@ -67,7 +67,7 @@ module _ (site : Site) (distinct : AreDistinct (site_labels site)) (c : ℕ) (v 
     second = twin e (commands.Call name ws)
 
     abbrev Alike : Step → Step → Type 0
-    Alike s t = SplitOrAlike site c first second s t
+    Alike s t = SplitOrAlike tells site c first second s t
 
     abbrev Same : Option Stored → Type 0
     Same o = blanked (site_labels site) c (params_of o) vs ≡ blanked (site_labels site) c (params_of o) ws
@@ -129,19 +129,20 @@ module _ (site : Site) (distinct : AreDistinct (site_labels site)) (c : ℕ) (v 
         ∙ ap (entries_of site e user name (below (site_labels site) e.level c)) x
         ∙ sym (entries_seen (site_labels site) c site second user name others)
 
-    both_called : (user : ℕ) (tx : Tx) → IsSafe site tx → (IsBelowCeiling site c (commands.Call name vs)
-        → below (site_labels site) tx.hi c ≡ true) → length vs ≡ length tx.params
-        → blanked (site_labels site) c tx.params vs ≡ blanked (site_labels site) c tx.params ws
-        → Alike (called site v first user name tx vs) (called site w second user name tx ws)
-    both_called user tx safe ceiling count same =
+    both_called : (user : ℕ) (k : Certified) → stored_named site.stored name ≡ Some (stored.Certified k)
+        → IsSafe site k.tx → IsJudged tells site (stored.Certified k) → length vs ≡ length k.tx.params
+        → blanked (site_labels site) c k.tx.params vs ≡ blanked (site_labels site) c k.tx.params ws
+        → Alike (called site v first user name k.tx vs) (called site w second user name k.tx ws)
+    both_called user k found safe judged count same =
         let ls = site_labels site in
+        let tx = k.tx in
         let count' = sym (same_count ls c tx.params vs ws same) ∙ count in
         let args = fitted tx.params vs in
         let brgs = fitted tx.params ws in
         let s = run_tx ls site.schemes tx args v.db in
         let t = run_tx ls site.schemes tx brgs w.db in
         let labels = length-map tx.params (λ p. p.1.label) in
-        elim (safe.secure.two_runs c site.schemes v.db w.db args brgs safe.read sv sw (λ r. views_from_low ls _ _
+        elim (judged c site.schemes v.db w.db args brgs safe.read sv sw (λ r. views_from_low ls _ _
         (v.db r) (w.db r) (sv r) (sw r) c (h.tables r))
         (record {
           count = fitted_count tx.params vs count ∙ sym labels;
@@ -149,7 +150,7 @@ module _ (site : Site) (distinct : AreDistinct (site_labels site)) (c : ℕ) (v 
               ∙ sym labels;
           each = same_fitted ls c tx.params vs ws same;
         })) [
-          | inl x ↦ inl (x.1, λ k. true≢false (sym (ceiling k) ∙ x.0))
+          | inl x ↦ inl (x.1, ap (λ o. unwrap_or (option_map (tells site c) o) false) found ∙ x.0)
           | inr x ↦ inr (record {
             world = record {
               tables = λ r. low_from_views ls distinct _ _ (s.db r) (t.db r)
@@ -187,29 +188,31 @@ module _ (site : Site) (distinct : AreDistinct (site_labels site)) (c : ℕ) (v 
         by_denial (Some denial) k = both_denied user denial
 
     both_calls : (user : ℕ) (o : Option Stored) → stored_named site.stored name ≡ o
-        → IfSome (certified_of o) (IsSafe site) → Same o → Alike (call_step site v first user name vs o)
+        → IfSome (certified_of o) (IsSafe site) → IfSome o (IsJudged tells site) → Same o
+        → Alike (call_step site v first user name vs o)
         (call_step site w second user name ws o)
-    both_calls user None found safe same = both_denied user _
-    both_calls user (Some (Plain tx)) found safe same = both_denied user _
-    both_calls user (Some (Certified k)) found safe same =
+    both_calls user None found safe judged same = both_denied user _
+    both_calls user (Some (stored.Plain tx)) found safe judged same = both_denied user _
+    both_calls user (Some (stored.Certified k)) found safe judged same =
         both_unless user (first_denial (call_denials site e.level user k.tx vs))
         (first_denial (call_denials site e.level user k.tx ws)) (same_denial user k.tx same)
         (called site v first user name k.tx vs) (called site w second user name k.tx ws)
-        (λ none. both_called user k.tx safe (λ b. subst (λ o. IfSome o (λ s. below (site_labels site) (tx_of s).hi c
-        ≡ true)) found b) (may_run site e.level user k.tx vs none).count same)
+        (λ none. both_called user k found safe judged (may_run site e.level user k.tx vs none).count same)
 
     calls_at : IfSome (certified_of (stored_named site.stored name)) (IsSafe site)
-        → Same (stored_named site.stored name)
+        → IfSome (stored_named site.stored name) (IsJudged tells site) → Same (stored_named site.stored name)
         → (session : Option ℕ) → Alike (step_at site v first (commands.Call name vs) session)
         (step_at site w second (commands.Call name ws) session)
-    calls_at safe same None = inr (record { world = h; lines = refl; released = refl; reply = refl })
-    calls_at safe same (Some user) = both_calls user (stored_named site.stored name) refl safe same
+    calls_at safe judged same None = inr (record { world = h; lines = refl; released = refl; reply = refl })
+    calls_at safe judged same (Some user) = both_calls user (stored_named site.stored name) refl safe judged same
 
-    call_steps : WhereCalled site (IsSafe site) (commands.Call name vs) → Same (stored_named site.stored name)
+    call_steps : WhereCalled site (IsSafe site) (commands.Call name vs)
+        → WhereJudged tells site (commands.Call name vs) → Same (stored_named site.stored name)
         → Alike (step site v first) (step site w second)
     unfolding step
-    call_steps safe same = subst (λ o. Alike (step site v first) (step_at site w second (commands.Call name ws) o))
-        (h.sessions e.level e.session sees) (calls_at safe same (v.sessions e.level e.session))
+    call_steps safe judged same = subst (λ o. Alike (step site v first)
+        (step_at site w second (commands.Call name ws) o))
+        (h.sessions e.level e.session sees) (calls_at safe judged same (v.sessions e.level e.session))
 
   -- ---- two commands that look alike to c
 
@@ -226,7 +229,7 @@ module _ (site : Site) (distinct : AreDistinct (site_labels site)) (c : ℕ) (v 
   plain_back a _ p q = q
 
   abbrev Pair : Command → Command → Type 0
-  Pair a b = SplitOrAlike site c (twin e a) (twin e b) (step site v (twin e a)) (step site w (twin e b))
+  Pair a b = SplitOrAlike tells site c (twin e a) (twin e b) (step site v (twin e a)) (step site w (twin e b))
 
   plain_pair : (a : Command) → IsNoCall a → Pair a a
   plain_pair a p =
@@ -255,33 +258,35 @@ module _ (site : Site) (distinct : AreDistinct (site_labels site)) (c : ℕ) (v 
   plain_no_call name args b p q = subst IsNoCall (sym q) p
 
   from_call : (name : Name) (vs : List (Option Value)) (b : Command) → WhereCalled site (IsSafe site)
-      (commands.Call name vs) → sh (commands.Call name vs) ≡ sh b → Pair (commands.Call name vs) b
-  from_call name vs (commands.Call n ws) safe q =
+      (commands.Call name vs) → WhereJudged tells site (commands.Call name vs) → sh (commands.Call name vs) ≡ sh b
+      → Pair (commands.Call name vs) b
+  from_call name vs (commands.Call n ws) safe judged q =
       let same : name ≡ n = ap name_of q in
       let args = ap args_of q ∙ ap (λ m. blanked (site_labels site) c (params_of (stored_named site.stored m)) ws)
       (sym same) in
-      subst (λ m. Pair (commands.Call name vs) (commands.Call m ws)) same (call_steps name vs ws safe args)
-  from_call name vs _ safe q = absurd (plain_no_call name _ _ tt q)
+      subst (λ m. Pair (commands.Call name vs) (commands.Call m ws)) same (call_steps name vs ws safe judged args)
+  from_call name vs _ safe judged q = absurd (plain_no_call name _ _ tt q)
 
-  pair : (a b : Command) → WhereCalled site (IsSafe site) a → sh a ≡ sh b → Pair a b
-  pair (commands.Open name) b safe q = from_plain (commands.Open name) b tt q
-  pair commands.Close b safe q = from_plain commands.Close b tt q
-  pair commands.Audit b safe q = from_plain commands.Audit b tt q
-  pair (commands.View relation label query counts) b safe q =
+  pair : (a b : Command) → WhereCalled site (IsSafe site) a → WhereJudged tells site a → sh a ≡ sh b → Pair a b
+  pair (commands.Open name) b safe judged q = from_plain (commands.Open name) b tt q
+  pair commands.Close b safe judged q = from_plain commands.Close b tt q
+  pair commands.Audit b safe judged q = from_plain commands.Audit b tt q
+  pair (commands.View relation label query counts) b safe judged q =
       from_plain (commands.View relation label query counts) b tt q
-  pair (commands.Dump relation) b safe q = from_plain (commands.Dump relation) b tt q
-  pair (commands.Write relation wr) b safe q = from_plain (commands.Write relation wr) b tt q
-  pair (commands.Call name vs) b safe q = from_call name vs b safe q
+  pair (commands.Dump relation) b safe judged q = from_plain (commands.Dump relation) b tt q
+  pair (commands.Write relation wr) b safe judged q = from_plain (commands.Write relation wr) b tt q
+  pair (commands.Call name vs) b safe judged q = from_call name vs b safe judged q
 
   -- two events that look alike to c
-  pub seen_steps : (x : Event) → WhereCalled site (IsSafe site) e.command → glimpse site c e ≡ glimpse site c x
-      → SplitOrAlike site c e x (step site v e) (step site w x)
-  seen_steps x safe g =
+  pub seen_steps : (x : Event) → WhereCalled site (IsSafe site) e.command → WhereJudged tells site e.command
+      → glimpse site c e ≡ glimpse site c x → SplitOrAlike tells site c e x (step site v e) (step site w x)
+  seen_steps x safe judged g =
       let is_x : twin e x.command ≡ x = λ i. record {
         level = (g i).level;
         session = (g i).session;
         command =
             x.command;
       } in
-      subst (λ y. SplitOrAlike site c e y (step site v e) (step site w y)) is_x (pair e.command x.command safe
+      subst (λ y. SplitOrAlike tells site c e y (step site v e) (step site w y)) is_x
+      (pair e.command x.command safe judged
       (ap (λ y. y.command) g))

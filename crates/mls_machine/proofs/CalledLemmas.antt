@@ -1,19 +1,25 @@
 -- What is stored by the name of a call.
-use Rattle.std.proofs.Common.{Bool, true, false, cond, List, [], ◌∷◌, Option, Some, None, find, IfSome}
+use Rattle.std.proofs.Common.{◌≡◌, ℕ, Bool, true, false, cond, List, [], ◌∷◌, Option, Some, None, find, IfSome, ◌⊎◌}
 use Rattle.std.specs.Prelude.{⊤}
 use Rattle.std.specs.List.{AllByRecursion}
 use Rattle.mls_lattice.specs.Policy.{Name}
+use Rattle.mls_scheme.specs.declared.value.Value.{Value}
+use Rattle.mls_scheme.specs.Table.{Database}
+use Rattle.mls_scheme.specs.Scheme.{Schemes}
 use Rattle.mls_translang.specs.Tx.{Tx}
 use Rattle.mls_translang.specs.Fits.{IsReadUnder}
-use Rattle.mls_certcheck.specs.Secure.{Secure}
+use Rattle.mls_certcheck.specs.Meaning.{run_tx}
+use Rattle.mls_certcheck.specs.Secure.{Secure, SameViews, SameArgs, param_labels, seen_items, Split, Alike}
+use Rattle.mls_certcheck.specs.Secure as low
 use Rattle.mls_translang.specs.declared.event.Command.{Command}
 use Rattle.mls_translang.specs.declared.event.Command.TheVariants as commands
 use Rattle.mls_certcheck.specs.declared.stored.Stored.{Stored}
 use Rattle.mls_certcheck.specs.declared.stored.Stored.TheVariants.{Certified, Plain}
 use Rattle.mls_certcheck.specs.Stored.{tx_of, WhereCertified}
-use Rattle.mls_certcheck.specs.Site.{Site, AreRead}
+use Rattle.mls_certcheck.specs.Site.{Site, site_labels, AreRead}
 use Rattle.mls_machine.specs.Denying.{stored_named}
 use Rattle.mls_machine.specs.Observation.{AreSecure, IsCallSecure}
+use Rattle.mls_machine.specs.Telling.{Test}
 
 -- the transaction that is stored with a certificate, if one is
 abbrev pub certified_of : Option Stored → Option Tx
@@ -72,6 +78,34 @@ all_safe site read secure =
     by_stored (Some (Plain tx)) r s = tt
     by_stored (Some (Certified k)) r s = record { read = r; secure = s }
 
+-- ---- tests of what is stored
+
+-- two runs that began alike to c look alike to it, but for what is released to it, where X
+abbrev pub TwoRuns : Site → (ℕ → Type 0) → Tx → Type 0
+TwoRuns site X tx =
+    (c : ℕ) (schemes : Schemes) (d e : Database) (args brgs : List (Option Value)) → IsReadUnder site.policy schemes tx
+    → low.AreStored (site_labels site) schemes d → low.AreStored (site_labels site) schemes e
+    → SameViews (site_labels site) c d e → SameArgs (site_labels site) c (param_labels tx) args brgs
+    → (X c × Split (seen_items (site_labels site) c (run_tx (site_labels site) schemes tx args d).released)
+    (seen_items (site_labels site) c (run_tx (site_labels site) schemes tx brgs e).released))
+    ⊎ Alike (site_labels site) c (run_tx (site_labels site) schemes tx args d)
+    (run_tx (site_labels site) schemes tx brgs e)
+
+-- a test tells which
+abbrev pub IsJudged : Test → Site → Stored → Type 0
+IsJudged tells site (Certified k) = TwoRuns site (λ c. tells site c (Certified k) ≡ true) k.tx
+IsJudged tells site (Plain tx) = ⊤
+
+-- of what a command calls
+abbrev pub WhereJudged : Test → Site → Command → Type 0
+WhereJudged tells site (commands.Call name args) = IfSome (stored_named site.stored name) (IsJudged tells site)
+WhereJudged tells site command = ⊤
+
+pub all_judged : (tells : Test) (site : Site) → AllByRecursion (IsJudged tells site) site.stored → (command : Command)
+    → WhereJudged tells site command
+all_judged tells site h (commands.Call name args) = found_holds _ _ site.stored h
+all_judged tells site h _ = tt
+
 -- ---- of one command
 
 pub secure_call : (site : Site) (command : Command) → IsCallSecure site command → WhereCalled site (IsSafe site) command
@@ -85,7 +119,7 @@ secure_call site (commands.Call name args) h = by_stored (stored_named site.stor
     by_stored (Some (Certified k)) h = record { read = h.0; secure = h.1 }
 secure_call site _ h = tt
 
-some_weaker : {X : Type 0} (P Q : X → Type 0) → ((x : X) → P x → Q x) → (o : Option X) → IfSome o P → IfSome o Q
+pub some_weaker : {X : Type 0} (P Q : X → Type 0) → ((x : X) → P x → Q x) → (o : Option X) → IfSome o P → IfSome o Q
 some_weaker P Q k None h = tt
 some_weaker P Q k (Some x) h = k x h
 

@@ -1,5 +1,5 @@
 -- Histories, as a level sees them: each run by the law of runs, and what it leaves by the next.
-use Rattle.std.proofs.Common.{◌≡◌, ℕ, Bool, true, false, cond, List, [], ◌∷◌, ◌++◌, map, refl, sym, ap, ◌∙◌, subst, inr, ◌⊎◌}
+use Rattle.std.proofs.Common.{◌≡◌, ℕ, Bool, true, false, cond, List, [], ◌∷◌, ◌++◌, map, refl, sym, ap, ◌∙◌, subst}
 use Rattle.std.specs.Bool.{⊤}
 use Rattle.std.specs.List.{AllByRecursion, AllZip}
 use Rattle.std.proofs.lemmas.Simd.{map-map}
@@ -14,12 +14,14 @@ use Rattle.mls_machine.specs.declared.form.Form.{Form}
 use Rattle.mls_certcheck.specs.Site.{Site, site_labels, AreCertified}
 use Rattle.mls_machine.specs.Machine.{World, end_of}
 use Rattle.mls_machine.specs.Output.{run_lines, printed}
-use Rattle.mls_machine.specs.Observation.{AreStored, EventsFit, AreSecure, HaveNoCall, AgreeAt, EndAlike, seen, released_to, AreBelowCeiling, out, replies_shown}
+use Rattle.mls_machine.specs.Observation.{AreStored, EventsFit, AreSecure, HaveNoCall, AgreeAt, EndAlike, seen, ReleaseTheSame, out, replies_shown}
+use Rattle.mls_machine.specs.Telling.{Test, by_ceiling, by_releases}
 use Rattle.mls_machine.specs.Turning.{turn_line, turn_lines, turned, TurnedWorldsAreAlike, TurningsShowTheSame}
-use Rattle.mls_machine.specs.History.{RunAt, settled, run_start, run_end, turning_lines, history_end, history_lines, history_replies, KeepsIntegrityInHistory, LookAlike, ReleaseAlike, HistoriesEndAlike, HistoryFits, HistoryHasNoCall, IsSiteUnder, IsHistoryUnder, EachPassesOnlyReleasesDown, HistoriesKeepIntegrity, LowHistoriesAreAlike, SecureHistoriesAreAlike, AcceptedHistoriesAreAlike, HistoriesPassWhatRunsPass, HistoriesShowOnlyReleases}
+use Rattle.mls_machine.specs.History.{RunAt, settled, run_start, run_end, turning_lines, history_end, history_lines, history_replies, KeepsIntegrityInHistory, LookAlike, ReleaseAlikeBy, HistoriesEndAlike, HistoryFits, HistoryHasNoCall, IsSiteUnder, IsHistoryUnder, EachPassesOnlyReleasesDown, HistoriesKeepIntegrity, LowHistoriesAreAlike, SecureHistoriesAreAlike, AcceptedHistoriesAreAlike, HistoriesPassWhatRunsPass, HistoriesShowOnlyReleases}
 use Rattle.mls_machine.proofs.ItemLemmas.{filter-map}
 use Rattle.mls_machine.proofs.KeepingLemmas.{run_stored, all_calls_read, keep_integrity}
-use Rattle.mls_machine.proofs.RunLemmas.{secure_alike, certified_secure, runs_alike, unseen_ceilings, none_seen, none_secure}
+use Rattle.mls_machine.proofs.RunLemmas.{secure_alike, accepted_alike, runs_alike, none_seen, none_secure}
+use Rattle.mls_machine.proofs.ToldLemmas.{none_untold, untold_same}
 
 -- ---- turnings
 
@@ -60,21 +62,17 @@ start_stored P w false h = h
 settled_alike : {ls : Labels} {c : ℕ} {v w : World} → AgreeAt ls c v w → AgreeAt ls c (settled v) (settled w)
 settled_alike h = record { views = h.views; sessions = λ l n b. refl; entries = h.entries }
 
--- what two runs release to c is the same, or c dominates all that the calls that it sees can read
-abbrev ReleaseSame : Site → ℕ → World → List Event → Site → World → List Event → Type 0
-ReleaseSame site c v es other w fs = (released_to site c v es ≡ released_to other c w fs) ⊎ AreBelowCeiling site c es
-
 -- a run from v passes nothing down but what it releases, to any other run of which so much is known
-abbrev Passes : (List Event → Type 0) → World → RunAt → Type 0
-Passes Other v r =
+abbrev Passes : Test → (List Event → Type 0) → World → RunAt → Type 0
+Passes tells Other v r =
     (c : ℕ) (w : World) (fs : List Event) → AreStored r.site w.db → EventsFit r.site fs → Other fs
     → AgreeAt (site_labels r.site) c v w → seen r.site c r.events ≡ seen r.site c fs
-    → ReleaseSame r.site c v r.events r.site w fs
+    → ReleaseTheSame tells c r.site v r.events r.site w fs
     → EndAlike r.site c v w r.events fs
 
-abbrev EachPasses : (List Event → Type 0) → World → List RunAt → Type 0
-EachPasses Other v [] = ⊤
-EachPasses Other v (r ∷ rs) = Passes Other (run_start v r) r × EachPasses Other (run_end v r) rs
+abbrev EachPasses : Test → (List Event → Type 0) → World → List RunAt → Type 0
+EachPasses tells Other v [] = ⊤
+EachPasses tells Other v (r ∷ rs) = Passes tells Other (run_start v r) r × EachPasses tells Other (run_end v r) rs
 
 -- nothing is known of it
 abbrev Any : List Event → Type 0
@@ -115,17 +113,17 @@ module _ (ls : Labels) (schemes : Schemes) (distinct : AreDistinct ls) where
     pub replies : replies_shown r.site c (run_start v r) r.events ≡ replies_shown s.site c (run_start w s) s.events
     pub world : AgreeAt ls c (run_end v r) (run_end w s)
 
-  runs_end : (Other : List Event → Type 0) (c : ℕ) (r s : RunAt) (v w : World) → IsSiteUnder ls schemes r.site
-      → LookAlike c r s → Passes Other (run_start v r) r
+  runs_end : (tells : Test) (Other : List Event → Type 0) (c : ℕ) (r s : RunAt) (v w : World)
+      → IsSiteUnder ls schemes r.site → LookAlike c r s → Passes tells Other (run_start v r) r
       → secure.AreStored ls schemes w.db → EventsFit s.site s.events → Other s.events → AgreeAt ls c v w
-      → ReleaseSame r.site c (run_start v r) r.events s.site (run_start w s) s.events → RunsEnd c v w r s
-  runs_end Other c r s v w under look passes sw fits other agree released =
+      → ReleaseTheSame tells c r.site (run_start v r) r.events s.site (run_start w s) s.events → RunsEnd c v w r s
+  runs_end tells Other c r s v w under look passes sw fits other agree released =
       let x = run_start v r in let y = run_start w s in
       let end = passes c y s.events (stored_at r.site under y.db (start_at w s sw)) (subst (λ at. EventsFit at s.events)
       (sym look.site) fits) other
       (subst (λ l. AgreeAt l c x y) (sym under.labels) (starts_alike ls c v w agree r s look))
       look.events
-      (subst (λ at. ReleaseSame r.site c x r.events at y s.events) (sym look.site) released) in
+      (subst (λ at. ReleaseTheSame tells c r.site x r.events at y s.events) (sym look.site) released) in
       let ran : (form : Form) → out ls c (run_lines form r.site x r.events)
       ≡ out ls c (run_lines form s.site y s.events)
       = λ form. ap (λ l. out l c (run_lines form r.site x r.events)) (sym under.labels) ∙ end.out form
@@ -142,24 +140,25 @@ module _ (ls : Labels) (schemes : Schemes) (distinct : AreDistinct ls) where
 
   -- ---- run by run
 
-  alike : (Other : List Event → Type 0) (c : ℕ) (rs ss : List RunAt) (v w : World) → IsHistoryUnder ls schemes rs
-      → EachPasses Other v rs
+  alike : (tells : Test) (Other : List Event → Type 0) (c : ℕ) (rs ss : List RunAt) (v w : World)
+      → IsHistoryUnder ls schemes rs → EachPasses tells Other v rs
       → secure.AreStored ls schemes w.db → HistoryFits ss → AllByRecursion (λ s. Other s.events) ss
-      → AgreeAt ls c v w → AllZip (LookAlike c) rs ss → ReleaseAlike c v w rs ss → HistoriesEndAlike ls c v w rs ss
+      → AgreeAt ls c v w → AllZip (LookAlike c) rs ss → ReleaseAlikeBy tells c v w rs ss
+      → HistoriesEndAlike ls c v w rs ss
   unfolding history_end history_lines history_replies
-  alike Other c [] [] v w under passes sw fits other agree look released = record {
+  alike tells Other c [] [] v w under passes sw fits other agree look released = record {
     lines = λ form. refl;
     replies =
         refl;
     worlds = agree;
   }
-  alike Other c [] (s ∷ ss) v w under passes sw fits other agree look released = absurd look
-  alike Other c (r ∷ rs) [] v w under passes sw fits other agree look released = absurd look
-  alike Other c (r ∷ rs) (s ∷ ss) v w under passes sw fits other agree look released =
-      let end = runs_end Other c r s v w under.0 look.0 passes.0 sw fits.0 other.0 agree released.0 in
+  alike tells Other c [] (s ∷ ss) v w under passes sw fits other agree look released = absurd look
+  alike tells Other c (r ∷ rs) [] v w under passes sw fits other agree look released = absurd look
+  alike tells Other c (r ∷ rs) (s ∷ ss) v w under passes sw fits other agree look released =
+      let end = runs_end tells Other c r s v w under.0 look.0 passes.0 sw fits.0 other.0 agree released.0 in
       let left = stored_end s.site (subst (IsSiteUnder ls schemes) look.0.site under.0) (run_start w s) s.events fits.0
       (start_at w s sw) in
-      let rest = alike Other c rs ss (run_end v r)
+      let rest = alike tells Other c rs ss (run_end v r)
       (run_end w s) under.1 passes.1 left fits.1 other.1 end.world look.1 released.1 in
       record {
         lines = λ form. λ i. end.lines form i ∷ rest.lines form i;
@@ -170,7 +169,7 @@ module _ (ls : Labels) (schemes : Schemes) (distinct : AreDistinct ls) where
   -- ---- what is known of each run
 
   secure_pass : (v : World) (rs : List RunAt) → secure.AreStored ls schemes v.db → IsHistoryUnder ls schemes rs
-      → HistoryFits rs → AllByRecursion (λ r. AreSecure r.site) rs → EachPasses Any v rs
+      → HistoryFits rs → AllByRecursion (λ r. AreSecure r.site) rs → EachPasses by_ceiling Any v rs
   secure_pass v [] sv under fits safe = tt
   secure_pass v (r ∷ rs) sv under fits safe = (
     (λ c w fs sw ff other agree same released.
@@ -181,7 +180,7 @@ module _ (ls : Labels) (schemes : Schemes) (distinct : AreDistinct ls) where
   )
 
   plain_pass : (v : World) (rs : List RunAt) → secure.AreStored ls schemes v.db → IsHistoryUnder ls schemes rs
-      → HistoryFits rs → HistoryHasNoCall rs → EachPasses HaveNoCall v rs
+      → HistoryFits rs → HistoryHasNoCall rs → EachPasses by_ceiling HaveNoCall v rs
   plain_pass v [] sv under fits plain = tt
   plain_pass v (r ∷ rs) sv under fits plain = (
     (λ c w fs sw ff other agree same released.
@@ -192,19 +191,21 @@ module _ (ls : Labels) (schemes : Schemes) (distinct : AreDistinct ls) where
         (start_at v r sv)) under.1 fits.1 plain.1,
   )
 
-  any_pass : (v : World) (rs : List RunAt) → EachPassesOnlyReleasesDown v rs → EachPasses Any v rs
+  any_pass : (v : World) (rs : List RunAt) → EachPassesOnlyReleasesDown v rs → EachPasses by_releases Any v rs
   any_pass v [] passes = tt
   any_pass v (r ∷ rs) passes = (
     (λ c w fs sw ff other agree same released. passes.0 c w fs sw ff agree same released),
     any_pass (run_end v r) rs passes.1,
   )
 
-  all_secure : (rs : List RunAt) → IsHistoryUnder ls schemes rs → AllByRecursion (λ r. AreCertified r.site) rs
-      → AllByRecursion (λ r. AreSecure r.site) rs
-  all_secure [] under certified = tt
-  all_secure (r ∷ rs) under certified = (
-    certified_secure r.site (distinct_at r.site under.0) certified.0,
-    all_secure rs under.1 certified.1,
+  accepted_pass : (v : World) (rs : List RunAt) → secure.AreStored ls schemes v.db → IsHistoryUnder ls schemes rs
+      → HistoryFits rs → AllByRecursion (λ r. AreCertified r.site) rs → EachPassesOnlyReleasesDown v rs
+  accepted_pass v [] sv under fits certified = tt
+  accepted_pass v (r ∷ rs) sv under fits certified = (
+    accepted_alike r.site (distinct_at r.site under.0) under.0.read certified.0 (run_start v r) r.events
+        (stored_at r.site under.0 (run_start v r).db (start_at v r sv)) fits.0,
+    accepted_pass (run_end v r) rs (stored_end r.site under.0 (run_start v r) r.events fits.0
+        (start_at v r sv)) under.1 fits.1 certified.1,
   )
 
   integrity : (v : World) (rs : List RunAt) → secure.AreStored ls schemes v.db → IsHistoryUnder ls schemes rs
@@ -218,12 +219,15 @@ module _ (ls : Labels) (schemes : Schemes) (distinct : AreDistinct ls) where
   )
 
 -- no call reads anything
-plain_release : (c : ℕ) (v w : World) (rs ss : List RunAt) → HistoryHasNoCall rs → ReleaseAlike c v w rs ss
-plain_release c v w [] ss plain = tt
-plain_release c v w (r ∷ rs) [] plain = tt
-plain_release c v w (r ∷ rs) (s ∷ ss) plain = (
-  inr (unseen_ceilings r.site c (seen r.site c r.events) (none_seen r.site c r.events plain.0)),
-  plain_release c (run_end v r) (run_end w s) rs ss plain.1,
+plain_release : (tells : Test) (c : ℕ) (v w : World) (rs ss : List RunAt) → HistoryHasNoCall rs
+    → AllZip (LookAlike c) rs ss → ReleaseAlikeBy tells c v w rs ss
+plain_release tells c v w [] ss plain look = tt
+plain_release tells c v w (r ∷ rs) [] plain look = tt
+plain_release tells c v w (r ∷ rs) (s ∷ ss) plain look = (
+  subst (λ at. ReleaseTheSame tells c r.site (run_start v r) r.events at (run_start w s) s.events) look.0.site
+      (untold_same tells r.site c (run_start v r) r.events (run_start w s) s.events look.0.events
+      (none_untold tells r.site c (seen r.site c r.events) (none_seen r.site c r.events plain.0))),
+  plain_release tells c (run_end v r) (run_end w s) rs ss plain.1 look.1,
 )
 
 -- ---- the laws
@@ -233,23 +237,23 @@ histories_keep ls schemes distinct v rs sv under fits = integrity ls schemes dis
 
 pub low_histories : LowHistoriesAreAlike
 low_histories ls schemes distinct v rs sv under fits plain c w ss sw other_fits other agree look =
-    alike ls schemes distinct HaveNoCall c rs ss v w under
+    alike ls schemes distinct by_ceiling HaveNoCall c rs ss v w under
     (plain_pass ls schemes distinct v rs sv under fits plain) sw other_fits other agree look
-    (plain_release c v w rs ss plain)
+    (plain_release by_ceiling c v w rs ss plain look)
 
 pub secure_histories : SecureHistoriesAreAlike
 secure_histories ls schemes distinct v rs sv under fits safe c w ss sw other_fits agree look released =
-    alike ls schemes distinct Any c rs ss v w under
+    alike ls schemes distinct by_ceiling Any c rs ss v w under
     (secure_pass ls schemes distinct v rs sv under fits safe) sw other_fits (any_other ss) agree look released
-
-pub accepted_histories : AcceptedHistoriesAreAlike
-accepted_histories ls schemes distinct v rs sv under fits certified =
-    secure_histories ls schemes distinct v rs sv under fits (all_secure ls schemes distinct rs under certified)
 
 pub histories_pass : HistoriesPassWhatRunsPass
 histories_pass ls schemes distinct v rs under passes c w ss sw other_fits agree look released =
-    alike ls schemes distinct Any c rs ss v w under (any_pass ls schemes distinct v rs passes) sw other_fits
+    alike ls schemes distinct by_releases Any c rs ss v w under (any_pass ls schemes distinct v rs passes) sw other_fits
     (any_other ss) agree look released
+
+pub accepted_histories : AcceptedHistoriesAreAlike
+accepted_histories ls schemes distinct v rs sv under fits certified =
+    histories_pass ls schemes distinct v rs under (accepted_pass ls schemes distinct v rs sv under fits certified)
 
 pub histories_show : HistoriesShowOnlyReleases
 histories_show ls schemes v rs passes c form w ss sw fits agree look released =

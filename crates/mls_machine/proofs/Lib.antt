@@ -1,6 +1,7 @@
 pub mod DenyingLemmas
 pub mod ArgumentLemmas
 pub mod CalledLemmas
+pub mod ToldLemmas
 pub mod KeepingLemmas
 pub mod RefusalLemmas
 pub mod ReplyLemmas

@@ -1,5 +1,5 @@
 -- Whole runs, in any two interleavings, as a level sees them.
-use Rattle.std.proofs.Common.{◌≡◌, ℕ, Bool, true, false, cond, List, [], ◌∷◌, ◌++◌, map, take, refl, sym, ap, ◌∙◌, subst, inl, inr, ◌⊎◌, filter}
+use Rattle.std.proofs.Common.{◌≡◌, ℕ, Bool, true, false, not, cond, List, [], ◌∷◌, ◌++◌, map, take, refl, sym, ap, ◌∙◌, subst, inl, inr, ◌⊎◌, filter}
 use Rattle.std.specs.List.{AllByRecursion}
 use Rattle.std.proofs.lemmas.Bool.{cases_Bool}
 use Rattle.std.proofs.lemmas.List.{append_cancel_left}
@@ -8,7 +8,8 @@ use Rattle.mls_lattice.specs.Labels.{below, AreDistinct}
 use Rattle.mls_certcheck.specs.Meaning.{Item}
 use Rattle.mls_certcheck.specs.Secure.{seen_items, Split, Secure}
 use Rattle.mls_certcheck.proofs.FlowLemmas.{split_more}
-use Rattle.mls_certcheck.proofs.LawLemmas.{secure_rules}
+use Rattle.mls_certcheck.specs.Rules.{claim}
+use Rattle.mls_certcheck.proofs.LawLemmas.{secure_rules, sharp_rules}
 use Rattle.mls_translang.specs.declared.event.Event.{Event}
 use Rattle.mls_translang.specs.declared.event.Command.{Command}
 use Rattle.mls_translang.specs.declared.event.Command.TheVariants as commands
@@ -19,11 +20,14 @@ use Rattle.mls_certcheck.specs.declared.stored.Stored.{Stored}
 use Rattle.mls_certcheck.specs.declared.stored.Stored.TheVariants.{Certified, Plain}
 use Rattle.mls_certcheck.specs.Stored.{WhereCertified, IsCertifiedUnder}
 use Rattle.mls_certcheck.specs.Site.{Site, site_labels, AreRead, AreCertified}
+use Rattle.mls_machine.specs.Denying.{stored_named}
 use Rattle.mls_machine.specs.Machine.{World, step, end_of}
 use Rattle.mls_machine.specs.Output.{Line, reply_lines_in, run_lines, printed}
-use Rattle.mls_machine.specs.Observation.{AreStored, EventsFit, AreSecure, IsNoCall, HaveNoCall, SeesNoCall, IsCallSecure, AreCallsSecure, shown, glimpse, seen, AgreeAt, EndAlike, IsBelowCeiling, AreBelowCeiling, out, released_in, run_released, released_to, reply_shown, replies_shown, PassesOnlyReleasesDown, ShowsOnlyReleases}
+use Rattle.mls_machine.specs.Observation.{AreStored, EventsFit, AreSecure, IsNoCall, HaveNoCall, SeesNoCall, IsCallSecure, AreCallsSecure, shown, glimpse, seen, is_called, AgreeAt, EndAlike, out, released_in, run_released, released_to, told_to, ReleaseTheSame, reply_shown, replies_shown, PassesDownBy, PassesOnlyReleasesDown, ShowsOnlyReleases}
+use Rattle.mls_machine.specs.Telling.{Test, by_ceiling, by_releases}
 use Rattle.mls_machine.specs.Laws.{LowRunsAreAlike, SecureRunsAreAlike, AcceptedRunsAreAlike}
-use Rattle.mls_machine.proofs.CalledLemmas.{WhereCalled, CallsRead, IsSafe, all_safe, secure_call, weaker}
+use Rattle.mls_machine.proofs.CalledLemmas.{WhereCalled, CallsRead, IsSafe, IsJudged, WhereJudged, all_safe, all_judged, secure_call, some_weaker, weaker}
+use Rattle.mls_machine.proofs.ToldLemmas.{told_true, none_untold, sees_next, TellsBy, told_next, told_hidden, tells_same, untold_same}
 use Rattle.mls_machine.proofs.KeepingLemmas.{step_stored, first_fit}
 use Rattle.mls_machine.proofs.LowLemmas.{LowAgree, lows_trans, lows_sym, to_low, from_low}
 use Rattle.mls_machine.proofs.HiddenLemmas.{Silent, hidden_step}
@@ -45,14 +49,15 @@ not_from_itself [] h = h
 not_from_itself (x ∷ xs) (inl h) = h.1 refl
 not_from_itself (x ∷ xs) (inr h) = not_from_itself xs h.1
 
-module _ (site : Site) (distinct : AreDistinct (site_labels site)) (c : ℕ) where
+module _ (tells : Test) (site : Site) (distinct : AreDistinct (site_labels site)) (c : ℕ) where
   abbrev next : World → Event → World
   next w e = (step site w e).world
 
-  -- an event fits, and what it calls is secure
+  -- an event fits, and what it calls is secure, and judged by the test
   record IsGood (e : Event) : Type 0 where
     pub fits : EventFits site.policy site.schemes e
     pub safe : WhereCalled site (IsSafe site) e.command
+    pub judged : WhereJudged tells site e.command
 
   abbrev AreGood : List Event → Type 0
   AreGood = AllByRecursion IsGood
@@ -92,6 +97,9 @@ module _ (site : Site) (distinct : AreDistinct (site_labels site)) (c : ℕ) whe
   released_next w e es = filter-append (λ i. below (site_labels site) i.0 c) (released_in (step site w e).reply)
       (run_released site (next w e) es)
 
+  abbrev told_of : World → List Event → List Item
+  told_of w es = told_to tells site c w es
+
   end_next : (w : World) (e : Event) (es : List Event) → end_of site w (e ∷ es) ≡ end_of site (next w e) es
   unfolding end_of
   end_next w e es = refl
@@ -108,16 +116,6 @@ module _ (site : Site) (distinct : AreDistinct (site_labels site)) (c : ℕ) whe
 
   abbrev sees : List Event → List Event
   sees es = seen site c es
-
-  sees_next : (e : Event) (es : List Event) (b : Bool) → Sees e b → sees (e ∷ es) ≡ cond b (glimpse site c e ∷ sees es)
-      (sees es)
-  sees_next e es b h = by_test b h
-    where
-      by_test : (b : Bool) → Sees e b → sees (e ∷ es) ≡ cond b (glimpse site c e ∷ sees es) (sees es)
-      by_test true h = ap (λ x. map (glimpse site c) (cond x (e ∷ filter (λ f. below (site_labels site) f.level c) es)
-          (filter (λ f. below (site_labels site) f.level c) es))) h
-      by_test false h = ap (λ x. map (glimpse site c) (cond x (e ∷ filter (λ f. below (site_labels site) f.level c) es)
-          (filter (λ f. below (site_labels site) f.level c) es))) h
 
   -- ---- an event that c does not see
 
@@ -143,7 +141,7 @@ module _ (site : Site) (distinct : AreDistinct (site_labels site)) (c : ℕ) whe
 
   -- what is asked of releases
   abbrev Released_alike : World → World → List Event → List Event → Type 0
-  Released_alike v w es fs = (released_of v es ≡ released_of w fs) ⊎ AreBelowCeiling site c es
+  Released_alike v w es fs = ReleaseTheSame tells c site v es site w fs
 
   hidden_first : (v w : World) (e : Event) (es fs : List Event) → Sees e false → AreStored site v.db → IsGood e
       → Ends (next v e) w es fs → Ends v w (e ∷ es) fs
@@ -173,53 +171,62 @@ module _ (site : Site) (distinct : AreDistinct (site_labels site)) (c : ℕ) whe
   hidden_rest v w [] gf sw h none = record { out = λ form. refl; replies = refl; world = h }
   hidden_rest v w (x ∷ fs) gf sw h none =
       elim (cases_Bool (below (site_labels site) x.level c)) [
-        | inl b ↦ absurd (not_nil (glimpse site c x) (sees fs) (sym (none ∙ sees_next x fs true b)))
+        | inl b ↦ absurd (not_nil (glimpse site c x) (sees fs) (sym (none ∙ sees_next site c x fs true b)))
         | inr b ↦ hidden_second v w x [] fs b sw gf.0 (hidden_rest v (next w x) fs gf.1 (stored_next w x sw gf.0)
-            (still_low v w x b sw gf.0 h) (none ∙ sees_next x fs false b))
+            (still_low v w x b sw gf.0 h) (none ∙ sees_next site c x fs false b))
       ]
 
   Claim : List Event → Type 0
   Claim es = (fs : List Event) (v w : World) → AreGood es → AreGood fs → AreStored site v.db → AreStored site w.db
       → LowAgree (site_labels site) c v w → sees es ≡ sees fs → Released_alike v w es fs → Ends v w es fs
 
-  -- what is asked of the calls that c sees, at the first of them and at the others
-  ceiling_at : (e : Event) (es : List Event) → Sees e true → AreBelowCeiling site c (e ∷ es)
-      → IsBelowCeiling site c e.command × AreBelowCeiling site c es
-  ceiling_at e es b k = let both = subst (AllByRecursion (λ f. IsBelowCeiling site c f.command))
-      (sees_next e es true b) k in (plain_ceiling e.command both.0, both.1)
-    where
-      plain_ceiling : (a : Command) → IsBelowCeiling site c (shown site c a) → IsBelowCeiling site c a
-      plain_ceiling (commands.Open name) h = tt
-      plain_ceiling commands.Close h = tt
-      plain_ceiling commands.Audit h = tt
-      plain_ceiling (commands.View relation label query counts) h = tt
-      plain_ceiling (commands.Dump relation) h = tt
-      plain_ceiling (commands.Write relation wr) h = tt
-      plain_ceiling (commands.Call name args) h = h
-
-  ceiling_past : (e : Event) (es : List Event) → Sees e false → AreBelowCeiling site c (e ∷ es)
-      → AreBelowCeiling site c es
-  ceiling_past e es b k = subst (AllByRecursion (λ f. IsBelowCeiling site c f.command)) (sees_next e es false b) k
+  -- items that split are not the same, whatever follows
+  apart : (w v : World) (e x : Event) (xs ys : List Item)
+      → seen_items (site_labels site) c (released_in (step site v e).reply) ++ xs
+      ≡ seen_items (site_labels site) c (released_in (step site w x).reply) ++ ys
+      → Split (seen_items (site_labels site) c (released_in (step site v e).reply))
+      (seen_items (site_labels site) c (released_in (step site w x).reply)) → ⊥
+  apart w v e x xs ys same s =
+      let ours = seen_items (site_labels site) c (released_in (step site v e).reply) in
+      not_from_itself _ (subst (Split (ours ++ xs)) (sym same) (split_more _ _ xs ys s))
 
   -- releases that tell two runs apart are not alike
   no_split : (v w : World) (e x : Event) (es fs : List Event) → Released_alike v w (e ∷ es) (x ∷ fs) → Sees e true
+      → Sees x true → glimpse site c e ≡ glimpse site c x
       → Split (seen_items (site_labels site) c (released_in (step site v e).reply)) (seen_items (site_labels site) c
-      (released_in (step site w x).reply)) × (IsBelowCeiling site c e.command → ⊥) → ⊥
-  no_split v w e x es fs (inl same) b s =
-      not_from_itself _
-      (subst (Split (seen_items (site_labels site) c (released_in (step site v e).reply) ++ released_of (next v e) es))
-      (sym (sym (released_next v e es) ∙ same ∙ released_next w x fs))
-      (split_more _ _ (released_of (next v e) es) (released_of (next w x) fs) s.0))
-  no_split v w e x es fs (inr ceiling) b s = s.1 (ceiling_at e es b ceiling).0
+      (released_in (step site w x).reply)) × TellsBy tells site c e true → ⊥
+  no_split v w e x es fs (inl same) b also g s =
+      apart w v e x (released_of (next v e) es) (released_of (next w x) fs)
+      (sym (released_next v e es) ∙ same ∙ released_next w x fs) s.0
+  no_split v w e x es fs (inr same) b also g s =
+      apart w v e x (told_of (next v e) es) (told_of (next w x) fs)
+      (sym (told_next tells site c v e es true true b s.1) ∙ same ∙ told_next tells site c w x fs true true also
+      (tells_same tells site c e x g ∙ s.1)) s.0
 
-  rest_alike : (v w : World) (e x : Event) (es fs : List Event) → Sees e true → StepsAlike site c e x (step site v e)
-      (step site w x) → Released_alike v w (e ∷ es) (x ∷ fs) → Released_alike (next v e) (next w x) es fs
-  rest_alike v w e x es fs b a (inl same) =
+  -- what follows steps that release the same
+  told_rest : (v w : World) (e x : Event) (es fs : List Event) (t : Bool) → Sees e true → Sees x true
+      → TellsBy tells site c e t
+      → TellsBy tells site c x t → StepsAlike site c e x (step site v e) (step site w x)
+      → told_of v (e ∷ es) ≡ told_of w (x ∷ fs) → told_of (next v e) es ≡ told_of (next w x) fs
+  told_rest v w e x es fs true b also k l a same =
+      append_cancel_left (seen_items (site_labels site) c (released_in (step site v e).reply))
+      (told_of (next v e) es) (told_of (next w x) fs)
+      (sym (told_next tells site c v e es true true b k) ∙ same ∙ told_next tells site c w x fs true true also l
+      ∙ ap (λ xs. xs ++ told_of (next w x) fs) (sym a.released))
+  told_rest v w e x es fs false b also k l a same =
+      sym (told_next tells site c v e es true false b k) ∙ same ∙ told_next tells site c w x fs true false also l
+
+  rest_alike : (v w : World) (e x : Event) (es fs : List Event) → Sees e true → Sees x true
+      → glimpse site c e ≡ glimpse site c x → StepsAlike site c e x (step site v e) (step site w x)
+      → Released_alike v w (e ∷ es) (x ∷ fs) → Released_alike (next v e) (next w x) es fs
+  rest_alike v w e x es fs b also g a (inl same) =
       inl (append_cancel_left (seen_items (site_labels site) c (released_in (step site v e).reply))
       (released_of (next v e) es) (released_of (next w x) fs)
       (sym (released_next v e es) ∙ same ∙ released_next w x fs ∙ ap (λ xs. xs ++ released_of (next w x) fs)
       (sym a.released)))
-  rest_alike v w e x es fs b a (inr ceiling) = inr (ceiling_at e es b ceiling).1
+  rest_alike v w e x es fs b also g a (inr same) =
+      inr (told_rest v w e x es fs (is_called site (tells site c) e.command) b also refl
+      (tells_same tells site c e x g) a same)
 
   -- both runs at an event that c sees
   both_seen : (e x : Event) (es fs : List Event) → Claim es → (v w : World) → IsGood e → IsGood x → AreGood es
@@ -228,12 +235,12 @@ module _ (site : Site) (distinct : AreDistinct (site_labels site)) (c : ℕ) whe
       → Released_alike v w (e ∷ es) (x ∷ fs) → Ends v w (e ∷ es) (x ∷ fs)
   unfolding Claim end_of
   both_seen e x es fs claim v w ge gx ges gfs b g same sv sw h relation =
-      elim (seen_steps site distinct c v w sv sw h e b x ge.safe g) [
-        | inl s ↦ absurd (no_split v w e x es fs relation b s)
+      let also = ap (λ (y : Event). below (site_labels site) y.level c) (sym g) ∙ b in
+      elim (seen_steps tells site distinct c v w sv sw h e b x ge.safe ge.judged g) [
+        | inl s ↦ absurd (no_split v w e x es fs relation b also g s)
         | inr a ↦
-            let also = ap (λ y. below (site_labels site) y.level c) (sym g) ∙ b in
             let r = claim fs (next v e) (next w x) ges gfs (stored_next v e sv ge) (stored_next w x sw gx) a.world same
-            (rest_alike v w e x es fs b a relation) in
+            (rest_alike v w e x es fs b also g a relation) in
             record {
               out = λ form. out_next form v e es
                   ∙ (λ i. (seen_in site c e b (step site v e).reply form ∙ (λ j. reply_lines_in form site (g j)
@@ -259,31 +266,32 @@ module _ (site : Site) (distinct : AreDistinct (site_labels site)) (c : ℕ) whe
           ∷ sees es ≡ sees fs → Released_alike v u (e ∷ es) fs → Ends v u (e ∷ es) fs)
           → Ends v w (e ∷ es) (x ∷ fs)
       at_x (inl q) go =
-          let k = same ∙ sees_next x fs true q in
+          let k = same ∙ sees_next site c x fs true q in
           both_seen e x es fs claim v w ge gf.0 ges gf.1 b (parts_head (glimpse site c e) (glimpse site c x) (sees es)
           (sees fs) k) (parts_tail (glimpse site c e) (glimpse site c x) (sees es) (sees fs) k) sv sw h relation
       at_x (inr q) go =
           hidden_second v w x (e ∷ es) fs q sw gf.0
-          (go (next w x) gf.1 (stored_next w x sw gf.0) (still_low v w x q sw gf.0 h) (same ∙ sees_next x fs false q)
+          (go (next w x) gf.1 (stored_next w x sw gf.0) (still_low v w x q sw gf.0 h)
+          (same ∙ sees_next site c x fs false q)
           (past relation))
         where
           past : Released_alike v w (e ∷ es) (x ∷ fs) → Released_alike v (next w x) (e ∷ es) fs
           past (inl eq) = inl (eq ∙ released_hidden w x fs q sw gf.0)
-          past (inr ceiling) = inr ceiling
+          past (inr eq) = inr (eq ∙ told_hidden tells site c w x fs q)
 
   interleaved : (es : List Event) → Claim es
   unfolding Claim
   interleaved [] fs v w ge gf sv sw h same relation = hidden_rest v w fs gf sw h same
   interleaved (e ∷ es) fs v w ge gf sv sw h same relation =
       elim (cases_Bool (below (site_labels site) e.level c)) [
-        | inl b ↦ meet e es (interleaved es) v ge.0 ge.1 b sv fs w gf sw h (sym (sees_next e es true b) ∙ same) relation
+        | inl b ↦ meet e es (interleaved es) v ge.0 ge.1 b sv fs w gf sw h (sym (sees_next site c e es true b)
+            ∙ same) relation
         | inr b ↦ hidden_first v w e es fs b sv ge.0
             (interleaved es fs (next v e) w ge.1 gf (stored_next v e sv ge.0) sw
-            (lows_trans (lows_sym (hush v e b sv ge.0).world) h) (sym (sees_next e es false b) ∙ same)
+            (lows_trans (lows_sym (hush v e b sv ge.0).world) h) (sym (sees_next site c e es false b) ∙ same)
             (elim relation [
               | inl eq ↦ inl (sym (released_hidden v e es b sv ge.0) ∙ eq)
-              | inr ceiling ↦ inr
-                  (ceiling_past e es b ceiling)
+              | inr eq ↦ inr (sym (told_hidden tells site c v e es b) ∙ eq)
             ]))
       ]
 
@@ -300,33 +308,76 @@ module _ (site : Site) (distinct : AreDistinct (site_labels site)) (c : ℕ) whe
             (stored_end v es sv ge) (stored_end w fs sw gf) r.world;
       }
 
+-- ---- tests
+
+-- what is secure is judged by what it reads
+by_reading : (site : Site) (s : Stored) → WhereCertified (Secure site.policy) s → IsJudged by_ceiling site s
+by_reading site (Certified k) h = λ c schemes d e args brgs read p q views same.
+    elim (h.two_runs c schemes d e args brgs read p q views same) [
+      | inl x ↦ inl (ap not x.0, x.1)
+      | inr x ↦ inr x
+    ]
+by_reading site (Plain tx) h = tt
+
+-- and what obeys a certificate by what it releases
+by_releasing : (site : Site) → AreDistinct (site_labels site) → (s : Stored) → IsCertifiedUnder site.policy s
+    → IsJudged by_releases site s
+by_releasing site distinct (Certified k) h = λ c schemes d e args brgs read p q views same.
+    elim ((sharp_rules site.policy distinct k.tx k.cert h).two_runs c schemes d e args brgs read p q views same) [
+      | inl x ↦ inl (told_true (claim site.policy k.tx k.cert) c x.0, x.1)
+      | inr x ↦ inr x
+    ]
+by_releasing site distinct (Plain tx) h = tt
+
+all_by : {P Q : Stored → Type 0} → ((s : Stored) → P s → Q s) → (ss : List Stored) → AllByRecursion P ss
+    → AllByRecursion Q ss
+all_by f [] h = tt
+all_by f (s ∷ ss) h = (f s h.0, all_by f ss h.1)
+
 -- ---- the laws
 
-all_good : (site : Site) (distinct : AreDistinct (site_labels site)) (c : ℕ) → AreRead site → AreSecure site
-    → (es : List Event) → EventsFit site es → AreGood site distinct c es
-all_good site distinct c read secure [] fits = tt
-all_good site distinct c read secure (e ∷ es) fits = (
-  record { fits = fits.0; safe = all_safe site read secure e.command },
-  all_good site distinct c read secure es fits.1,
+all_good : (tells : Test) (site : Site) (distinct : AreDistinct (site_labels site)) (c : ℕ) → AreRead site
+    → AreSecure site → AllByRecursion (IsJudged tells site) site.stored
+    → (es : List Event) → EventsFit site es → AreGood tells site distinct c es
+all_good tells site distinct c read secure judged [] fits = tt
+all_good tells site distinct c read secure judged (e ∷ es) fits = (
+  record {
+    fits = fits.0;
+    safe = all_safe site read secure e.command;
+    judged = all_judged tells site judged e.command;
+  },
+  all_good tells site distinct c read secure judged es fits.1,
 )
 
+judged_alike : (tells : Test) (site : Site) → AreDistinct (site_labels site) → AreRead site → AreSecure site
+    → AllByRecursion (IsJudged tells site) site.stored
+    → (v : World) (es : List Event) → AreStored site v.db → EventsFit site es → PassesDownBy tells site v es
+judged_alike tells site distinct read secure judged v es sv fits c w fs sw ff agree same relation =
+    ends_alike tells site distinct c v w es fs (all_good tells site distinct c read secure judged es fits)
+    (all_good tells site distinct c read secure judged fs ff) sv sw agree same relation
+
+pub secure_judged : (site : Site) → AreSecure site → AllByRecursion (IsJudged by_ceiling site) site.stored
+secure_judged site secure = all_by (by_reading site) site.stored secure
+
 pub secure_alike : SecureRunsAreAlike
-secure_alike site distinct read secure v es sv fits c w fs sw ff agree same relation =
-    ends_alike site distinct c v w es fs (all_good site distinct c read secure es fits)
-    (all_good site distinct c read secure fs ff) sv sw agree same relation
+secure_alike site distinct read secure = judged_alike by_ceiling site distinct read secure (secure_judged site secure)
 
 -- where the rules hold under certificates, the transactions are secure
 pub certified_secure : (site : Site) → AreDistinct (site_labels site) → AreCertified site → AreSecure site
-certified_secure site distinct = each site.stored
+certified_secure site distinct = all_by one site.stored
   where
-    each : (stored : List Stored) → AllByRecursion (IsCertifiedUnder site.policy) stored
-        → AllByRecursion (WhereCertified (Secure site.policy)) stored
-    each [] h = tt
-    each (Certified k ∷ ss) h = (secure_rules site.policy distinct k.tx k.cert h.0, each ss h.1)
-    each (Plain tx ∷ ss) h = (tt, each ss h.1)
+    one : (s : Stored) → IsCertifiedUnder site.policy s → WhereCertified (Secure site.policy) s
+    one (Certified k) h = secure_rules site.policy distinct k.tx k.cert h
+    one (Plain tx) h = tt
+
+-- and judged by what they release
+pub certified_judged : (site : Site) → AreDistinct (site_labels site) → AreCertified site
+    → AllByRecursion (IsJudged by_releases site) site.stored
+certified_judged site distinct = all_by (by_releasing site distinct) site.stored
 
 pub accepted_alike : AcceptedRunsAreAlike
-accepted_alike site distinct read certified = secure_alike site distinct read (certified_secure site distinct certified)
+accepted_alike site distinct read certified = judged_alike by_releases site distinct read
+    (certified_secure site distinct certified) (certified_judged site distinct certified)
 
 -- of the first events of a run
 pub first_accepted_alike : (site : Site) → AreDistinct (site_labels site) → AreRead site → AreCertified site
@@ -344,33 +395,27 @@ shows_only_releases site c v es passes form w fs sw ff agree same relation =
 -- ---- without calls that c sees
 
 calls_good : (site : Site) (distinct : AreDistinct (site_labels site)) (c : ℕ) (es : List Event) → EventsFit site es
-    → AreCallsSecure site es → AreGood site distinct c es
+    → AreCallsSecure site es → AreGood by_ceiling site distinct c es
 calls_good site distinct c [] fits secure = tt
 calls_good site distinct c (e ∷ es) fits secure = (
-  record { fits = fits.0; safe = secure_call site e.command secure.0 },
+  record {
+    fits = fits.0;
+    safe = secure_call site e.command secure.0;
+    judged = judged_call e.command secure.0;
+  },
   calls_good site distinct c es fits.1 secure.1,
 )
-
--- no call that c sees reads anything
-pub unseen_ceilings : (site : Site) (c : ℕ) (es : List Event) → HaveNoCall es
-    → AllByRecursion (λ e. IsBelowCeiling site c e.command) es
-unseen_ceilings site c [] none = tt
-unseen_ceilings site c (e ∷ es) none = (no_ceiling e.command none.0, unseen_ceilings site c es none.1)
   where
-    no_ceiling : (a : Command) → IsNoCall a → IsBelowCeiling site c a
-    no_ceiling (commands.Open name) h = tt
-    no_ceiling commands.Close h = tt
-    no_ceiling commands.Audit h = tt
-    no_ceiling (commands.View relation label query counts) h = tt
-    no_ceiling (commands.Dump relation) h = tt
-    no_ceiling (commands.Write relation wr) h = tt
-    no_ceiling (commands.Call name args) h = absurd h
+    judged_call : (a : Command) → IsCallSecure site a → WhereJudged by_ceiling site a
+    judged_call (commands.Call name args) h = some_weaker _ (IsJudged by_ceiling site)
+        (λ s x. by_reading site s x.1) (stored_named site.stored name) h
+    judged_call _ h = tt
 
 pub runs_alike : LowRunsAreAlike
 runs_alike site distinct v es sv fits secure c w fs sw ff fsecure none agree same =
-    ends_alike site distinct c v w es fs (calls_good site distinct c es fits secure)
+    ends_alike by_ceiling site distinct c v w es fs (calls_good site distinct c es fits secure)
     (calls_good site distinct c fs ff fsecure) sv sw agree same
-    (inr (unseen_ceilings site c (seen site c es) none))
+    (untold_same by_ceiling site c v es w fs same (none_untold by_ceiling site c (seen site c es) none))
 
 -- ---- without calls
 

@@ -1,6 +1,6 @@
 -- Histories: runs one after another over one database, each at its own site. Between runs no session is left, and the
 -- audit list may be turned.
-use Rattle.std.specs.Prelude.{◌≡◌, ℕ, Bool, false, if◌then◌else◌, List, [], ◌∷◌, ◌++◌, map, ◌⊎◌, ⊤}
+use Rattle.std.specs.Prelude.{◌≡◌, ℕ, Bool, false, if◌then◌else◌, List, [], ◌∷◌, ◌++◌, map, ⊤}
 use Rattle.std.specs.List.{AllByRecursion, AllZip}
 use Rattle.mls_lattice.specs.Labels.{Labels, AreDistinct}
 use Rattle.mls_scheme.specs.Scheme.{Schemes}
@@ -12,7 +12,8 @@ use Rattle.mls_machine.specs.declared.reply.Reply.{Reply}
 use Rattle.mls_certcheck.specs.Site.{Site, site_labels, AreRead, AreCertified}
 use Rattle.mls_machine.specs.Machine.{World, no_sessions, end_of}
 use Rattle.mls_machine.specs.Output.{Line, run_lines, printed}
-use Rattle.mls_machine.specs.Observation.{EventsFit, AreSecure, HaveNoCall, AgreeAt, seen, released_to, AreBelowCeiling}
+use Rattle.mls_machine.specs.Telling.{Test, by_ceiling, by_releases}
+use Rattle.mls_machine.specs.Observation.{EventsFit, AreSecure, HaveNoCall, AgreeAt, seen, ReleaseTheSame}
 use Rattle.mls_machine.specs.Observation.{out, heard, reader_of, replies_shown, PassesOnlyReleasesDown}
 use Rattle.mls_machine.specs.Turning.{turn_lines, turned}
 use Rattle.mls_machine.specs.Laws.{KeepsIntegrity}
@@ -81,14 +82,16 @@ pub record LookAlike (c : ℕ) (r s : RunAt) : Type 0 where
   pub turns : r.turns ≡ s.turns
   pub events : seen r.site c r.events ≡ seen r.site c s.events
 
--- run by run two histories release the same to c, or c dominates all that the calls that it sees can read
+-- run by run two histories release the same to c, or those calls do so that by a test can tell c something
+abbrev pub ReleaseAlikeBy : Test → ℕ → World → World → List RunAt → List RunAt → Type 0
+ReleaseAlikeBy tells c v w [] ss = ⊤
+ReleaseAlikeBy tells c v w (r ∷ rs) [] = ⊤
+ReleaseAlikeBy tells c v w (r ∷ rs) (s ∷ ss) =
+    ReleaseTheSame tells c r.site (run_start v r) r.events s.site (run_start w s) s.events
+    × ReleaseAlikeBy tells c (run_end v r) (run_end w s) rs ss
+
 abbrev pub ReleaseAlike : ℕ → World → World → List RunAt → List RunAt → Type 0
-ReleaseAlike c v w [] ss = ⊤
-ReleaseAlike c v w (r ∷ rs) [] = ⊤
-ReleaseAlike c v w (r ∷ rs) (s ∷ ss) =
-    ((released_to r.site c (run_start v r) r.events ≡ released_to s.site c (run_start w s) s.events)
-    ⊎ AreBelowCeiling r.site c r.events)
-    × ReleaseAlike c (run_end v r) (run_end w s) rs ss
+ReleaseAlike = ReleaseAlikeBy by_releases
 
 -- two histories show the same lines to c run by run, in each form, and the same replies, and end in worlds that look
 -- alike to it
@@ -116,13 +119,15 @@ module _ (ls : Labels) (schemes : Schemes) where
 
   -- no information flows down in a history but what is released: at each level c, a history from any other world of the
   -- stored form that looks alike to c, at the same sites, over any events of which c sees the same, shows c the same,
-  -- run by run, if run by run it also releases the same to c, or if c dominates all that the calls that it sees can
-  -- read
-  abbrev pub PassesOnlyReleasesDownInHistory : World → List RunAt → Type 0
-  PassesOnlyReleasesDownInHistory v rs =
+  -- run by run, if run by run it also releases the same to c, or if the calls do so that by a test can tell c something
+  abbrev pub PassesDownInHistoryBy : Test → World → List RunAt → Type 0
+  PassesDownInHistoryBy tells v rs =
       (c : ℕ) (w : World) (ss : List RunAt) → AreStored ls schemes w.db → HistoryFits ss
-      → AgreeAt ls c v w → AllZip (LookAlike c) rs ss → ReleaseAlike c v w rs ss
+      → AgreeAt ls c v w → AllZip (LookAlike c) rs ss → ReleaseAlikeBy tells c v w rs ss
       → HistoriesEndAlike ls c v w rs ss
+
+  abbrev pub PassesOnlyReleasesDownInHistory : World → List RunAt → Type 0
+  PassesOnlyReleasesDownInHistory = PassesDownInHistoryBy by_releases
 
   -- and without calls none at all
   abbrev pub PassesNothingDownInHistory : World → List RunAt → Type 0
@@ -163,7 +168,7 @@ abbrev pub SecureHistoriesAreAlike : Type 0
 SecureHistoriesAreAlike =
     (ls : Labels) (schemes : Schemes) → AreDistinct ls → (v : World) (rs : List RunAt) → AreStored ls schemes v.db
     → IsHistoryUnder ls schemes rs → HistoryFits rs
-    → AllByRecursion (λ r. AreSecure r.site) rs → PassesOnlyReleasesDownInHistory ls schemes v rs
+    → AllByRecursion (λ r. AreSecure r.site) rs → PassesDownInHistoryBy ls schemes by_ceiling v rs
 
 abbrev pub AcceptedHistoriesAreAlike : Type 0
 AcceptedHistoriesAreAlike =

@@ -1,5 +1,5 @@
 -- The laws of the machine: refusals change nothing, runs keep integrity, and no information flows down but by releases.
-use Rattle.std.specs.Prelude.{◌≡◌, ℕ, false, List, [], ◌∷◌, ◌++◌, take, Option, Some, ⊤}
+use Rattle.std.specs.Prelude.{◌≡◌, ◌↔◌, ℕ, true, false, List, [], ◌∷◌, ◌++◌, take, Option, Some, ⊤}
 use Rattle.mls_tokens.specs.Screen.{IsHarmless}
 use Rattle.mls_lattice.specs.Labels.{AreDistinct}
 use Rattle.mls_lattice.specs.Policy.{Name}
@@ -9,6 +9,8 @@ use Rattle.mls_filterview.specs.Integrity.{HasIntegrity}
 use Rattle.mls_updates.specs.Outcome.{is_done}
 use Rattle.mls_audit.specs.declared.entry.Entry.{Entry}
 use Rattle.mls_certcheck.specs.Throughout.{Throughout}
+use Rattle.mls_certcheck.specs.Rules.{Claim}
+use Rattle.mls_certcheck.specs.Sharp.{CanTell}
 use Rattle.mls_translang.specs.declared.event.Event.{Event}
 use Rattle.mls_translang.specs.declared.event.Command.{Command}
 use Rattle.mls_translang.specs.declared.event.Command.TheVariants.{Call}
@@ -22,7 +24,9 @@ use Rattle.mls_certcheck.specs.Site.{Site, site_labels, AreRead, AreCertified}
 use Rattle.mls_machine.specs.Denying.{stored_named, fitted}
 use Rattle.mls_machine.specs.Machine.{World, denial_entry, call_entries, step, end_of}
 use Rattle.mls_machine.specs.Observation.{AreStored, EventsFit, AreCallsSecure, AreSecure, PassesNothingDown}
-use Rattle.mls_machine.specs.Observation.{PassesOnlyReleasesDown, run_shows}
+use Rattle.mls_machine.specs.Observation.{PassesDownBy, PassesOnlyReleasesDown, seen, AreUntold}
+use Rattle.mls_machine.specs.Observation.{ReleaseTheSame, run_shows}
+use Rattle.mls_machine.specs.Telling.{Test, by_ceiling, by_releases, can_tell}
 
 -- a denial, the rows of a view, the tuples of a dump, the entries of an audit, or a write that is refused
 abbrev pub ChangesNothing : Reply → Type 0
@@ -78,16 +82,34 @@ LowRunsAreAlike =
     → (v : World) (es : List Event) → AreStored site v.db → EventsFit site es → AreCallsSecure site es
     → PassesNothingDown site v es
 
--- what a level sees of the worlds and the events, and what is released to it, determine what it is shown
+-- what a level sees of the worlds and the events, and what is released to it by calls that can read what it does not
+-- dominate, determine what it is shown
 abbrev pub SecureRunsAreAlike : Type 0
 SecureRunsAreAlike =
     (site : Site) → AreDistinct (site_labels site) → AreRead site → AreSecure site
-    → (v : World) (es : List Event) → AreStored site v.db → EventsFit site es → PassesOnlyReleasesDown site v es
+    → (v : World) (es : List Event) → AreStored site v.db → EventsFit site es → PassesDownBy by_ceiling site v es
 
+-- and under certificates by calls that can release to it what it may not read
 abbrev pub AcceptedRunsAreAlike : Type 0
 AcceptedRunsAreAlike =
     (site : Site) → AreDistinct (site_labels site) → AreRead site → AreCertified site
     → (v : World) (es : List Event) → AreStored site v.db → EventsFit site es → PassesOnlyReleasesDown site v es
+
+-- where no call that a level sees can tell it anything, two runs that look alike to it release the same by those calls
+-- that can: nothing
+abbrev pub UntoldRunsReleaseTheSame : Type 0
+UntoldRunsReleaseTheSame =
+    (tells : Test) (site : Site) (c : ℕ) (v : World) (es : List Event) (w : World) (fs : List Event)
+    → seen site c es ≡ seen site c fs → AreUntold tells site c es → ReleaseTheSame tells c site v es site w fs
+
+-- the test by releases says just what a claim can tell, and nothing where the level dominates all that is read
+abbrev pub TestsAreSharp : Type 0
+TestsAreSharp =
+    (site : Site) → AreCertified site → (c : ℕ) (es : List Event)
+    → AreUntold by_ceiling site c es → AreUntold by_releases site c es
+
+abbrev pub TestsTellWhatCanTell : Type 0
+TestsTellWhatCanTell = (k : Claim) (c : ℕ) → can_tell k c ≡ true ↔ CanTell k c
 
 -- what a run shows as a table has no control character but line feeds
 abbrev pub TablesAreHarmless : Type 0

@@ -5,6 +5,7 @@ pub mod Denying
 pub mod Machine
 pub mod Dumping
 pub mod Output
+pub mod Telling
 pub mod Observation
 pub mod Serving
 pub mod Turning

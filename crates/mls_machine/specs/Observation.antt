@@ -1,6 +1,6 @@
 -- What a level may see of a run, and when two worlds look alike to it.
-use Rattle.std.specs.Prelude.{◌≡◌, ℕ, true, if◌then◌else◌, List, [], ◌∷◌, ◌++◌, map, length, Option, Some, None, ◌↔◌}
-use Rattle.std.specs.Prelude.{◌⊎◌, ⊤, filter, IfSome}
+use Rattle.std.specs.Prelude.{◌≡◌, ℕ, Bool, true, false, ◌&&◌, if◌then◌else◌, List, [], ◌∷◌, ◌++◌, map, length, Option}
+use Rattle.std.specs.Prelude.{Some, None, ◌↔◌, ◌⊎◌, ⊤, filter, IfSome, option_map, unwrap_or}
 use Rattle.std.specs.List.{AllByRecursion}
 use Rattle.mls_lattice.specs.Labels.{Labels, below}
 use Rattle.mls_lattice.specs.Policy.{Name}
@@ -29,6 +29,7 @@ use Rattle.mls_certcheck.specs.Site.{Site, site_labels, site_scheme}
 use Rattle.mls_machine.specs.Denying.{stored_named}
 use Rattle.mls_machine.specs.Machine.{World, step, end_of}
 use Rattle.mls_machine.specs.Output.{Line, reply_lines_in, run_lines, printed}
+use Rattle.mls_machine.specs.Telling.{Test, by_releases}
 
 -- ---- what a run begins with
 
@@ -70,15 +71,14 @@ module _ (site : Site) (c : ℕ) where
   abbrev pub seen : List Event → List Event
   seen es = map glimpse (filter (λ e. below (site_labels site) e.level c) es)
 
-  -- c dominates all that a call can read
-  abbrev pub IsBelowCeiling : Command → Type 0
-  IsBelowCeiling (Call name args) =
-      IfSome (stored_named site.stored name) (λ s. below (site_labels site) (tx_of s).hi c ≡ true)
-  IsBelowCeiling command = ⊤
+-- a command calls what passes a test
+abbrev pub is_called : Site → (Stored → Bool) → Command → Bool
+is_called site test (Call name args) = unwrap_or (option_map test (stored_named site.stored name)) false
+is_called site test command = false
 
-  -- so of each call that c sees
-  abbrev pub AreBelowCeiling : List Event → Type 0
-  AreBelowCeiling es = AllByRecursion (λ e. IsBelowCeiling e.command) (seen es)
+-- by a test no call that c sees can tell it anything
+abbrev pub AreUntold : Test → Site → ℕ → List Event → Type 0
+AreUntold tells site c es = AllByRecursion (λ e. is_called site (tells site c) e.command ≡ false) (seen site c es)
 
 abbrev pub IsNoCall : Command → Type 0
 IsNoCall (Call name args) = ⊥
@@ -141,6 +141,22 @@ run_released site w (e ∷ es) = released_in (step site w e).reply ++ run_releas
 abbrev pub released_to : Site → ℕ → World → List Event → List Item
 released_to site c w es = seen_items (site_labels site) c (run_released site w es)
 
+-- the items that are released in a run by calls that c sees and that by a test can tell it something
+unfoldable pub run_told : Test → Site → ℕ → World → List Event → List Item
+run_told tells site c w [] = []
+run_told tells site c w (e ∷ es) =
+    (if below (site_labels site) e.level c && is_called site (tells site c) e.command
+    then released_in (step site w e).reply else []) ++ run_told tells site c (step site w e).world es
+
+-- those of them that are released to labels that c dominates
+abbrev pub told_to : Test → Site → ℕ → World → List Event → List Item
+told_to tells site c w es = seen_items (site_labels site) c (run_told tells site c w es)
+
+-- two runs, each at its site, release the same to c; or those calls do so that can tell c something
+abbrev pub ReleaseTheSame : Test → ℕ → Site → World → List Event → Site → World → List Event → Type 0
+ReleaseTheSame tells c site v es other w fs =
+    (released_to site c v es ≡ released_to other c w fs) ⊎ (told_to tells site c v es ≡ told_to tells other c w fs)
+
 -- ---- replies
 
 -- what c sees of a reply: of a call, the items whose labels it dominates
@@ -186,13 +202,16 @@ PassesNothingDown site v es =
 
 -- no information flows down in a run but what is released: at each level c, a run from any other world of the stored
 -- form that looks alike to c, over any events of which c sees the same, shows c the same, if it also releases the same
--- to c, or if c dominates all that the calls that it sees can read
-abbrev pub PassesOnlyReleasesDown : Site → World → List Event → Type 0
-PassesOnlyReleasesDown site v es =
+-- to c, or if the calls do so that by a test can tell c something
+abbrev pub PassesDownBy : Test → Site → World → List Event → Type 0
+PassesDownBy tells site v es =
     (c : ℕ) (w : World) (fs : List Event) → AreStored site w.db → EventsFit site fs
     → AgreeAt (site_labels site) c v w → seen site c es ≡ seen site c fs
-    → (released_to site c v es ≡ released_to site c w fs) ⊎ AreBelowCeiling site c es
-    → EndAlike site c v w es fs
+    → ReleaseTheSame tells c site v es site w fs → EndAlike site c v w es fs
+
+-- calls that release to c nothing made of what c may not read tell it nothing
+abbrev pub PassesOnlyReleasesDown : Site → World → List Event → Type 0
+PassesOnlyReleasesDown = PassesDownBy by_releases
 
 -- what a run prints for c, in either form, passes nothing down but what is released: its bytes are the same for any
 -- other such run
@@ -200,5 +219,5 @@ abbrev pub ShowsOnlyReleases : Site → ℕ → World → List Event → Type 0
 ShowsOnlyReleases site c v es =
     (form : Form) (w : World) (fs : List Event) → AreStored site w.db → EventsFit site fs
     → AgreeAt (site_labels site) c v w → seen site c es ≡ seen site c fs
-    → (released_to site c v es ≡ released_to site c w fs) ⊎ AreBelowCeiling site c es
+    → ReleaseTheSame by_releases c site v es site w fs
     → run_shows site (reader_of c form) v es ≡ run_shows site (reader_of c form) w fs

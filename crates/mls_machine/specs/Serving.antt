@@ -1,11 +1,12 @@
 -- Many sessions, each answered for its own level.
-use Rattle.std.specs.Prelude.{◌≡◌, ℕ, if◌then◌else◌, List, [], ◌∷◌, ◌++◌, ◌⊎◌}
+use Rattle.std.specs.Prelude.{◌≡◌, ℕ, if◌then◌else◌, List, [], ◌∷◌, ◌++◌}
 use Rattle.mls_lattice.specs.Labels.{below}
 use Rattle.mls_translang.specs.declared.event.Event.{Event}
 use Rattle.mls_machine.specs.declared.form.Form.TheVariants.{Lines}
 use Rattle.mls_certcheck.specs.Site.{Site, site_labels}
 use Rattle.mls_machine.specs.Machine.{World, step}
-use Rattle.mls_machine.specs.Observation.{AreStored, EventsFit, AgreeAt, seen, released_to, AreBelowCeiling}
+use Rattle.mls_machine.specs.Telling.{by_releases}
+use Rattle.mls_machine.specs.Observation.{AreStored, EventsFit, AgreeAt, seen, ReleaseTheSame}
 use Rattle.mls_machine.specs.Observation.{reply_shows, reader_of, PassesOnlyReleasesDown}
 
 module _ (site : Site) where
@@ -30,7 +31,7 @@ module _ (site : Site) where
   ServesOnlyReleases c v es =
       (w : World) (fs : List Event) → AreStored site w.db → EventsFit site fs
       → AgreeAt (site_labels site) c v w → seen site c es ≡ seen site c fs
-      → (released_to site c v es ≡ released_to site c w fs) ⊎ AreBelowCeiling site c es
+      → ReleaseTheSame by_releases c site v es site w fs
       → served_to c v es ≡ served_to c w fs
 
 -- where no information flows down in a run but what is released, none does so by what sessions are answered

@@ -5,6 +5,7 @@ ghost use Rattle.mls_machine.specs.History.{HistoriesShowOnlyReleases};
 ghost use Rattle.mls_machine.specs.Turning.{TurnedWorldsAreAlike, TurningsShowTheSame};
 ghost use Rattle.mls_machine.specs.Laws.{RefusalsChangeNothing, DenialsAndCallsAreEntered, RunsKeepIntegrity};
 ghost use Rattle.mls_machine.specs.Laws.{LowRunsAreAlike, SecureRunsAreAlike, AcceptedRunsAreAlike, TablesAreHarmless};
+ghost use Rattle.mls_machine.specs.Laws.{UntoldRunsReleaseTheSame, TestsAreSharp, TestsTellWhatCanTell};
 ghost use Rattle.mls_machine.specs.Parting.{PoliciesArePlain, RepliesAreLines, RunsAreLines, TurningsAreLines};
 ghost use Rattle.mls_machine.specs.Parting.{RunsPartIntoLines, LinesArePicked};
 ghost use Rattle.mls_machine.specs.Serving.{ServedRunsAreAlike};
@@ -37,14 +38,24 @@ pub fn low_runs_are_alike()
 {}
 
 /// Where the transactions with certificates are secure, information flows down by releases alone: the runs show a level
-/// the same if they also release the same to it, or if it dominates all that the calls that it sees can read.
+/// the same if they also release the same to it, or if the calls do so that can read what it does not dominate.
 pub fn secure_runs_are_alike()
     ensures { SecureRunsAreAlike }
 {}
 
-/// The same where the rules of certificates hold: the checker's word is enough.
+/// Where the rules of certificates hold, the checker's word is enough, and less is asked: that the calls release the
+/// same to the level that can release to it what it may not read.
 pub fn accepted_runs_are_alike()
     ensures { AcceptedRunsAreAlike }
+{}
+
+/// Where by a test of stored transactions no call that a level sees can tell it anything, nothing is asked of releases.
+/// Calls that by what they read can tell it nothing can tell it nothing by what they release; and the test by releases
+/// says just what the certificate lets be told.
+pub fn untold_runs_release_the_same()
+    ensures runs { UntoldRunsReleaseTheSame }
+    ensures sharp { TestsAreSharp }
+    ensures told { TestsTellWhatCanTell }
 {}
 
 /// Many sessions, each answered what its own level may see: where information flows down in a run by releases alone, so
@@ -77,14 +88,13 @@ pub fn low_histories_are_alike()
 {}
 
 /// Where the transactions with certificates are secure, information flows down in a history by releases alone: two
-/// histories show a level the same if run by run they also release the same to it, or if it dominates all that the
-/// calls
-/// that it sees can read.
+/// histories show a level the same if run by run they also release the same to it, or if the calls do so that can read
+/// what it does not dominate.
 pub fn secure_histories_are_alike()
     ensures { SecureHistoriesAreAlike }
 {}
 
-/// The same where the rules of certificates hold: the checker's word is enough.
+/// Where the rules of certificates hold, the checker's word is enough, and less is asked, as of runs.
 pub fn accepted_histories_are_alike()
     ensures { AcceptedHistoriesAreAlike }
 {}

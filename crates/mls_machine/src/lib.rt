@@ -27,7 +27,7 @@ pub use laws::{
     histories_keep_integrity, histories_pass_what_runs_pass, histories_show_only_releases,
     lines_are_picked, lines_have_no_line_feed, low_histories_are_alike, low_runs_are_alike,
     refusals_change_nothing, runs_keep_integrity, secure_histories_are_alike,
-    secure_runs_are_alike, tables_are_harmless,
+    secure_runs_are_alike, tables_are_harmless, untold_runs_release_the_same,
 };
 pub use replies::reply_bytes;
 pub use reply::{Denial, Reply};

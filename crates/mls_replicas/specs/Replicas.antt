@@ -1,10 +1,11 @@
 -- Replicas: stores that do the events of one log, each between events of its own.
-use Rattle.std.specs.Prelude.{◌≡◌, ℕ, List, ◌⊎◌, filter}
+use Rattle.std.specs.Prelude.{◌≡◌, ℕ, List, filter}
 use Rattle.mls_lattice.specs.Labels.{AreDistinct, below}
 use Rattle.mls_translang.specs.declared.event.Event.{Event}
 use Rattle.mls_certcheck.specs.Site.{Site, site_labels, AreRead, AreCertified}
 use Rattle.mls_machine.specs.Machine.{World}
-use Rattle.mls_machine.specs.Observation.{AreStored, EventsFit, AgreeAt, EndAlike, released_to, AreBelowCeiling}
+use Rattle.mls_machine.specs.Telling.{by_releases}
+use Rattle.mls_machine.specs.Observation.{AreStored, EventsFit, AgreeAt, EndAlike, ReleaseTheSame}
 use Rattle.mls_machine.specs.Observation.{PassesOnlyReleasesDown}
 use Rattle.mls_machine.specs.Serving.{served_to}
 
@@ -20,13 +21,13 @@ module _ (site : Site) where
 
   -- the replicas of a run from v over a log: at each level c, a store that looks alike to c, and is fed the log up
   -- to c, shows c the same, ends in a world that looks alike to c, and answers the sessions of levels that c
-  -- dominates the same, event by event, if it also releases the same to c, or if c dominates all that the calls of
-  -- the feed can read
+  -- dominates the same, event by event, if it also releases the same to c, or if the calls of the feed do so that can
+  -- tell c something
   abbrev pub HasReplicas : World → List Event → Type 0
   HasReplicas v log =
       (c : ℕ) (w : World) (own : List Event) → AreStored site w.db → EventsFit site own
       → AgreeAt (site_labels site) c v w → IsFed c log own
-      → (released_to site c v log ≡ released_to site c w own) ⊎ AreBelowCeiling site c log
+      → ReleaseTheSame by_releases c site v log site w own
       → EndAlike site c v w log own × (served_to site c v log ≡ served_to site c w own)
 
 -- where no information flows down in a run but what is released, its replicas do as it does

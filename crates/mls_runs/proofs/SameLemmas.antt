@@ -1,6 +1,6 @@
 -- Two shells, and two desks, over contents that look alike, show the same.
-use Rattle.std.proofs.Common.{◌≡◌, ℕ, suc, ◌+◌, Bool, true, false, true≢false, cond, not, ◌&&◌, ◌||◌, nat_eq, eqb-true, List, [], ◌∷◌, ◌++◌, length, Option, None, is_some, Ok, refl, sym, ap, ◌∙◌, subst, ◌⊎◌, inr, append_assoc, arith, take_all, bytes_eq, map}
-use Rattle.std.specs.List.{AllByRecursion, list_all, list_any, concat}
+use Rattle.std.proofs.Common.{◌≡◌, ℕ, suc, ◌+◌, Bool, true, false, true≢false, cond, not, ◌&&◌, ◌||◌, nat_eq, eqb-true, List, [], ◌∷◌, ◌++◌, length, Option, None, is_some, Ok, refl, sym, ap, ◌∙◌, subst, ◌⊎◌, append_assoc, arith, take_all, bytes_eq}
+use Rattle.std.specs.List.{list_all, list_any, concat}
 use Rattle.mls_lattice.specs.Labels.{below}
 use Rattle.mls_lattice.proofs.LatticeLemmas.{below-refl}
 use Rattle.mls_filterview.specs.Content.{Content}
@@ -10,7 +10,10 @@ use Rattle.mls_certcheck.specs.Site.{Site, site_labels}
 use Rattle.mls_machine.specs.declared.reply.Reply.{Reply}
 use Rattle.mls_machine.specs.declared.reply.Reply.TheVariants as replies
 use Rattle.mls_machine.specs.Machine.{World, step, end_of}
-use Rattle.mls_machine.specs.Observation.{glimpse, reply_shown, replies_shown, run_shows, EndAlike, PassesOnlyReleasesDown, ShowsOnlyReleases, IsBelowCeiling}
+use Rattle.mls_machine.specs.Observation.{seen, reply_shown, replies_shown, run_shows, EndAlike, ReleaseTheSame, PassesOnlyReleasesDown, ShowsOnlyReleases}
+use Rattle.mls_machine.specs.Telling.{by_releases}
+use Rattle.mls_machine.proofs.RunLemmas.{none_seen}
+use Rattle.mls_machine.proofs.ToldLemmas.{none_untold, untold_same}
 use Rattle.mls_machine.specs.Serving.{answer_to, answers_to, served_to, ServesOnlyReleases}
 use Rattle.mls_sessions.specs.declared.notice.Notice.{Notice}
 use Rattle.mls_sessions.specs.Run.{is_done, are_done, notice_of, last_of, notice_in}
@@ -285,11 +288,12 @@ plain_told x site session w ts plain P last h =
     subst (λ l. P (l ++ last)) (pipes_told x site session (after_opening site session w) 1 ts h.lines plain h.are)
     (subst (λ m. P (m ++ h.lines ++ last)) (h.opening.none plain) h.opening.leads)
 
-opening_below : (site : Site) (session : ShellSession) (b : Bool)
-    → AllByRecursion (λ (e : Event). IsBelowCeiling site session.level e.command) (map (glimpse site session.level)
-    (cond b (opening session ∷ []) []))
-opening_below site session true = (tt, tt)
-opening_below site session false = tt
+opening_tells : (site : Site) (c : ℕ) (v w : World) (session : ShellSession)
+    → ReleaseTheSame by_releases c site v (opening session ∷ []) site w (opening session ∷ [])
+opening_tells site c v w session =
+    let es : List Event = opening session ∷ [] in
+    untold_same by_releases site c v es w es refl
+    (none_untold by_releases site c (seen site c es) (none_seen site c es (tt, tt)))
 
 module _ (x : Explaining) (echo other_echo : List ℕ → List ℕ) (site : Site) (session : ShellSession)
     (before after before_2 after_2 : Option (List ℕ)) (Broken Broken_2 : Type 0)
@@ -314,7 +318,7 @@ module _ (x : Explaining) (echo other_echo : List ℕ → List ℕ) (site : Site
       in
       let opens : EndAlike site c v w (opening session ∷ []) (opening session ∷ []) =
       r.secret 1 c w (opening session ∷ []) alike.stored (alike.fits.0, tt) alike.agree refl
-      (inr (opening_below site session (below (site_labels site) c c))) in
+      (opening_tells site c v w session) in
       let is_same : is_open session (after_opening site session v) ≡ is_open session (after_opening site session w)
       = ap is_some (opens.worlds.sessions c session.user (below-refl (site_labels site) c)) in
       let own = own_turns session site echo (after_opening site session v) before after ts a.talk.lines in

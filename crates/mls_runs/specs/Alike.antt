@@ -1,11 +1,12 @@
 -- Two runs that print for one reader, two shells and two desks, over stores that look alike to it.
-use Rattle.std.specs.Prelude.{◌≡◌, ◌⊎◌, ℕ, Bool, true, false, List, ◌∷◌, Option, Some, Ok}
+use Rattle.std.specs.Prelude.{◌≡◌, ℕ, Bool, true, false, List, ◌∷◌, Option, Some, Ok}
 use Rattle.std.specs.List.{list_all}
 use Rattle.mls_lattice.specs.Labels.{below}
 use Rattle.mls_filterview.specs.Content.{Content}
 use Rattle.mls_translang.specs.declared.event.Event.{Event}
 use Rattle.mls_certcheck.specs.Site.{Site, site_labels}
-use Rattle.mls_machine.specs.Observation.{AreStored, EventsFit, AgreeAt, seen, released_to, AreBelowCeiling}
+use Rattle.mls_machine.specs.Telling.{by_releases}
+use Rattle.mls_machine.specs.Observation.{AreStored, EventsFit, AgreeAt, seen, ReleaseTheSame}
 use Rattle.mls_host.specs.Hosting.{Hosted, IsClean}
 use Rattle.mls_host.specs.declared.ending.Ending.{Ending}
 use Rattle.mls_host.specs.declared.job.Inputs.{Inputs}
@@ -18,16 +19,14 @@ use Rattle.mls_runs.specs.Running.{first_world}
 use Rattle.mls_runs.specs.ScriptRun.{site_of_setting, IsScriptRun}
 
 -- a second run, from its content over its events, looks alike to c: what both begin with, what c sees of the events,
--- and what they release to c, if c does not dominate all that the calls that it sees can read
+-- and what they release to c, or those calls that can tell it something
 pub record LooksAlike (site : Site) (c : ℕ) (first : Content) (es : List Event) (other : Content)
     (fs : List Event) : Type 0 where
   pub stored : AreStored site (first_world site other).db
   pub fits : EventsFit site fs
   pub agree : AgreeAt (site_labels site) c (first_world site first) (first_world site other)
   pub seen_same : seen site c es ≡ seen site c fs
-  pub released_same :
-      (released_to site c (first_world site first) es ≡ released_to site c (first_world site other) fs)
-      ⊎ AreBelowCeiling site c es
+  pub released_same : ReleaseTheSame by_releases c site (first_world site first) es site (first_world site other) fs
 
 -- Two scripts are run to their ends for a reader c, in one form, under one policy and schemes, over the same
 -- transactions. Where the second looks alike to c they write the same bytes.

@@ -10,7 +10,8 @@ use Rattle.mls_translang.specs.declared.run_fault.RunCause.TheVariants.{Write}
 use Rattle.mls_translang.specs.declared.run_fault.RunFault.{RunFault}
 use Rattle.mls_certcheck.specs.Site.{Site, site_labels}
 use Rattle.mls_machine.specs.Machine.{World, step, end_of}
-use Rattle.mls_machine.specs.Observation.{EventsFit, seen, released_to, AreBelowCeiling}
+use Rattle.mls_machine.specs.Telling.{by_releases}
+use Rattle.mls_machine.specs.Observation.{EventsFit, seen, ReleaseTheSame}
 use Rattle.mls_machine.specs.Serving.{answer_to, answers_to, served_to, ServesOnlyReleases}
 use Rattle.mls_machine.proofs.KeepingLemmas.{first_fit}
 use Rattle.mls_host.specs.Hosting.{Hosted}
@@ -24,7 +25,7 @@ use Rattle.mls_runs.specs.Shell.{Turn, IsShellTurn, whole, long, cut, events_of,
 use Rattle.mls_runs.specs.Desk.{AreLines, answer_of, desk, IsCutAt, IsGivenUp, at_line, between, IsEndOf, IsDesk}
 use Rattle.mls_stops.specs.SoFar.{IsFirstPart, AgreeSoFar}
 use Rattle.mls_stops.specs.Stops.{AreWrittenAlike, StandAlike, heard_turns, ServeTheSameSoFar}
-use Rattle.mls_stops.proofs.SoFarLemmas.{part_of_part, agree_parts, ceiling_first}
+use Rattle.mls_stops.proofs.SoFarLemmas.{part_of_part, agree_parts}
 
 -- ---- lists
 
@@ -328,11 +329,9 @@ module _ (echo other_echo : List ℕ → List ℕ) (site : Site) (c : ℕ) (befo
       desk_same site c v w ts sees
       (serves w es alike.stored (subst (EventsFit site) at_two
       (first_fit site n b.service.kept alike.fits)) alike.agree refl
-      (elim alike.released_so_far [
-        | inl same ↦ inl (sym (ap (released_to site c v) at_one) ∙ same n n (ap (seen site c) (at_one ∙ sym at_two))
-            ∙ ap (released_to site c w) at_two)
-        | inr ceiling ↦ inr (subst (AreBelowCeiling site c) at_one (ceiling_first site c a.service.kept n ceiling))
-      ]))
+      (subst (λ l. ReleaseTheSame by_releases c site v l site w es) at_one
+      (subst (λ l. ReleaseTheSame by_releases c site v (take n a.service.kept) site w l) at_two
+      (alike.released_so_far n n (ap (seen site c) (at_one ∙ sym at_two))))))
 
   desks_written : AgreeSoFar (heard_turns a.service.turns) (heard_turns b.service.turns)
       → Sees site c (events_in a.service.turns) → Sees site c (events_in b.service.turns) → AreWrittenAlike W V

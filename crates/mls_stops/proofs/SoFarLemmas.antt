@@ -1,9 +1,7 @@
 -- Runs that look alike as far as both go show the same as far as both go.
-use Rattle.std.proofs.Common.{◌≡◌, ℕ, zero, suc, ◌+◌, ◌*◌, ◌<◌, ◌≤◌, Bool, true, false, cond, List, [], ◌∷◌, ◌++◌, map, length, take, Option, Some, None, refl, sym, ap, ◌∙◌, subst, inl, inr, ◌⊎◌, append_assoc, arith, take_all, filter}
-use Rattle.std.specs.List.{AllByRecursion}
+use Rattle.std.proofs.Common.{◌≡◌, ℕ, zero, suc, ◌+◌, ◌*◌, ◌<◌, ◌≤◌, true, false, cond, List, [], ◌∷◌, ◌++◌, length, take, Option, Some, None, refl, sym, ap, ◌∙◌, subst, inl, inr, ◌⊎◌, append_assoc, arith, take_all}
 use Rattle.std.proofs.lemmas.Bool.{cases_Bool}
 use Rattle.mls_lattice.specs.Labels.{below}
-use Rattle.mls_lattice.proofs.EachLemmas.{all_front}
 use Rattle.mls_translang.specs.declared.event.Event.{Event}
 use Rattle.mls_translang.specs.declared.run_fault.RunCause.{RunCause}
 use Rattle.mls_translang.specs.declared.run_fault.RunCause.TheVariants.{Memory, Store, Write}
@@ -11,9 +9,11 @@ use Rattle.mls_certcheck.specs.Site.{Site, site_labels}
 use Rattle.mls_machine.specs.declared.form.Form.{Form}
 use Rattle.mls_machine.specs.Machine.{World, step}
 use Rattle.mls_machine.specs.Output.{reply_lines_in, run_lines, printed}
-use Rattle.mls_machine.specs.Observation.{glimpse, seen, released_to, IsBelowCeiling, AreBelowCeiling, out, run_shows, reader_of, EndAlike}
+use Rattle.mls_machine.specs.Observation.{glimpse, seen, ReleaseTheSame, out, run_shows, reader_of, EndAlike}
+use Rattle.mls_machine.specs.Telling.{by_releases}
 use Rattle.mls_machine.specs.Parting.{is_line_feed}
 use Rattle.mls_machine.proofs.KeepingLemmas.{first_fit}
+use Rattle.mls_machine.proofs.ToldLemmas.{sees_next}
 use Rattle.mls_machine.proofs.LineLemmas.{printed-append}
 use Rattle.mls_stops.specs.SoFar.{IsFirstPart, AgreeSoFar, RunsAgreeSoFar, lines_behind, whole_lines, cause_number, class_by, StopsTellFew}
 
@@ -51,15 +51,6 @@ module _ {A : Type 0} where
 -- ---- events, and what c sees of them
 
 module _ (site : Site) (c : ℕ) where
-  sees_next : (e : Event) (es : List Event) (b : Bool) → below (site_labels site) e.level c ≡ b → seen site c (e ∷ es)
-      ≡ cond b (glimpse site c e ∷ seen site c es) (seen site c es)
-  sees_next e es true h = ap (λ x. map (glimpse site c)
-      (cond x (e ∷ filter (λ f. below (site_labels site) f.level c) es)
-      (filter (λ f. below (site_labels site) f.level c) es))) h
-  sees_next e es false h = ap (λ x. map (glimpse site c)
-      (cond x (e ∷ filter (λ f. below (site_labels site) f.level c) es)
-      (filter (λ f. below (site_labels site) f.level c) es))) h
-
   -- the first events of which c sees a first part
   first_seen : (es : List Event) (xs more : List Event) → xs ++ more ≡ seen site c es → (n : ℕ)
       × (seen site c (take n es) ≡ xs)
@@ -68,37 +59,16 @@ module _ (site : Site) (c : ℕ) where
   first_seen (e ∷ es) (x ∷ xs) more h =
       elim (cases_Bool (below (site_labels site) e.level c)) [
         | inl b ↦
-            let k = h ∙ sees_next e es true b in
+            let k = h ∙ sees_next site c e es true b in
             let r = first_seen es xs more (tail_same x (glimpse site c e) (xs ++ more) (seen site c es) k) in (
               suc r.0,
-              sees_next e (take r.0 es) true b
+              sees_next site c e (take r.0 es) true b
                   ∙ (λ i. sym (head_same x (glimpse site c e) (xs ++ more) (seen site c es) k) i ∷ r.1 i),
             )
         | inr b ↦
-            let r = first_seen es (x ∷ xs) more (h ∙ sees_next e es false b) in
-            (suc r.0, sees_next e (take r.0 es) false b ∙ r.1)
+            let r = first_seen es (x ∷ xs) more (h ∙ sees_next site c e es false b) in
+            (suc r.0, sees_next site c e (take r.0 es) false b ∙ r.1)
       ]
-
-  -- what c sees of first events is a first part of what it sees of all
-  seen_first : (es : List Event) (n : ℕ) → IsFirstPart (seen site c (take n es)) (seen site c es)
-  seen_first es zero = (seen site c es, refl)
-  seen_first [] (suc n) = ([], refl)
-  seen_first (e ∷ es) (suc n) =
-      let r = seen_first es n in
-      elim (cases_Bool (below (site_labels site) e.level c)) [
-        | inl b ↦ (
-          r.0,
-          ap (λ l. l ++ r.0) (sees_next e (take n es) true b) ∙ ap (λ l. glimpse site c e ∷ l) r.1
-              ∙ sym (sees_next e es true b),
-        )
-        | inr b ↦ (r.0, ap (λ l. l ++ r.0) (sees_next e (take n es) false b) ∙ r.1 ∙ sym (sees_next e es false b))
-      ]
-
-  pub ceiling_first : (es : List Event) (n : ℕ) → AreBelowCeiling site c es → AreBelowCeiling site c (take n es)
-  ceiling_first es n h =
-      let r = seen_first es n in
-      all_front (λ e. IsBelowCeiling site c e.command) (seen site c (take n es)) r.0
-      (subst (AllByRecursion (λ e. IsBelowCeiling site c e.command)) (sym r.1) h)
 
   -- what c is shown of first events is a first part of what it is shown of all
   pub shows_first : (form : Form) (w : World) (es : List Event) (n : ℕ)
@@ -133,10 +103,7 @@ runs_agree site c v es secret w fs alike form =
           let end : EndAlike site c v w (take (length es) es) (take n fs)
           = secret (length es) c w (take n fs) alike.stored (first_fit site n fs alike.fits) alike.agree
           (ap (seen site c) whole ∙ sym first.1)
-          (elim alike.released_so_far [
-            | inl same ↦ inl (same (length es) n (ap (seen site c) whole ∙ sym first.1))
-            | inr ceiling ↦ inr (ceiling_first site c es (length es) ceiling)
-          ]) in
+          (alike.released_so_far (length es) n (ap (seen site c) whole ∙ sym first.1)) in
           let same : shows v es ≡ shows w (take n fs) = ap (shows v) (sym whole) ∙ ap printed (end.out form) in
           let rest = shows_first site c form w fs n in
           inl (rest.0, ap (λ l. l ++ rest.0) same ∙ rest.1)
@@ -145,11 +112,8 @@ runs_agree site c v es secret w fs alike form =
           let m = first.0 in
           let end : EndAlike site c v w (take m es) fs
           = secret m c w fs alike.stored alike.fits alike.agree first.1
-          (elim alike.released_so_far [
-            | inl same ↦ inl (same m (length fs) (first.1 ∙ ap (seen site c) (sym whole_other))
-                ∙ ap (released_to site c w) whole_other)
-            | inr ceiling ↦ inr (ceiling_first site c es m ceiling)
-          ]) in
+          (subst (λ l. ReleaseTheSame by_releases c site v (take m es) site w l) whole_other
+          (alike.released_so_far m (length fs) (first.1 ∙ ap (seen site c) (sym whole_other)))) in
           let same : shows w fs ≡ shows v (take m es) = sym (ap printed (end.out form)) in
           let rest = shows_first site c form v es m in
           inr (rest.0, ap (λ l. l ++ rest.0) same ∙ rest.1)

@@ -35,8 +35,8 @@ module _ (policy : Policy) where
       × IsLifetime e.left es
 
   -- two epochs are under the same schemes, of files that a store is migrated to from the same or not at all, and run by
-  -- run c sees the same of their events, and the same is released to it, or it dominates all that the calls can read
-  -- that it sees
+  -- run c sees the same of their events, and the same is released to it, or the calls do so that can tell it
+  -- something
   pub record EpochsLookAlike (c : ℕ) (e f : Epoch) : Type 0 where
     pub schemes : e.schemes ≡ f.schemes
     pub counts : e.counts ≡ f.counts

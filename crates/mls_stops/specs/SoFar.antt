@@ -7,7 +7,8 @@ use Rattle.mls_translang.specs.declared.run_fault.RunCause.TheVariants.{Memory, 
 use Rattle.mls_certcheck.specs.Site.{Site, site_labels}
 use Rattle.mls_machine.specs.declared.form.Form.{Form}
 use Rattle.mls_machine.specs.Machine.{World}
-use Rattle.mls_machine.specs.Observation.{AreStored, EventsFit, AgreeAt, seen, released_to, AreBelowCeiling, run_shows}
+use Rattle.mls_machine.specs.Telling.{by_releases}
+use Rattle.mls_machine.specs.Observation.{AreStored, EventsFit, AgreeAt, seen, ReleaseTheSame, run_shows}
 use Rattle.mls_machine.specs.Observation.{reader_of, PassesOnlyReleasesDown}
 use Rattle.mls_machine.specs.Parting.{is_line_feed}
 
@@ -20,18 +21,16 @@ abbrev pub AgreeSoFar : {A : Type 0} → List A → List A → Type 0
 AgreeSoFar xs ys = IsFirstPart xs ys ⊎ IsFirstPart ys xs
 
 -- A second run looks alike to c as far as both go: what c sees of the one's events is a first part of what it sees of
--- the other's, and where it has seen the same of both the same is released to it; or it dominates all that the calls
--- that it sees can read.
+-- the other's, and where it has seen the same of both the same is released to it, or the calls do so that can tell it
+-- something.
 pub record LooksAlikeSoFar (site : Site) (c : ℕ) (v : World) (es : List Event) (w : World)
     (fs : List Event) : Type 0 where
   pub stored : AreStored site w.db
   pub fits : EventsFit site fs
   pub agree : AgreeAt (site_labels site) c v w
   pub seen_so_far : AgreeSoFar (seen site c es) (seen site c fs)
-  pub released_so_far :
-      ((m n : ℕ) → seen site c (take m es) ≡ seen site c (take n fs)
-      → released_to site c v (take m es) ≡ released_to site c w (take n fs))
-      ⊎ AreBelowCeiling site c es
+  pub released_so_far : (m n : ℕ) → seen site c (take m es) ≡ seen site c (take n fs)
+      → ReleaseTheSame by_releases c site v (take m es) site w (take n fs)
 
 -- where no information flows down in the first parts of a run but what is released, what c is shown of it, in either
 -- form, and of another that looks alike to it as far as both go, agrees as far as both go

@@ -1,5 +1,5 @@
 -- What histories tell: as lives do, run by run.
-use Rattle.std.proofs.Common.{◌≡◌, ℕ, ◌*◌, ◌≤◌, mul-le-mul, mul_assoc, Bool, true, false, cond, List, [], ◌∷◌, ◌++◌, length, map, refl, sym, ap, ◌∙◌, subst, inl, arith}
+use Rattle.std.proofs.Common.{◌≡◌, ℕ, ◌*◌, ◌≤◌, mul-le-mul, mul_assoc, Bool, true, false, cond, List, [], ◌∷◌, ◌++◌, length, map, refl, sym, ap, ◌∙◌, subst, inl, inr, arith}
 use Rattle.std.specs.Prelude.{Contains}
 use Rattle.std.specs.List.{AllByRecursion, AllZip}
 use Rattle.mls_lattice.specs.Labels.{Labels, AreDistinct, below}
@@ -9,19 +9,21 @@ use Rattle.mls_scheme.specs.Table.{Database}
 use Rattle.mls_translang.specs.Tx.{Tx}
 use Rattle.mls_certcheck.specs.Meaning.{Item}
 use Rattle.mls_certcheck.specs.Secure as secure
+use Rattle.mls_certcheck.specs.declared.stored.Stored.{Stored}
 use Rattle.mls_certcheck.specs.Site.{Site, site_labels, AreCertified}
 use Rattle.mls_machine.specs.Machine.{World}
 use Rattle.mls_machine.specs.Turning.{turned}
-use Rattle.mls_machine.specs.Observation.{AreStored, EventsFit, seen, released_to}
+use Rattle.mls_machine.specs.Observation.{AreStored, EventsFit, seen, told_to}
+use Rattle.mls_machine.specs.Telling.{by_releases}
 use Rattle.mls_machine.specs.History.{RunAt, run_start, run_end, LookAlike, ReleaseAlike, HistoriesEndAlike, HistoryFits, IsSiteUnder, IsHistoryUnder}
 use Rattle.mls_machine.proofs.KeepingLemmas.{run_stored, all_calls_read}
 use Rattle.mls_machine.proofs.RunLemmas.{certified_secure}
 use Rattle.mls_machine.proofs.HistoryLemmas.{accepted_histories}
-use Rattle.mls_lives.specs.Lives.{all_ran, ReleasesAtMost, product}
+use Rattle.mls_lives.specs.Lives.{all_ran, CountsAtMost, product}
 use Rattle.mls_lives.specs.Histories.{Past, BeginsAs, TellsAtMost, history_released, history_ran, HistoriesTellFew, HistoryCallsMultiply}
 use Rattle.mls_lives.proofs.ListLemmas.{joined, long_joined, has_joined, same_place}
 use Rattle.mls_lives.proofs.RanLemmas.{same_ran}
-use Rattle.mls_lives.proofs.ReleasedLemmas.{AreReleased, IsFew, counted_few, few_after, run_releases}
+use Rattle.mls_lives.proofs.ReleasedLemmas.{AreReleased, IsFew, marked, counted_few, few_after, run_releases}
 use Rattle.mls_lives.proofs.LifeLemmas.{agree_between}
 
 -- ---- products
@@ -60,10 +62,10 @@ in_a_row (xs ∷ xss) = xs ++ in_a_row xss
 -- ---- lists of what runs release
 
 module _ (ls : Labels) (schemes : Schemes) (c : ℕ) where
-  abbrev AreAllReleased : List (List Tx) → List (List Item) → Type 0
+  abbrev AreAllReleased : List (List (Bool × Tx)) → List (List Item) → Type 0
   AreAllReleased = AllZip (AreReleased ls schemes c)
 
-  record HistoryFew (txs : List (List Tx)) (count : ℕ) : Type 0 where
+  record HistoryFew (txs : List (List (Bool × Tx))) (count : ℕ) : Type 0 where
     pub lists : List (List (List Item))
     pub few : length lists ≤ count
     pub all : (items : List (List Item)) → AreAllReleased txs items → Contains lists items
@@ -72,7 +74,7 @@ module _ (ls : Labels) (schemes : Schemes) (c : ℕ) where
   none_at [] h = (0, omega arith, refl)
   none_at (x ∷ xs) h = absurd h
 
-  history_few : (txs : List (List Tx)) (counts : List ℕ) → AllZip (IsFew ls schemes c) (in_a_row txs) counts
+  history_few : (txs : List (List (Bool × Tx))) (counts : List ℕ) → AllZip (IsFew ls schemes c) (in_a_row txs) counts
       → HistoryFew txs (product counts)
   unfolding in_a_row
   history_few [] [] h = record { lists = [] ∷ []; few = omega arith; all = none_at }
@@ -99,10 +101,17 @@ module _ (ls : Labels) (schemes : Schemes) (c : ℕ) where
       by_first heads tails f g [] h = absurd h
       by_first heads tails f g (x ∷ xs) h = has_joined ◌∷◌ heads tails x xs (f x h.0) (g xs h.1)
 
--- the transactions that each run has run, as c sees it
-history_txs : ℕ → World → List RunAt → List (List Tx)
+-- the transactions that each run has run, as c sees it, and whether they can tell it something
+history_txs : ℕ → World → List RunAt → List (List (Bool × Tx))
 history_txs c w [] = []
-history_txs c w (r ∷ rs) = all_ran r.site c (run_start w r) r.events ∷ history_txs c (run_end w r) rs
+history_txs c w (r ∷ rs) =
+    map (marked r.site c) (all_ran r.site c (run_start w r) r.events) ∷ history_txs c (run_end w r) rs
+
+-- what each run tells c by releases
+history_told : ℕ → World → List RunAt → List (List Item)
+history_told c w [] = []
+history_told c w (r ∷ rs) =
+    told_to by_releases r.site c (run_start w r) r.events ∷ history_told c (run_end w r) rs
 
 -- a turning leaves the database and the sessions
 start_stored : (P : Database → Type 0) (w : World) (b : Bool) → P w.db → P (cond b (turned w) w).db
@@ -129,14 +138,15 @@ module _ (ls : Labels) (schemes : Schemes) (distinct : AreDistinct ls) (c : ℕ)
     stored_back db h = subst (λ s. secure.AreStored ls s db) under.relations
         (subst (λ l. secure.AreStored l site.schemes db) under.labels h)
 
-    released_back : (txs : List Tx) (items : List Item) → AreReleased (site_labels site) site.schemes c txs items
+    released_back : (txs : List (Bool × Tx)) (items : List Item)
+        → AreReleased (site_labels site) site.schemes c txs items
         → AreReleased ls schemes c txs items
     released_back txs items h = subst (λ s. AreReleased ls s c txs items) under.relations
         (subst (λ l. AreReleased l site.schemes c txs items) under.labels h)
 
-    few_back : (tx : Tx) (n : ℕ) → ReleasesAtMost site c tx n → IsFew ls schemes c tx n
-    few_back tx n h = subst (λ s. IsFew ls s c tx n) under.relations
-        (subst (λ l. IsFew l site.schemes c tx n) under.labels (counted_few site c tx n h))
+    few_back : (ran : Stored) (n : ℕ) → CountsAtMost site c ran n → IsFew ls schemes c (marked site c ran) n
+    few_back ran n h = subst (λ s. IsFew ls s c (marked site c ran) n) under.relations
+        (subst (λ l. IsFew l site.schemes c (marked site c ran) n) under.labels (counted_few site c ran n h))
 
   stored_start : (w : World) (r : RunAt) → secure.AreStored ls schemes w.db
       → secure.AreStored ls schemes (run_start w r).db
@@ -176,6 +186,12 @@ module _ (ls : Labels) (schemes : Schemes) (distinct : AreDistinct ls) (c : ℕ)
   of_sites P (r ∷ rs) [] h k = absurd h
   of_sites P (r ∷ rs) (s ∷ ss) h k = (subst P h.0.site k.0, of_sites P rs ss h.1 k.1)
 
+  head_same : (x y : List Item) (xs ys : List (List Item)) → x ∷ xs ≡ y ∷ ys → x ≡ y
+  head_same x y xs ys e = cc
+
+  tail_same : (x y : List Item) (xs ys : List (List Item)) → x ∷ xs ≡ y ∷ ys → xs ≡ ys
+  tail_same x y xs ys e = cc
+
   release_same : (rs ss : List RunAt) (v w : World) → history_released c v rs ≡ history_released c w ss
       → ReleaseAlike c v w rs ss
   unfolding history_released
@@ -186,17 +202,21 @@ module _ (ls : Labels) (schemes : Schemes) (distinct : AreDistinct ls) (c : ℕ)
     release_same rs ss (run_end v r) (run_end w s)
         (tail_same _ _ _ _ h),
   )
-    where
-      head_same : (x y : List Item) (xs ys : List (List Item)) → x ∷ xs ≡ y ∷ ys → x ≡ y
-      head_same x y xs ys e = cc
 
-      tail_same : (x y : List Item) (xs ys : List (List Item)) → x ∷ xs ≡ y ∷ ys → xs ≡ ys
-      tail_same x y xs ys e = cc
+  told_same : (rs ss : List RunAt) (v w : World) → history_told c v rs ≡ history_told c w ss → ReleaseAlike c v w rs ss
+  unfolding history_told
+  told_same [] ss v w h = tt
+  told_same (r ∷ rs) [] v w h = tt
+  told_same (r ∷ rs) (s ∷ ss) v w h = (
+    inr (head_same _ _ _ _ h),
+    told_same rs ss (run_end v r) (run_end w s)
+        (tail_same _ _ _ _ h),
+  )
 
   module _ (past : Past) (under : IsHistoryUnder ls schemes past.runs) (certified : AllByRecursion
       (λ r. AreCertified r.site) past.runs) where
     between : (one two : Past) → BeginsAs ls schemes c past one → BeginsAs ls schemes c past two
-        → history_released c one.world one.runs ≡ history_released c two.world two.runs
+        → ReleaseAlike c one.world two.world one.runs two.runs
         → HistoriesEndAlike ls c one.world two.world one.runs two.runs
     between one two a b same =
         accepted_histories ls schemes distinct one.world one.runs a.stored
@@ -204,31 +224,33 @@ module _ (ls : Labels) (schemes : Schemes) (distinct : AreDistinct ls) (c : ℕ)
         (of_sites AreCertified past.runs one.runs a.runs certified) c two.world two.runs b.stored b.fits
         (agree_between ls c past.world one.world two.world a.agree b.agree)
         (look_between past.runs one.runs two.runs a.runs b.runs)
-        (release_same one.runs two.runs one.world two.world same)
+        same
 
-    tell_few : (lists : List (List (List Item))) (count : ℕ) → length lists ≤ count
-        → ((other : Past) → BeginsAs ls schemes c past other
-        → Contains lists (history_released c other.world other.runs)) → TellsAtMost ls schemes c past count
-    tell_few lists count long has = record {
+    tell_few : (does : Past → List (List Item))
+        → ((one two : Past) → does one ≡ does two → ReleaseAlike c one.world two.world one.runs two.runs)
+        → (lists : List (List (List Item))) (count : ℕ) → length lists ≤ count
+        → ((other : Past) → BeginsAs ls schemes c past other → Contains lists (does other))
+        → TellsAtMost ls schemes c past count
+    tell_few does same lists count long has = record {
       class = λ other begins. (has other begins).0;
       few = λ other begins. (let within = (has other begins).1 in omega (arith, within, long));
-      alike = λ one two a b one_class. between one two a b (same_place lists _ _ (has one a) (has two b) one_class);
+      alike = λ one two a b one_class. between one two a b
+          (same one two (same_place lists _ _ (has one a) (has two b) one_class));
     }
 
   -- ---- what is run, and what that releases
 
   history_releases : (w : World) (rs : List RunAt) → secure.AreStored ls schemes w.db → IsHistoryUnder ls schemes rs
-      → HistoryFits rs → AllByRecursion (λ r. AreCertified r.site) rs
-      → AreAllReleased ls schemes c (history_txs c w rs) (history_released c w rs)
-  unfolding history_released history_txs
-  history_releases w [] sw under fits certified = tt
-  history_releases w (r ∷ rs) sw under fits certified =
+      → HistoryFits rs → AreAllReleased ls schemes c (history_txs c w rs) (history_told c w rs)
+  unfolding history_told history_txs
+  history_releases w [] sw under fits = tt
+  history_releases w (r ∷ rs) sw under fits =
       let d = distinct_at r.site under.0 in (
-        released_back r.site under.0 (all_ran r.site c (run_start w r) r.events)
-            (released_to r.site c (run_start w r) r.events)
-            (run_releases r.site c d under.0.read (certified_secure r.site d certified.0) (run_start w r) r.events
+        released_back r.site under.0 (map (marked r.site c) (all_ran r.site c (run_start w r) r.events))
+            (told_to by_releases r.site c (run_start w r) r.events)
+            (run_releases r.site c d under.0.read (run_start w r) r.events
             (stored_at r.site under.0 (run_start w r).db (stored_start w r sw)) fits.0),
-        history_releases (run_end w r) rs (stored_end w r under.0 fits.0 sw) under.1 fits.1 certified.1,
+        history_releases (run_end w r) rs (stored_end w r under.0 fits.0 sw) under.1 fits.1,
       )
 
   abbrev SameSessions : World → World → Type 0
@@ -245,26 +267,30 @@ module _ (ls : Labels) (schemes : Schemes) (distinct : AreDistinct ls) (c : ℕ)
   same_txs v w (r ∷ rs) (s ∷ ss) sv sw under fr fs certified h look =
       let d = distinct_at r.site under.0 in
       let fits : EventsFit r.site s.events = subst (λ at. EventsFit at s.events) (sym look.0.site) fs.0 in
-      let first : all_ran r.site c (run_start v r) r.events ≡ all_ran s.site c (run_start w s) s.events
-      = same_ran r.site c d under.0.read (certified_secure r.site d certified.0) r.events s.events (run_start v r)
+      let first : map (marked r.site c) (all_ran r.site c (run_start v r) r.events)
+      ≡ map (marked s.site c) (all_ran s.site c (run_start w s) s.events)
+      = ap (map (marked r.site c)) (same_ran r.site c d under.0.read
+      (certified_secure r.site d certified.0) r.events s.events (run_start v r)
       (run_start w s) fr.0 fits
       (stored_at r.site under.0 (run_start v r).db (stored_start v r sv)) (stored_at r.site under.0 (run_start w s).db
       (stored_start w s sw))
       (λ l n b. start_sessions v r.turns l n ∙ h l n (subst (λ at. below at l c ≡ true) under.0.labels b)
       ∙ sym (start_sessions w s.turns l n))
-      look.0.events
-      ∙ (λ i. all_ran (look.0.site i) c (run_start w s) s.events) in
+      look.0.events)
+      ∙ (λ i. map (marked (look.0.site i) c) (all_ran (look.0.site i) c (run_start w s) s.events)) in
       let rest = same_txs (run_end v r) (run_end w s) rs ss (stored_end v r under.0 fr.0 sv)
       (stored_end w s (subst (IsSiteUnder ls schemes) look.0.site under.0) fs.0 sw)
       under.1 fr.1 fs.1 certified.1 (λ l n b. refl) look.1 in
       λ i. first i ∷ rest i
 
   -- counts of what is run at its site are counts of it
-  each_few : (site : Site) → IsSiteUnder ls schemes site → (txs : List Tx) (rest : List (Site × Tx)) (others : List Tx)
-      → ((counts : List ℕ) → AllZip (λ (run : Site × Tx) n. ReleasesAtMost run.0 c run.1 n) rest counts
+  each_few : (site : Site) → IsSiteUnder ls schemes site → (txs : List Stored) (rest : List (Site × Stored))
+      (others : List (Bool × Tx))
+      → ((counts : List ℕ) → AllZip (λ (run : Site × Stored) n. CountsAtMost run.0 c run.1 n) rest counts
       → AllZip (IsFew ls schemes c) others counts)
-      → (counts : List ℕ) → AllZip (λ (run : Site × Tx) n. ReleasesAtMost run.0 c run.1 n)
-      (map (λ (tx : Tx). (site, tx)) txs ++ rest) counts → AllZip (IsFew ls schemes c) (txs ++ others) counts
+      → (counts : List ℕ) → AllZip (λ (run : Site × Stored) n. CountsAtMost run.0 c run.1 n)
+      (map (λ (s : Stored). (site, s)) txs ++ rest) counts
+      → AllZip (IsFew ls schemes c) (map (marked site c) txs ++ others) counts
   each_few site under [] rest others k counts h = k counts h
   each_few site under (tx ∷ txs) rest others k [] h = absurd h
   each_few site under (tx ∷ txs) rest others k (n ∷ ns) h = (
@@ -273,7 +299,7 @@ module _ (ls : Labels) (schemes : Schemes) (distinct : AreDistinct ls) (c : ℕ)
   )
 
   all_few : (w : World) (rs : List RunAt) → IsHistoryUnder ls schemes rs → (counts : List ℕ)
-      → AllZip (λ (run : Site × Tx) n. ReleasesAtMost run.0 c run.1 n) (history_ran c w rs) counts
+      → AllZip (λ (run : Site × Stored) n. CountsAtMost run.0 c run.1 n) (history_ran c w rs) counts
       → AllZip (IsFew ls schemes c) (in_a_row (history_txs c w rs)) counts
   unfolding history_ran history_txs in_a_row
   all_few w [] under [] h = tt
@@ -286,16 +312,20 @@ module _ (ls : Labels) (schemes : Schemes) (distinct : AreDistinct ls) (c : ℕ)
 
 pub histories_tell : HistoriesTellFew
 histories_tell ls schemes distinct c past under certified lists has =
-    tell_few ls schemes distinct c past under certified lists (length lists) (omega arith) has
+    tell_few ls schemes distinct c past under certified (λ other. history_released c other.world other.runs)
+    (λ one two same. release_same ls schemes distinct c one.runs two.runs one.world two.world same) lists
+    (length lists) (omega arith) has
 
 pub history_calls_multiply : HistoryCallsMultiply
 history_calls_multiply ls schemes distinct c past under certified stored fits counts each =
     let few = history_few ls schemes c (history_txs c past.world past.runs) counts
     (all_few ls schemes distinct c past.world past.runs under counts each) in
-    tell_few ls schemes distinct c past under certified few.lists (product counts) few.few
-    (λ other begins. few.all (history_released c other.world other.runs)
-    (subst (λ txs. AreAllReleased ls schemes c txs (history_released c other.world other.runs))
-    (sym (same_txs ls schemes distinct c past.world other.world past.runs other.runs stored begins.stored under fits begins.fits certified begins.agree.sessions begins.runs))
+    tell_few ls schemes distinct c past under certified (λ other. history_told c other.world other.runs)
+    (λ one two same. told_same ls schemes distinct c one.runs two.runs one.world two.world same) few.lists
+    (product counts) few.few
+    (λ other begins. few.all (history_told c other.world other.runs)
+    (subst (λ txs. AreAllReleased ls schemes c txs (history_told c other.world other.runs))
+    (sym (same_txs ls schemes distinct c past.world other.world past.runs other.runs stored begins.stored under fits
+    begins.fits certified begins.agree.sessions begins.runs))
     (history_releases ls schemes distinct c other.world other.runs begins.stored (of_sites ls schemes distinct c
-    (IsSiteUnder ls schemes) past.runs other.runs begins.runs under) begins.fits
-    (of_sites ls schemes distinct c AreCertified past.runs other.runs begins.runs certified))))
+    (IsSiteUnder ls schemes) past.runs other.runs begins.runs under) begins.fits)))

@@ -1,5 +1,5 @@
 -- What is run in two lives that begin alike to a level, by events that it sees: the same transactions.
-use Rattle.std.proofs.Common.{◌≡◌, ℕ, Bool, true, false, cond, List, [], ◌∷◌, ◌++◌, map, Option, Some, None, Result, Ok, Err, refl, sym, ap, ◌∙◌, subst, inl, inr, ◌⊎◌, filter}
+use Rattle.std.proofs.Common.{◌≡◌, ℕ, Bool, true, false, cond, List, [], ◌∷◌, ◌++◌, Option, Some, None, Result, Ok, Err, refl, sym, ap, ◌∙◌, subst, inl, inr, ◌⊎◌}
 use Rattle.std.proofs.lemmas.Bool.{cases_Bool}
 use Rattle.mls_lattice.specs.Labels.{below, AreDistinct}
 use Rattle.mls_lattice.specs.Policy.{Name}
@@ -22,7 +22,10 @@ use Rattle.mls_machine.specs.declared.reply.Reply.TheVariants.{Opened, Closed, R
 use Rattle.mls_machine.specs.Denying.{first_denial, cleared, user_named, stored_named, view_denials, write_denials, call_denials}
 use Rattle.mls_machine.specs.Machine.{World, Step, unless, call_step, step_inside, open_step, step_outside, step_at, step}
 use Rattle.mls_machine.specs.Observation.{AreStored, EventsFit, AreSecure, shown, glimpse, seen, released_in, reply_shown}
-use Rattle.mls_machine.proofs.CalledLemmas.{all_read, all_safe}
+use Rattle.mls_machine.specs.Telling.{by_ceiling}
+use Rattle.mls_machine.proofs.CalledLemmas.{all_read, all_safe, all_judged}
+use Rattle.mls_machine.proofs.RunLemmas.{secure_judged}
+use Rattle.mls_machine.proofs.ToldLemmas.{sees_next}
 use Rattle.mls_machine.proofs.KeepingLemmas.{step_stored}
 use Rattle.mls_machine.proofs.HiddenLemmas.{hidden_step}
 use Rattle.mls_machine.proofs.CallLemmas.{seen_steps}
@@ -193,12 +196,13 @@ module _ (site : Site) (c : ℕ) where
         let there : World = record { db = v.db; sessions = w.sessions; audit = v.audit } in
         let over = same_step w v.db v.audit x in
         let same : shown site c e.command ≡ shown site c x.command = ap (λ y. y.command) g in
-        elim (seen_steps site distinct c v there sv sv (record {
+        elim (seen_steps by_ceiling site distinct c v there sv sv (record {
           tables = λ r. refl;
           sessions = h;
           entries =
               refl;
-        }) e sees x (all_safe site read secure e.command) g) [
+        }) e sees x (all_safe site read secure e.command)
+        (all_judged by_ceiling site (secure_judged site secure) e.command) g) [
           | inl s ↦ record {
             ran_same = ran_split e.command x.command same _ _ s.0 ∙ sym over.ran_same;
             sessions = λ l n b. split_left v there e x s.0 h l n b ∙ (λ i. sym over.sessions i l n);
@@ -237,15 +241,6 @@ module _ (site : Site) (c : ℕ) where
         → AreStored site (next w e).db
     stored_next w e sw fits = step_stored site distinct w e sw fits (all_read site read e.command)
 
-    sees_next : (e : Event) (es : List Event) (b : Bool) → Sees e b → seen site c (e ∷ es)
-        ≡ cond b (glimpse site c e ∷ seen site c es) (seen site c es)
-    sees_next e es true h = ap (λ x. map (glimpse site c)
-        (cond x (e ∷ filter (λ f. below (site_labels site) f.level c) es)
-        (filter (λ f. below (site_labels site) f.level c) es))) h
-    sees_next e es false h = ap (λ x. map (glimpse site c)
-        (cond x (e ∷ filter (λ f. below (site_labels site) f.level c) es)
-        (filter (λ f. below (site_labels site) f.level c) es))) h
-
     ran_next : (w : World) (e : Event) (es : List Event) (b : Bool) → Sees e b → all_ran site c w (e ∷ es)
         ≡ cond b (ran site c e.command (step site w e).reply) [] ++ all_ran site c (next w e) es
     unfolding all_ran
@@ -276,8 +271,9 @@ module _ (site : Site) (c : ℕ) where
     hidden_rest v w [] fits sw none = refl
     hidden_rest v w (x ∷ fs) fits sw none =
         elim (cases_Bool (below (site_labels site) x.level c)) [
-          | inl b ↦ absurd (not_nil (glimpse site c x) (seen site c fs) (sym (none ∙ sees_next x fs true b)))
-          | inr b ↦ hidden_rest v (next w x) fs fits.1 (stored_next w x sw fits.0) (none ∙ sees_next x fs false b)
+          | inl b ↦ absurd (not_nil (glimpse site c x) (seen site c fs) (sym (none ∙ sees_next site c x fs true b)))
+          | inr b ↦ hidden_rest v (next w x) fs fits.1 (stored_next w x sw fits.0)
+              (none ∙ sees_next site c x fs false b)
               ∙ sym (ran_next w x fs false b)
         ]
 
@@ -292,7 +288,7 @@ module _ (site : Site) (c : ℕ) where
     meet e es claim v fe b sv (x ∷ fs) w gf sw h same =
         elim (cases_Bool (below (site_labels site) x.level c)) [
           | inl q ↦
-              let k = same ∙ sees_next x fs true q in
+              let k = same ∙ sees_next site c x fs true q in
               let g = cons_head (glimpse site c e) (glimpse site c x) (seen site c es) (seen site c fs) k in
               let two = steps_run v w e x sv b h g in
               let rest = claim fs (next v e) (next w x) fe.1 gf.1 (stored_next v e sv fe.0)
@@ -301,7 +297,7 @@ module _ (site : Site) (c : ℕ) where
               ran_next v e es true b ∙ (λ i. two.ran_same i ++ rest i) ∙ sym (ran_next w x fs true q)
           | inr q ↦
               meet e es claim v fe b sv fs (next w x) gf.1 (stored_next w x sw gf.0) (λ l n p. h l n p
-              ∙ still w x sw q l n p) (same ∙ sees_next x fs false q)
+              ∙ still w x sw q l n p) (same ∙ sees_next site c x fs false q)
               ∙ sym (ran_next w x fs false q)
         ]
 
@@ -310,10 +306,10 @@ module _ (site : Site) (c : ℕ) where
     interleaved [] fs v w fe gf sv sw h same = hidden_rest v w fs gf sw same
     interleaved (e ∷ es) fs v w fe gf sv sw h same =
         elim (cases_Bool (below (site_labels site) e.level c)) [
-          | inl b ↦ meet e es (interleaved es) v fe b sv fs w gf sw h (sym (sees_next e es true b) ∙ same)
+          | inl b ↦ meet e es (interleaved es) v fe b sv fs w gf sw h (sym (sees_next site c e es true b) ∙ same)
           | inr b ↦ ran_next v e es false b
               ∙ interleaved es fs (next v e) w fe.1 gf (stored_next v e sv fe.0) sw (λ l n p. sym (still v e sv b l n p)
-              ∙ h l n p) (sym (sees_next e es false b) ∙ same)
+              ∙ h l n p) (sym (sees_next site c e es false b) ∙ same)
         ]
 
     pub same_ran : (es fs : List Event) (v w : World) → EventsFit site es → EventsFit site fs → AreStored site v.db

@@ -3,15 +3,15 @@ use Rattle.std.specs.Prelude.{◌≡◌, ℕ, ◌<◌, List, [], ◌∷◌, ◌+
 use Rattle.std.specs.List.{AllByRecursion, AllZip}
 use Rattle.mls_lattice.specs.Labels.{Labels, AreDistinct}
 use Rattle.mls_scheme.specs.Scheme.{Schemes}
-use Rattle.mls_translang.specs.Tx.{Tx}
 use Rattle.mls_certcheck.specs.Meaning.{Item}
 use Rattle.mls_certcheck.specs.Secure.{AreStored}
+use Rattle.mls_certcheck.specs.declared.stored.Stored.{Stored}
 use Rattle.mls_certcheck.specs.Site.{Site, AreCertified}
 use Rattle.mls_machine.specs.Machine.{World}
 use Rattle.mls_machine.specs.Observation.{AgreeAt, released_to}
 use Rattle.mls_machine.specs.History.{RunAt, run_start, run_end, LookAlike, HistoriesEndAlike, HistoryFits}
 use Rattle.mls_machine.specs.History.{IsHistoryUnder}
-use Rattle.mls_lives.specs.Lives.{all_ran, ReleasesAtMost, product}
+use Rattle.mls_lives.specs.Lives.{all_ran, CountsAtMost, product}
 
 -- runs one after another, from a world
 pub record Past : Type 0 where
@@ -40,10 +40,10 @@ history_released c w (r ∷ rs) =
     released_to r.site c (run_start w r) r.events ∷ history_released c (run_end w r) rs
 
 -- the transactions that are run by events that c sees, each at the site of its run
-unfoldable pub history_ran : ℕ → World → List RunAt → List (Site × Tx)
+unfoldable pub history_ran : ℕ → World → List RunAt → List (Site × Stored)
 history_ran c w [] = []
 history_ran c w (r ∷ rs) =
-    map (λ tx. (r.site, tx)) (all_ran r.site c (run_start w r) r.events) ++ history_ran c (run_end w r) rs
+    map (λ s. (r.site, s)) (all_ran r.site c (run_start w r) r.events) ++ history_ran c (run_end w r) rs
 
 -- ---- laws
 
@@ -61,5 +61,5 @@ HistoryCallsMultiply =
     (ls : Labels) (schemes : Schemes) → AreDistinct ls → (c : ℕ) (past : Past) → IsHistoryUnder ls schemes past.runs
     → AllByRecursion (λ r. AreCertified r.site) past.runs
     → AreStored ls schemes past.world.db → HistoryFits past.runs
-    → (counts : List ℕ) → AllZip (λ run n. ReleasesAtMost run.0 c run.1 n) (history_ran c past.world past.runs) counts
+    → (counts : List ℕ) → AllZip (λ run n. CountsAtMost run.0 c run.1 n) (history_ran c past.world past.runs) counts
     → TellsAtMost ls schemes c past (product counts)

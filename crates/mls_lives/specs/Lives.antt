@@ -1,5 +1,5 @@
 -- How much a level can learn in a life: in a run of events from a world.
-use Rattle.std.specs.Prelude.{◌≡◌, ℕ, ◌*◌, ◌<◌, ◌≤◌, if◌then◌else◌, List, [], ◌∷◌, ◌++◌, length, Option, Some, None}
+use Rattle.std.specs.Prelude.{◌≡◌, ◌⊎◌, false, ℕ, ◌*◌, ◌<◌, ◌≤◌, if◌then◌else◌, List, [], ◌∷◌, ◌++◌, length, Option, Some, None}
 use Rattle.std.specs.Prelude.{Contains}
 use Rattle.std.specs.List.{AllZip}
 use Rattle.mls_lattice.specs.Labels.{AreDistinct, below}
@@ -17,6 +17,7 @@ use Rattle.mls_machine.specs.declared.reply.Reply.{Reply}
 use Rattle.mls_machine.specs.declared.reply.Reply.TheVariants.{Ran}
 use Rattle.mls_machine.specs.Denying.{stored_named}
 use Rattle.mls_machine.specs.Machine.{World, step}
+use Rattle.mls_machine.specs.Telling.{by_releases}
 use Rattle.mls_machine.specs.Observation.{AreStored, EventsFit, AgreeAt, EndAlike, seen, released_to}
 
 -- a run of events from a world
@@ -49,17 +50,17 @@ module _ (site : Site) (c : ℕ) where
   -- ---- calls, one after another
 
   -- what is stored by a name
-  abbrev pub called : Option Stored → List Tx
+  abbrev pub called : Option Stored → List Stored
   called None = []
-  called (Some s) = tx_of s ∷ []
+  called (Some s) = s ∷ []
 
   -- the transaction that a command has run, by its reply: none, where it is no call, or is denied
-  abbrev pub ran : Command → Reply → List Tx
+  abbrev pub ran : Command → Reply → List Stored
   ran (Call name args) (Ran run) = called (stored_named site.stored name)
   ran command reply = []
 
   -- those that are run in a run from w by events that c sees, in order
-  unfoldable pub all_ran : World → List Event → List Tx
+  unfoldable pub all_ran : World → List Event → List Stored
   all_ran w [] = []
   all_ran w (e ∷ es) =
       (if below (site_labels site) e.level c then ran e.command (step site w e).reply else [])
@@ -72,6 +73,10 @@ module _ (site : Site) (c : ℕ) where
     pub lists : List (List Item)
     pub few : length lists ≤ count
     pub all : HasAll site.policy site.schemes tx c told lists
+
+  -- a call counts so many; one that can tell c nothing counts one
+  abbrev pub CountsAtMost : Stored → ℕ → Type 0
+  CountsAtMost s count = ((by_releases site c s ≡ false) × (count ≡ 1)) ⊎ ReleasesAtMost (tx_of s) count
 
 abbrev pub product : List ℕ → ℕ
 product [] = 1
@@ -88,10 +93,10 @@ RunsTellFew =
     → TellsAtMost site c life (length lists)
 
 -- and at most the product of the numbers of lists that the calls can release to it which it sees done, one after
--- another
+-- another; a call that can tell it nothing counts one
 abbrev pub CallsMultiply : Type 0
 CallsMultiply =
     (site : Site) → AreDistinct (site_labels site) → AreRead site → AreCertified site
     → (c : ℕ) (life : Life) → AreStored site life.world.db → EventsFit site life.events
-    → (counts : List ℕ) → AllZip (ReleasesAtMost site c) (all_ran site c life.world life.events) counts
+    → (counts : List ℕ) → AllZip (CountsAtMost site c) (all_ran site c life.world life.events) counts
     → TellsAtMost site c life (product counts)

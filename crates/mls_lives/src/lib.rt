@@ -11,7 +11,7 @@ ghost use Rattle.mls_lives.specs.Upward.{ClassNumbersAreGreatest, DumpsComeUpwar
 
 /// In a life a level tells apart at most as many classes of worlds, and of what is done unseen, as there are lists of
 /// items that can be released to it; and at most the product of the numbers of lists that the calls can release to it
-/// which it sees done: of each call the number that `ranges_of` counts.
+/// which it sees done: of each call the number that `ranges_of` counts, and one where it can tell the level nothing.
 pub fn lives_tell_few()
     ensures runs { RunsTellFew }
     ensures calls { CallsMultiply }

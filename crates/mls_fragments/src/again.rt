@@ -10,8 +10,10 @@ ghost use Rattle.sqlite.specs.WalReads.{AreClean};
 ghost use Rattle.mls_scheme.specs.Scheme.{AreUnder};
 ghost use Rattle.mls_audit.specs.Sound.{IsSoundContent};
 ghost use Rattle.mls_tables.specs.Store.{IsClean};
+ghost use Rattle.mls_tables.specs.declared.rows.MetaRow.{MetaRow};
 ghost use Rattle.mls_fragments.specs.Again.{AreLetGo, AreRefused, AreUnclosed, FindsHoldings, IsBaseKept};
-ghost use Rattle.mls_fragments.specs.Based.{IsBaseOf, state_of};
+ghost use Rattle.mls_fragments.specs.Based.{HasRow, IsBaseOf, state_of};
+ghost use Rattle.mls_fragments.specs.Holdings.{HasHoldings, holdings_of};
 
 use crate::base::SqlBase;
 use crate::connecting::{connected, fault_of};
@@ -32,6 +34,25 @@ fn is_settled<S: Alter>(conn: &Connection<S>) -> bool
     // for what it says of the database
     let _schema = conn.schema();
     conn.is_autocommit()
+}
+
+/// The connection of a base outside a change: it has committed all that it shows. One generic function takes the base,
+/// since each that is called over files costs its caller as much proof as all of this.
+fn settled_connection<S: Alter>(base: SqlBase<S>) -> Connection<S>
+    requires begun { (state_of base).begun ≡ false }
+    ensures clean { HasCleanDisk (state S.Store result) → IsClean base.tables }
+    ensures row { IsClean base.tables → (row : MetaRow) × HasRow base row }
+    ensures held { HasCleanDisk (state S.Store result) → IsTrue (state S.Store result).is_open
+        → (row : MetaRow) → HasRow base row
+        → HasHoldings (state S.Store result).now (holdings_of row (state_of base).now) }
+    ensures settled { HasCleanDisk (state S.Store result) → IsTrue (state S.Store result).is_open
+        → (state S.Store result).now ≡ (state S.Store result).committed }
+    ensures sound { IsTrue (state S.Store result).is_open → IsDatabase (state S.Store result).now }
+{
+    let conn = base.into_connection();
+    // for what it says of the last commit
+    let _settled = is_settled(&conn);
+    conn
 }
 
 /// Gives the files of a store back, which has committed nothing more.
@@ -95,10 +116,7 @@ impl<D: Disk + Drop> SqlBase<FileStore<D>> {
         ensures unclosed { IfErr result (λ e. AreUnclosed D.Disk self e.1) }
         ensures fault { IfErr result (λ e. (e.0 ≡ OpenFault.Store) ⊎ (e.0 ≡ OpenFault.Memory)) }
     {
-        let conn = self.into_connection();
-        // for what it says of the last commit
-        let _settled = is_settled(&conn);
-        match files_closed(conn) {
+        match files_closed(settled_connection(self)) {
             Ok(files) => Ok(files),
             Err(refused) => Err(refused),
         }

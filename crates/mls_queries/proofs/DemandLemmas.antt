@@ -2,7 +2,10 @@
 use Rattle.std.proofs.Common.{◌≡◌, ℕ, suc, ◌+◌, ◌-◌, ◌<◌, List, [], ◌∷◌, ◌++◌, Some, refl, sym, ap, ◌∙◌, arith, append-nil}
 use Rattle.mls_scheme.specs.declared.value.Value.{Value}
 use Rattle.mls_translang.specs.Tree.{Expr}
-use Rattle.mls_queries.specs.Demanded.{demanded, put_first, demanded_from}
+use Rattle.mls_scheme.specs.Spelling.{IsSpelledKey}
+use Rattle.mls_queries.specs.Demanded.{IsDemanded}
+use Rattle.mls_queries.specs.Equated.{demanded}
+use Rattle.mls_queries.proofs.KeyLemmas.{put_first, demanded_from, key_demanded}
 
 -- the values that a condition demands of attributes from a on stand behind these
 pub record Demands (e : Expr) (n a : ℕ) (key : List Value) : Type 0 where
@@ -23,7 +26,16 @@ demands_more e n a v key l d h = record {
       ∙ ap Some (append_one key vs v);
 }
 
-pub demands_all : (e : Expr) (n : ℕ) (key : List Value) → Demands e n n key → demanded_from 0 n e ≡ Some key
+demands_all : (e : Expr) (n : ℕ) (key : List Value) → Demands e n n key → demanded_from 0 n e ≡ Some key
 demands_all e n key h =
     let none : n - n ≡ 0 = omega arith in
     h.way [] (ap (λ m. demanded_from n m e) none) ∙ ap Some (append-nil key)
+
+-- so it holds of tuples of no other key
+pub is_demanded : (e : Expr) (n : ℕ) (key : List Value) → IsSpelledKey key → Demands e n n key
+    → IsDemanded n (Some e) key
+is_demanded e n key spelled h = record {
+  spelled = spelled;
+  alone =
+      λ t long passed. key_demanded t e key passed (ap (λ m. demanded_from 0 m e) long ∙ demands_all e n key h);
+}

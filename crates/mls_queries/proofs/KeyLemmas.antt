@@ -1,5 +1,5 @@
 -- The tuples of one key, and the key that a condition demands.
-use Rattle.std.proofs.Common.{◌≡◌, ℕ, suc, true, false, cond, ◌-◌, List, [], ◌∷◌, ◌++◌, length, map, Option, Some, None, refl, sym, ap, ◌∙◌, subst, arith, eqb-true, nat_eq, nat_lt, slice_index_or, filter, true≢false, lt-ltb, length-append}
+use Rattle.std.proofs.Common.{◌≡◌, ℕ, zero, suc, true, false, cond, ◌-◌, List, [], ◌∷◌, ◌++◌, length, map, Option, Some, None, refl, sym, ap, ◌∙◌, subst, arith, eqb-true, nat_eq, nat_lt, slice_index_or, filter, true≢false, lt-ltb, length-append}
 use Rattle.std.specs.Prelude.{⊤}
 use Rattle.std.proofs.lemmas.Bool.{and_parts}
 use Rattle.std.proofs.lemmas.Option.{none-some, same_Some}
@@ -15,7 +15,8 @@ use Rattle.mls_translang.specs.Tree.{Expr, Known, Field, Op}
 use Rattle.mls_translang.specs.Expressions.{eval, same, cell_of, value_in}
 use Rattle.mls_queries.specs.Query.{passes, is_key, reading}
 use Rattle.mls_filterview.proofs.MendLemmas.{rows_of_those}
-use Rattle.mls_queries.specs.Demanded.{either, is_field, value_known, equated, demanded, put_first, demanded_from, of_key}
+use Rattle.mls_queries.specs.Demanded.{of_key}
+use Rattle.mls_queries.specs.Equated.{either, is_field, value_known, equated, demanded}
 
 -- ---- the tuples of one key
 
@@ -25,6 +26,15 @@ pub rows_of_key : (ls : Labels) (c : ℕ) (key : List Value) (T : Table) → row
 rows_of_key ls c key T = rows_of_those ls c (λ values key_class. is_key values key) T
 
 -- ---- the key that a condition demands
+
+abbrev pub put_first : Option Value → Option (List Value) → Option (List Value)
+put_first (Some v) (Some vs) = Some (v ∷ vs)
+put_first _ _ = None
+
+-- those of n attributes from k on, where it says all of them
+abbrev pub demanded_from : ℕ → ℕ → Expr → Option (List Value)
+demanded_from k zero e = Some []
+demanded_from k (suc n) e = put_first (demanded k e) (demanded_from (suc k) n e)
 
 module _ (t : Tuple) where
   field_reads : (i : ℕ) (e : Expr) → is_field i e ≡ true → value_in (reading t) e ≡ cell_of t i

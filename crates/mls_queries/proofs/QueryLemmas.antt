@@ -1,24 +1,22 @@
 -- What queries find depends on the view alone, and the key that a condition demands can be looked up.
-use Rattle.std.proofs.Common.{◌≡◌, ℕ, Bool, true, false, List, [], ◌∷◌, length, Some, refl, sym, ap, ◌∙◌, not, filter, true≢false}
+use Rattle.std.proofs.Common.{◌≡◌, Bool, true, false, List, refl, sym, ap, ◌∙◌, not, filter, true≢false}
 use Rattle.std.specs.List.{AllByRecursion}
 use Rattle.std.proofs.lemmas.Bool.{and_parts, not-true, not_from_false}
 use Rattle.mls_lattice.specs.Labels.{Labels}
 use Rattle.mls_scheme.specs.declared.value.Value.{Value}
 use Rattle.mls_scheme.specs.declared.tuple.Tuple.{Tuple}
 use Rattle.mls_scheme.specs.Table.{IsIn}
-use Rattle.mls_translang.specs.Tree.{Expr}
 use Rattle.mls_filterview.specs.View.{View, rows, IsAmong}
 use Rattle.mls_filterview.proofs.LowLemmas.{rows_under}
 use Rattle.mls_filterview.proofs.LevelLemmas.{low_from_views}
 use Rattle.mls_filterview.proofs.RowLemmas.{rows_are_the_view}
-use Rattle.mls_filterview.proofs.AmongLemmas.{among_filter, filter_among, none_of, all_none}
-use Rattle.mls_queries.specs.Query.{passes, meets, has_class, is_key, is_above, highest_of, first_of, found}
+use Rattle.mls_filterview.proofs.AmongLemmas.{among_filter, filter_among, each_among, none_of, all_none}
+use Rattle.mls_queries.specs.Query.{meets, has_class, is_key, is_above, highest_of, first_of, found}
 use Rattle.mls_queries.specs.Places.{is_top}
-use Rattle.mls_queries.specs.Demanded.{demanded_from, of_key}
 use Rattle.mls_queries.specs.Laws.{QueriesUseTheView, RowsThatPassAreOfTheView, KeysAreLookedUp, IsAskedFor, for_all}
 use Rattle.mls_queries.proofs.PlaceLemmas.{all_filter}
-use Rattle.mls_queries.proofs.TopLemmas.{own_key, same_key}
-use Rattle.mls_queries.proofs.KeyLemmas.{rows_of_key, key_demanded}
+use Rattle.mls_queries.proofs.TopLemmas.{key_same, same_key}
+use Rattle.mls_queries.proofs.KeyLemmas.{rows_of_key}
 use Rattle.mls_filterview.proofs.FilteredLemmas.{within_filter, any_filter, filter_where}
 
 pub queries_use_the_view : QueriesUseTheView
@@ -83,41 +81,25 @@ highest_of_key ls key true ts =
     (same_key s.key t.key (and_parts _ _ a).0) ∙ h) ts)) ts
 highest_of_key ls key false ts = refl
 
-module _ (count : ℕ) (test : Expr) (key : List Value) (demands : demanded_from 0 count test ≡ Some key) where
-  abbrev HasLength : Tuple → Type 0
-  HasLength t = length t.key ≡ count
-
-  has_key : (t : Tuple) → HasLength t → passes test t ≡ true → is_key t.key key ≡ true
-  has_key t l p = ap (λ k. is_key k key) (key_demanded t test key p (ap (λ n. demanded_from 0 n test) l ∙ demands))
-      ∙ own_key key
-
-  have_keys : (ts : List Tuple) → AllByRecursion HasLength ts → AllByRecursion (λ t. passes test t ≡ true
-      → is_key t.key key ≡ true) ts
-  have_keys [] h = tt
-  have_keys (t ∷ ts) h = (has_key t h.0, have_keys ts h.1)
-
-  highest_lengths : (ls : Labels) (b : Bool) (ts : List Tuple) → AllByRecursion HasLength ts
-      → AllByRecursion HasLength (highest_of ls b ts)
-  highest_lengths ls true ts h = all_filter HasLength (is_top ls ts) ts h
-  highest_lengths ls false ts h = h
-
-  pub found_by_key : (ls : Labels) (b : Bool) (class : Tuple → Bool) (ts : List Tuple) → AllByRecursion HasLength ts
-      → filter (passes test) (filter class (highest_of ls b (filter (λ t. is_key t.key key) ts))) ≡ filter (passes test)
-      (filter class (highest_of ls b ts))
-  found_by_key ls b class ts h =
-      let seen = highest_of ls b ts in
-      ap (λ xs. filter (passes test) (filter class xs)) (highest_of_key ls key b ts)
-      ∙ ap (filter (passes test)) (within_filter (λ t. is_key t.key key) class class (λ t e. refl) seen)
-      ∙ filter_where (passes test) (λ t. is_key t.key key) (filter class seen) (have_keys (filter class seen)
-      (all_filter HasLength class seen (highest_lengths ls b ts h)))
+-- what holds of rows holds of the highest of them
+each_highest : (P : Tuple → Type 0) (ls : Labels) (b : Bool) (ts : List Tuple) → AllByRecursion P ts
+    → AllByRecursion P (highest_of ls b ts)
+each_highest P ls true ts h = all_filter P (is_top ls ts) ts h
+each_highest P ls false ts h = h
 
 pub keys_are_looked_up : KeysAreLookedUp
-keys_are_looked_up ls T c count q test key e demands lengths =
-    ap (λ o. first_of q.first (filter (meets o) (filter (has_class ls q.class)
-    (highest_of ls q.highest (rows ls c T))))) e
-    ∙ ap (first_of q.first) (sym (found_by_key count test key demands ls q.highest (has_class ls q.class)
-    (rows ls c T) lengths))
-    ∙ ap (λ ts. first_of q.first (filter (passes test) (filter (has_class ls q.class) (highest_of ls q.highest ts))))
-    (sym (rows_of_key ls c key T))
-    ∙ sym (ap (λ o. first_of q.first (filter (meets o) (filter (has_class ls q.class)
-    (highest_of ls q.highest (rows ls c (of_key key T)))))) e)
+keys_are_looked_up ls T c q key alone =
+    let ts = rows ls c T in
+    let has_key : Tuple → Bool = λ t. is_key t.key key in
+    let class = has_class ls q.class in
+    let test = meets q.test in
+    let seen = highest_of ls q.highest ts in
+    let each : AllByRecursion (λ t. test t ≡ true → has_key t ≡ true) ts =
+    each_among _ ts (λ t i h. key_same t.key key (alone t i h)) in
+    let those : filter test (filter class (highest_of ls q.highest (filter has_key ts)))
+    ≡ filter test (filter class seen)
+    = ap (λ xs. filter test (filter class xs)) (highest_of_key ls key q.highest ts)
+    ∙ ap (filter test) (within_filter has_key class class (λ t e. refl) seen)
+    ∙ filter_where test has_key (filter class seen) (all_filter _ class seen (each_highest _ ls q.highest ts each)) in
+    sym (ap (first_of q.first) those)
+    ∙ ap (λ xs. first_of q.first (filter test (filter class (highest_of ls q.highest xs)))) (sym (rows_of_key ls c key T))

@@ -1,16 +1,14 @@
 -- The laws of queries.
-use Rattle.std.specs.Prelude.{◌≡◌, ℕ, true, false, List, length, Some, None, ◌↔◌}
-use Rattle.std.specs.List.{AllByRecursion}
+use Rattle.std.specs.Prelude.{◌≡◌, ℕ, true, false, List, None, ◌↔◌}
 use Rattle.mls_lattice.specs.Labels.{Labels, below, AreDistinct}
 use Rattle.mls_scheme.specs.declared.value.Value.{Value}
 use Rattle.mls_scheme.specs.declared.tuple.Tuple.{Tuple}
 use Rattle.mls_scheme.specs.Table.{Table, IsIn}
-use Rattle.mls_translang.specs.Tree.{Expr}
 use Rattle.mls_filterview.specs.View.{View, rows, IsAmong}
 use Rattle.mls_filterview.specs.Stored.{IsStored}
 use Rattle.mls_translang.specs.declared.query.Query.{Query}
 use Rattle.mls_queries.specs.Query.{is_above, has_class, meets, first_of, found}
-use Rattle.mls_queries.specs.Demanded.{demanded_from, of_key}
+use Rattle.mls_queries.specs.Demanded.{of_key}
 
 -- what a query finds at a level depends on the view there alone
 abbrev pub QueriesUseTheView : Type 0
@@ -38,10 +36,9 @@ RowsThatPassAreOfTheView =
     → ((t : Tuple) → IsAmong t (found ls (for_all q) (rows ls c T)) ↔ IsAskedFor ls q (View ls (IsIn T) c) t)
     × (found ls q (rows ls c T) ≡ first_of q.first (found ls (for_all q) (rows ls c T)))
 
--- what a query finds whose condition demands a whole key is found among the tuples of that key
+-- what a query finds whose condition holds of rows of one key alone is found among the tuples of that key
 abbrev pub KeysAreLookedUp : Type 0
 KeysAreLookedUp =
-    (ls : Labels) (T : Table) (c count : ℕ) (q : Query) (test : Expr) (key : List Value)
-    → q.test ≡ Some test → demanded_from 0 count test ≡ Some key
-    → AllByRecursion (λ t. length t.key ≡ count) (rows ls c T)
+    (ls : Labels) (T : Table) (c : ℕ) (q : Query) (key : List Value)
+    → ((t : Tuple) → IsAmong t (rows ls c T) → meets q.test t ≡ true → t.key ≡ key)
     → found ls q (rows ls c T) ≡ found ls q (rows ls c (of_key key T))

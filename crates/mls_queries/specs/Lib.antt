@@ -3,6 +3,7 @@ pub mod Data
 pub mod Query
 pub mod Places
 pub mod Demanded
+pub mod Equated
 pub mod Parts
 pub mod Finding
 pub mod Laws

@@ -1,8 +1,7 @@
 //! The key that a condition demands.
 ghost use Rattle.std.specs.Prelude.{◌≡◌, Some, length, IfOk, IfSome, option_copied};
-ghost use Rattle.mls_scheme.specs.Spelling.{IsSpelledKey};
-ghost use Rattle.mls_queries.specs.Demanded.{either, is_field, value_known, equated, demanded, demanded_from};
-ghost use Rattle.mls_queries.specs.Demanded.{demanded_by};
+ghost use Rattle.mls_queries.specs.Demanded.{IsDemanded};
+ghost use Rattle.mls_queries.specs.Equated.{either, is_field, value_known, equated, demanded};
 
 use mls_lattice::Items;
 use mls_scheme::{Scheme, Value};
@@ -70,14 +69,13 @@ fn demanded(attribute: u8, test: &Expr) -> Option<&Value>
 }
 
 /// The key that a condition demands: where it says each value of a key, of its attribute's kind.
-#[tactic(auto, using(crate::proofs::DemandLemmas::demands_more, crate::proofs::DemandLemmas::demands_all))]
+#[tactic(auto, using(crate::proofs::DemandLemmas::is_demanded))]
 fn whole_key(
     alloc: Global,
     scheme: &Scheme,
     test: &Expr,
 ) -> Result<Option<Items<Value>>, AllocError>
-    ensures key { IfOk result (λ o. IfSome o (λ key. demanded_from 0 (length scheme.now.keys) test.now ≡ Some key)) }
-    ensures spelled { IfOk result (λ o. IfSome o IsSpelledKey) }
+    ensures { IfOk result (λ o. IfSome o (IsDemanded (length scheme.now.keys) (Some test.now))) }
 {
     let attributes = scheme.keys();
     let mut key = Vec::new(alloc);
@@ -99,9 +97,7 @@ pub(crate) fn demanded_key(
     scheme: &Scheme,
     query: &Query,
 ) -> Result<Option<Items<Value>>, AllocError>
-    ensures key { IfOk result (λ o. IfSome o
-        (λ key. demanded_by (length scheme.now.keys) query.now.test ≡ Some key)) }
-    ensures spelled { IfOk result (λ o. IfSome o IsSpelledKey) }
+    ensures { IfOk result (λ o. IfSome o (IsDemanded (length scheme.now.keys) query.now.test)) }
 {
     match &query.test {
         Some(test) => whole_key(alloc, scheme, test),

@@ -11,7 +11,7 @@ pub fn rows_that_pass_are_of_the_view()
     ensures { RowsThatPassAreOfTheView }
 {}
 
-/// What a query finds whose condition demands a whole key is found among the tuples of that key.
+/// What a query finds whose condition holds of rows of one key alone is found among the tuples of that key.
 pub fn keys_are_looked_up()
     ensures { KeysAreLookedUp }
 {}

@@ -2,7 +2,7 @@ use Rattle.std.proofs.Common.{◌≡◌, ◌+◌, ◌<◌, ◌++◌, [], ◌∷�
 use Rattle.std.specs.List.{AllByRecursion}
 use Rattle.mls_scheme.specs.Spelling.{HasSpelling}
 use Rattle.mls_scheme.proofs.KindLemmas.{kind-spelled}
-use Rattle.mls_queries.specs.Demanded.{demanded}
+use Rattle.mls_queries.specs.Equated.{demanded}
 use Rattle.mls_lattice.proofs.EachLemmas.{all_append}
 use Rattle.mls_queries.proofs.DemandLemmas.{Demands, demands_more}
 use Rattle.mls_queries.proofs.demand.whole_key.Goals as goal

@@ -30,4 +30,4 @@ returns-clause-rows g c = λ clean.
     ≡ found ls c.args.query.now view)) c.in_ok-found.ensures.value c.select.ensures by_key
     ∙ ap (found ls c.args.query.now) seen
     ∙ looked_up ls c.args.scheme.now T (c.requires.content
-    (c.in_ok-tuples.ensures.read.call.clean before)) c.args.label c.args.query.now c.args.key c.requires.demanded.demanded
+    (c.in_ok-tuples.ensures.read.call.clean before)) c.args.label c.args.query.now c.args.key c.requires.demanded

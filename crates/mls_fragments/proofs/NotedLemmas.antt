@@ -1,5 +1,5 @@
 -- What is noted of the rows stays so where they and the note change alike.
-use Rattle.std.proofs.Common.{◌≡◌, ℕ, ◌<◌, pos, ◌+ℤ◌, ◌+◌, true, cond, List, [], ◌∷◌, map, length, Option, None, refl, sym, ap, subst, ◌∙◌, true≢false, IfSome, length-append}
+use Rattle.std.proofs.Common.{◌≡◌, ℕ, ◌<◌, pos, ◌+ℤ◌, ◌+◌, true, cond, List, [], ◌∷◌, map, length, Option, Some, None, refl, sym, ap, subst, ◌∙◌, true≢false, IfSome, length-append}
 use Rattle.std.specs.List.{AllByRecursion}
 use Rattle.std.specs.FinMap.{get, insert}
 use Rattle.mls_lattice.specs.Version.{version_number}
@@ -10,16 +10,17 @@ use Rattle.mls_scheme.specs.declared.place.Place.{Place}
 use Rattle.mls_scheme.specs.Spelling.{HasSpelling, IsSpelledKey}
 use Rattle.mls_filterview.specs.declared.fragment.Node.{Node}
 use Rattle.mls_filterview.specs.declared.fragment.Cell.{Cell}
-use Rattle.mls_filterview.specs.Content.{Content, with_table, with_relation}
+use Rattle.mls_filterview.specs.Content.{About, Content, with_table, with_relation}
 use Rattle.mls_filterview.specs.Fragment.{place_of_node, IsMadeOf, IsCellOf, HasCell, IsAlone}
 use Rattle.mls_filterview.proofs.MadeLemmas.{elements_made}
+use Rattle.mls_tables.specs.declared.rows.MetaRow.{MetaRow}
 use Rattle.mls_tables.specs.Rows.{Tables, described}
 use Rattle.mls_tables.specs.Statements.{SetsCell, AddsEntry, ClearsEntries}
 use Rattle.mls_tables.specs.Store.{TableState, IsClean}
 use Rattle.mls_fragments.specs.declared.noted.Noted.{Noted}
 use Rattle.mls_rows.specs.Changes.{Change, Entries, found, content_of}
 use Rattle.mls_rows.specs.Changes.Change.{Finds, Adds, Sets, Drops, Appends, Clears}
-use Rattle.mls_fragments.specs.Based.{IsNoted, IsBased, base_state, state_with, state_of}
+use Rattle.mls_fragments.specs.Based.{IsNoted, IsBased, KeepsRow, about_of, base_state, state_with, state_of}
 use Rattle.mls_rows.specs.Finding.{HasByteClasses, AreReadable}
 use Rattle.mls_fragments.specs.Holdings.{HaveOneMeta}
 use Rattle.mls_fragments.proofs.HoldingsLemmas.{meta_made}
@@ -40,6 +41,31 @@ based_on t u here new last based clean mode kept noted = record {
   number = λ e. absurd (true≢false (sym mode ∙ e));
   row = λ h. (noted h (based.now (clean h))).1 ∙ based.row (clean h) ∙ sym (ap (λ (x : Tables). x.meta) (kept h));
 }
+
+-- of rows that callers see the same of
+row_seen : MetaRow → List About → MetaRow
+row_seen other [] = other
+row_seen other (a ∷ rest) =
+    record { id = a.number; version = a.version; lattice = a.lattice; schemes = a.schemes }
+
+seen_once : (m n : MetaRow) → about_of (m ∷ []) ≡ about_of (n ∷ []) → m ≡ n
+unfolding row_seen
+seen_once m n same = ap (row_seen m) same
+
+-- the row that describes a base stays where callers see the same of it
+pub row_stays : (t u : TableState) (here last new after : Noted) → IsBased t here last → IsBased u new after
+    → KeepsRow (base_state t here last) (base_state u new after)
+row_stays t u here last new after was base clean clean' same row has =
+    let noted = base.now clean' in
+    let before : t.kept.meta ≡ has.described.row ∷ [] = sym (was.row clean) ∙ has.described.one in
+    let behind : u.kept.meta ≡ noted.meta.row ∷ [] = sym (base.row clean') ∙ noted.meta.one in
+    let is : noted.meta.row ≡ has.described.row =
+    seen_once noted.meta.row has.described.row (sym (ap about_of behind) ∙ same ∙ ap about_of before) in
+    record {
+      described = noted.meta;
+      meta = has.meta ∙ ap Some (sym is);
+      holds = noted.holds;
+    }
 
 -- each row of a base can be read
 pub readable : (t : TableState) (here last : Noted) → IsBased t here last → IsClean t → AreReadable t.now

@@ -73,6 +73,13 @@ pub record IsBased (t : TableState) (here last : Noted) : Type 0 where
 abbrev pub HasRow : BaseState → MetaRow → Type 0
 HasRow b row = HaveHoldings b.tables.now (holdings_of row (state_of b).now)
 
+-- the row that describes a base describes a later one, of which callers see the same
+abbrev pub KeepsRow : BaseState → BaseState → Type 0
+KeepsRow was base =
+    IsClean was.tables → IsClean base.tables
+    → about_of base.tables.kept.meta ≡ about_of was.tables.kept.meta
+    → (row : MetaRow) → HasRow was row → HasRow base row
+
 -- a base over a store: what the store had, what is taken of it, and that the base's tables have that
 pub record IsBaseOf (Had : Holdings → Type 0) (policy : Policy) (file : SchemesFile) (b : BaseState) : Type 0 where
   pub had : Holdings

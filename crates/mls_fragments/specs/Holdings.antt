@@ -29,7 +29,7 @@ holdings_of row c = record { meta = Some row; content = c }
 
 -- ---- who has them
 
--- One row describes the store, of version 1 or 2. A base tells nothing of it, so a host says that the store
+-- One row describes the store, of version 1 or 2. Callers of a base see which; a host says that the store
 -- keeps some row with what a run leaves.
 pub record HaveOneMeta (t : Tables) : Type 0 where
   pub row : MetaRow

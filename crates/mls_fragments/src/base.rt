@@ -9,7 +9,7 @@ ghost use Rattle.mls_tables.specs.declared.rows.MetaRow.{MetaRow};
 ghost use Rattle.mls_tables.specs.Rows.{described, tables_of};
 ghost use Rattle.mls_tables.specs.Statements.{IsSchemaReady};
 ghost use Rattle.mls_tables.specs.Store.{IsClean};
-ghost use Rattle.mls_fragments.specs.Based.{HasRow, IsNoted, state_of};
+ghost use Rattle.mls_fragments.specs.Based.{HasRow, IsNoted, KeepsRow, state_of};
 ghost use Rattle.mls_rows.specs.Changes.{content_of};
 ghost use Rattle.mls_rows.specs.Holding.{Holds};
 ghost use Rattle.mls_fragments.specs.Holdings.{HasHoldings, holdings_of};
@@ -85,6 +85,15 @@ impl<S: Alter> SqlBase<S> {
             now: found,
             kept,
         }
+    }
+
+    /// The row that describes a base stays where callers see the same of it, as they do behind every call.
+    pub fn keeps_row(&self, was: &SqlBase<S>)
+        ensures { KeepsRow was.entry.now self.entry.now }
+    {
+        // for what holds of both
+        let _store = &self.store;
+        let _store_before = &was.store;
     }
 
     /// The connection: where it is open, its tables have what the base's tables have.

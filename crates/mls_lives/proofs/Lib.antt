@@ -1,6 +1,7 @@
 pub mod ListLemmas
 pub mod RanLemmas
 pub mod ReleasedLemmas
+pub mod ReleasingLemmas
 pub mod LifeLemmas
 pub mod HistoryLemmas
 pub mod UpwardLemmas

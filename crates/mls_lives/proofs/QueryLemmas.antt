@@ -1,20 +1,17 @@
 -- What queries find of the rows of a view.
 use Rattle.std.proofs.Common.{◌≡◌, ℕ, zero, suc, ◌<◌, Bool, true, false, cond, not, ◌||◌, List, [], ◌∷◌, length, take, Option, Some, None, refl, sym, ap, ◌∙◌, inl, inr, arith, filter, true≢false}
-use Rattle.std.specs.List.{AllByRecursion, list_any}
+use Rattle.std.specs.List.{list_any}
 use Rattle.std.proofs.lemmas.Bool.{cases_Bool, and_parts, and_from, false_from_ne_true}
 use Rattle.mls_lattice.specs.Labels.{Labels}
 use Rattle.mls_lattice.specs.Lattice.{◌⊑◌, Dominates}
 use Rattle.mls_lattice.proofs.LatticeLemmas.{⊑-Dominates, Dominates-⊑, Dominates-refl, Dominates-trans}
-use Rattle.mls_scheme.specs.declared.value.Value.{Value}
 use Rattle.mls_scheme.specs.declared.tuple.Tuple.{Tuple}
 use Rattle.mls_scheme.specs.Tuple.{tuple_class}
 use Rattle.mls_filterview.specs.View.{rows, IsAmong}
 use Rattle.mls_filterview.proofs.AmongLemmas.{filter_among}
-use Rattle.mls_filterview.proofs.FilteredLemmas.{within_filter, any_filter, filter_where}
 use Rattle.mls_queries.specs.Query.{is_key, is_above, tops, highest_of, has_class, meets, first_of}
-use Rattle.mls_queries.proofs.KeyLemmas.{rows_of_key}
 use Rattle.mls_queries.proofs.TopLemmas.{same_key, key_same}
-use Rattle.mls_lives.specs.Queries.{IsSublist, FoundAreRowsInOrder, CountsAreLengths, HighestKeepEachKey, OneKeyIsEnough}
+use Rattle.mls_lives.specs.Queries.{IsSublist, FoundAreRowsInOrder, CountsAreLengths, HighestKeepEachKey}
 use Rattle.mls_lives.proofs.UpwardLemmas.{filter_less}
 
 -- ---- order
@@ -154,51 +151,3 @@ module _ (ls : Labels) where
 
 pub highest_keep : HighestKeepEachKey
 highest_keep ls ts t i = top_within ls (suc (length (filter (λ s. is_above ls s t) ts))) ts t i (omega arith)
-
--- ---- one key
-
-highest_of_key : (ls : Labels) (key : List Value) (b : Bool) (ts : List Tuple)
-    → highest_of ls b (filter (λ t. is_key t.key key) ts) ≡ filter (λ t. is_key t.key key) (highest_of ls b ts)
-highest_of_key ls key true ts =
-    within_filter (λ t. is_key t.key key) (λ t. not (list_any (λ s. is_above ls s t)
-    (filter (λ t. is_key t.key key) ts))) (λ t. not (list_any (λ s. is_above ls s t) ts))
-    (λ t h. ap not (any_filter (λ s. is_key s.key key) (λ s. is_above ls s t) (λ s a. ap (λ k. is_key k key)
-    (above_key ls s t a) ∙ h) ts)) ts
-highest_of_key ls key false ts = refl
-
--- what holds of the rows holds of those that a filter leaves
-each_filter : (P : Tuple → Type 0) (p : Tuple → Bool) (ts : List Tuple) → AllByRecursion P ts
-    → AllByRecursion P (filter p ts)
-each_filter P p [] h = tt
-each_filter P p (t ∷ ts) h = elim (p t) as (λ b. AllByRecursion P (cond b (t ∷ filter p ts) (filter p ts))) [
-  | true ↦
-      (h.0, each_filter P p ts h.1)
-  | false ↦ each_filter P p ts h.1
-]
-
-each_highest : (P : Tuple → Type 0) (ls : Labels) (b : Bool) (ts : List Tuple) → AllByRecursion P ts
-    → AllByRecursion P (highest_of ls b ts)
-each_highest P ls true ts h = each_filter P (λ t. not (list_any (λ s. is_above ls s t) ts)) ts h
-each_highest P ls false ts h = h
-
-each_row : (P : Tuple → Type 0) (ts : List Tuple) → ((t : Tuple) → IsAmong t ts → P t) → AllByRecursion P ts
-each_row P [] h = tt
-each_row P (t ∷ ts) h = (h t (inl refl), each_row P ts (λ s i. h s (inr i)))
-
-pub one_key : OneKeyIsEnough
-one_key ls T c q key demands =
-    let ts = rows ls c T in
-    let has_key : Tuple → Bool = λ t. is_key t.key key in
-    let class = has_class ls q.class in
-    let test = meets q.test in
-    let seen = highest_of ls q.highest ts in
-    let ask : List Tuple → List Tuple = λ xs. first_of q.first (filter test (filter class (highest_of ls q.highest xs)))
-    in
-    let each : AllByRecursion (λ t. test t ≡ true → has_key t ≡ true) ts =
-    each_row _ ts (λ t i h. key_same t.key key (demands t i h)) in
-    let those : filter test (filter class (highest_of ls q.highest (filter has_key ts)))
-    ≡ filter test (filter class seen)
-    = ap (λ xs. filter test (filter class xs)) (highest_of_key ls key q.highest ts)
-    ∙ ap (filter test) (within_filter has_key class class (λ t e. refl) seen)
-    ∙ filter_where test has_key (filter class seen) (each_filter _ class seen (each_highest _ ls q.highest ts each)) in
-    sym (ap (first_of q.first) those) ∙ ap ask (sym (rows_of_key ls c key T))

@@ -1,7 +1,9 @@
--- The definitions of what lives tell, `Lives` of runs and `Histories` of runs one after another; of dumps that load
--- back (`Loading`), and their order (`Upward`); and of what `Queries` find.
+-- The definitions of what lives tell, `Lives` of runs and `Histories` of runs one after another; of what is released,
+-- step by step (`Releasing`); of dumps that load back (`Loading`), and their order (`Upward`); and of what `Queries`
+-- find.
 pub mod Lives
 pub mod Histories
+pub mod Releasing
 pub mod Loading
 pub mod Upward
 pub mod Queries

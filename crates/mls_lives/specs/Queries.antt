@@ -2,17 +2,14 @@
 use Rattle.std.specs.Prelude.{◌≡◌, ℕ, true, List, [], ◌∷◌, length, ◌⊎◌, ⊤}
 use Rattle.mls_lattice.specs.Labels.{Labels}
 use Rattle.mls_lattice.specs.Lattice.{◌⊑◌}
-use Rattle.mls_scheme.specs.declared.value.Value.{Value}
 use Rattle.mls_scheme.specs.declared.tuple.Tuple.{Tuple}
 use Rattle.mls_scheme.specs.Tuple.{tuple_class}
 use Rattle.mls_scheme.specs.Scheme.{scheme_of}
-use Rattle.mls_scheme.specs.Table.{Table}
 use Rattle.mls_filterview.specs.View.{rows, IsAmong}
 use Rattle.mls_lattice.specs.Policy.{Name}
 use Rattle.mls_translang.specs.declared.query.Query.{Query}
 use Rattle.mls_translang.specs.declared.event.Command.TheVariants.{View}
-use Rattle.mls_queries.specs.Query.{tops, meets, found}
-use Rattle.mls_queries.specs.Demanded.{of_key}
+use Rattle.mls_queries.specs.Query.{tops, found}
 use Rattle.mls_certcheck.specs.Site.{Site}
 use Rattle.mls_machine.specs.declared.reply.Reply.TheVariants.{Rows}
 use Rattle.mls_machine.specs.Output.{count_text, reply_texts}
@@ -39,10 +36,3 @@ abbrev pub HighestKeepEachKey : Type 0
 HighestKeepEachKey =
     (ls : Labels) (ts : List Tuple) (t : Tuple) → IsAmong t ts
     → (s : Tuple) × IsAmong s (tops ls ts) × (s.key ≡ t.key) × (tuple_class ls t ⊑ tuple_class ls s ≡ true)
-
--- a query whose condition can hold of rows of one key alone finds the same among the tuples of that key
-abbrev pub OneKeyIsEnough : Type 0
-OneKeyIsEnough =
-    (ls : Labels) (T : Table) (c : ℕ) (q : Query) (key : List Value)
-    → ((t : Tuple) → IsAmong t (rows ls c T) → meets q.test t ≡ true → t.key ≡ key)
-    → found ls q (rows ls c T) ≡ found ls q (rows ls c (of_key key T))

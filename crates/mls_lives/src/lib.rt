@@ -5,8 +5,8 @@
 ghost use Rattle.mls_lives.specs.Histories.{HistoriesTellFew, HistoryCallsMultiply};
 ghost use Rattle.mls_lives.specs.Lives.{CallsMultiply, RunsTellFew};
 ghost use Rattle.mls_lives.specs.Loading.{DumpsHaveEach, DumpsLoadBack};
+ghost use Rattle.mls_lives.specs.Releasing.{ReleasesComeInOrder, ToldAreInOrder};
 ghost use Rattle.mls_lives.specs.Queries.{CountsAreLengths, FoundAreRowsInOrder, HighestKeepEachKey};
-ghost use Rattle.mls_lives.specs.Queries.{OneKeyIsEnough};
 ghost use Rattle.mls_lives.specs.Upward.{ClassNumbersAreGreatest, DumpsComeUpward};
 
 /// In a life a level tells apart at most as many classes of worlds, and of what is done unseen, as there are lists of
@@ -19,6 +19,14 @@ pub fn lives_tell_few()
     ensures history_calls { HistoryCallsMultiply }
 {}
 
+/// What is told of a transaction are the releases of its text, in its order. Each item that a run releases comes from
+/// one of them, with its label and a value of its range; and of two items, unless both come from loops, the first comes
+/// from an earlier release.
+pub fn releases_come_in_order()
+    ensures told { ToldAreInOrder }
+    ensures steps { ReleasesComeInOrder }
+{}
+
 /// The events that a dump at a label prints, done over nothing, are each Done, and make all tuples of classes that the
 /// label dominates; it has each of these once, upward by class. The class number of a tuple is that of its greatest
 /// class.
@@ -29,11 +37,10 @@ pub fn dumps_load_back()
     ensures classes { ClassNumbersAreGreatest }
 {}
 
-/// What a query finds are rows of the view in its order, each once; a count is how many; of each key that the view has
-/// a highest row is kept; and a condition that can hold of one key alone finds the same among that key's tuples.
+/// What a query finds are rows of the view in its order, each once; a count is how many; and of each key that the view
+/// has a highest row is kept.
 pub fn queries_find_rows()
     ensures rows { FoundAreRowsInOrder }
     ensures count { CountsAreLengths }
     ensures highest { HighestKeepEachKey }
-    ensures key { OneKeyIsEnough }
 {}

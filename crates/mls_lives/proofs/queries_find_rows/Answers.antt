@@ -1,4 +1,4 @@
-use Rattle.mls_lives.proofs.QueryLemmas.{found_in_order, counts_are_lengths, highest_keep, one_key}
+use Rattle.mls_lives.proofs.QueryLemmas.{found_in_order, counts_are_lengths, highest_keep}
 use Rattle.mls_lives.proofs.queries_find_rows.Goals as goal
 
 pub returns-clause-rows : goal.returns-clause-rows
@@ -9,6 +9,3 @@ returns-clause-count c = counts_are_lengths
 
 pub returns-clause-highest : goal.returns-clause-highest
 returns-clause-highest c = highest_keep
-
-pub returns-clause-key : goal.returns-clause-key
-returns-clause-key c = one_key

@@ -46,7 +46,7 @@ module _ (site : Site) where
   world-snoc w ts t = sym (ap (end_of site w) (events-snoc ts t) ∙ end_of-append site w (events_in ts)
       (events_of t.fate))
 
-lines-snoc : (echo : List ℕ → List ℕ) (policy : Policy) (schemes : Schemes) (a b c : Option (List ℕ)) (ts : List Turn)
+pub lines-snoc : (echo : List ℕ → List ℕ) (policy : Policy) (schemes : Schemes) (a b c : Option (List ℕ)) (ts : List Turn)
     (t : Turn) → AreLines echo policy schemes a b ts → list_any (λ (t : Turn). is_last t.fate) ts ≡ false
     → IsShellTurn echo (IsDeskFate policy schemes) b c t → AreLines echo policy schemes a c (ts ++ t ∷ [])
 unfolding AreLines

@@ -15,3 +15,4 @@ pub mod TalkLemmas
 pub mod ShellEndLemmas
 pub mod SameLemmas
 pub mod StepsLemmas
+pub mod AccessLemmas

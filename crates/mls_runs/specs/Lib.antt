@@ -16,6 +16,7 @@ pub mod Typed
 pub mod Work
 pub mod Explaining
 pub mod Shell
+pub mod Access
 pub mod ShellRun
 pub mod Steps
 pub mod Tally

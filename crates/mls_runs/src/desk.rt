@@ -3,12 +3,14 @@
 //! written. A read that fails is told as a refusal, since all that was answered stands; no mark is printed.
 ghost use Rattle.std.specs.Prelude.{◌≡◌, ◌≤◌, false, [], length, OnOk};
 ghost use Rattle.mls_machine.specs.Observation.{EventsFit};
+ghost use Rattle.mls_sessions.specs.Access.{ArePermitted};
 ghost use Rattle.mls_sessions.specs.Engine.{site, world_of, MayServe, IsAtRest, IsEngineReady, Continues, Leaves};
 ghost use Rattle.mls_host.specs.Hosting.{IsAppended};
 ghost use Rattle.mls_certcheck.specs.Site.{site_of};
 ghost use Rattle.mls_runs.specs.Shell.{events_of, is_failed, is_lost};
 ghost use Rattle.mls_runs.specs.Desk.{TellsOne, IsDeskFollowed, IsService, IsDesk};
 ghost use Rattle.mls_runs.specs.Marks.{mark_of};
+ghost use Rattle.mls_runs.specs.Access.{AreLinesPermitted};
 
 use crate::marks::write_mark;
 use crate::reading::next_fate;
@@ -35,6 +37,7 @@ fn answer<B: Base, W: Write>(
     requires fits { EventsFit (site engine.old) events.now }
     requires one { length events.now ≤ 1 }
     ensures continues { Continues B.seen engine.old engine.new result }
+    ensures access { ArePermitted B.seen (site engine.old) events.now engine.old.base engine.new.base }
     ensures done { (B.seen engine.new.base).is_clean → IsDeskFollowed (site engine.old) (world_of B.seen engine.old)
         events.now [] (W.contents out.old) (W.contents out.new) (world_of B.seen engine.new) result }
 {
@@ -60,6 +63,7 @@ fn perform<B: Base, W: Write>(
     requires ready { IsEngineReady B.seen engine.old }
     requires line { TellsOne (site engine.old).policy (site engine.old).schemes fate.now }
     ensures continues { Continues B.seen engine.old engine.new result }
+    ensures access { ArePermitted B.seen (site engine.old) (events_of fate.now) engine.old.base engine.new.base }
     ensures done { (B.seen engine.new.base).is_clean → IsDeskFollowed (site engine.old) (world_of B.seen engine.old)
         (events_of fate.now) [] (W.contents out.old) (W.contents out.new) (world_of B.seen engine.new) result }
     ensures found { OnOk result (is_lost fate.now ≡ false) }
@@ -85,6 +89,7 @@ fn follow<B: Base, W: Write>(
     requires ready { IsEngineReady B.seen engine.old }
     requires line { TellsOne (site engine.old).policy (site engine.old).schemes fate.now }
     ensures continues { Continues B.seen engine.old engine.new result }
+    ensures access { ArePermitted B.seen (site engine.old) (events_of fate.now) engine.old.base engine.new.base }
     ensures followed { (B.seen engine.new.base).is_clean → IsDeskFollowed (site engine.old)
         (world_of B.seen engine.old) (events_of fate.now) (mark_of fate.now)
         (W.contents out.old) (W.contents out.new) (world_of B.seen engine.new) result }
@@ -123,6 +128,8 @@ fn serve<B: Base, L: TypedLines, W: Write>(
     requires policy { (site engine.old).policy ≡ policy.now }
     requires schemes { (site engine.old).schemes ≡ schemes.now }
     ensures continues { Continues B.seen engine.old engine.new result }
+    ensures access { AreLinesPermitted B.seen (site engine.old) L.echo (L.remaining lines.old) (L.remaining lines.new)
+        engine.old.base engine.new.base }
     ensures service { (B.seen engine.new.base).is_clean → IsService L.echo (site engine.old) (L.remaining lines.old)
         (L.remaining lines.new) (L.breaks lines.new) (IsAppended W.contents out.old out.new) result
         (world_of B.seen engine.old) (world_of B.seen engine.new) }
@@ -160,6 +167,9 @@ pub(crate) fn desk_over_base<B: Base, L: TypedLines, W: Write>(
     requires may { MayServe (site_of policy.now schemes.now stored) }
     requires rest { IsAtRest B.seen policy.now schemes.now base }
     ensures leaves { Leaves B.seen base result.1 result.0 }
+    // No line reads up, and none writes down.
+    ensures access { AreLinesPermitted B.seen (site_of policy.now schemes.now stored) L.echo (L.remaining lines.old)
+        (L.remaining lines.new) base result.1 }
     ensures desk { (B.seen result.1).is_clean → IsDesk L.echo (site_of policy.now schemes.now stored)
         (L.remaining lines.old)
         (L.remaining lines.new) (L.breaks lines.new) (IsAppended W.contents out.old out.new) result.0

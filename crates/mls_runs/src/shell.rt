@@ -1,11 +1,13 @@
 //! A shell: a session whose commands are typed, each answered before the next is read.
 ghost use Rattle.std.specs.Prelude.{◌≡◌, ◌<◌, ◌∷◌, ◌||◌, [], false, not, length, Some, OnOk, Err};
 ghost use Rattle.mls_machine.specs.Observation.{EventsFit};
+ghost use Rattle.mls_sessions.specs.Access.{ArePermitted};
 ghost use Rattle.mls_sessions.specs.Engine.{site, world_of, IsAtRest, IsEngineReady, Continues, Leaves};
 ghost use Rattle.mls_sessions.specs.Run.{notice_in};
 ghost use Rattle.mls_host.specs.Ending.{ending_if};
 ghost use Rattle.mls_host.specs.Hosting.{IsAppended, IsTold};
 ghost use Rattle.mls_certcheck.specs.Site.{site_of};
+ghost use Rattle.mls_runs.specs.Access.{IsSessionPermitted};
 ghost use Rattle.mls_runs.specs.Shell.{opening, audience_at, events_of, is_short, end_told, is_last};
 ghost use Rattle.mls_runs.specs.Shell.{
   is_lost,
@@ -56,6 +58,7 @@ fn answer<B: Base, W: Write>(
     requires fits { EventsFit (site engine.old) events.now }
     requires level { session.now.level < length (site engine.old).policy.labels }
     ensures continues { Continues B.seen engine.old engine.new result }
+    ensures access { ArePermitted B.seen (site engine.old) events.now engine.old.base engine.new.base }
     ensures followed { (B.seen engine.new.base).is_clean → IsShellFollowed (site engine.old) (audience_at session.now)
         (world_of B.seen engine.old) events.now (W.contents out.old) (W.contents out.new)
         (world_of B.seen engine.new) line result }
@@ -84,6 +87,7 @@ fn follow<B: Base, W: Write>(
     requires fits { FateFits (site engine.old).policy (site engine.old).schemes fate.now }
     requires level { session.now.level < length (site engine.old).policy.labels }
     ensures continues { Continues B.seen engine.old engine.new result }
+    ensures access { ArePermitted B.seen (site engine.old) (events_of fate.now) engine.old.base engine.new.base }
     ensures followed { (B.seen engine.new.base).is_clean → IsShellFollowed (site engine.old) (audience_at session.now)
         (world_of B.seen engine.old) (events_of fate.now) (W.contents out.old) (W.contents out.new)
         (world_of B.seen engine.new) line result }
@@ -179,6 +183,7 @@ fn converse<X: Explains, B: Base, L: TypedLines, W: Write, E: Write>(
     requires fits { EventsFit (site engine.old) (opening session.now ∷ []) }
     requires level { session.now.level < length policy.now.labels }
     ensures continues { Continues B.seen engine.old engine.new result }
+    ensures access { IsSessionPermitted B.seen (site engine.old) session.now engine.old.base engine.new.base }
     ensures conversation { (B.seen engine.new.base).is_clean → IsConversation X.explaining L.echo (site engine.old)
         session.now (L.remaining lines.old) (L.remaining lines.new) (W.contents out.old) (W.contents out.new)
         (L.breaks lines.new)
@@ -237,6 +242,8 @@ pub(crate) fn shell_over_base<X: Explains, B: Base, L: TypedLines, W: Write, E: 
     requires may { MayTalk (site_of policy.now schemes.now stored) session.now first.now }
     requires rest { IsAtRest B.seen policy.now schemes.now base }
     ensures leaves { Leaves B.seen base result.1 result.0 }
+    // No command reads up, and none writes down.
+    ensures access { IsSessionPermitted B.seen (site_of policy.now schemes.now stored) session.now base result.1 }
     ensures shell { (B.seen result.1).is_clean → IsShell X.explaining L.echo (site_of policy.now schemes.now stored)
         session.now (L.remaining lines.old) (L.remaining lines.new) (L.breaks lines.new)
         (IsAppended W.contents out.old out.new)

@@ -1,5 +1,6 @@
 use Rattle.mls_sessions.specs.Engine.{site, world_of}
 use Rattle.mls_runs.proofs.AnsweringLemmas.{done_first, done_without}
+use Rattle.mls_sessions.proofs.AccessLemmas.{permitted_start}
 use Rattle.mls_runs.proofs.desk.answer.Goals as goal
 
 pub returns-in-empty-clause-done : goal.returns-in-empty-clause-done
@@ -12,3 +13,7 @@ returns-in-len1-up-clause-done g c = λ clean.
     (g.W.Write.contents c.args.out.now) (g.W.Write.contents c.run_to.new.out)
     (world_of g.B.Base.seen c.run_to.new.engine) c.run_to.result (c.run_to.ensures.ok clean)
     (c.run_to.ensures.err clean) c.run_to.ensures.fault
+
+pub returns-in-empty-clause-access : goal.returns-in-empty-clause-access
+returns-in-empty-clause-access g c =
+    permitted_start g.B.Base.seen (site c.args.engine.now) c.args.events.now c.args.engine.now.base

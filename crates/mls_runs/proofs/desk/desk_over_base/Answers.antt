@@ -8,6 +8,7 @@ use Rattle.mls_runs.specs.Running.{first_world}
 use Rattle.mls_runs.proofs.DeskLemmas.{service_at}
 use Rattle.mls_runs.proofs.DeskEndLemmas.{desk_at}
 use Rattle.mls_sessions.proofs.FrameLemmas.{left_behind, given_back}
+use Rattle.mls_runs.proofs.AccessLemmas.{lines_given}
 use Rattle.mls_runs.proofs.desk.desk_over_base.Goals as goal
 
 pub serve-outcome-requires-clause-policy : goal.serve-outcome-requires-clause-policy
@@ -42,3 +43,8 @@ returns-clause-desk g c = λ clean.
     (service_at g.L.TypedLines.echo before after Broken Wrote c.serve-outcome.result _ at _ (first_world at first) _
     (world_at at sessions left) c.new-engine.ensures.site c.new-engine.ensures.world back.world
     (c.serve-outcome.ensures.service was))
+
+pub returns-clause-access : goal.returns-clause-access
+returns-clause-access g c =
+    lines_given g.B.Base.seen g.L.TypedLines.echo _ _ _ _ _ _ _ _ c.new-engine.ensures.site c.new-engine.ensures.base
+    c.finish.ensures c.serve-outcome.ensures.access

@@ -4,6 +4,7 @@ use Rattle.mls_runs.specs.Shell.{events_of, FateFits}
 use Rattle.mls_runs.proofs.TalkLemmas.{none_is_lost}
 use Rattle.mls_runs.proofs.AnsweringLemmas.{done_none, done_default}
 use Rattle.mls_sessions.proofs.FrameLemmas.{goes_nowhere}
+use Rattle.mls_sessions.proofs.AccessLemmas.{permitted_start}
 use Rattle.mls_runs.proofs.desk.perform.Goals as goal
 
 pub returns-in-Lost-clause-done : goal.returns-in-Lost-clause-done
@@ -23,3 +24,11 @@ returns-in_default-clause-done g c = λ clean.
 
 pub returns-in_default-clause-found : goal.returns-in_default-clause-found
 returns-in_default-clause-found g c = none_is_lost c.args.fate.now c.in_default.not-Lost
+
+pub returns-in-Lost-clause-access : goal.returns-in-Lost-clause-access
+returns-in-Lost-clause-access g c =
+    permitted_start g.B.Base.seen (site c.args.engine.now) (events_of c.args.fate.now) c.args.engine.now.base
+
+pub returns-in_default-clause-access : goal.returns-in_default-clause-access
+returns-in_default-clause-access g c =
+    permitted_start g.B.Base.seen (site c.args.engine.now) (events_of c.args.fate.now) c.args.engine.now.base

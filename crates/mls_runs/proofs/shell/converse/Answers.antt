@@ -10,6 +10,7 @@ use Rattle.mls_runs.specs.Tally.{tally_with}
 use Rattle.mls_runs.proofs.ShellLemmas.{said_more, explained_as}
 use Rattle.mls_runs.proofs.TalkLemmas.{SoFar, Line, IsSaid, MayGreet, may_greet, may_tell, policy_at, schemes_at, verdict_noticed, so_far_start, so_far_more, broken, broken_first, over_closed, over_last, worn_out, fits_at, level_at, heard_at}
 use Rattle.mls_sessions.proofs.FrameLemmas.{carried, goes_first, goes_well, goes_on, goes_to, worn_frame}
+use Rattle.mls_runs.proofs.AccessLemmas.{session_opened, session_more, own_line}
 use Rattle.mls_runs.proofs.shell.converse.Goals as goal
 
 pub returns-in_err-answer-clause-continues : goal.returns-in_err-answer-clause-continues
@@ -62,6 +63,8 @@ loop-before-init g c = let to = c.listener_of-to.result in (
       (site_of to.policy.now to.schemes.now to.stored.now) to.session.now
       (c.listener_of-to.ensures.site ∙ ap site_of_run c.answer.ensures.continues.kept.site) c.listener_of-to.ensures.session c.args.first.now c.notice.result c.requires.first (c.notice.ensures ∙ c.in_ok-answer.ensures.noticed clean))
       c.greeting-greeting.ensures c.tell_more.ensures),
+  session_opened g.B.Base.seen (site c.args.engine.now) c.args.session.now c.args.first.now c.args.engine.now.base
+      c.answer.new.engine.base c.requires.first c.answer.ensures.access,
 )
 
 pub returns-then-not-is_open-clause-continues : goal.returns-then-not-is_open-clause-continues
@@ -206,6 +209,11 @@ loop-before-preserved g c =
       goes_on g.B.Base.seen c.args.engine.now c.loop-before.engine c.follow.new.engine tt c.loop-before.invariant.0 tt tt c.in_ok-follow.ensures.continues,
       subst (λ t. SoFar g.B.Base.seen g.E.Write.contents g.X.Explains.explaining g.L.TypedLines.echo c.args.session.now c.args.engine.now c.args.err.now (g.L.TypedLines.remaining c.args.lines.now) (g.W.Write.contents c.args.out.now) (c.loop-before.before + 1) c.follow.new.engine c.tell_more-in-loop-before.new.err (g.L.TypedLines.remaining c.next_fate-fate.new.lines) (g.W.Write.contents c.follow.new.out) c.is_open-was_opened.result t false) (sym c.tally_with-tally.ensures)
           (subst (λ b. SoFar g.B.Base.seen g.E.Write.contents g.X.Explains.explaining g.L.TypedLines.echo c.args.session.now c.args.engine.now c.args.err.now (g.L.TypedLines.remaining c.args.lines.now) (g.W.Write.contents c.args.out.now) (c.loop-before.before + 1) c.follow.new.engine c.tell_more-in-loop-before.new.err (g.L.TypedLines.remaining c.next_fate-fate.new.lines) (g.W.Write.contents c.follow.new.out) c.is_open-was_opened.result (tally_with c.loop-before.tally (verdict_of (not (is_some notice)) c.next_fate-fate.result)) b) (sym c.is_last.ensures ∙ c.if-is_last.false) next),
+      session_more g.B.Base.seen (site c.args.engine.now) c.args.session.now (site c.loop-before.engine)
+          c.args.engine.now.base c.loop-before.engine.base c.follow.new.engine.base c.next_fate-fate.result
+          (ap site_of_run c.loop-before.invariant.1.heard.kept.site)
+          (own_line g.L.TypedLines.echo c.args.policy.now c.args.schemes.now c.args.session.now _ _ _ _ _ _ _ c.next_fate-fate.ensures.read)
+          c.loop-before.invariant.2 c.follow.ensures.access,
     )
 
 pub returns-clause-continues : goal.returns-clause-continues
@@ -213,3 +221,30 @@ returns-clause-continues g c = worn_frame g.B.Base.seen c.args.engine.now c.loop
 
 pub returns-clause-conversation : goal.returns-clause-conversation
 returns-clause-conversation g c = λ clean. worn_out g.B.Base.seen g.E.Write.contents g.X.Explains.explaining g.L.TypedLines.echo c.args.session.now c.args.engine.now c.args.err.now (g.L.TypedLines.remaining c.args.lines.now) (g.W.Write.contents c.args.out.now) c.requires.fits (g.L.TypedLines.breaks c.loop-before.lines) c.loop-before.before c.loop-before.engine c.loop-before.err (g.L.TypedLines.remaining c.loop-before.lines) (g.W.Write.contents c.loop-before.out) c.is_open-was_opened.result c.loop-before.tally c.loop-before.invariant.1 clean _ (search rules)
+
+pub returns-in_err-answer-clause-access : goal.returns-in_err-answer-clause-access
+returns-in_err-answer-clause-access g c =
+    session_opened g.B.Base.seen (site c.args.engine.now) c.args.session.now c.args.first.now c.args.engine.now.base
+    c.answer.new.engine.base c.requires.first c.answer.ensures.access
+
+pub returns-then-not-is_open-clause-access : goal.returns-then-not-is_open-clause-access
+returns-then-not-is_open-clause-access g c = c.loop-before.invariant.2
+
+pub returns-in_err-follow-clause-access : goal.returns-in_err-follow-clause-access
+returns-in_err-follow-clause-access g c =
+    session_more g.B.Base.seen (site c.args.engine.now) c.args.session.now (site c.loop-before.engine)
+    c.args.engine.now.base c.loop-before.engine.base c.follow.new.engine.base c.next_fate-fate.result
+    (ap site_of_run c.loop-before.invariant.1.heard.kept.site)
+    (own_line g.L.TypedLines.echo c.args.policy.now c.args.schemes.now c.args.session.now _ _ _ _ _ _ _ c.next_fate-fate.ensures.read)
+    c.loop-before.invariant.2 c.follow.ensures.access
+
+pub returns-then-is_last-clause-access : goal.returns-then-is_last-clause-access
+returns-then-is_last-clause-access g c =
+    session_more g.B.Base.seen (site c.args.engine.now) c.args.session.now (site c.loop-before.engine)
+    c.args.engine.now.base c.loop-before.engine.base c.follow.new.engine.base c.next_fate-fate.result
+    (ap site_of_run c.loop-before.invariant.1.heard.kept.site)
+    (own_line g.L.TypedLines.echo c.args.policy.now c.args.schemes.now c.args.session.now _ _ _ _ _ _ _ c.next_fate-fate.ensures.read)
+    c.loop-before.invariant.2 c.follow.ensures.access
+
+pub returns-clause-access : goal.returns-clause-access
+returns-clause-access g c = c.loop-before.invariant.2

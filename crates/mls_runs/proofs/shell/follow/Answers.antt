@@ -1,9 +1,10 @@
 use Rattle.std.proofs.Common.{subst}
 use Rattle.std.proofs.lemmas.Result.{on_ok_weaker}
 use Rattle.mls_sessions.specs.Engine.{site, world_of}
-use Rattle.mls_runs.specs.Shell.{audience_at, FateFits}
+use Rattle.mls_runs.specs.Shell.{audience_at, events_of, FateFits}
 use Rattle.mls_runs.proofs.TalkLemmas.{followed_lost, followed_none, none_is_lost, noticed_said, noticed_none}
 use Rattle.mls_sessions.proofs.FrameLemmas.{goes_nowhere}
+use Rattle.mls_sessions.proofs.AccessLemmas.{permitted_start}
 use Rattle.mls_runs.proofs.shell.follow.Goals as goal
 
 pub returns-in-Lost-clause-followed : goal.returns-in-Lost-clause-followed
@@ -35,3 +36,11 @@ returns-in-Said-clause-noticed g c = λ clean.
 pub returns-in_default-clause-noticed : goal.returns-in_default-clause-noticed
 returns-in_default-clause-noticed g c = λ clean.
     noticed_none (site c.args.engine.now) (world_of g.B.Base.seen c.args.engine.now) c.args.fate.now c.args.engine.now.notice c.in_default.not-Said
+
+pub returns-in-Lost-clause-access : goal.returns-in-Lost-clause-access
+returns-in-Lost-clause-access g c =
+    permitted_start g.B.Base.seen (site c.args.engine.now) (events_of c.args.fate.now) c.args.engine.now.base
+
+pub returns-in_default-clause-access : goal.returns-in_default-clause-access
+returns-in_default-clause-access g c =
+    permitted_start g.B.Base.seen (site c.args.engine.now) (events_of c.args.fate.now) c.args.engine.now.base

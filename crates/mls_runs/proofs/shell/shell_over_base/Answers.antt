@@ -9,6 +9,7 @@ use Rattle.mls_runs.specs.Running.{first_world}
 use Rattle.mls_runs.specs.Shell.{opening}
 use Rattle.mls_runs.proofs.ShellEndLemmas.{opening_fits, conversation_at, shell_at}
 use Rattle.mls_sessions.proofs.FrameLemmas.{left_behind, given_back}
+use Rattle.mls_runs.proofs.AccessLemmas.{session_given}
 use Rattle.mls_runs.proofs.shell.shell_over_base.Goals as goal
 
 pub converse-outcome-requires-clause-policy : goal.converse-outcome-requires-clause-policy
@@ -51,3 +52,8 @@ returns-clause-shell g c = λ clean.
     (g.L.TypedLines.breaks c.converse-outcome.new.lines)
     (IsTold g.E.Write.contents c.args.err.now c.converse-outcome.new.err) c.converse-outcome.result _ at _
     (first_world at first) _ (world_at at sessions left) c.new-engine.ensures.site c.new-engine.ensures.world back.world (c.converse-outcome.ensures.conversation was))
+
+pub returns-clause-access : goal.returns-clause-access
+returns-clause-access g c =
+    session_given g.B.Base.seen c.args.session.now _ _ _ _ _ _ c.new-engine.ensures.site c.new-engine.ensures.base
+    c.finish.ensures c.converse-outcome.ensures.access

@@ -4,3 +4,4 @@ pub mod DeskStopLemmas
 pub mod AnswerLineLemmas
 pub mod MarkLemmas
 pub mod LifetimeLemmas
+pub mod UnopenedLemmas

@@ -1,5 +1,5 @@
 //! What is written of runs, shells and desks that stop, as far as two of them go; of marks among
-//! answers; and that the life of a store passes nothing down but releases.
+//! answers; that the life of a store passes nothing down but releases; and what becomes of files that are not opened.
 #![tactic(auto)]
 
 ghost use Rattle.mls_host.specs.Hosting.{hosted, IsAppended, IsTold};
@@ -8,10 +8,12 @@ ghost use Rattle.mls_stops.specs.AnswerLines.{AnswersAreUnmarked};
 ghost use Rattle.mls_stops.specs.Lifetimes.{LifetimesPassOnlyReleases};
 ghost use Rattle.mls_stops.specs.Marks.{MarksAreLines, OnlyMarksAreMarked};
 ghost use Rattle.mls_stops.specs.SoFar.{RunsAgreeSoFar, StopsTellFew};
+ghost use Rattle.mls_stops.specs.Unopened.{UnopenedFilesStay};
 ghost use Rattle.mls_stops.specs.Stops.{ServeTheSameSoFar, TellTheSameSoFar, WriteTheSameSoFar};
 
 use mls_host::Host;
 use mls_runs::Explains;
+use sqlite_disk::Disk;
 use std::io::Write;
 
 /// Of what a desk writes that shows no line again, the lines that begin with an equals sign are the marks, each one
@@ -56,4 +58,10 @@ pub fn stopped_desks_agree<H: Host, K: Host, W: Write, V: Write>()
 /// In the life of a store nothing flows down but what is released, also where it is migrated to later files.
 pub fn lifetimes_pass_only_releases()
     ensures { LifetimesPassOnlyReleases }
+{}
+
+/// Files that no connection is made to stay as they are, also after a crash: each image that it may leave was one
+/// before, or has the same pages or the same database; or there was no database, and still is none, or an empty one.
+pub fn unopened_files_stay<D: Disk>()
+    ensures { UnopenedFilesStay D.Disk }
 {}

@@ -20,7 +20,7 @@ use Rattle.mls_tables.specs.Store.{TableState, IsClean}
 use Rattle.mls_fragments.specs.declared.noted.Noted.{Noted}
 use Rattle.mls_rows.specs.Changes.{Change, Entries, found, content_of}
 use Rattle.mls_rows.specs.Changes.Change.{Finds, Adds, Sets, Drops, Appends, Clears}
-use Rattle.mls_fragments.specs.Based.{IsNoted, IsBased, KeepsRow, about_of, base_state, state_with, state_of}
+use Rattle.mls_fragments.specs.Based.{BaseState, HasRow, IsNoted, IsBased, about_of, base_state, state_with, state_of}
 use Rattle.mls_rows.specs.Finding.{HasByteClasses, AreReadable}
 use Rattle.mls_fragments.specs.Holdings.{HaveOneMeta}
 use Rattle.mls_fragments.proofs.HoldingsLemmas.{meta_made}
@@ -53,8 +53,14 @@ unfolding row_seen
 seen_once m n same = ap (row_seen m) same
 
 -- the row that describes a base stays where callers see the same of it
+abbrev pub RowStays : BaseState → BaseState → Type 0
+RowStays was base =
+    IsClean was.tables → IsClean base.tables
+    → about_of base.tables.kept.meta ≡ about_of was.tables.kept.meta
+    → (row : MetaRow) → HasRow was row → HasRow base row
+
 pub row_stays : (t u : TableState) (here last new after : Noted) → IsBased t here last → IsBased u new after
-    → KeepsRow (base_state t here last) (base_state u new after)
+    → RowStays (base_state t here last) (base_state u new after)
 row_stays t u here last new after was base clean clean' same row has =
     let noted = base.now clean' in
     let before : t.kept.meta ≡ has.described.row ∷ [] = sym (was.row clean) ∙ has.described.one in

@@ -3,7 +3,7 @@ use Rattle.std.proofs.Common.{ap}
 use Rattle.std.specs.Prelude.{◌≡◌, pos, Bool, List, false, if◌then◌else◌, length, map}
 use Rattle.mls_lattice.specs.Policy.{Policy}
 use Rattle.mls_scheme.specs.declared.file.SchemesFile.{SchemesFile}
-use Rattle.mls_filterview.specs.Content.{About, Content, State}
+use Rattle.mls_filterview.specs.Content.{About, Content, Seen, State}
 use Rattle.mls_filterview.specs.declared.base.BaseFault.{BaseFault}
 use Rattle.mls_filterview.specs.declared.base.BaseFault.TheVariants as base
 use Rattle.mls_tables.specs.declared.store.StoreFault.{StoreFault}
@@ -74,10 +74,9 @@ abbrev pub HasRow : BaseState → MetaRow → Type 0
 HasRow b row = HaveHoldings b.tables.now (holdings_of row (state_of b).now)
 
 -- the row that describes a base describes a later one, of which callers see the same
-abbrev pub KeepsRow : BaseState → BaseState → Type 0
-KeepsRow was base =
-    IsClean was.tables → IsClean base.tables
-    → about_of base.tables.kept.meta ≡ about_of was.tables.kept.meta
+abbrev pub KeepsRow : (BaseState → Seen) → BaseState → BaseState → Type 0
+KeepsRow seen was base =
+    (seen was).is_clean → (seen base).is_clean → (seen base).about ≡ (seen was).about
     → (row : MetaRow) → HasRow was row → HasRow base row
 
 -- a base over a store: what the store had, what is taken of it, and that the base's tables have that

@@ -89,7 +89,7 @@ impl<S: Alter> SqlBase<S> {
 
     /// The row that describes a base stays where callers see the same of it, as they do behind every call.
     pub fn keeps_row(&self, was: &SqlBase<S>)
-        ensures { KeepsRow was.entry.now self.entry.now }
+        ensures { KeepsRow ⟦<SqlBase<S> as Base>⟧.seen was.entry.now self.entry.now }
     {
         // for what holds of both
         let _store = &self.store;

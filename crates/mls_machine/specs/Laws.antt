@@ -102,12 +102,13 @@ UntoldRunsReleaseTheSame =
     (tells : Test) (site : Site) (c : ℕ) (v : World) (es : List Event) (w : World) (fs : List Event)
     → seen site c es ≡ seen site c fs → AreUntold tells site c es → ReleaseTheSame tells c site v es site w fs
 
--- the test by releases says just what a claim can tell, and nothing where the level dominates all that is read
+-- where no such call can by what is read, none can by what is released under certificates
 abbrev pub TestsAreSharp : Type 0
 TestsAreSharp =
     (site : Site) → AreCertified site → (c : ℕ) (es : List Event)
     → AreUntold by_ceiling site c es → AreUntold by_releases site c es
 
+-- under a certificate the test by releases says just what can tell
 abbrev pub TestsTellWhatCanTell : Type 0
 TestsTellWhatCanTell = (k : Claim) (c : ℕ) → can_tell k c ≡ true ↔ CanTell k c
 

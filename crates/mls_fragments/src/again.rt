@@ -8,12 +8,15 @@ ghost use Rattle.sqlite.specs.Held.{state};
 ghost use Rattle.sqlite.specs.State.{HasCleanDisk};
 ghost use Rattle.sqlite.specs.WalReads.{AreClean};
 ghost use Rattle.mls_scheme.specs.Scheme.{AreUnder};
+ghost use Rattle.mls_filterview.specs.Content.{no_content};
 ghost use Rattle.mls_audit.specs.Sound.{IsSoundContent};
+ghost use Rattle.mls_tables.specs.Schema.{no_schema};
 ghost use Rattle.mls_tables.specs.Store.{IsClean};
 ghost use Rattle.mls_tables.specs.declared.rows.MetaRow.{MetaRow};
 ghost use Rattle.mls_fragments.specs.Again.{AreLetGo, AreRefused, AreUnclosed, FindsHoldings, IsBaseKept};
 ghost use Rattle.mls_fragments.specs.Based.{HasRow, IsBaseOf, state_of};
 ghost use Rattle.mls_fragments.specs.Holdings.{HasHoldings, holdings_of};
+ghost use Rattle.mls_fragments.specs.Opening.{IsUnadopted};
 
 use crate::base::SqlBase;
 use crate::connecting::{connected, fault_of};
@@ -36,8 +39,7 @@ fn is_settled<S: Alter>(conn: &Connection<S>) -> bool
     conn.is_autocommit()
 }
 
-/// The connection of a base outside a change: it has committed all that it shows. One generic function takes the base,
-/// since each that is called over files costs its caller as much proof as all of this.
+/// The connection of a base outside a change: it has committed all that it shows.
 fn settled_connection<S: Alter>(base: SqlBase<S>) -> Connection<S>
     requires begun { (state_of base).begun ≡ false }
     ensures clean { HasCleanDisk (state S.Store result) → IsClean base.tables }
@@ -55,8 +57,24 @@ fn settled_connection<S: Alter>(base: SqlBase<S>) -> Connection<S>
     conn
 }
 
+/// The same of a base over files. Each call over these of a function that is generic over stores is dear to prove, so
+/// that each such function is called by one over files, and that by all others.
+fn settled_files<D: Disk + Drop>(base: SqlBase<FileStore<D>>) -> Connection<FileStore<D>>
+    requires begun { (state_of base).begun ≡ false }
+    ensures clean { HasCleanDisk (file_state result) → IsClean base.tables }
+    ensures row { IsClean base.tables → (row : MetaRow) × HasRow base row }
+    ensures held { HasCleanDisk (file_state result) → IsTrue (file_state result).is_open
+        → (row : MetaRow) → HasRow base row
+        → HasHoldings (file_state result).now (holdings_of row (state_of base).now) }
+    ensures settled { HasCleanDisk (file_state result) → IsTrue (file_state result).is_open
+        → (file_state result).now ≡ (file_state result).committed }
+    ensures sound { IsTrue (file_state result).is_open → IsDatabase (file_state result).now }
+{
+    settled_connection(base)
+}
+
 /// Gives the files of a store back, which has committed nothing more.
-fn left<D: Disk + Drop>(conn: Connection<FileStore<D>>) -> Files<D>
+pub fn let_go<D: Disk + Drop>(conn: Connection<FileStore<D>>) -> Files<D>
     ensures { AreClean D.Disk result.log result.db → AreLetGo conn result }
 {
     conn.into_store().close()
@@ -79,6 +97,27 @@ fn files_closed<D: Disk + Drop>(
 }
 
 impl<D: Disk + Drop> SqlBase<FileStore<D>> {
+    /// A base over the store of a connection to files, as `adopt` makes it.
+    pub(crate) fn adopt_files(
+        alloc: Global,
+        conn: Connection<FileStore<D>>,
+        policy: &Policy,
+        file: &SchemesFile,
+    ) -> Result<SqlBase<FileStore<D>>, (OpenFault, Connection<FileStore<D>>)>
+        requires under { AreUnder (length policy.now.labels) file.now.schemes }
+        requires outside { HasCleanDisk (file_state conn) → IsTrue (file_state conn).is_open
+            → (file_state conn).in_transaction ≡ false }
+        ensures new { (file_state conn).now.schema ≡ no_schema → IfOk result (λ b. (state_of b).now ≡ no_content) }
+        ensures over { IfOk result (λ b. IsClean b.tables → HasCleanDisk (file_state conn)
+            × IsBaseOf (HasHoldings (file_state conn).now) policy.now file.now b) }
+        ensures sound { IfOk result (λ b. IsSoundContent policy.now file.now.schemes (state_of b).now) }
+        ensures mode { IfOk result (λ b. (state_of b).begun ≡ false) }
+        ensures refused { IfErr result (λ e.
+            IsUnadopted policy.now file.now (file_state conn) (file_state e.1) e.0) }
+    {
+        SqlBase::adopt(alloc, conn, policy, file)
+    }
+
     /// A base over the store in the files of a disk, as `adopt` opens it. An `Err` gives the files back.
     pub fn open_files(
         alloc: Global,
@@ -99,10 +138,18 @@ impl<D: Disk + Drop> SqlBase<FileStore<D>> {
             Ok(conn) => conn,
             Err(refused) => return Err(refused),
         };
-        match SqlBase::adopt(alloc, conn, policy, file) {
+        match SqlBase::adopt_files(alloc, conn, policy, file) {
             Ok(base) => Ok(base),
-            Err((fault, conn)) => Err((fault, left(conn))),
+            Err((fault, conn)) => Err((fault, let_go(conn))),
         }
+    }
+
+    /// Lets the store go, and gives its files back.
+    pub fn into_files(self) -> Files<D>
+        requires begun { (state_of self).begun ≡ false }
+        ensures clean { AreClean D.Disk result.log result.db → IsClean self.tables }
+    {
+        let_go(settled_files(self))
     }
 
     /// Closes the files: the database file alone then keeps what was committed, also after a crash. Where that
@@ -116,7 +163,7 @@ impl<D: Disk + Drop> SqlBase<FileStore<D>> {
         ensures unclosed { IfErr result (λ e. AreUnclosed D.Disk self e.1) }
         ensures fault { IfErr result (λ e. (e.0 ≡ OpenFault.Store) ⊎ (e.0 ≡ OpenFault.Memory)) }
     {
-        match files_closed(settled_connection(self)) {
+        match files_closed(settled_files(self)) {
             Ok(files) => Ok(files),
             Err(refused) => Err(refused),
         }

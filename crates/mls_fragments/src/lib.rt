@@ -17,6 +17,7 @@ mod open_fault;
 mod opening;
 mod refusing;
 
+pub use again::let_go;
 pub use base::SqlBase;
 pub use connecting::connected;
 pub use design::Design;

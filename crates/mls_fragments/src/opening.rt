@@ -251,7 +251,7 @@ impl<F: Start> SqlBase<FileStore<FileFrom<F>>> {
             Ok(conn) => conn,
             Err(fault) => return Err((fault, None)),
         };
-        match SqlBase::adopt(rt.alloc(), conn, policy, file) {
+        match SqlBase::adopt_files(rt.alloc(), conn, policy, file) {
             Ok(base) => Ok(base),
             Err((fault, conn)) => Err((fault, Some(conn))),
         }

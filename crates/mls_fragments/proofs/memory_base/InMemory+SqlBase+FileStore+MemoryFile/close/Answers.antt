@@ -1,5 +1,5 @@
-use Rattle.mls_fragments.proofs.MemoryLemmas.{memory_files_are_clean}
+use Rattle.std.proofs.Common.{refl}
 use Rattle.mls_fragments.proofs.memory_base.InMemory+SqlBase+FileStore+MemoryFile.close.Goals as goal
 
-pub let_go-requires-clause-disk : goal.let_go-requires-clause-disk
-let_go-requires-clause-disk c = memory_files_are_clean
+pub returns : goal.returns
+returns c = record { clean = c.into_files-files.ensures.clean refl }

@@ -1,7 +1,7 @@
 use Rattle.std.proofs.Common.{subst}
 use Rattle.sqlite.specs.Files.{HoldsDatabase}
 use Rattle.mls_fragments.proofs.AgainLemmas.{clean_store, holds_commit}
-use Rattle.mls_fragments.proofs.again.left.Goals as goal
+use Rattle.mls_fragments.proofs.again.let_go.Goals as goal
 
 pub returns : goal.returns
 returns g c clean =

@@ -5,7 +5,7 @@ use Rattle.sqlite.specs.Recovery.{Image}
 use Rattle.mls_lattice.specs.Policy.{Policy}
 use Rattle.mls_scheme.specs.declared.file.SchemesFile.{SchemesFile}
 use Rattle.mls_filterview.specs.Content.{Content}
-use Rattle.mls_fragments.specs.Holdings.{HasHoldings, IsTakenOf}
+use Rattle.mls_fragments.specs.Holdings.{IsTakenOf}
 use Rattle.mls_fragments.specs.declared.open_fault.OpenFault.{OpenFault}
 use Rattle.mls_fragments.specs.declared.open_fault.OpenFault.TheVariants.{Store, OtherPolicy, BadRows}
 use Rattle.mls_fragments.specs.Again.{FindsHoldings}
@@ -14,10 +14,6 @@ use Rattle.mls_fragments.specs.Opening.{IsFoundIn, IsOfOthers, IsBad}
 -- the contents of the two files
 abbrev pub image : List ℕ → List ℕ → Image
 image log db = record { log = log; db = db }
-
--- content is taken of a database
-abbrev pub IsTakenOver : Policy → SchemesFile → Database → Type 0
-IsTakenOver policy file db = (c : Content) × IsTakenOf (HasHoldings db) policy file c
 
 module _ (policy : Policy) (file : SchemesFile) (log db : List ℕ) where
   -- a database that the files hold

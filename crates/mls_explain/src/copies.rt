@@ -1,13 +1,12 @@
 //! Stores over copies of their files.
-ghost use Rattle.std.specs.Prelude.{◌≡◌, ◌⊎◌, Ok, Err, false, IsTrue, IfOk, IfErr, OnOk};
+ghost use Rattle.std.specs.Prelude.{◌≡◌, ◌⊎◌, false, IfOk, IfErr, OnOk};
 ghost use Rattle.sqlite.specs.Files.{file_state};
-ghost use Rattle.sqlite.specs.Held.{state};
-ghost use Rattle.sqlite.specs.State.{HasCleanDisk};
-ghost use Rattle.mls_fragments.specs.Opening.{IsFoundIn, IsOfOthers, IsBad};
-ghost use Rattle.mls_explain.specs.Diagnosis.{image, IsTakenOver, IsSoundIn, IsOthersIn, IsBadIn};
+ghost use Rattle.mls_fragments.specs.MemoryFile.{bytes_of};
+ghost use Rattle.mls_fragments.specs.Opening.{IsFoundIn};
+ghost use Rattle.mls_explain.specs.Diagnosis.{image, IsSoundIn, IsOthersIn, IsBadIn};
 
 use mls_fragments::{Design, MemoryFile, OpenFault, SqlBase, connected};
-use sqlite::{Alter, Connection, FileStore, Files, Options};
+use sqlite::{Connection, FileStore, Files, Options};
 use std::alloc::{AllocError, Global};
 
 /// Why files in memory are not opened: for want of memory, where one of them could not grow.
@@ -21,6 +20,19 @@ fn fault_in_memory(files: &Files<MemoryFile>, fault: OpenFault) -> OpenFault
     }
 }
 
+/// Copies of a log and a database file.
+fn files_of(alloc: Global, log: &[u8], db: &[u8]) -> Result<Files<MemoryFile>, AllocError>
+    ensures log { IfOk result (λ files. bytes_of files.log ≡ log.now) }
+    ensures db { IfOk result (λ files. bytes_of files.db ≡ db.now) }
+{
+    let log = Vec::from_slice(alloc, log)?;
+    let db = Vec::from_slice(alloc, db)?;
+    Ok(Files {
+        log: MemoryFile::holding(log),
+        db: MemoryFile::holding(db),
+    })
+}
+
 /// A connection to the store in copies of a log and a database file.
 pub(crate) fn connection(
     alloc: Global,
@@ -31,50 +43,10 @@ pub(crate) fn connection(
     ensures idle { IfOk result (λ c. c.in_transaction ≡ false) }
     ensures fault { IfErr result (λ e. (e ≡ OpenFault.Store) ⊎ (e ≡ OpenFault.Memory)) }
 {
-    let files = Files {
-        log: MemoryFile::holding(Vec::from_slice(alloc, log)?),
-        db: MemoryFile::holding(Vec::from_slice(alloc, db)?),
-    };
+    let files = files_of(alloc, log, db)?;
     match connected(alloc, files, Options::new(0)) {
         Ok(conn) => Ok(conn),
         Err((fault, files)) => Err(fault_in_memory(&files, fault)),
-    }
-}
-
-/// How a base is made over a connection's store, or why none is. The connection is given back.
-fn adopted<S: Alter>(
-    alloc: Global,
-    conn: Connection<S>,
-    design: &Design<'_>,
-) -> (Result<(), OpenFault>, Connection<S>)
-    requires outside { HasCleanDisk (state S.Store conn) → IsTrue (state S.Store conn).is_open
-        → (state S.Store conn).in_transaction ≡ false }
-    ensures sound { HasCleanDisk (state S.Store result.1)
-        → OnOk result.0 (IsTakenOver design.now.policy.now design.now.file.now (state S.Store conn).now) }
-    ensures others { HasCleanDisk (state S.Store result.1) → IfErr result.0
-        (λ e. e ≡ OpenFault.OtherPolicy
-        → IsOfOthers design.now.policy.now design.now.file.now (state S.Store conn).now) }
-    ensures bad { HasCleanDisk (state S.Store result.1) → IfErr result.0
-        (λ e. e ≡ OpenFault.BadRows → IsBad design.now.policy.now design.now.file.now (state S.Store conn).now) }
-    ensures clean { HasCleanDisk (state S.Store result.1) → HasCleanDisk (state S.Store conn) }
-{
-    match SqlBase::adopt(alloc, conn, design.policy, design.file) {
-        Ok(base) => (Ok(()), base.into_connection()),
-        Err((fault, conn)) => (Err(fault), conn),
-    }
-}
-
-/// Why a store over files in memory is not opened, if it is not.
-fn verdict_of_opening(
-    outcome: Result<(), OpenFault>,
-    conn: Connection<FileStore<MemoryFile>>,
-) -> Result<(), OpenFault>
-    ensures ok { OnOk result (outcome ≡ Ok tt) }
-    ensures err { IfErr result (λ e. (outcome ≡ Err e) ⊎ (e ≡ OpenFault.Memory)) }
-{
-    match outcome {
-        Ok(()) => Ok(()),
-        Err(fault) => Err(fault_in_memory(&conn.into_store().close(), fault)),
     }
 }
 
@@ -91,11 +63,13 @@ pub(crate) fn verdict(
     ensures bad { IfErr result (λ e. e ≡ OpenFault.BadRows
         → IsBadIn design.now.policy.now design.now.file.now log.now db.now) }
 {
-    match connection(alloc, log, db) {
-        Ok(conn) => {
-            let (outcome, conn) = adopted(alloc, conn, design);
-            verdict_of_opening(outcome, conn)
+    let files = files_of(alloc, log, db)?;
+    match SqlBase::open_files(alloc, files, Options::new(0), design.policy, design.file) {
+        Ok(base) => {
+            // for what it says of the disk
+            let _files = base.into_files();
+            Ok(())
         }
-        Err(fault) => Err(fault),
+        Err((fault, files)) => Err(fault_in_memory(&files, fault)),
     }
 }

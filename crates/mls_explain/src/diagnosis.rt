@@ -8,7 +8,7 @@ use crate::copies::{connection, verdict};
 use crate::rows::tell_bad;
 use crate::teller::Told;
 use mls_advice::{difference_to, relations_to};
-use mls_fragments::{Design, OpenFault, texts_of};
+use mls_fragments::{Design, OpenFault, let_go, texts_of};
 use mls_lattice::Policy;
 use mls_scheme::SchemesFile;
 use mls_tables::read_description;
@@ -54,6 +54,45 @@ fn tell_others<S: Alter>(
     Ok(())
 }
 
+/// Appends what is found over a connection to a store that is of others, or has bad rows. One generic function takes
+/// the connection, since each call and each drop over files in memory costs its caller as much proof as all of this.
+fn tell_over<S: Alter>(
+    alloc: Global,
+    text: &mut String,
+    design: &Design<'_>,
+    fault: OpenFault,
+    conn: &mut Connection<S>,
+) -> Told {
+    match fault {
+        OpenFault::OtherPolicy => tell_others(alloc, text, design, conn),
+        _ => tell_bad(alloc, text, design, conn),
+    }
+}
+
+/// Appends what is found in a store that is of others, or has bad rows. It was opened before, so that only memory can
+/// lack.
+fn tell_found(
+    alloc: Global,
+    text: &mut String,
+    log: &[u8],
+    db: &[u8],
+    design: &Design<'_>,
+    fault: OpenFault,
+) -> Told {
+    match fault {
+        OpenFault::OtherPolicy | OpenFault::BadRows => {}
+        _ => return Ok(()),
+    }
+    match connection(alloc, log, db) {
+        Ok(mut conn) => {
+            let told = tell_over(alloc, text, design, fault, &mut conn);
+            let _files = let_go(conn);
+            told
+        }
+        Err(_) => Err(AllocError),
+    }
+}
+
 /// What to do where a store is not opened; nothing for want of memory.
 fn advice_of(fault: OpenFault) -> Option<&'static str>
     ensures { IfSome result (λ _. fault ≢ OpenFault.Memory) }
@@ -66,9 +105,7 @@ fn advice_of(fault: OpenFault) -> Option<&'static str>
     }
 }
 
-/// What is told of a store that is not opened, and what to do. One of others, or with bad rows, was opened before, so
-/// that only memory can
-/// lack.
+/// What is told of a store that is not opened, and what to do.
 fn lines_of(
     alloc: Global,
     log: &[u8],
@@ -83,12 +120,7 @@ fn lines_of(
         return Err(AllocError);
     };
     let mut text = String::new(alloc);
-    match (fault, connection(alloc, log, db)) {
-        (OpenFault::OtherPolicy, Ok(mut conn)) => tell_others(alloc, &mut text, design, &mut conn)?,
-        (OpenFault::BadRows, Ok(mut conn)) => tell_bad(alloc, &mut text, design, &mut conn)?,
-        (OpenFault::Store, _) => {}
-        _ => return Err(AllocError),
-    }
+    tell_found(alloc, &mut text, log, db, design, fault)?;
     text.push_str(advice)?;
     Ok(escape(alloc, text.as_bytes())?)
 }

@@ -1,4 +1,4 @@
-use Rattle.std.proofs.Common.{List, ℕ, subst₂, ◌∙◌}
+use Rattle.std.proofs.Common.{List, ℕ, subst₂}
 use Rattle.sqlite.specs.Files.{file_state}
 use Rattle.mls_fragments.specs.Opening.{IsFoundIn}
 use Rattle.mls_fragments.proofs.MemoryLemmas.{memory_files_are_clean}
@@ -7,6 +7,6 @@ use Rattle.mls_explain.proofs.copies.connection.Goals as goal
 
 pub returns-in-Ok-clause-found : goal.returns-in-Ok-clause-found
 returns-in-Ok-clause-found c =
-    subst₂ (λ (log db : List ℕ). IsFoundIn (image log db) (file_state c.in-Ok.conn).now) (c.holding.ensures
-    ∙ c.in_ok-from_slice.ensures.items) (c.holding-2.ensures ∙ c.in_ok-from_slice-2.ensures.items)
+    subst₂ (λ (log db : List ℕ). IsFoundIn (image log db) (file_state c.in-Ok.conn).now)
+    c.in_ok-files.ensures.log c.in_ok-files.ensures.db
     (c.in-Ok.ensures.found (memory_files_are_clean c.in-Ok.conn))

@@ -11,7 +11,7 @@ ghost use Rattle.mls_fragments.specs.Opening.{IsFoundUnadopted};
 ghost use Rattle.mls_command.specs.Closing.{KeepIn};
 ghost use Rattle.sqlite.specs.Recovery.{Image};
 
-use mls_fragments::SqlBase;
+use mls_fragments::{SqlBase, let_go};
 use mls_host::CloseFault;
 use sqlite::{Connection, FileStore, Files};
 use sqlite_disk::Disk;
@@ -20,10 +20,17 @@ use sqlite_disk::Disk;
 pub trait Refused {
     // Why it is not, under a policy and schemes: in its files this was found.
     ghost bars: { Self → Image → Policy → SchemesFile → OpenFault → Type 0 };
+
+    /// Lets it go. What is given back of files is dearer to drop, in a proof, than these.
+    fn let_go(self);
 }
 
 impl<D: Disk + Drop> Refused for Connection<FileStore<D>> {
     ghost bars = { λ conn image policy file e. IsFoundUnadopted policy file image e conn };
+
+    fn let_go(self) {
+        let _files = let_go(self);
+    }
 }
 
 /// What is left of a store.

@@ -99,11 +99,15 @@ impl<'a, F: Start> Opens<
 }
 
 /// What was given back, for contracts alone.
-fn snapshot_of<R: Drop>(back: Option<R>) -> Option<Snapshot<R>>
+fn snapshot_of<R: Refused>(back: Option<R>) -> Option<Snapshot<R>>
     ensures { option_map (λ s. s.value) result ≡ back }
 {
     match back {
-        Some(back) => Some(Snapshot::of(&back)),
+        Some(back) => {
+            let seen = Snapshot::of(&back);
+            back.let_go();
+            Some(seen)
+        }
         None => None,
     }
 }
@@ -111,8 +115,7 @@ fn snapshot_of<R: Drop>(back: Option<R>) -> Option<Snapshot<R>>
 /// The machine itself, and, for contracts alone, what was given back of a store that was not opened, and the store that
 /// a run left, as a
 /// base and as what is left of it.
-#[derive(Drop)]
-pub struct Machine<'a, B: Base + Drop, L: Left + Drop, R: Refused + Drop, O: Drop> {
+pub struct Machine<'a, B: Base, L: Left, R: Refused, O> {
     rt: &'a HostRuntime,
     stores: O,
     is_terminal: bool,
@@ -122,13 +125,22 @@ pub struct Machine<'a, B: Base + Drop, L: Left + Drop, R: Refused + Drop, O: Dro
     left: Option<Snapshot<L>>,
 }
 
-impl<'a, B: Base + Drop, L: Left + Drop, R: Refused + Drop, O: Opens<B, L, R> + Drop> Machine<
-    'a,
-    B,
-    L,
-    R,
-    O,
-> {
+// It is written out, so that no store has to be one that can be dropped.
+impl<'a, B: Base, L: Left, R: Refused, O: Drop> Drop for Machine<'a, B, L, R, O> {
+    fn drop(self) {
+        let Machine {
+            rt: _,
+            stores: _,
+            is_terminal: _,
+            is_watched: _,
+            refused: _,
+            base: _,
+            left: _,
+        } = self;
+    }
+}
+
+impl<'a, B: Base, L: Left + Drop, R: Refused, O: Opens<B, L, R>> Machine<'a, B, L, R, O> {
     /// The files and the standard input of a runtime, and stores, of which none was taken back.
     pub fn new(rt: &'a HostRuntime, stores: O) -> Machine<'a, B, L, R, O>
         ensures base { result.base ≡ None }
@@ -146,8 +158,7 @@ impl<'a, B: Base + Drop, L: Left + Drop, R: Refused + Drop, O: Opens<B, L, R> + 
     }
 }
 
-impl<'a, B: Base + Drop, L: Left + Drop, R: Refused + Drop, O: Opens<B, L, R> + Drop> Host
-    for Machine<'a, B, L, R, O> {
+impl<'a, B: Base, L: Left + Drop, R: Refused, O: Opens<B, L, R>> Host for Machine<'a, B, L, R, O> {
     ghost use Rattle.mls_command.specs.AnsweringOver.{hosting};
 
     ghost hosting = { hosting B.seen O.image R.bars L.keeps L.is_open };
@@ -212,7 +223,7 @@ impl<'a, B: Base + Drop, L: Left + Drop, R: Refused + Drop, O: Opens<B, L, R> + 
     }
 }
 
-impl<'a, B: Base + Drop, L: Left + Drop, R: Refused + Drop, O: Opens<B, L, R> + Drop> Advises
+impl<'a, B: Base, L: Left + Drop, R: Refused, O: Opens<B, L, R>> Advises
     for Machine<'a, B, L, R, O> {
     type Advice = Advice;
 

@@ -15,14 +15,7 @@ use std::alloc::Global;
 use std::io::Write;
 
 /// Does what the words ask for over a machine, and answers the exit status.
-fn answer<
-    B: Base + Drop,
-    L: Left + Drop,
-    R: Refused + Drop,
-    O: Opens<B, L, R> + Drop,
-    W: Write,
-    E: Write,
->(
+fn answer<B: Base, L: Left + Drop, R: Refused, O: Opens<B, L, R> + Drop, W: Write, E: Write>(
     alloc: Global,
     words: &[&str],
     machine: &mut Machine<'_, B, L, R, O>,
@@ -36,21 +29,20 @@ fn answer<
 }
 
 /// The same over a new machine.
-fn answer_anew<
-    B: Base + Drop,
-    L: Left + Drop,
-    R: Refused + Drop,
-    O: Opens<B, L, R> + Drop,
-    W: Write,
-    E: Write,
->(rt: &HostRuntime, words: &[&str], stores: O, out: &mut W, err: &mut Errors<E>) -> u8 {
+fn answer_anew<B: Base, L: Left + Drop, R: Refused, O: Opens<B, L, R> + Drop, W: Write, E: Write>(
+    rt: &HostRuntime,
+    words: &[&str],
+    stores: O,
+    out: &mut W,
+    err: &mut Errors<E>,
+) -> u8 {
     let mut machine = Machine::<B, L, R, O>::new(rt, stores);
     answer(rt.alloc(), words, &mut machine, out, err)
 }
 
 /// The same over stores in files of a disk, and any base over them.
 fn answer_over_files<
-    B: Base + Drop,
+    B: Base,
     D: Disk + Drop,
     O: Opens<B, LeftFiles<D>, Connection<FileStore<D>>> + Drop,
     W: Write,

@@ -10,7 +10,7 @@ use crate::narrow::Narrow;
 use crate::runs::{End, Task, do_task};
 use crate::site::Site;
 use case_tables::Told;
-use mls_fragments::{OpenFault, SqlBase, connected};
+use mls_fragments::{OpenFault, SqlBase, connected, let_go};
 use mls_lattice::LabelNo;
 use mls_machine::{Audience, Form};
 use mls_runs::{HistoryFault, Run, run_history};
@@ -137,7 +137,7 @@ fn adopted<S: Alter>(
 }
 
 /// Does a task over the store of a connection.
-fn do_over<S: Alter + Drop>(
+fn do_over<S: Alter>(
     alloc: Global,
     site: &Site<'_>,
     task: Task<'_>,
@@ -154,7 +154,7 @@ fn do_over<S: Alter + Drop>(
 }
 
 /// Executes statements over the store of a connection.
-fn execute_over<S: Alter + Drop>(sql: &str, conn: Connection<S>) -> (Outcome, Connection<S>) {
+fn execute_over<S: Alter>(sql: &str, conn: Connection<S>) -> (Outcome, Connection<S>) {
     let mut conn = conn;
     let end = match conn.execute_batch(sql) {
         Ok(()) => End::Whole,
@@ -163,37 +163,31 @@ fn execute_over<S: Alter + Drop>(sql: &str, conn: Connection<S>) -> (Outcome, Co
     (Outcome::Ended(end), conn)
 }
 
-/// A store after work: one that is to be closed, or one whose files are left as they are.
-enum Left<S: Alter + Drop> {
-    Open(Connection<S>),
-    Ended(S),
-}
-
 /// Does work over the store of a connection.
-fn work_over<S: Alter + Drop>(
+fn work_over<S: Alter>(
     alloc: Global,
     job: Job<'_>,
     conn: Connection<S>,
     out: &mut Narrow,
-) -> (Outcome, Left<S>) {
-    let (outcome, conn) = match job.work {
+) -> (Outcome, Connection<S>) {
+    match job.work {
         Work::Execute(sql) => execute_over(sql, conn),
         Work::Do(site, task) => do_over(alloc, site, task, conn, out),
-    };
-    if job.closes && outcome.is_whole() {
-        return (outcome, Left::Open(conn));
     }
-    (outcome, Left::Ended(conn.into_store()))
 }
 
-/// The files of a store after work, which is closed where it is open.
-fn files_of<D: Medium>(outcome: Outcome, left: Left<FileStore<D>>) -> (Outcome, Files<D>) {
-    match left {
-        Left::Open(conn) => match conn.close_files() {
-            Ok(files) => (outcome, files),
-            Err((error, store)) => (Outcome::Unclosed(fault_of(error)), store.close()),
-        },
-        Left::Ended(store) => (outcome, store.close()),
+/// The files of a store after work, which is closed, or whose files are left as they are.
+fn files_of<D: Medium>(
+    outcome: Outcome,
+    conn: Connection<FileStore<D>>,
+    closes: bool,
+) -> (Outcome, Files<D>) {
+    if !closes {
+        return (outcome, let_go(conn));
+    }
+    match conn.close_files() {
+        Ok(files) => (outcome, files),
+        Err((error, store)) => (Outcome::Unclosed(fault_of(error)), store.close()),
     }
 }
 
@@ -206,8 +200,8 @@ fn work_in<D: Medium>(
 ) -> (Outcome, Files<D>) {
     match connected(alloc, files, options()) {
         Ok(conn) => {
-            let (outcome, left) = work_over(alloc, job, conn, out);
-            files_of(outcome, left)
+            let (outcome, conn) = work_over(alloc, job, conn, out);
+            files_of(outcome, conn, job.closes && outcome.is_whole())
         }
         Err((fault, files)) => (Outcome::Unopened(fault), files),
     }

@@ -39,16 +39,14 @@ impl<'a> Model for Context<'a> {
       policy = a.policy.now;
       schemes = a.schemes.now;
       hi = a.hi;
-      scope =
-          record { params = a.params.now; vars = a.vars.now; rows = a.rows.now };
+      scope = record { params = a.params.now; vars = a.vars.now; rows = a.rows.now };
     } };
 
     ghost invariant = { λ a. IsContext (record {
       policy = a.policy.now;
       schemes = a.schemes.now;
       hi = a.hi;
-      scope =
-          record { params = a.params.now; vars = a.vars.now; rows = a.rows.now };
+      scope = record { params = a.params.now; vars = a.vars.now; rows = a.rows.now };
     }) };
 }
 

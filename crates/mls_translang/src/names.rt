@@ -35,8 +35,7 @@ impl<'a> Model for Names<'a> {
       policy = a.policy.now;
       schemes = a.schemes.now;
       hi = a.tx.now.hi;
-      scope =
-          record { params = a.tx.now.params; vars = a.tx.now.vars; rows = a.rows.now };
+      scope = record { params = a.tx.now.params; vars = a.tx.now.vars; rows = a.rows.now };
     } };
 }
 

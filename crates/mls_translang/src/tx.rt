@@ -43,8 +43,7 @@ impl Model for Tx {
       hi = a.hi;
       params = a.params;
       vars = a.vars;
-      body =
-          a.body;
+      body = a.body;
     } };
 
     ghost invariant = { λ a. IsTx (record {

@@ -28,8 +28,7 @@ impl ListBase {
         ensures { (⟦<ListBase as Base>⟧.seen result).state ≡ record {
           now = no_content;
           kept = no_content;
-          begun =
-              false;
+          begun = false;
         } }
     {
         ListBase {

@@ -66,8 +66,7 @@ fn outline_tuple(
     ensures { IfOk result (λ r. r ≡ record {
       relation = relation;
       place = place;
-      elements =
-          outline place.class sets.now 0 pattern.now;
+      elements = outline place.class sets.now 0 pattern.now;
     }) }
 {
     let elements = outline_elements(alloc, place.class, sets, pattern)?;
@@ -91,8 +90,7 @@ pub(crate) fn add_outline<B: Base>(
     requires { CanAddTuple B.seen base.old (record {
       relation = relation;
       place = place;
-      elements =
-          outline place.class sets.now 0 pattern.now;
+      elements = outline place.class sets.now 0 pattern.now;
     }) }
     ensures step { IsStep B.seen base.old base.new result }
     ensures access { ChangesAt B.seen place.class base.old base.new }

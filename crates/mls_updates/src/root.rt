@@ -42,8 +42,7 @@ fn root_at(
     ensures { IfOk result (λ r. r ≡ record {
       relation = relation;
       place = place;
-      elements =
-          root place.class values.now;
+      elements = root place.class values.now;
     }) }
 {
     let elements = root_elements(alloc, place.class, values)?;
@@ -65,8 +64,7 @@ pub(crate) fn add_root<B: Base>(
     requires { CanAddTuple B.seen base.old (record {
       relation = relation;
       place = place;
-      elements =
-          root place.class values.now;
+      elements = root place.class values.now;
     }) }
     ensures step { IsStep B.seen base.old base.new result }
     ensures access { ChangesAt B.seen place.class base.old base.new }

@@ -4,6 +4,7 @@ pub mod LowWriteLemmas
 pub mod KeptLemmas
 pub mod FittingLemmas
 pub mod LawLemmas
+pub mod ExpectedLemmas
 pub mod SampleLemmas
 pub mod TablesLemmas
 pub mod IntervalLemmas

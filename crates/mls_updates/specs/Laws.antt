@@ -1,5 +1,5 @@
 -- The laws of writes.
-use Rattle.std.specs.Prelude.{◌≡◌, ℕ, true, false, length, ◌↔◌}
+use Rattle.std.specs.Prelude.{◌≡◌, ◌≢◌, ℕ, true, false, length, ◌↔◌}
 use Rattle.mls_lattice.specs.Labels.{Labels, below, AreDistinct}
 use Rattle.mls_scheme.specs.declared.tuple.Tuple.{Tuple}
 use Rattle.mls_scheme.specs.Table.{Table, IsIn}
@@ -7,6 +7,7 @@ use Rattle.mls_scheme.specs.Scheme.{Scheme}
 use Rattle.mls_filterview.specs.View.{View, low}
 use Rattle.mls_filterview.specs.Stored.{IsStored, IsContent}
 use Rattle.mls_filterview.specs.Entities.{AgreeOutside}
+use Rattle.mls_updates.specs.declared.outcome.Outcome.TheVariants.{Unexpected}
 use Rattle.mls_updates.specs.Writes.{Write, WriteFits, WriteKinds, write, named}
 
 -- a write keeps the stored form
@@ -59,3 +60,9 @@ abbrev pub WritesChangeOneEntity : Type 0
 WritesChangeOneEntity =
     (ls : Labels) (scheme : Scheme) (w : ℕ) (T : Table) (wr : Write)
     → AgreeOutside (named w wr) T (write ls scheme w wr T).table
+
+-- a write expects no number of rows
+abbrev pub WritesExpectNothing : Type 0
+WritesExpectNothing =
+    (ls : Labels) (scheme : Scheme) (w : ℕ) (T : Table) (wr : Write)
+    → (write ls scheme w wr T).outcome ≢ Unexpected

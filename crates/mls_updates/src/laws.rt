@@ -1,6 +1,7 @@
 //! The laws of writes, each the contract of a function.
 ghost use Rattle.mls_updates.specs.Laws.{WritesKeepForm, WritesKeepContent, HighWritesLeaveLow, LowWritesUseLow};
 ghost use Rattle.mls_updates.specs.Laws.{HighWritesAreUnseen, LowWritesSeeLow, WritesChangeOneEntity};
+ghost use Rattle.mls_updates.specs.Laws.{WritesExpectNothing};
 
 /// Each write keeps the stored form.
 pub fn writes_keep_form()
@@ -35,4 +36,9 @@ pub fn low_writes_see_low()
 /// A write leaves the stored tuples of all entities but the one that it names.
 pub fn writes_change_one_entity()
     ensures { WritesChangeOneEntity }
+{}
+
+/// No write has the outcome of another number of rows than was expected.
+pub fn writes_expect_nothing()
+    ensures { WritesExpectNothing }
 {}

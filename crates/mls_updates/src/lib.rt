@@ -31,7 +31,7 @@ pub use inserting::insert;
 pub use key::place_of;
 pub use laws::{
     high_writes_are_unseen, high_writes_leave_low, low_writes_see_low, low_writes_use_low,
-    writes_change_one_entity, writes_keep_content, writes_keep_form,
+    writes_change_one_entity, writes_expect_nothing, writes_keep_content, writes_keep_form,
 };
 pub use list_base::ListBase;
 pub use outcome::Outcome;

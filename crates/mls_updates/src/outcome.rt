@@ -4,7 +4,7 @@ ghost use Rattle.mls_updates.specs.Outcome.{is_done, code_of, word_of};
 
 use mls_lattice::words;
 
-/// What became of a write. Every outcome but Done changes nothing.
+/// What became of a write, or of what was expected. Every outcome but Done changes nothing.
 #[derive(Clone, Copy, PartialEq, Eq, Debug)]
 pub enum Outcome {
     Done,
@@ -22,11 +22,13 @@ pub enum Outcome {
     OutOfInterval,
     /// The entity has a tuple of the writer's class.
     AlreadyDerived,
+    /// Another number of rows was expected. No write has this outcome.
+    Unexpected,
 }
 
 /// The names of the outcomes, in the order of their numbers.
-static WORDS: [&str; 8] = words! {
-    Done KeyNull Duplicate NoTuple NullAboveKey Inherited OutOfInterval AlreadyDerived
+static WORDS: [&str; 9] = words! {
+    Done KeyNull Duplicate NoTuple NullAboveKey Inherited OutOfInterval AlreadyDerived Unexpected
 };
 
 impl Outcome {
@@ -40,7 +42,7 @@ impl Outcome {
         }
     }
 
-    /// The number of the outcome: 0, or 11 to 17.
+    /// The number of the outcome: 0, or 11 to 18.
     pub fn code(self) -> u8
         ensures { result ≡ code_of self }
     {

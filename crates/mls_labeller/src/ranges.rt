@@ -1,8 +1,9 @@
 //! A range for each variable.
-ghost use Rattle.std.specs.Prelude.{◌≡◌, None, Some, IsTrue, IfOk, Option as SpecOption, pos, slice_index_or};
+ghost use Rattle.std.specs.Prelude.{◌≡◌, ◌≢◌, None, Some, IsTrue, IfOk, Option as SpecOption, pos, slice_index_or};
 ghost use Rattle.mls_scheme.specs.declared.value.Value.{Value as SpecValue};
 ghost use Rattle.mls_scheme.specs.declared.value.Value.TheVariants.{Int};
 ghost use Rattle.mls_updates.specs.declared.outcome.Outcome.{Outcome};
+ghost use Rattle.mls_updates.specs.declared.outcome.Outcome.TheVariants.{Unexpected};
 ghost use Rattle.mls_updates.specs.Outcome.{code_of};
 ghost use Rattle.mls_certcheck.specs.Meaning.{Variables, set_var, set_outcome};
 ghost use Rattle.mls_labeller.specs.Ranges.{Admits, any_value, AreHeld, Wider, HasRange};
@@ -18,9 +19,9 @@ pub(crate) struct Ranges {
     pub vars: Vec<Range>,
 }
 
-/// The numbers of outcomes of a write.
+/// The numbers of outcomes of a write, which expects no number of rows.
 fn outcomes() -> Range
-    ensures { (o : Outcome) → Admits result (Some (Int (pos (code_of o)))) }
+    ensures { (o : Outcome) → o ≢ Unexpected → Admits result (Some (Int (pos (code_of o)))) }
 {
     Range {
         null: false,
@@ -96,8 +97,8 @@ impl Ranges {
 
     /// The ranges after a write, whose outcome a variable may get.
     pub fn put_outcome(&self, variable: Option<u8>) -> Result<Ranges, AllocError>
-        ensures { IfOk result (λ r. (vars : Variables) (o : Outcome) → AreHeld self.now.vars.items vars
-            → AreHeld r.vars.items (set_outcome variable o vars)) }
+        ensures { IfOk result (λ r. (vars : Variables) (o : Outcome) → o ≢ Unexpected
+            → AreHeld self.now.vars.items vars → AreHeld r.vars.items (set_outcome variable o vars)) }
     {
         match variable {
             Some(variable) => self.put(variable, outcomes()),

@@ -1,18 +1,20 @@
-use Rattle.std.proofs.Common.{◌≡◌, ℕ, ◌+◌, ◌≤◌, Bool, true, false, cond, List, [], ◌∷◌, ◌++◌, length, drop, Option, refl, sym, ap, ◌∙◌, subst, subst₂, suc, rules, arith, append-nil, append_assoc}
+use Rattle.std.proofs.Common.{◌≡◌, ◌≢◌, ℕ, ◌+◌, ◌≤◌, Bool, true, false, cond, List, [], ◌∷◌, ◌++◌, length, drop, Option, refl, sym, ap, ◌∙◌, subst, subst₂, suc, rules, arith, append-nil, append_assoc}
 use Rattle.std.proofs.Math.ListN.{drop_of_length-le}
 use Rattle.mls_certcheck.proofs.WalkLemmas.{drop_here}
 use Rattle.mls_lattice.specs.Labels.{Labels}
 use Rattle.mls_scheme.specs.declared.value.Value.{Value}
 use Rattle.mls_scheme.specs.declared.tuple.Tuple.{Tuple}
-use Rattle.mls_scheme.specs.Scheme.{Schemes}
+use Rattle.mls_scheme.specs.Scheme.{Schemes, scheme_of}
 use Rattle.mls_updates.specs.declared.outcome.Outcome.{Outcome}
+use Rattle.mls_updates.specs.declared.outcome.Outcome.TheVariants.{Unexpected}
+use Rattle.mls_updates.proofs.ExpectedLemmas.{expect_nothing}
 use Rattle.mls_filterview.specs.View.{rows}
 use Rattle.mls_scheme.specs.Tuple.{no_tuple}
 use Rattle.mls_translang.specs.Tree.{Expr, Stmt as Simple, Writing, Write_at, Release, Block, End, Do, If, For}
 use Rattle.mls_translang.specs.Blocks.{block_of}
 use Rattle.mls_translang.specs.declared.block.Stmt.{Stmt}
 use Rattle.mls_translang.specs.Expressions.{value_in, holds_in}
-use Rattle.mls_certcheck.specs.Meaning.{Item, Variables, Progress, set_var, set_outcome, environment, perform, for_each, run_block}
+use Rattle.mls_certcheck.specs.Meaning.{Item, Variables, Progress, set_var, set_outcome, environment, write_in, perform, for_each, run_block}
 use Rattle.mls_labeller.specs.declared.told.Told.{Told}
 use Rattle.mls_labeller.specs.declared.range.Range.{Range}
 use Rattle.mls_labeller.specs.Ranges.{Admits, AreHeld, Wider, HasRange}
@@ -66,11 +68,15 @@ module _ {looped : Bool} {before : List Range} where
   }
 
   reaches_write : (relation w : ℕ) (writing : Writing) (outcome : Option ℕ) (rest : Block) (after : List Range)
-      → ((vars : Variables) (o : Outcome) → AreHeld before vars → AreHeld after (set_outcome outcome o vars))
+      → ((vars : Variables) (o : Outcome) → o ≢ Unexpected → AreHeld before vars
+      → AreHeld after (set_outcome outcome o vars))
       → Reaches looped before (Do (Write_at relation w writing outcome) rest) after rest []
   unfolding perform
-  reaches_write relation w writing outcome rest after put = reaches_do _ rest after [] (λ ls schemes args around s held.
-      (put s.vars _ held, λ more zs h. h))
+  reaches_write relation w writing outcome rest after put = reaches_do _ rest after [] (λ ls schemes args around s held. (
+    put s.vars _ (expect_nothing ls (scheme_of schemes relation) w (s.db relation)
+        (write_in (environment args around s) writing)) held,
+    λ more zs h. h,
+  ))
 
   -- ---- statements with blocks inside
 

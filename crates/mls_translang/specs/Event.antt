@@ -1,5 +1,5 @@
 -- Events, and the numbers and kinds that each event of a script keeps to.
-use Rattle.std.specs.Prelude.{◌≡◌, ℕ, ◌<◌, Bool, true, nat_eq, List, map, length, Option, None, IfSome, ⊤}
+use Rattle.std.specs.Prelude.{◌≡◌, ℕ, ◌<◌, ◌≤◌, Bool, true, nat_eq, List, map, length, Option, None, IfSome, ⊤}
 use Rattle.std.specs.List.{AllByRecursion, IsDistinct}
 use Rattle.mls_lattice.specs.Name.{is_name}
 use Rattle.mls_lattice.specs.Policy.{Policy}
@@ -14,7 +14,9 @@ use Rattle.mls_translang.specs.Fits.{IsConditionOf}
 use Rattle.mls_translang.specs.declared.query.Query.{Query}
 use Rattle.mls_translang.specs.declared.event.Event.{Event}
 use Rattle.mls_translang.specs.declared.event.Command.{Command}
-use Rattle.mls_translang.specs.declared.event.Command.TheVariants.{Open, Close, Audit, View, Dump, Write, Call}
+use Rattle.mls_translang.specs.declared.event.Command.TheVariants.{Open, Close, Audit, View, Dump, Write, Call, All}
+use Rattle.mls_translang.specs.declared.event.One.{One}
+use Rattle.mls_translang.specs.declared.event.One.TheVariants as ones
 
 -- new values of attributes outside the key, by their numbers
 abbrev pub Sets : Type 0
@@ -44,16 +46,41 @@ IsWriteOf policy scheme (Update key key_class from sets) =
     HaveKinds scheme.keys key × (key_class < length policy.labels) × (from < length policy.labels) × SetsFit scheme sets
 IsWriteOf policy scheme (Delete key key_class) = HaveKinds scheme.keys key × (key_class < length policy.labels)
 
+-- a relation and a label that are declared, and a query on its rows
+abbrev pub LookFits : Policy → Schemes → ℕ → ℕ → Query → Bool → Type 0
+LookFits policy schemes relation label query counts =
+    (relation < length schemes) × (label < length policy.labels) × QueryFits policy schemes relation query counts
+
+-- a relation that is declared, and a write of it
+abbrev pub IsWriteUnder : Policy → Schemes → ℕ → WriteOf (Option Value) → Type 0
+IsWriteUnder policy schemes relation write =
+    (relation < length schemes) × IsWriteOf policy (scheme_of schemes relation) write
+
+-- one of the commands of a batch
+abbrev pub OneFits : Policy → Schemes → One → Type 0
+OneFits policy schemes (ones.View relation label query counts) = LookFits policy schemes relation label query counts
+OneFits policy schemes (ones.Expect rows relation label query) = LookFits policy schemes relation label query true
+OneFits policy schemes (ones.Write relation write) = IsWriteUnder policy schemes relation write
+
+-- how many commands a batch has at most
+abbrev pub most_ones : ℕ
+most_ones = 1000
+
+-- the commands of a batch: at least one, and no more than most
+pub record BatchFits (policy : Policy) (schemes : Schemes) (batch : List One) : Type 0 where
+  pub some : 0 < length batch
+  pub most : length batch ≤ most_ones
+  pub each : AllByRecursion (OneFits policy schemes) batch
+
 abbrev pub CommandFits : Policy → Schemes → Command → Type 0
 CommandFits policy schemes (Open user) = is_name user ≡ true
 CommandFits policy schemes Close = ⊤
 CommandFits policy schemes Audit = ⊤
-CommandFits policy schemes (View relation label query counts) =
-    (relation < length schemes) × (label < length policy.labels) × QueryFits policy schemes relation query counts
+CommandFits policy schemes (View relation label query counts) = LookFits policy schemes relation label query counts
 CommandFits policy schemes (Dump relation) = relation < length schemes
-CommandFits policy schemes (Write relation write) = (relation < length schemes)
-    × IsWriteOf policy (scheme_of schemes relation) write
+CommandFits policy schemes (Write relation write) = IsWriteUnder policy schemes relation write
 CommandFits policy schemes (Call tx args) = (is_name tx ≡ true) × AllByRecursion HasSomeKind args
+CommandFits policy schemes (All batch) = BatchFits policy schemes batch
 
 pub record EventFits (policy : Policy) (schemes : Schemes) (e : Event) : Type 0 where
   pub level : e.level < length policy.labels

@@ -1,8 +1,4 @@
 //! What sessions do.
-ghost use Rattle.std.specs.Prelude.{◌≡◌};
-ghost use Rattle.mls_translang.specs.declared.event.Command.TheVariants as commands;
-ghost use Rattle.mls_scheme.specs.declared.write.Write.TheVariants as writes;
-
 use crate::query::Query;
 use mls_lattice::{Items, LabelNo, Str};
 use mls_scheme::{RelNo, Value, Write};
@@ -48,48 +44,31 @@ pub enum Command {
         tx: Str,
         args: Items<Option<Value>>,
     },
+    /// Does commands in order, each over what those before it left: all of them, or, where one is refused, none.
+    All(Items<One>),
 }
 
-/// The new values of an update: numbers of attributes outside the key, and what they get.
-type Sets = Items<(usize, Option<Value>)>;
-
-impl Command {
-    /// Writes a new tuple.
-    pub fn insert(
+/// One of the commands of a batch.
+#[derive(Drop)]
+pub enum One {
+    /// Shows what a query finds, as [`Command::View`] does.
+    View {
         relation: RelNo,
-        key: Items<Option<Value>>,
-        values: Items<Option<Value>>,
-    ) -> Command
-        ensures { result ≡ commands.Write relation (writes.Insert key values) }
-    {
-        let write = Write::Insert { key, values };
-        Command::Write { relation, write }
-    }
-
-    /// Gives a tuple new values.
-    pub fn update(
+        label: LabelNo,
+        query: Query,
+        /// Whether only the number of the rows that are found is told.
+        counts: bool,
+    },
+    /// Is refused, unless a query finds so many rows.
+    Expect {
+        rows: usize,
         relation: RelNo,
-        key: Items<Option<Value>>,
-        key_class: LabelNo,
-        from: LabelNo,
-        sets: Sets,
-    ) -> Command
-        ensures { result ≡ commands.Write relation (writes.Update key key_class from sets) }
-    {
-        let write = Write::Update {
-            key,
-            key_class,
-            from,
-            sets,
-        };
-        Command::Write { relation, write }
-    }
-
-    /// Removes a tuple.
-    pub fn delete(relation: RelNo, key: Items<Option<Value>>, key_class: LabelNo) -> Command
-        ensures { result ≡ commands.Write relation (writes.Delete key key_class) }
-    {
-        let write = Write::Delete { key, key_class };
-        Command::Write { relation, write }
-    }
+        label: LabelNo,
+        query: Query,
+    },
+    /// Writes at the session's level.
+    Write {
+        relation: RelNo,
+        write: Write<Option<Value>>,
+    },
 }

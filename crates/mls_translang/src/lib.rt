@@ -22,7 +22,7 @@ mod tx;
 mod writing;
 
 pub use block::{Block, Stmt};
-pub use event::{Command, Event};
+pub use event::{Command, Event, One};
 pub use expr::{Expr, Term};
 pub use operator::Operator;
 pub use print_tx::print;

@@ -1,11 +1,16 @@
+pub mod BatchSteps
 pub mod ItemSteps
 pub mod ScriptSteps
 pub mod KindLemmas
 pub mod ListFound
 pub mod QueryFound
+pub mod PartsFound
+pub mod BatchFound
 pub mod CommandFound
 pub mod LawLemmas
 pub mod ListAgain
 pub mod QueryAgain
+pub mod PartsAgain
+pub mod BatchAgain
 pub mod TellingLemmas
 pub mod WritingLemmas

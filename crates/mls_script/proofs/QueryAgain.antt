@@ -1,5 +1,5 @@
 -- What stands there is read: labels, and queries.
-use Rattle.std.proofs.Common.{◌≡◌, ℕ, ◌<◌, Bool, true, false, pos, List, [], ◌∷◌, ◌++◌, length, Option, Some, None, Ok, refl, sym, ap, ◌∙◌, subst, codes, IfSome, bytes_eq, append-nil}
+use Rattle.std.proofs.Common.{◌≡◌, ℕ, ◌<◌, Bool, true, false, pos, List, [], ◌∷◌, ◌++◌, length, Option, Some, None, Ok, refl, sym, ap, ◌∙◌, subst, codes, IfSome, bytes_eq, append_assoc}
 use Rattle.mls_lattice.specs.Canon.{label_name}
 use Rattle.mls_lattice.specs.Policy.{Policy, IsPolicy}
 use Rattle.mls_lattice.specs.Reading.{◌>>=◌}
@@ -16,6 +16,7 @@ use Rattle.mls_translang.specs.declared.query.Comparison.TheVariants as compared
 use Rattle.mls_translang.specs.declared.query.ClassTest.{ClassTest}
 use Rattle.mls_translang.specs.declared.query.Query.{Query}
 use Rattle.mls_parser.specs.declared.fault.TextCause.TheVariants as cause
+use Rattle.mls_parser.specs.Condition.{EndsCondition}
 use Rattle.mls_parser.specs.Fault.{unless}
 use Rattle.mls_parser.specs.Names.{label_named, numbered}
 use Rattle.mls_parser.specs.Noted.{State, Read, note, takes_word, known, label_at}
@@ -24,7 +25,7 @@ use Rattle.mls_parser.proofs.FoundLemmas.{label_again}
 use Rattle.mls_parser.proofs.NextLemmas.{Gets, Same, gets_then, placed_then, gets_done, gets_noted, gets_is, name_gets, known_gets, took_word, after_took, no_word, none_known}
 use Rattle.mls_translang.specs.Event.{QueryFits}
 use Rattle.mls_script.specs.QueryTokens.{comparison_sign, highest_tokens, class_tokens, first_tokens, TellsTest, TellsQuery}
-use Rattle.mls_script.specs.ReadQuery.{highest_behind, highest_at, comparison_of, class_behind, class_at, number_of, is_count, count_of, first_behind, first_at, where_behind, where_at, query_at}
+use Rattle.mls_script.specs.ReadQuery.{highest_behind, highest_at, comparison_of, class_behind, class_at, number_of, is_count, count_of, rows_at, first_behind, first_at, where_behind, where_at, query_at}
 
 -- ---- labels
 
@@ -67,6 +68,14 @@ class_gets policy valid (Some c) us s fits off k =
 
 -- ---- the first
 
+pub rows_gets : (n : ℕ) (us : List Token) (s : State) → without_places s.1.placed ≡ Int (pos n) ∷ us
+    → Gets (rows_at s) s (Same n) us
+unfolding rows_at
+rows_gets n us s k =
+    placed_then (λ m. Ok (count_of m.0.0, note (unless (is_count m.0.0) m.0.1 cause.Kind) m.1))
+    (known_gets number_of (pos n) (Int (pos n)) us refl s k)
+    (λ at m t. gets_noted n [] s.0 m (Same n) us refl refl t)
+
 first_gets : (counts : Bool) (o : Option ℕ) (us : List Token) (s : State) → (counts ≡ true → o ≡ None)
     → NotNext (is_word (codes "first")) us → without_places s.1.placed ≡ first_tokens o ++ us
     → Gets (first_at counts s) s (Same o) us
@@ -80,29 +89,37 @@ first_gets false (Some n) us s whole off k =
     let word = took_word (codes "first") (Int (pos n) ∷ us) s k in
     gets_is (first_behind s (takes_word (codes "first") s)) (first_behind s (Some (word.at, (s.0, word.rest)))) s
     (Same (Some n)) us (ap (first_behind s) word.is)
-    (after_took word (placed_then (λ m. Ok (Some (count_of m.0.0), note (unless (is_count m.0.0) m.0.1 cause.Kind) m.1))
-    (known_gets number_of (pos n) (Int (pos n)) us refl (s.0, word.rest) word.tokens)
-    (λ at m t. gets_noted (Some n) [] s.0 m (Same (Some n)) us refl refl t)))
+    (after_took word (gets_then (λ m. Ok (Some m.0, m.1)) (rows_gets n us (s.0, word.rest) word.tokens)
+    (λ m t. gets_done (Some n) s.0 m (Same (Some n)) us refl t)))
 
 -- ---- the condition
 
+-- no query goes on with these
+pub record EndsQuery (us : List Token) : Type 0 where
+  pub condition : EndsCondition us
+  pub word : (w : List ℕ) → NotNext (is_word w) us
+
+pub ends_nothing : EndsQuery []
+ends_nothing = record { condition = tt; word = λ w. tt }
+
 module _ (policy : Policy) (schemes : Schemes) (relation : ℕ) where
-  where_gets : IsPolicy policy → AreSchemes schemes → relation < length schemes → (t : Option Expr) (ts : List Token)
-      (s : State) → TellsTest policy schemes relation t ts → without_places s.1.placed ≡ ts
-      → Gets (where_at policy schemes relation s) s (Same t) []
+  where_gets : IsPolicy policy → AreSchemes schemes → relation < length schemes → (t : Option Expr) (ts us : List Token)
+      (s : State) → TellsTest policy schemes relation t ts → EndsQuery us → without_places s.1.placed ≡ ts ++ us
+      → Gets (where_at policy schemes relation s) s (Same t) us
   unfolding where_at
-  where_gets is_policy valid within None ts s tells k =
-      gets_is (where_behind policy schemes relation s (takes_word (codes "where") s)) (Ok (None, s)) s (Same None) []
-      (ap (where_behind policy schemes relation s) (no_word (codes "where") [] s tt (k ∙ tells)))
-      (gets_done None s.0 s.1 (Same None) [] refl (k ∙ tells))
-  where_gets is_policy valid within (Some test) ts s tells k =
-      let word = took_word (codes "where") tells.condition s (k ∙ tells.tokens) in
+  where_gets is_policy valid within None ts us s tells ends k =
+      let left = k ∙ ap (λ x. x ++ us) tells in
+      gets_is (where_behind policy schemes relation s (takes_word (codes "where") s)) (Ok (None, s)) s (Same None) us
+      (ap (where_behind policy schemes relation s) (no_word (codes "where") us s (ends.word (codes "where")) left))
+      (gets_done None s.0 s.1 (Same None) us refl left)
+  where_gets is_policy valid within (Some test) ts us s tells ends k =
+      let word = took_word (codes "where") (tells.condition ++ us) s (k ∙ ap (λ x. x ++ us) tells.tokens) in
       let read = conditions_are_read policy schemes is_policy valid relation (
         s.0,
         word.rest,
-      ) test tells.condition [] within tells.tells tt (word.tokens ∙ sym (append-nil tells.condition)) in
+      ) test tells.condition us within tells.tells ends.condition word.tokens in
       gets_is (where_behind policy schemes relation s (takes_word (codes "where") s))
-      (where_behind policy schemes relation s (Some (word.at, (s.0, word.rest)))) s (Same (Some test)) []
+      (where_behind policy schemes relation s (Some (word.at, (s.0, word.rest)))) s (Same (Some test)) us
       (ap (where_behind policy schemes relation s) word.is)
       (after_took word (record {
         value = Some test;
@@ -114,10 +131,10 @@ module _ (policy : Policy) (schemes : Schemes) (relation : ℕ) where
       }))
 
   -- a condition begins with its word
-  where_next : (w : List ℕ) (t : Option Expr) (ts : List Token) → bytes_eq (codes "where") w ≡ false
-      → TellsTest policy schemes relation t ts → NotNext (is_word w) ts
-  where_next w None ts off tells = subst (NotNext (is_word w)) (sym tells) tt
-  where_next w (Some test) ts off tells = subst (NotNext (is_word w)) (sym tells.tokens) off
+  where_next : (w : List ℕ) (t : Option Expr) (ts us : List Token) → bytes_eq (codes "where") w ≡ false → EndsQuery us
+      → TellsTest policy schemes relation t ts → NotNext (is_word w) (ts ++ us)
+  where_next w None ts us off ends tells = subst (λ x. NotNext (is_word w) (x ++ us)) (sym tells) (ends.word w)
+  where_next w (Some test) ts us off ends tells = subst (λ x. NotNext (is_word w) (x ++ us)) (sym tells.tokens) off
 
   first_next : (w : List ℕ) (o : Option ℕ) (ts : List Token) → bytes_eq (codes "first") w ≡ false
       → NotNext (is_word w) ts → NotNext (is_word w) (first_tokens o ++ ts)
@@ -151,18 +168,26 @@ module _ (policy : Policy) (schemes : Schemes) (relation : ℕ) where
   }
 
   pub query_gets : IsPolicy policy → AreSchemes schemes → relation < length schemes
-      → (counts : Bool) (q : Query) (ts : List Token) (s : State) → QueryFits policy schemes relation q counts
-      → TellsQuery policy schemes relation q ts → without_places s.1.placed ≡ ts
-      → Gets (query_at policy schemes counts relation s) s (Same q) []
+      → (counts : Bool) (q : Query) (ts us : List Token) (s : State) → QueryFits policy schemes relation q counts
+      → TellsQuery policy schemes relation q ts → EndsQuery us
+      → without_places s.1.placed ≡ ts ++ us → Gets (query_at policy schemes counts relation s) s (Same q) us
   unfolding query_at
-  query_gets is_policy valid within counts q ts s fits tells k =
-      let behind_first = tells.behind in
+  query_gets is_policy valid within counts q ts us s fits tells ends k =
+      let behind_first = tells.behind ++ us in
       let behind_class = first_tokens q.first ++ behind_first in
       let behind = class_tokens policy q.class ++ behind_class in
+      let parts : ts ++ us ≡ highest_tokens q.highest ++ behind =
+      ap (λ x. x ++ us) tells.tokens ∙ append_assoc (highest_tokens q.highest) (class_tokens policy q.class
+      ++ (first_tokens q.first ++ tells.behind)) us
+      ∙ ap (λ x. highest_tokens q.highest ++ x) (append_assoc (class_tokens policy q.class) (first_tokens q.first
+      ++ tells.behind) us
+      ∙ ap (λ x. class_tokens policy q.class ++ x) (append_assoc (first_tokens q.first) tells.behind us)) in
+      let not_where : (w : List ℕ) → bytes_eq (codes "where") w ≡ false → NotNext (is_word w) behind_first =
+      λ w off. where_next w q.test tells.behind us off ends tells.test in
       let h =
       highest_gets q.highest behind s
       (class_next (codes "highest") q.class behind_class refl (first_next (codes "highest") q.first behind_first refl
-      (where_next (codes "highest") q.test behind_first refl tells.test))) (k ∙ tells.tokens) in
+      (not_where (codes "highest") refl))) (k ∙ parts) in
       let asked : Bool → Option ClassTest → Option ℕ → Option Expr → Query = λ b c f t. record {
         highest = b;
         class = c;
@@ -176,14 +201,12 @@ module _ (policy : Policy) (schemes : Schemes) (relation : ℕ) where
       gets_then (λ c. first_at counts c.1 >>= λ f. where_at policy schemes relation f.1 >>=
       λ t. Ok (asked q.highest c.0 f.0 t.0, t.1))
       (class_gets policy is_policy q.class behind_class (s.0, h.rest) fits.class
-      (first_next (codes "class") q.first behind_first refl
-      (where_next (codes "class") q.test behind_first refl tells.test)) h.tokens)
+      (first_next (codes "class") q.first behind_first refl (not_where (codes "class") refl)) h.tokens)
       (λ m t. gets_then (λ f. where_at policy schemes relation f.1 >>= λ t. Ok (asked q.highest q.class f.0 t.0, t.1))
-      (first_gets counts q.first behind_first (s.0, m) fits.whole
-      (where_next (codes "first") q.test behind_first refl tells.test) t)
+      (first_gets counts q.first behind_first (s.0, m) fits.whole (not_where (codes "first") refl) t)
       (λ m2 t2. gets_then (λ t. Ok (asked q.highest q.class q.first t.0, t.1))
-      (where_gets is_policy valid within q.test behind_first (s.0, m2) tells.test t2) (λ m3 t3. gets_done q s.0 m3
-      (Same q) [] refl t3))) in
+      (where_gets is_policy valid within q.test tells.behind us (s.0, m2) tells.test ends t2)
+      (λ m3 t3. gets_done q s.0 m3 (Same q) us refl t3))) in
       record {
         value = more.value;
         rest = more.rest;

@@ -30,7 +30,7 @@ use Rattle.mls_parser.proofs.PassedLemmas.{Quiet, word_taken}
 use Rattle.mls_parser.proofs.StmtFound.{label_known}
 use Rattle.mls_translang.specs.Event.{QueryFits}
 use Rattle.mls_script.specs.QueryTokens.{comparison_sign, highest_tokens, class_tokens, first_tokens, TellsTest, TellsQuery}
-use Rattle.mls_script.specs.ReadQuery.{highest_behind, highest_at, comparison_of, class_behind, class_at, number_of, is_count, count_of, first_behind, first_at, where_behind, where_at, query_at}
+use Rattle.mls_script.specs.ReadQuery.{highest_behind, highest_at, comparison_of, class_behind, class_at, number_of, is_count, count_of, rows_at, first_behind, first_at, where_behind, where_at, query_at}
 use Rattle.mls_script.specs.Tokens.{label_token}
 
 module _ (policy : Policy) (schemes : Schemes) where
@@ -114,6 +114,17 @@ module _ (policy : Policy) (schemes : Schemes) where
   count_is (pos n) e = refl
   count_is (negsuc n) e = absurd cc
 
+  abbrev pub IsRows : List Token → ℕ → Type 0
+  IsRows ts n = ts ≡ Int (pos n) ∷ []
+
+  pub rows_read : (s : State) (x : ℕ × State) → rows_at s ≡ Ok x → Found IsRows s x
+  unfolding rows_at
+  rows_read s =
+      found_noted IsRows s (token (pass_known number_of) s) (λ n. count_of n.0)
+      (λ n. unless (is_count n.0) n.1 cause.Kind) (known_read number_of s)
+      (λ n ts none r. r.2 ∙ ap (λ t. t ∷ []) (number_is r.0 n.0 r.1 ∙ ap (λ (z : ℤ). Int z)
+      (count_is n.0 (holds (is_count n.0) n.1 _ none))))
+
   record IsFirst (counts : Bool) (ts : List Token) (o : Option ℕ) : Type 0 where
     tokens : ts ≡ first_tokens o
     whole : counts ≡ true → o ≡ None
@@ -128,13 +139,9 @@ module _ (policy : Policy) (schemes : Schemes) where
   first_found s None x is e = no_first false s x e
   first_found s (Some word) x is e =
       found_after (IsFirst false) (Word (codes "first") ∷ []) s word.1 x (word_taken (codes "first") s word is)
-      (found_noted (λ us y. IsFirst false (Word (codes "first") ∷ us) y) word.1 (token (pass_known number_of) word.1)
-      (λ n. Some (count_of n.0)) (λ n. unless (is_count n.0) n.1 cause.Kind) (known_read number_of word.1)
-      (λ n ts none r. record {
-        tokens = λ i. Word (codes "first") ∷ (r.2 ∙ ap (λ t. t ∷ []) (number_is r.0 n.0 r.1 ∙ ap (λ (z : ℤ). Int z)
-            (count_is n.0 (holds (is_count n.0) n.1 _ none)))) i;
-        whole = λ h. absurd cc;
-      })
+      (found_made (λ us y. IsFirst false (Word (codes "first") ∷ us) y) word.1 (rows_at word.1) (λ n. Some n)
+      (rows_read word.1)
+      (λ n ts r. record { tokens = λ i. Word (codes "first") ∷ r i; whole = λ h. absurd cc })
       x e)
 
   first_read : (counts : Bool) (s : State) (x : Option ℕ × State) → first_at counts s ≡ Ok x

@@ -1,14 +1,13 @@
 -- Lines and scripts that tell events are read as these.
-use Rattle.std.proofs.Common.{◌≡◌, ℕ, ◌<◌, ◌+◌, Bool, true, false, List, [], ◌∷◌, ◌++◌, length, Option, Some, None, Result, Ok, Err, refl, sym, ap, ◌∙◌, subst, append_assoc, option_to_list, IfErr, flat_map, filter_map, codes, append-nil}
+use Rattle.std.proofs.Common.{◌≡◌, ℕ, ◌+◌, Bool, true, false, List, [], ◌∷◌, ◌++◌, Option, Some, None, Result, Ok, Err, refl, sym, ap, ◌∙◌, subst, append_assoc, option_to_list, IfErr, flat_map, filter_map, append-nil}
 use Rattle.std.specs.List.{AllByRecursion}
 use Rattle.std.proofs.lemmas.List.Elements.{filter_map-append}
 use Rattle.mls_lattice.specs.Policy.{Policy, IsPolicy}
 use Rattle.mls_lattice.specs.Reading.{◌>>=◌}
 use Rattle.mls_scheme.specs.declared.value.Value.{Value}
+use Rattle.mls_scheme.specs.declared.write.Write.{Write as WriteOf}
 use Rattle.mls_scheme.specs.declared.write.Write.TheVariants as writes
-use Rattle.mls_scheme.specs.Fits.{HaveKinds}
-use Rattle.mls_scheme.specs.Scheme.{Attribute, Schemes, AreSchemes, scheme_of}
-use Rattle.mls_scheme.proofs.SchemeNameLemmas.{scheme_is}
+use Rattle.mls_scheme.specs.Scheme.{Schemes, AreSchemes}
 use Rattle.mls_tokens.specs.declared.fault.TokenCause.TheVariants as causes
 use Rattle.mls_tokens.specs.declared.fault.TokenFault.{TokenFault}
 use Rattle.mls_tokens.specs.declared.token.Token.{Token}
@@ -16,20 +15,15 @@ use Rattle.mls_tokens.specs.declared.token.Token.TheVariants.{Word}
 use Rattle.mls_tokens.specs.declared.sign.Sign.TheVariants.{Comma}
 use Rattle.mls_tokens.specs.Scanning.{without_places, tokens_at}
 use Rattle.mls_tokens.specs.Passing.{is_sign, has_ended}
-use Rattle.mls_tokens.specs.Text.{separated}
 use Rattle.mls_tokens.proofs.TokensLemmas.{tokens_exact}
 use Rattle.mls_tokens.proofs.NextLemmas.{NotNext, over_again, not_over}
-use Rattle.mls_translang.specs.Tokens.{Context}
 use Rattle.mls_translang.specs.declared.query.Query.{Query}
 use Rattle.mls_parser.specs.Fault.{least, least_from}
-use Rattle.mls_parser.specs.Noted.{State, Read, token, word_at, name_at, label_behind}
+use Rattle.mls_parser.specs.Noted.{State, Read, token, name_at}
 use Rattle.mls_parser.specs.Parsing.{answer}
-use Rattle.mls_parser.specs.ReadCondition.{written_place}
 use Rattle.mls_parser.specs.Words.{pass_known}
-use Rattle.mls_parser.proofs.ConditionLemmas.{written_names}
-use Rattle.mls_parser.proofs.FoundLemmas.{HasNames}
-use Rattle.mls_parser.proofs.NextLemmas.{Gets, Same, gets_more, gets_then, placed_then, gets_done, word_gets, name_gets, known_gets}
-use Rattle.mls_parser.proofs.StmtAgain.{label_gets as behind_gets, relation_gets}
+use Rattle.mls_parser.proofs.NextLemmas.{Gets, Same, gets_then, placed_then, gets_done, name_gets, known_gets}
+use Rattle.mls_parser.proofs.StmtAgain.{relation_gets}
 use Rattle.mls_translang.specs.declared.event.Event.{Event}
 use Rattle.mls_translang.specs.declared.event.Command.{Command}
 use Rattle.mls_translang.specs.declared.event.Command.TheVariants as commands
@@ -38,17 +32,20 @@ use Rattle.mls_script.specs.declared.fault.LineFault.{LineFault}
 use Rattle.mls_script.specs.declared.fault.ScriptFault.{ScriptFault}
 use Rattle.mls_script.specs.declared.grammar.Verb.{Verb}
 use Rattle.mls_script.specs.declared.grammar.Verb.TheVariants as verb
-use Rattle.mls_translang.specs.Event.{Sets, CommandFits, EventFits}
+use Rattle.mls_translang.specs.Event.{LookFits, CommandFits, EventFits}
 use Rattle.mls_script.specs.Grammar.{verbs, verb_word, verb_of}
-use Rattle.mls_script.specs.QueryTokens.{TellsTail, TellsQuery}
-use Rattle.mls_script.specs.ReadList.{list_at, sets_at}
-use Rattle.mls_script.specs.ReadQuery.{query_at}
-use Rattle.mls_script.specs.Reading.{verb_of_token, end_at, view_at, keyed_at, insert_at, update_at, delete_at, call_at, command_at, event_at, told_at, placed_on, line_at, in_script, lines_at, split_lines, script_at, GivesScript}
+use Rattle.mls_script.specs.BatchTokens.{TellsTail}
+use Rattle.mls_script.specs.QueryTokens.{TellsQuery}
+use Rattle.mls_script.specs.ReadList.{list_at}
+use Rattle.mls_script.specs.ReadParts.{Written, insert_at, update_at, delete_at}
+use Rattle.mls_script.specs.Reading.{verb_of_token, end_at, call_at, viewed_at, written, command_at, event_at, told_at, placed_on, line_at, in_script, lines_at, split_lines, script_at, GivesScript}
 use Rattle.mls_script.specs.Script.{Line, Tells, IsLineOf, ReadsScript, ScriptsAreOnce}
-use Rattle.mls_script.specs.Tokens.{label_token, list_tokens, set_tokens, keyed_tokens, command_tokens, event_tokens}
+use Rattle.mls_script.specs.Tokens.{list_tokens, look_tokens, command_tokens, event_tokens}
 use Rattle.mls_script.proofs.LawLemmas.{listed}
-use Rattle.mls_script.proofs.ListAgain.{list_gets, sets_gets}
-use Rattle.mls_script.proofs.QueryAgain.{label_gets, query_gets}
+use Rattle.mls_script.proofs.BatchAgain.{batch_gets}
+use Rattle.mls_script.proofs.ListAgain.{list_gets}
+use Rattle.mls_script.proofs.PartsAgain.{place, names, look_gets, insert_gets, update_gets, delete_gets}
+use Rattle.mls_script.proofs.QueryAgain.{label_gets, ends_nothing}
 use Rattle.mls_script.proofs.ScriptSteps.{split_ended}
 
 -- ---- verbs
@@ -63,116 +60,6 @@ verb_gets v us s k = known_gets verb_of_token v (Word (verb_word v)) us (known_v
 
 module _ (policy : Policy) (schemes : Schemes) (is_policy : IsPolicy policy) (are_schemes : AreSchemes schemes) where
   -- ---- commands
-
-  abbrev place : ℕ → Context
-  place relation = written_place policy schemes relation
-
-  names : (relation : ℕ) → relation < length schemes → HasNames (place relation)
-  names relation within = written_names policy schemes is_policy are_schemes relation within
-
-  keyed_gets : (relation : ℕ) (key : List (Option Value)) (us : List Token) (s : State) → relation < length schemes
-      → HaveKinds (scheme_of schemes relation).keys key
-      → without_places s.1.placed ≡ keyed_tokens policy schemes relation key ++ us
-      → Gets (keyed_at schemes s) s (Same (relation, key)) us
-  unfolding keyed_at
-  keyed_gets relation key us s within kinds k =
-      let keys : ℕ → List Attribute = λ r. (scheme_of schemes r).keys in
-      gets_then (λ r. word_at (codes "key") r.1 >>= λ w. list_at (Some (keys r.0)) w.1 >>= λ key. Ok (
-        (r.0, key.0),
-        key.1,
-      ))
-      (relation_gets (place relation) (names relation within) relation (Word (codes "key")
-      ∷ (list_tokens key ++ us)) s within k)
-      (λ m t. gets_more (λ w. list_at (Some (keys relation)) w.1 >>= λ key. Ok ((relation, key.0), key.1))
-      (word_gets (codes "key") (list_tokens key ++ us) (s.0, m) t)
-      (λ w m2 is t2. gets_then (λ key. Ok ((relation, key.0), key.1)) (list_gets (Some (keys relation)) key us (
-        s.0,
-        m2,
-      ) kinds t2) (λ m3 t3. gets_done (relation, key) s.0 m3 (Same (relation, key)) us refl t3)))
-
-  view_gets : (relation label : ℕ) (query : Query) (counts : Bool) (ts : List Token) (s : State)
-      → CommandFits policy schemes (commands.View relation label query counts)
-      → TellsQuery policy schemes relation query ts
-      → without_places s.1.placed ≡ command_tokens policy schemes (commands.View relation label query counts) ++ ts
-      → Gets (view_at policy schemes counts s) s (Same (commands.View relation label query counts)) []
-  unfolding view_at
-  view_gets relation label query counts ts s fits tells k =
-      let whole : Command = commands.View relation label query counts in
-      gets_then (λ r. label_behind policy (codes "at") r.1 >>= λ l. query_at policy schemes counts r.0 l.1 >>=
-      λ q. Ok (commands.View r.0 l.0 q.0 counts, q.1))
-      (relation_gets (place relation) (names relation fits.0) relation (Word (codes "at")
-      ∷ label_token policy schemes label ∷ ts) s fits.0 k)
-      (λ m t. gets_then (λ l. query_at policy schemes counts relation l.1 >>=
-      λ q. Ok (commands.View relation l.0 q.0 counts, q.1))
-      (behind_gets (place relation) (names relation fits.0) (codes "at") label ts (s.0, m) fits.1 t)
-      (λ m2 t2. gets_then (λ q. Ok (commands.View relation label q.0 counts, q.1))
-      (query_gets policy schemes relation is_policy are_schemes fits.0 counts query ts (s.0, m2) fits.2 tells t2)
-      (λ m3 t3. gets_done whole s.0 m3 (Same whole) [] refl t3)))
-
-  insert_gets : (relation : ℕ) (key values : List (Option Value)) (us : List Token) (s : State)
-      → CommandFits policy schemes (commands.Write relation (writes.Insert key values))
-      → without_places s.1.placed ≡ command_tokens policy schemes (commands.Write relation (writes.Insert key values))
-      ++ us → Gets (insert_at schemes s) s (Same (commands.Write relation (writes.Insert key values))) us
-  unfolding insert_at
-  insert_gets relation key values us s fits k =
-      let whole : Command = commands.Write relation (writes.Insert key values) in
-      let others : ℕ → List Attribute = λ r. (scheme_of schemes r).others in
-      gets_then (λ k. word_at (codes "values") k.1 >>= λ w. list_at (Some (others k.0.0)) w.1 >>=
-      λ vs. Ok (commands.Write k.0.0 (writes.Insert k.0.1 vs.0), vs.1))
-      (keyed_gets relation key (Word (codes "values") ∷ (list_tokens values ++ us)) s fits.0 fits.1.0
-      (k ∙ append_assoc (keyed_tokens policy schemes relation key) (Word (codes "values") ∷ list_tokens values) us))
-      (λ m t. gets_more (λ w. list_at (Some (others relation)) w.1 >>=
-      λ vs. Ok (commands.Write relation (writes.Insert key vs.0), vs.1)) (word_gets (codes "values")
-      (list_tokens values ++ us) (s.0, m) t)
-      (λ w m2 is t2. gets_then (λ vs. Ok (commands.Write relation (writes.Insert key vs.0), vs.1))
-      (list_gets (Some (others relation)) values us (s.0, m2) fits.1.1 t2) (λ m3 t3. gets_done whole s.0 m3
-      (Same whole) us refl t3)))
-
-  update_gets : (relation : ℕ) (key : List (Option Value)) (class from : ℕ) (sets : Sets) (us : List Token) (s : State)
-      → CommandFits policy schemes (commands.Write relation (writes.Update key class from sets))
-      → NotNext (is_sign Comma) us
-      → without_places s.1.placed ≡ command_tokens policy schemes
-      (commands.Write relation (writes.Update key class from sets)) ++ us → Gets (update_at policy schemes s) s
-      (Same (commands.Write relation (writes.Update key class from sets))) us
-  unfolding update_at
-  update_gets relation key class from sets us s fits off k =
-      let whole : Command = commands.Write relation (writes.Update key class from sets) in
-      let scheme = scheme_of schemes relation in
-      let p = place relation in
-      let n = names relation fits.0 in
-      let new : List Token = Word (codes "set") ∷ separated (set_tokens scheme) sets in
-      let behind : List Token = Word (codes "from") ∷ label_token policy schemes from ∷ new in
-      let made : ℕ × List (Option Value) → ℕ → ℕ → Sets → Command = λ k class from sets. commands.Write k.0
-      (writes.Update k.1 class from sets) in
-      gets_then (λ k. label_behind policy (codes "class") k.1 >>= λ c. label_behind policy (codes "from") c.1 >>=
-      λ f. sets_at (scheme_of schemes k.0.0) f.1 >>= λ xs. Ok (made k.0 c.0 f.0 xs.0, xs.1))
-      (keyed_gets relation key (Word (codes "class") ∷ label_token policy schemes class
-      ∷ (behind ++ us)) s fits.0 fits.1.0 (k ∙ append_assoc (keyed_tokens policy schemes relation key)
-      (Word (codes "class") ∷ label_token policy schemes class ∷ behind) us))
-      (λ m t. gets_then (λ c. label_behind policy (codes "from") c.1 >>= λ f. sets_at scheme f.1 >>=
-      λ xs. Ok (made (relation, key) c.0 f.0 xs.0, xs.1)) (behind_gets p n (codes "class") class (behind ++ us)
-      (s.0, m) fits.1.1 t)
-      (λ m2 t2. gets_then (λ f. sets_at scheme f.1 >>= λ xs. Ok (made (relation, key) class f.0 xs.0, xs.1))
-      (behind_gets p n (codes "from") from (new ++ us) (s.0, m2) fits.1.2 t2)
-      (λ m3 t3. gets_then (λ xs. Ok (made (relation, key) class from xs.0, xs.1))
-      (sets_gets scheme (scheme_is schemes are_schemes relation fits.0) sets us (s.0, m3) fits.1.3 off t3)
-      (λ m4 t4. gets_done whole s.0 m4 (Same whole) us refl t4))))
-
-  delete_gets : (relation : ℕ) (key : List (Option Value)) (class : ℕ) (us : List Token) (s : State)
-      → CommandFits policy schemes (commands.Write relation (writes.Delete key class))
-      → without_places s.1.placed ≡ command_tokens policy schemes (commands.Write relation (writes.Delete key class))
-      ++ us → Gets (delete_at policy schemes s) s (Same (commands.Write relation (writes.Delete key class))) us
-  unfolding delete_at
-  delete_gets relation key class us s fits k =
-      let whole : Command = commands.Write relation (writes.Delete key class) in
-      gets_then (λ k. label_behind policy (codes "class") k.1 >>=
-      λ c. Ok (commands.Write k.0.0 (writes.Delete k.0.1 c.0), c.1))
-      (keyed_gets relation key (Word (codes "class") ∷ label_token policy schemes class ∷ us) s fits.0 fits.1.0
-      (k ∙ append_assoc (keyed_tokens policy schemes relation key) (Word (codes "class")
-      ∷ label_token policy schemes class ∷ []) us))
-      (λ m t. gets_then (λ c. Ok (commands.Write relation (writes.Delete key c.0), c.1)) (behind_gets (place relation)
-      (names relation fits.0) (codes "class") class us (s.0, m) fits.1.1 t)
-      (λ m2 t2. gets_done whole s.0 m2 (Same whole) us refl t2))
 
   call_gets : (tx : List ℕ) (args : List (Option Value)) (us : List Token) (s : State)
       → CommandFits policy schemes (commands.Call tx args)
@@ -197,6 +84,23 @@ module _ (policy : Policy) (schemes : Schemes) (is_policy : IsPolicy policy) (ar
     stop = h.stop;
   }
 
+  view_gets : (relation label : ℕ) (query : Query) (counts : Bool) (ts : List Token) (s : State)
+      → LookFits policy schemes relation label query counts → TellsQuery policy schemes relation query ts
+      → without_places s.1.placed ≡ look_tokens policy schemes relation label ++ ts
+      → Gets (viewed_at policy schemes counts s) s (Same (commands.View relation label query counts)) []
+  view_gets relation label query counts ts s fits tells k =
+      let whole : Command = commands.View relation label query counts in
+      gets_then (λ l. Ok (commands.View l.0.relation l.0.label l.0.query counts, l.1))
+      (look_gets policy schemes is_policy are_schemes relation label query counts ts [] s fits tells ends_nothing
+      (k ∙ ap (λ x. look_tokens policy schemes relation label ++ x) (sym (append-nil ts))))
+      (λ m t. gets_done whole s.0 m (Same whole) [] refl t)
+
+  written_gets : (relation : ℕ) (wr : WriteOf (Option Value)) (ts : List Token) (s : State) (r : Read Written) → ts ≡ []
+      → Gets r s (Same (relation, wr)) ts → Gets (written r) s (Same (commands.Write relation wr)) []
+  written_gets relation wr ts s r none h =
+      closed ts none (gets_then (λ w. Ok (commands.Write w.0.0 w.0.1, w.1)) h
+      (λ m t. gets_done (commands.Write relation wr) s.0 m (Same (commands.Write relation wr)) ts refl t))
+
   command_gets : (c : Command) (ts : List Token) (s : State) → CommandFits policy schemes c
       → TellsTail policy schemes c ts → without_places s.1.placed ≡ command_tokens policy schemes c ++ ts
       → Gets (command_at policy schemes (verb_of c) s) s (Same c) []
@@ -212,17 +116,25 @@ module _ (policy : Policy) (schemes : Schemes) (is_policy : IsPolicy policy) (ar
   command_gets (commands.View relation label query true) ts s fits tells k =
       view_gets relation label query true ts s fits tells k
   command_gets (commands.Dump relation) ts s fits tells k =
-      closed ts tells (gets_then (λ r. Ok (commands.Dump r.0, r.1)) (relation_gets (place relation)
-      (names relation fits) relation ts s fits k) (λ m t. gets_done (commands.Dump relation) s.0 m
-      (Same (commands.Dump relation)) ts refl t))
+      closed ts tells (gets_then (λ r. Ok (commands.Dump r.0, r.1))
+      (relation_gets (place policy schemes is_policy are_schemes relation)
+      (names policy schemes is_policy are_schemes relation fits) relation ts s fits k)
+      (λ m t. gets_done (commands.Dump relation) s.0 m (Same (commands.Dump relation)) ts refl t))
   command_gets (commands.Write relation (writes.Insert key values)) ts s fits tells k =
-      closed ts tells (insert_gets relation key values ts s fits k)
+      written_gets relation (writes.Insert key values) ts s (insert_at schemes s) tells
+      (insert_gets policy schemes is_policy are_schemes relation key values ts s fits k)
   command_gets (commands.Write relation (writes.Update key class from sets)) ts s fits tells k =
-      closed ts tells (update_gets relation key class from sets ts s fits (subst (NotNext (is_sign Comma))
-      (sym tells) tt) k)
+      written_gets relation (writes.Update key class from sets) ts s (update_at policy schemes s) tells
+      (update_gets policy schemes is_policy are_schemes relation key class from sets ts s fits
+      (subst (NotNext (is_sign Comma)) (sym tells) tt) k)
   command_gets (commands.Write relation (writes.Delete key class)) ts s fits tells k =
-      closed ts tells (delete_gets relation key class ts s fits k)
+      written_gets relation (writes.Delete key class) ts s (delete_at policy schemes s) tells
+      (delete_gets policy schemes is_policy are_schemes relation key class ts s fits k)
   command_gets (commands.Call tx args) ts s fits tells k = closed ts tells (call_gets tx args ts s fits k)
+  command_gets (commands.All batch) ts s fits tells k =
+      gets_then (λ b. Ok (commands.All b.0, b.1))
+      (batch_gets policy schemes is_policy are_schemes batch ts s fits tells k)
+      (λ m t. gets_done (commands.All batch) s.0 m (Same (commands.All batch)) [] refl t)
 
   -- ---- a line
 

@@ -29,11 +29,11 @@ use Rattle.mls_translang.proofs.NumberLemmas.{int_spelled}
 use Rattle.mls_translang.proofs.SpelledLemmas.{named, word_spelled}
 use Rattle.mls_translang.specs.declared.event.Event.{Event}
 use Rattle.mls_translang.specs.declared.event.Command.{Command}
-use Rattle.mls_translang.specs.declared.event.Command.TheVariants.{View, Write}
+use Rattle.mls_translang.specs.declared.event.Command.TheVariants.{View, Write, All}
 use Rattle.mls_translang.specs.Event.{Sets, SetsFit, HasSomeKind, CommandFits, EventFits}
 use Rattle.mls_script.specs.Tokens.{value_token, list_tokens, set_tokens, event_tokens}
 use Rattle.mls_translang.specs.Writing.{relation_name}
-use Rattle.mls_script.specs.QueryTokens.{TellsTail}
+use Rattle.mls_script.specs.BatchTokens.{TellsTail}
 use Rattle.mls_script.specs.Script.{Line, IsLineOf, ReadsScript}
 use Rattle.mls_translang.specs.Writing.{cell_text, behind_comma, listed, list_text, set_text, keyed, command_text, line_text, lines_text, is_writable_value, are_writable, is_writable_command, is_writable}
 
@@ -432,6 +432,7 @@ module _ (policy : Policy) (schemes : Schemes) (is_policy : IsPolicy policy) (ar
 
   none_behind : (c : Command) → is_writable_command c ≡ true → TellsTail policy schemes c []
   none_behind (View relation label query counts) h = absurd cc
+  none_behind (All batch) h = absurd cc
   none_behind _ h = refl
 
   -- ---- all lines

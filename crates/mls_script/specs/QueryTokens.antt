@@ -13,8 +13,6 @@ use Rattle.mls_translang.specs.declared.query.Comparison.{Comparison}
 use Rattle.mls_translang.specs.declared.query.Comparison.TheVariants as compared
 use Rattle.mls_translang.specs.declared.query.ClassTest.{ClassTest}
 use Rattle.mls_translang.specs.declared.query.Query.{Query}
-use Rattle.mls_translang.specs.declared.event.Command.{Command}
-use Rattle.mls_translang.specs.declared.event.Command.TheVariants as commands
 
 abbrev pub comparison_sign : Comparison → Sign
 comparison_sign compared.Equal = signs.Equals
@@ -52,8 +50,3 @@ module _ (policy : Policy) (schemes : Schemes) where
     pub tokens :
         ts ≡ highest_tokens q.highest ++ (class_tokens policy q.class ++ (first_tokens q.first ++ behind))
     pub test : TellsTest relation q.test behind
-
-  -- what stands behind the parts of a command: nothing but the query of a view
-  abbrev pub TellsTail : Command → List Token → Type 0
-  TellsTail (commands.View relation label query counts) ts = TellsQuery relation query ts
-  TellsTail command ts = ts ≡ []

@@ -71,11 +71,14 @@ abbrev pub count_of : ℤ → ℕ
 count_of (pos n) = n
 count_of (negsuc n) = 0
 
+unfoldable pub rows_at : State → Read ℕ
+rows_at s = do
+  n ← token (pass_known number_of) s
+  Ok (count_of n.0.0, note (unless (is_count n.0.0) n.0.1 Kind) n.1)
+
 abbrev pub first_behind : State → Option (ℕ × State) → Read (Option ℕ)
 first_behind s None = Ok (None, s)
-first_behind s (Some x) = do
-  n ← token (pass_known number_of) x.1
-  Ok (Some (count_of n.0.0), note (unless (is_count n.0.0) n.0.1 Kind) n.1)
+first_behind s (Some x) = rows_at x.1 >>= λ n. Ok (Some n.0, n.1)
 
 -- rows that are counted are all that are found
 unfoldable pub first_at : Bool → State → Read (Option ℕ)

@@ -1,19 +1,17 @@
 -- What a script says, or its fault: line by line, on a line first its form, then the least fault of its names and
 -- kinds.
-use Rattle.std.specs.Prelude.{◌≡◌, ℕ, ◌+◌, Bool, true, false, ◌==◌, if◌then◌else◌, List, [], ◌∷◌, ◌++◌, length, codes}
+use Rattle.std.specs.Prelude.{◌≡◌, ℕ, ◌+◌, Bool, true, false, ◌==◌, if◌then◌else◌, List, [], ◌∷◌, ◌++◌, length}
 use Rattle.std.specs.Prelude.{Option, Some, None, option_to_list, Result, Ok, Err}
 use Rattle.mls_lattice.specs.Policy.{Policy}
 use Rattle.mls_lattice.specs.Reading.{◌>>=◌, GivesUnless}
-use Rattle.mls_scheme.specs.declared.value.Value.{Value}
-use Rattle.mls_scheme.specs.declared.write.Write.TheVariants.{Insert, Update, Delete}
-use Rattle.mls_scheme.specs.Scheme.{Schemes, scheme_of}
+use Rattle.mls_scheme.specs.Scheme.{Schemes}
 use Rattle.mls_tokens.specs.declared.token.Token.{Token}
 use Rattle.mls_tokens.specs.declared.token.Token.TheVariants.{Word, Int, Text, Sign}
 use Rattle.mls_tokens.specs.Scanning.{tokens_at}
 use Rattle.mls_tokens.specs.Passing.{has_ended, pass_end}
 use Rattle.mls_parser.specs.declared.fault.PlacedFault.{PlacedFault}
 use Rattle.mls_parser.specs.Fault.{least, IsLeast}
-use Rattle.mls_parser.specs.Noted.{State, Read, token, word_at, name_at, label_at, label_behind, relation_at}
+use Rattle.mls_parser.specs.Noted.{State, Read, token, name_at, label_at, relation_at}
 use Rattle.mls_parser.specs.Parsing.{answer}
 use Rattle.mls_parser.specs.Words.{pass_known}
 use Rattle.mls_translang.specs.declared.event.Event.{Event}
@@ -26,8 +24,9 @@ use Rattle.mls_script.specs.declared.grammar.Verb.{Verb}
 use Rattle.mls_script.specs.declared.grammar.Verb.TheVariants as verb
 use Rattle.mls_script.specs.Fault.{line_fault, in_line, on_line}
 use Rattle.mls_script.specs.Grammar.{verbs, verb_among}
-use Rattle.mls_script.specs.ReadList.{list_at, sets_at}
-use Rattle.mls_script.specs.ReadQuery.{query_at}
+use Rattle.mls_script.specs.ReadBatch.{batch_at}
+use Rattle.mls_script.specs.ReadList.{list_at}
+use Rattle.mls_script.specs.ReadParts.{Written, look_at, insert_at, update_at, delete_at}
 
 abbrev pub verb_of_token : Token → Option Verb
 verb_of_token (Word s) = verb_among verbs s
@@ -57,55 +56,26 @@ call_at s = do
   args ← list_at None n.1
   Ok (commands.Call n.0.0 args.0, args.1)
 
-module _ (schemes : Schemes) where
-  -- a relation and a key of it
-  unfoldable pub keyed_at : State → Read (ℕ × List (Option Value))
-  keyed_at s = do
-    r ← relation_at schemes s
-    word ← word_at (codes "key") r.1
-    key ← list_at (Some (scheme_of schemes r.0).keys) word.1
-    Ok ((r.0, key.0), key.1)
-
-  unfoldable pub insert_at : State → Read Command
-  insert_at s = do
-    k ← keyed_at s
-    word ← word_at (codes "values") k.1
-    values ← list_at (Some (scheme_of schemes k.0.0).others) word.1
-    Ok (commands.Write k.0.0 (Insert k.0.1 values.0), values.1)
+abbrev pub written : Read Written → Read Command
+written r = r >>= λ w. Ok (commands.Write w.0.0 w.0.1, w.1)
 
 module _ (policy : Policy) (schemes : Schemes) where
-  unfoldable pub view_at : Bool → State → Read Command
-  view_at counts s = do
-    r ← relation_at schemes s
-    l ← label_behind policy (codes "at") r.1
-    q ← query_at policy schemes counts r.0 l.1
-    Ok (commands.View r.0 l.0 q.0 counts, q.1)
-
-  unfoldable pub update_at : State → Read Command
-  update_at s = do
-    k ← keyed_at schemes s
-    class ← label_behind policy (codes "class") k.1
-    from ← label_behind policy (codes "from") class.1
-    sets ← sets_at (scheme_of schemes k.0.0) from.1
-    Ok (commands.Write k.0.0 (Update k.0.1 class.0 from.0 sets.0), sets.1)
-
-  unfoldable pub delete_at : State → Read Command
-  delete_at s = do
-    k ← keyed_at schemes s
-    class ← label_behind policy (codes "class") k.1
-    Ok (commands.Write k.0.0 (Delete k.0.1 class.0), class.1)
+  abbrev pub viewed_at : Bool → State → Read Command
+  viewed_at counts s =
+      look_at policy schemes counts s >>= λ l. Ok (commands.View l.0.relation l.0.label l.0.query counts, l.1)
 
   abbrev pub command_at : Verb → State → Read Command
   command_at verb.Open s = name_at s >>= λ n. Ok (commands.Open n.0.0, n.1)
   command_at verb.Close s = Ok (commands.Close, s)
   command_at verb.Audit s = Ok (commands.Audit, s)
-  command_at verb.View s = view_at false s
-  command_at verb.Count s = view_at true s
+  command_at verb.View s = viewed_at false s
+  command_at verb.Count s = viewed_at true s
   command_at verb.Dump s = relation_at schemes s >>= λ r. Ok (commands.Dump r.0, r.1)
-  command_at verb.Insert s = insert_at schemes s
-  command_at verb.Update s = update_at s
-  command_at verb.Delete s = delete_at s
+  command_at verb.Insert s = written (insert_at schemes s)
+  command_at verb.Update s = written (update_at policy schemes s)
+  command_at verb.Delete s = written (delete_at policy schemes s)
   command_at verb.Call s = call_at s
+  command_at verb.All s = batch_at policy schemes s >>= λ b. Ok (commands.All b.0, b.1)
 
   -- ---- a line
 

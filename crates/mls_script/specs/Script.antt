@@ -8,7 +8,7 @@ use Rattle.mls_tokens.specs.Text.{AreTokens}
 use Rattle.mls_translang.specs.declared.event.Event.{Event}
 use Rattle.mls_translang.specs.Event.{EventFits}
 use Rattle.mls_script.specs.Tokens.{event_tokens}
-use Rattle.mls_script.specs.QueryTokens.{TellsTail}
+use Rattle.mls_script.specs.BatchTokens.{TellsTail}
 
 -- a line without its LF, and the event that it tells, if it is not blank
 pub record Line : Type 0 where

@@ -1,16 +1,17 @@
 //! A line: a level, a session and a command.
-ghost use Rattle.std.specs.Prelude.{◌≡◌, ◌<◌, length, IfOk};
+ghost use Rattle.std.specs.Prelude.{◌≡◌};
 ghost use Rattle.mls_parser.specs.Noted.{GivesPlaced, token};
 ghost use Rattle.mls_parser.specs.Words.{pass_known};
-ghost use Rattle.mls_script.specs.Reading.{verb_of_token, view_at, keyed_at, insert_at, update_at, delete_at, call_at};
-ghost use Rattle.mls_script.specs.Reading.{command_at, event_at, told_at};
+ghost use Rattle.mls_translang.specs.declared.event.Command.TheVariants as commands;
+ghost use Rattle.mls_script.specs.Reading.{verb_of_token, viewed_at, call_at, command_at, event_at, told_at};
 
+use crate::batch::batch;
 use crate::grammar::{VERBS, Verb, verb_among};
-use crate::lists::{list, sets};
-use crate::query::query;
-use mls_lattice::{Items, Policy};
+use crate::lists::list;
+use crate::parts::{Look, Written, delete, insert, looking, update};
+use mls_lattice::Policy;
 use mls_parser::{PlacedFault, Reader, TextCause, ill_formed};
-use mls_scheme::{RelNo, Schemes, Value};
+use mls_scheme::Schemes;
 use mls_tokens::Token;
 use mls_translang::{Command, Event};
 use std::alloc::Global;
@@ -35,19 +36,20 @@ fn verb(reader: &mut Reader) -> Result<(Verb, usize), PlacedFault>
 
 // ---- commands, behind the verb
 
-#[tactic(auto, unfolding(crate::specs::Reading::view_at))]
-fn view(
+fn viewed(
     alloc: Global,
     policy: &Policy,
     schemes: &Schemes,
     counts: bool,
     reader: &mut Reader,
 ) -> Result<Command, PlacedFault>
-    ensures { GivesPlaced (λ c. (c, reader.new)) result (view_at policy.now schemes.now counts reader.old) }
+    ensures { GivesPlaced (λ c. (c, reader.new)) result (viewed_at policy.now schemes.now counts reader.old) }
 {
-    let relation = reader.relation(schemes)?;
-    let label = reader.label_behind(policy, "at")?;
-    let query = query(alloc, policy, schemes, counts, relation, reader)?;
+    let Look {
+        relation,
+        label,
+        query,
+    } = looking(alloc, policy, schemes, counts, reader)?;
     Ok(Command::View {
         relation,
         label,
@@ -56,60 +58,11 @@ fn view(
     })
 }
 
-/// A relation, and a key of it.
-#[tactic(auto, unfolding(crate::specs::Reading::keyed_at))]
-fn keyed(
-    alloc: Global,
-    schemes: &Schemes,
-    reader: &mut Reader,
-) -> Result<(RelNo, Items<Option<Value>>), PlacedFault>
-    ensures exact { GivesPlaced (λ x. ((x.0, x.1), reader.new)) result (keyed_at schemes.now reader.old) }
-    ensures within { IfOk result (λ x. x.0 < length schemes.now) }
+fn written(write: Written) -> Command
+    ensures { result ≡ commands.Write write.0 write.1 }
 {
-    let relation = reader.relation(schemes)?;
-    reader.word("key")?;
-    let key = list(alloc, reader, Some(schemes.scheme(relation).keys()))?;
-    Ok((relation, key))
-}
-
-#[tactic(auto, unfolding(crate::specs::Reading::insert_at))]
-fn insert(alloc: Global, schemes: &Schemes, reader: &mut Reader) -> Result<Command, PlacedFault>
-    ensures { GivesPlaced (λ c. (c, reader.new)) result (insert_at schemes.now reader.old) }
-{
-    let (relation, key) = keyed(alloc, schemes, reader)?;
-    reader.word("values")?;
-    let values = list(alloc, reader, Some(schemes.scheme(relation).others()))?;
-    Ok(Command::insert(relation, key, values))
-}
-
-#[tactic(auto, unfolding(crate::specs::Reading::update_at))]
-fn update(
-    alloc: Global,
-    policy: &Policy,
-    schemes: &Schemes,
-    reader: &mut Reader,
-) -> Result<Command, PlacedFault>
-    ensures { GivesPlaced (λ c. (c, reader.new)) result (update_at policy.now schemes.now reader.old) }
-{
-    let (relation, key) = keyed(alloc, schemes, reader)?;
-    let class = reader.label_behind(policy, "class")?;
-    let from = reader.label_behind(policy, "from")?;
-    let sets = sets(alloc, reader, schemes.scheme(relation))?;
-    Ok(Command::update(relation, key, class, from, sets))
-}
-
-#[tactic(auto, unfolding(crate::specs::Reading::delete_at))]
-fn delete(
-    alloc: Global,
-    policy: &Policy,
-    schemes: &Schemes,
-    reader: &mut Reader,
-) -> Result<Command, PlacedFault>
-    ensures { GivesPlaced (λ c. (c, reader.new)) result (delete_at policy.now schemes.now reader.old) }
-{
-    let (relation, key) = keyed(alloc, schemes, reader)?;
-    let class = reader.label_behind(policy, "class")?;
-    Ok(Command::delete(relation, key, class))
+    let (relation, write) = write;
+    Command::Write { relation, write }
 }
 
 #[tactic(auto, unfolding(crate::specs::Reading::call_at))]
@@ -134,16 +87,17 @@ fn command(
         Verb::Open => Ok(Command::Open(reader.name()?.0)),
         Verb::Close => Ok(Command::Close),
         Verb::Audit => Ok(Command::Audit),
-        Verb::View => view(alloc, policy, schemes, false, reader),
-        Verb::Count => view(alloc, policy, schemes, true, reader),
+        Verb::View => viewed(alloc, policy, schemes, false, reader),
+        Verb::Count => viewed(alloc, policy, schemes, true, reader),
         Verb::Dump => {
             let relation = reader.relation(schemes)?;
             Ok(Command::Dump { relation })
         }
-        Verb::Insert => insert(alloc, schemes, reader),
-        Verb::Update => update(alloc, policy, schemes, reader),
-        Verb::Delete => delete(alloc, policy, schemes, reader),
+        Verb::Insert => Ok(written(insert(alloc, schemes, reader)?)),
+        Verb::Update => Ok(written(update(alloc, policy, schemes, reader)?)),
+        Verb::Delete => Ok(written(delete(alloc, policy, schemes, reader)?)),
         Verb::Call => call(alloc, reader),
+        Verb::All => Ok(Command::All(batch(alloc, policy, schemes, reader)?)),
     }
 }
 

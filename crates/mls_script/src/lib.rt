@@ -5,10 +5,12 @@ ghost use Rattle.mls_script.specs.Reading.{LinesAreJudged};
 ghost use Rattle.mls_script.specs.Script.{ScriptsAreOnce};
 ghost use Rattle.mls_script.specs.Writing.{LinesAreRead};
 
+mod batch;
 mod command;
 mod fault;
 mod grammar;
 mod lists;
+mod parts;
 mod query;
 mod reading;
 

@@ -3,7 +3,7 @@ ghost use Rattle.std.specs.Prelude.{◌≡◌, ◌<◌, length};
 ghost use Rattle.mls_parser.specs.Noted.{GivesPlaced, token};
 ghost use Rattle.mls_parser.specs.Words.{pass_known};
 ghost use Rattle.mls_script.specs.ReadQuery.{comparison_of_sign, comparison_of, class_at, number_of, is_count};
-ghost use Rattle.mls_script.specs.ReadQuery.{count_of, first_at, where_at, query_at};
+ghost use Rattle.mls_script.specs.ReadQuery.{count_of, rows_at, first_at, where_at, query_at};
 
 use mls_lattice::Policy;
 use mls_parser::{PlacedFault, Reader, TextCause, ill_formed};
@@ -88,6 +88,16 @@ fn is_count(number: i64) -> bool
     number >= 0
 }
 
+/// Passes a number of rows. A negative one is noted.
+#[tactic(auto, unfolding(crate::specs::ReadQuery::rows_at))]
+pub(crate) fn rows(reader: &mut Reader) -> Result<usize, PlacedFault>
+    ensures { GivesPlaced (λ n. (n, reader.new)) result (rows_at reader.old) }
+{
+    let (number, at) = number(reader)?;
+    reader.note(is_count(number), at, TextCause::Kind)?;
+    Ok(count_of(number))
+}
+
 /// Passes how many rows are asked for, if the word is next. Rows that are counted are all that are found.
 #[tactic(auto, unfolding(crate::specs::ReadQuery::first_at))]
 fn first(counts: bool, reader: &mut Reader) -> Result<Option<usize>, PlacedFault>
@@ -96,9 +106,7 @@ fn first(counts: bool, reader: &mut Reader) -> Result<Option<usize>, PlacedFault
     if counts || reader.takes_word("first").is_none() {
         return Ok(None);
     }
-    let (number, at) = number(reader)?;
-    reader.note(is_count(number), at, TextCause::Kind)?;
-    Ok(Some(count_of(number)))
+    Ok(Some(rows(reader)?))
 }
 
 /// Passes a condition if its word is next.

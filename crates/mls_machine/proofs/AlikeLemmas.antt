@@ -1,14 +1,13 @@
 -- A step without a call at a level that c dominates, from two worlds that look alike to c.
 use Rattle.std.proofs.Common.{◌≡◌, ℕ, Bool, true, false, cond, ◌&&◌, List, [], ◌∷◌, ◌++◌, Option, Some, None, Result, Ok, Err, refl, sym, ap, ◌∙◌, subst, true≢false, nat_eq, filter, bytes_eq}
+use Rattle.std.specs.List.{AllByRecursion}
 use Rattle.std.proofs.lemmas.Bool.{false_from_ne_true}
 use Rattle.std.proofs.lemmas.List.Elements.{filter-append}
 use Rattle.mls_lattice.specs.Labels.{Labels, below}
 use Rattle.mls_lattice.proofs.LatticeLemmas.{below-trans}
-use Rattle.mls_scheme.specs.Table.{Table}
-use Rattle.mls_filterview.specs.View.{low}
 use Rattle.mls_filterview.proofs.LowLemmas.{rows_under, low_tuples_under}
-use Rattle.mls_updates.specs.Writes.{Write, Written, write}
-use Rattle.mls_updates.proofs.LawLemmas.{low_use_low}
+use Rattle.mls_updates.specs.declared.outcome.Outcome.{Outcome}
+use Rattle.mls_updates.specs.Writes.{Write}
 use Rattle.mls_audit.specs.declared.entry.Entry.{Entry}
 use Rattle.mls_audit.specs.Entry.{label_of, visible}
 use Rattle.mls_translang.specs.declared.query.Query.{Query}
@@ -16,12 +15,14 @@ use Rattle.mls_queries.specs.Query.{found}
 use Rattle.mls_translang.specs.declared.event.Event.{Event}
 use Rattle.mls_translang.specs.declared.event.Command.{Command}
 use Rattle.mls_translang.specs.declared.event.Command.TheVariants as commands
+use Rattle.mls_translang.specs.declared.event.One.{One}
 use Rattle.mls_machine.specs.declared.reply.Denial.{Denial}
-use Rattle.mls_machine.specs.declared.reply.Reply.TheVariants.{Rows, Dumped, Wrote, Entries}
-use Rattle.mls_certcheck.specs.Site.{Site, site_labels, site_scheme}
-use Rattle.mls_machine.specs.Denying.{first_denial, cleared, user_named, view_denials}
-use Rattle.mls_machine.specs.Machine.{World, Step, in_session, unless, denial_entry, denied, viewed, dumped, wrote, listed, step_inside, open_step, step_outside, step_at, step}
-use Rattle.mls_machine.proofs.DenyingLemmas.{view_below}
+use Rattle.mls_machine.specs.declared.reply.Reply.TheVariants.{Rows, Dumped, Wrote, Entries, Did, Undone}
+use Rattle.mls_certcheck.specs.Site.{Site, site_labels}
+use Rattle.mls_machine.specs.Denying.{first_denial, cleared, user_named, view_denials, LooksBelow}
+use Rattle.mls_machine.specs.Machine.{World, Step, BatchEnd, in_session, unless, denial_entry, denied, viewed, dumped, wrote, listed, did_all, ended, did, step_inside, open_step, step_outside, step_at, step}
+use Rattle.mls_machine.proofs.BatchLemmas.{same_outcome, same_tables, SameEnd, all_alike}
+use Rattle.mls_machine.proofs.DenyingLemmas.{view_below, batch_below}
 use Rattle.mls_machine.specs.Observation.{IsNoCall}
 use Rattle.mls_machine.proofs.LowLemmas.{LowAgree}
 
@@ -102,42 +103,32 @@ module _ (site : Site) (c : ℕ) (v w : World) (e : Event) (seen : below (site_l
         (v.db relation) (w.db relation) (h.tables relation) seen);
   }
 
-  abbrev result : World → ℕ → Write → Written
-  result u relation wr = write (site_labels site) (site_scheme site relation) e.level wr (u.db relation)
-
-  abbrev result_on : ℕ → Write → Table → Written
-  result_on relation wr T = write (site_labels site) (site_scheme site relation) e.level wr T
-
-  same_outcome : (relation : ℕ) (wr : Write) → (result v relation wr).outcome ≡ (result w relation wr).outcome
-  same_outcome relation wr =
-      (low_use_low (site_labels site) (site_scheme site relation) c e.level (v.db relation) wr seen).0
-      ∙ ap (λ T. (result_on relation wr T).outcome) (h.tables relation)
-      ∙ sym (low_use_low (site_labels site) (site_scheme site relation) c e.level (w.db relation) wr seen).0
-
-  same_low_table : (relation : ℕ) (wr : Write) → low (site_labels site) c (result v relation wr).table
-      ≡ low (site_labels site) c (result w relation wr).table
-  same_low_table relation wr =
-      (low_use_low (site_labels site) (site_scheme site relation) c e.level (v.db relation) wr seen).1
-      ∙ ap (λ T. (result_on relation wr T).table) (h.tables relation)
-      ∙ sym (low_use_low (site_labels site) (site_scheme site relation) c e.level (w.db relation) wr seen).1
-
-  same_low_tables : (relation : ℕ) (wr : Write) (r : ℕ) (b : Bool)
-      → low (site_labels site) c (cond b (result v relation wr).table (v.db r)) ≡ low (site_labels site) c
-      (cond b (result w relation wr).table (w.db r))
-  same_low_tables relation wr r true = same_low_table relation wr
-  same_low_tables relation wr r false = h.tables r
-
   alike_wrote : (relation : ℕ) (wr : Write) → Alike (wrote site v e.level relation wr)
       (wrote site w e.level relation wr)
   alike_wrote relation wr = record {
     world = record {
-      tables = λ r. same_low_tables relation wr r (nat_eq r relation);
+      tables = same_tables site c e.level seen relation wr v.db w.db h.tables;
       sessions = h.sessions;
-      entries =
-          h.entries;
+      entries = h.entries;
     };
-    reply = ap Wrote (same_outcome relation wr);
+    reply = ap Wrote (same_outcome site c e.level seen relation wr (v.db relation) (w.db relation) (h.tables relation));
   }
+
+  alike_ended : (r q : Result BatchEnd (ℕ × Outcome)) → SameEnd site c e.level seen r q
+      → Alike (ended site v r) (ended site w q)
+  alike_ended (Ok s) (Ok t) k = record {
+    world = record { tables = k.0; sessions = h.sessions; entries = h.entries };
+    reply = ap Did k.1;
+  }
+  alike_ended (Ok s) (Err f) k = absurd k
+  alike_ended (Err d) (Ok t) k = absurd k
+  alike_ended (Err d) (Err f) k = record { world = h; reply = ap (λ (x : ℕ × Outcome). Undone x.0 x.1) k }
+
+  -- the commands of a batch, one after another
+  alike_did : (batch : List One) → AllByRecursion (LooksBelow (site_labels site) e.level) batch
+      → Alike (did site v e.level batch) (did site w e.level batch)
+  alike_did batch lower = alike_ended (did_all site e.level [] batch v.db) (did_all site e.level [] batch w.db)
+      (all_alike site c e.level seen [] batch v.db w.db lower h.tables)
 
   alike_listed : Alike (listed site v e.level) (listed site w e.level)
   alike_listed =
@@ -166,6 +157,8 @@ module _ (site : Site) (c : ℕ) (v w : World) (e : Event) (seen : below (site_l
   alike_inside (commands.Dump relation) user plain = alike_unless _ user _ _ (λ none. alike_dump relation)
   alike_inside (commands.Write relation wr) user plain = alike_write _ user relation wr
   alike_inside (commands.Call name args) user plain = absurd plain
+  alike_inside (commands.All batch) user plain = alike_unless _ user _ _
+      (λ none. alike_did batch (batch_below site e.level user batch none))
 
   alike_open : (r : Result ℕ Denial) → Alike (open_step site v e r) (open_step site w e r)
   alike_open (Ok user) = record { world = alike_session (Some user); reply = refl }

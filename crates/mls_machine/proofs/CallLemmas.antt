@@ -276,6 +276,7 @@ module _ (tells : Test) (site : Site) (distinct : AreDistinct (site_labels site)
   pair (commands.Dump relation) b safe judged q = from_plain (commands.Dump relation) b tt q
   pair (commands.Write relation wr) b safe judged q = from_plain (commands.Write relation wr) b tt q
   pair (commands.Call name vs) b safe judged q = from_call name vs b safe judged q
+  pair (commands.All batch) b safe judged q = from_plain (commands.All batch) b tt q
 
   -- two events that look alike to c
   pub seen_steps : (x : Event) → WhereCalled site (IsSafe site) e.command → WhereJudged tells site e.command

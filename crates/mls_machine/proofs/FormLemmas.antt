@@ -12,9 +12,10 @@ use Rattle.mls_translang.specs.declared.event.Command.TheVariants as commands
 use Rattle.mls_machine.specs.declared.form.Form.{Form}
 use Rattle.mls_machine.specs.declared.form.Form.TheVariants.{Lines, Table}
 use Rattle.mls_machine.specs.declared.reply.Reply.{Reply}
-use Rattle.mls_machine.specs.declared.reply.Reply.TheVariants.{Rows, Dumped, Ran}
+use Rattle.mls_machine.specs.declared.reply.Answer.{Answer}
+use Rattle.mls_machine.specs.declared.reply.Reply.TheVariants.{Rows, Dumped, Ran, Did}
 use Rattle.mls_certcheck.specs.Site.{Site, site_labels}
-use Rattle.mls_machine.specs.Output.{Line, line, item_lines, lines_with, escaped_line, view_texts, table_texts, dump_texts, call_texts, reply_texts, texts_in_table, reply_lines, reply_lines_in}
+use Rattle.mls_machine.specs.Output.{Line, line, item_lines, lines_with, escaped_line, view_texts, table_texts, dump_texts, batch_texts, call_texts, reply_texts, texts_in_table, reply_lines, reply_lines_in}
 use Rattle.mls_machine.specs.Observation.{out, shown, glimpse, reply_shown}
 use Rattle.mls_machine.proofs.ItemLemmas.{filter-map, lines_seen}
 use Rattle.mls_machine.proofs.HiddenLemmas.{hidden_lines}
@@ -43,11 +44,17 @@ module _ (site : Site) (c : ℕ) where
   same_dumps session (commands.Call name args) tuples = refl
   same_dumps session a tuples = refl
 
+  same_batches : (form : Form) (a : Command) (given : List Answer) → batch_texts form site (shown site c a) given
+      ≡ batch_texts form site a given
+  same_batches form (commands.Call name args) given = refl
+  same_batches form a given = refl
+
   same_texts : (session : Name) (a : Command) (r : Reply) → reply_texts site session (shown site c a)
       (reply_shown ls c r) ≡ reply_texts site session a r
   same_texts session a (Rows tuples) = same_views a tuples
   same_texts session a (Dumped tuples) = same_dumps (printable session) a tuples
   same_texts session a (Ran run) = same_calls a
+  same_texts session a (Did given) = same_batches Lines a given
   same_texts session a r = refl
 
   same_in_table : (session : Name) (a : Command) (r : Reply) → texts_in_table site session (shown site c a)
@@ -55,6 +62,7 @@ module _ (site : Site) (c : ℕ) where
   same_in_table session a (Rows tuples) = same_tables a tuples
   same_in_table session a (Dumped tuples) = same_dumps (printable session) a tuples
   same_in_table session a (Ran run) = same_calls a
+  same_in_table session a (Did given) = same_batches Table a given
   same_in_table session a r = refl
 
   module _ (e : Event) where

@@ -1,33 +1,36 @@
 -- A step at a level that c does not dominate shows c nothing.
-use Rattle.std.proofs.Common.{◌≡◌, ℕ, Bool, true, false, cond, List, [], ◌∷◌, ◌++◌, map, Option, Some, None, Result, Ok, Err, refl, sym, ap, ◌∙◌, true≢false, eqb-true, append-nil, nat_eq, bytes_eq, ne_eqb, IfSome}
+use Rattle.std.proofs.Common.{◌≡◌, ℕ, true, false, cond, List, [], ◌∷◌, ◌++◌, map, Option, Some, None, Result, Ok, Err, refl, sym, ap, ◌∙◌, true≢false, append-nil, nat_eq, bytes_eq, ne_eqb, IfSome}
+use Rattle.std.specs.List.{AllByRecursion}
 use Rattle.std.proofs.lemmas.Bool.{and_left}
 use Rattle.std.proofs.lemmas.List.Elements.{filter-append}
 use Rattle.mls_lattice.specs.Labels.{Labels, below, AreDistinct}
 use Rattle.mls_lattice.specs.Policy.{Name, Policy}
-use Rattle.mls_filterview.specs.View.{low}
 use Rattle.mls_scheme.specs.declared.value.Value.{Value}
 use Rattle.mls_filterview.proofs.LevelLemmas.{low_from_views}
 use Rattle.mls_translang.specs.Tx.{Tx}
 use Rattle.mls_certcheck.specs.Meaning.{run_tx}
 use Rattle.mls_certcheck.specs.Secure.{seen_items}
 use Rattle.mls_certcheck.proofs.MeaningLemmas.{keep_form}
-use Rattle.mls_updates.specs.Writes.{Write, write}
-use Rattle.mls_updates.proofs.LawLemmas.{high_leave_low}
+use Rattle.mls_updates.specs.declared.outcome.Outcome.{Outcome}
+use Rattle.mls_updates.specs.Writes.{Write}
 use Rattle.mls_audit.specs.Entry.{label_of, visible}
 use Rattle.mls_translang.specs.declared.event.Event.{Event}
 use Rattle.mls_translang.specs.declared.event.Command.{Command}
 use Rattle.mls_translang.specs.declared.event.Command.TheVariants as commands
+use Rattle.mls_translang.specs.declared.event.One.{One}
+use Rattle.mls_translang.specs.Event.{OneFits, CommandFits, EventFits}
 use Rattle.mls_machine.specs.declared.reply.Denial.{Denial}
 use Rattle.mls_machine.specs.declared.reply.Denial.TheVariants.{AlreadyOpen}
 use Rattle.mls_machine.specs.declared.reply.Reply.{Reply}
 use Rattle.mls_certcheck.specs.declared.stored.Stored.{Stored}
 use Rattle.mls_certcheck.specs.declared.stored.Stored.TheVariants.{Certified, Plain}
-use Rattle.mls_certcheck.specs.Site.{Site, site_labels, site_scheme}
+use Rattle.mls_certcheck.specs.Site.{Site, site_labels}
 use Rattle.mls_machine.specs.Denying.{first_denial, cleared, user_named, stored_named, fitted, call_denials}
-use Rattle.mls_machine.specs.Machine.{World, Step, in_session, unless, denial_entry, denied, viewed, dumped, wrote, call_entries, called, call_step, step_inside, open_step, step_outside, step_at, step}
+use Rattle.mls_machine.specs.Machine.{World, Step, BatchEnd, in_session, unless, denial_entry, denied, viewed, dumped, wrote, did_all, ended, did, call_entries, called, call_step, step_inside, open_step, step_outside, step_at, step}
 use Rattle.mls_machine.specs.Output.{line, reply_texts, item_lines, reply_lines}
 use Rattle.mls_machine.specs.Observation.{AreStored, out, released_in}
 use Rattle.mls_machine.proofs.LowLemmas.{LowAgree, lows_same}
+use Rattle.mls_machine.proofs.BatchLemmas.{written_low, LeavesLow, all_low}
 use Rattle.mls_machine.proofs.DenyingLemmas.{may_run}
 use Rattle.mls_machine.proofs.CalledLemmas.{certified_of, WhereCalled, IsSafe}
 use Rattle.mls_machine.proofs.ItemLemmas.{lines_of, lines_seen, entries_of, entries_seen}
@@ -58,7 +61,7 @@ pub record Silent (site : Site) (c : ℕ) (w : World) (e : Event) (s : Step) : T
   pub released : seen_items (site_labels site) c (released_in s.reply) ≡ []
 
 module _ (site : Site) (distinct : AreDistinct (site_labels site)) (c : ℕ) (w : World) (stored : AreStored site w.db)
-    (e : Event) (h : below (site_labels site) e.level c ≡ false) where
+    (e : Event) (h : below (site_labels site) e.level c ≡ false) (fits : EventFits site.policy site.schemes e) where
   abbrev Unseen : Step → Type 0
   Unseen s = Silent site c w e s
 
@@ -99,28 +102,32 @@ module _ (site : Site) (distinct : AreDistinct (site_labels site)) (c : ℕ) (w 
   hidden_unless None user effect k = k refl
   hidden_unless (Some denial) user effect k = hidden_denied user denial
 
-  written_low : (relation : ℕ) (wr : Write) (r : ℕ) → low (site_labels site) c (w.db r) ≡ low (site_labels site) c
-      ((wrote site w e.level relation wr).world.db r)
-  written_low relation wr r = by_test (nat_eq r relation) refl
-    where
-      by_test : (b : Bool) → nat_eq r relation ≡ b
-          → low (site_labels site) c (w.db r) ≡ low (site_labels site) c
-          (cond b (write (site_labels site) (site_scheme site relation) e.level wr (w.db relation)).table (w.db r))
-      by_test true q = ap (λ x. low (site_labels site) c (w.db x)) (eqb-true r relation q)
-          ∙ sym (high_leave_low (site_labels site) (site_scheme site relation) _ c e.level (w.db relation)
-          (stored relation) wr h)
-      by_test false q = refl
-
   hidden_write : (denial : Option Denial) (user relation : ℕ) (wr : Write)
       → Unseen (unless site denial w e user (wrote site w e.level relation wr))
   hidden_write denial user relation wr =
       hidden_unless denial user (wrote site w e.level relation wr)
-      (λ none. without_items (wrote site w e.level relation wr) (record {
-        tables = written_low relation wr;
+      (λ none. without_items (wrote site w e.level relation wr)
+      (record {
+        tables = written_low site c e.level distinct h fits.level relation wr w.db stored;
         sessions =
             λ l n k. refl;
         entries = refl;
       }) refl refl)
+
+  hidden_ended : (r : Result BatchEnd (ℕ × Outcome)) → LeavesLow site c e.level distinct h fits.level w.db r
+      → Unseen (ended site w r)
+  hidden_ended (Ok end) k = without_items (ended site w (Ok end)) (record {
+    tables = k;
+    sessions = λ l n b. refl;
+    entries = refl;
+  }) refl refl
+  hidden_ended (Err refused) k = same _ refl refl
+
+  -- the commands of a batch, one after another
+  hidden_did : (batch : List One) → AllByRecursion (OneFits site.policy site.schemes) batch
+      → Unseen (did site w e.level batch)
+  hidden_did batch each = hidden_ended (did_all site e.level [] batch w.db)
+      (all_low site c e.level distinct h fits.level [] batch w.db each stored)
 
   -- ---- calls
 
@@ -159,17 +166,20 @@ module _ (site : Site) (distinct : AreDistinct (site_labels site)) (c : ℕ) (w 
 
   -- ---- commands
 
-  hidden_inside : (command : Command) (user : ℕ) → WhereCalled site (IsSafe site) command
-      → Unseen (step_inside site w e command user)
-  hidden_inside (commands.Open name) user safe = hidden_denied user AlreadyOpen
-  hidden_inside commands.Close user safe = without_items _ (hidden_session None) refl refl
-  hidden_inside commands.Audit user safe = same _ refl refl
-  hidden_inside (commands.View relation label query counts) user safe = hidden_unless _ user
+  hidden_inside : (command : Command) (user : ℕ) → CommandFits site.policy site.schemes command
+      → WhereCalled site (IsSafe site) command → Unseen (step_inside site w e command user)
+  hidden_inside (commands.Open name) user fit safe = hidden_denied user AlreadyOpen
+  hidden_inside commands.Close user fit safe = without_items _ (hidden_session None) refl refl
+  hidden_inside commands.Audit user fit safe = same _ refl refl
+  hidden_inside (commands.View relation label query counts) user fit safe = hidden_unless _ user
       (viewed site w relation label query) (λ none. same _ refl refl)
-  hidden_inside (commands.Dump relation) user safe = hidden_unless _ user (dumped site w relation e.level)
+  hidden_inside (commands.Dump relation) user fit safe = hidden_unless _ user (dumped site w relation e.level)
       (λ none. same _ refl refl)
-  hidden_inside (commands.Write relation wr) user safe = hidden_write _ user relation wr
-  hidden_inside (commands.Call name args) user safe = hidden_call user name args (stored_named site.stored name) safe
+  hidden_inside (commands.Write relation wr) user fit safe = hidden_write _ user relation wr
+  hidden_inside (commands.Call name args) user fit safe = hidden_call user name args
+      (stored_named site.stored name) safe
+  hidden_inside (commands.All batch) user fit safe = hidden_unless _ user (did site w e.level batch)
+      (λ none. hidden_did batch fit.each)
 
   hidden_open : (r : Result ℕ Denial) → Unseen (open_step site w e r)
   hidden_open (Ok user) = without_items _ (hidden_session (Some user)) refl refl
@@ -181,7 +191,7 @@ module _ (site : Site) (distinct : AreDistinct (site_labels site)) (c : ℕ) (w 
 
   hidden_at : (session : Option ℕ) → WhereCalled site (IsSafe site) e.command
       → Unseen (step_at site w e e.command session)
-  hidden_at (Some user) safe = hidden_inside e.command user safe
+  hidden_at (Some user) safe = hidden_inside e.command user fits.command safe
   hidden_at None safe = hidden_outside e.command
 
   pub hidden_step : WhereCalled site (IsSafe site) e.command → Unseen (step site w e)

@@ -1,5 +1,6 @@
 -- Steps and runs keep what writes keep: the stored form, and with it integrity.
-use Rattle.std.proofs.Common.{◌≡◌, ℕ, zero, suc, ◌<◌, Bool, true, false, cond, List, [], ◌∷◌, length, take, Option, Some, None, Ok, Err, Result, refl, sym, subst, eqb-true, nat_eq, IfSome}
+use Rattle.std.proofs.Common.{◌≡◌, ℕ, zero, suc, ◌+◌, ◌<◌, Bool, true, false, cond, List, [], ◌∷◌, ◌++◌, length, take, Option, Some, None, Ok, Err, Result, refl, sym, subst, eqb-true, nat_eq, IfSome}
+use Rattle.std.specs.Prelude.{⊤}
 use Rattle.std.specs.List.{AllByRecursion}
 use Rattle.std.proofs.lemmas.List.{length-map}
 use Rattle.std.proofs.lemmas.Slice.Zip.{AllZip-long}
@@ -7,6 +8,7 @@ use Rattle.mls_lattice.specs.Labels.{AreDistinct}
 use Rattle.mls_lattice.specs.Policy.{Name}
 use Rattle.mls_scheme.specs.declared.value.Value.{Value}
 use Rattle.mls_scheme.specs.Table.{Table, Database}
+use Rattle.mls_filterview.specs.Content.{with_table}
 use Rattle.mls_filterview.specs.Stored.{IsStored, IsContent, AreContent}
 use Rattle.mls_filterview.proofs.IntegrityLemmas.{has_integrity}
 use Rattle.mls_updates.specs.Writes.{Write, Insert, Update, Delete, WriteFits, WriteKinds, write}
@@ -19,14 +21,18 @@ use Rattle.mls_certcheck.proofs.ThroughoutLemmas.{form_throughout}
 use Rattle.mls_translang.specs.declared.event.Event.{Event}
 use Rattle.mls_translang.specs.declared.event.Command.{Command}
 use Rattle.mls_translang.specs.declared.event.Command.TheVariants as commands
-use Rattle.mls_translang.specs.Event.{IsWriteOf, CommandFits, EventFits}
+use Rattle.mls_translang.specs.declared.event.One.{One}
+use Rattle.mls_translang.specs.declared.event.One.TheVariants as ones
+use Rattle.mls_translang.specs.Event.{IsWriteOf, OneFits, CommandFits, EventFits}
 use Rattle.mls_machine.specs.declared.reply.Denial.{Denial}
+use Rattle.mls_machine.specs.declared.reply.Answer.{Answer}
+use Rattle.mls_updates.specs.declared.outcome.Outcome.{Outcome}
 use Rattle.mls_certcheck.specs.declared.stored.Stored.{Stored}
 use Rattle.mls_certcheck.specs.declared.stored.Stored.TheVariants.{Certified, Plain}
 use Rattle.mls_certcheck.specs.Stored.{tx_of}
 use Rattle.mls_certcheck.specs.Site.{Site, site_labels, site_scheme, AreRead}
 use Rattle.mls_machine.specs.Denying.{first_denial, cleared, user_named, stored_named, fitted, call_denials}
-use Rattle.mls_machine.specs.Machine.{World, Step, unless, wrote, called, call_step, step_inside, open_step, step_outside, step_at, step, end_of}
+use Rattle.mls_machine.specs.Machine.{World, Step, BatchEnd, refusal_of, unless_refused, unless, wrote, did_one, did_all, ended, did, called, call_step, step_inside, open_step, step_outside, step_at, step, end_of}
 use Rattle.mls_machine.specs.Observation.{AreStored, EventsFit}
 use Rattle.mls_machine.specs.Laws.{AreWhole, KeepsIntegrity, RunsKeepIntegrity}
 use Rattle.mls_machine.proofs.DenyingLemmas.{may_run}
@@ -37,6 +43,20 @@ use Rattle.mls_machine.proofs.ArgumentLemmas.{fitted_fit}
 pub record Fitting (site : Site) (level relation : ℕ) (wr : Write) : Type 0 where
   pub numbers : WriteFits (site_labels site) (length (site_scheme site relation).others) level wr
   pub kinds : WriteKinds (site_scheme site relation) wr
+
+module _ (site : Site) (level : ℕ) (declared : level < length site.policy.labels) where
+  level_fits : level < length (site_labels site)
+  level_fits = subst (λ n. level < n) (sym (length-map site.policy.labels (λ l. l.value))) declared
+
+  pub fitting : (relation : ℕ) (wr : Write) → IsWriteOf site.policy (site_scheme site relation) wr
+      → Fitting site level relation wr
+  fitting relation (Insert key values) fits =
+      record { numbers = (level_fits, AllZip-long _ (site_scheme site relation).others values fits.1); kinds = fits }
+  fitting relation (Update key key_class from sets) fits = record {
+    numbers = (level_fits, fits.3.some, fits.3.known);
+    kinds = fits.3.kinds;
+  }
+  fitting relation (Delete key key_class) fits = record { numbers = tt; kinds = tt }
 
 -- ---- what each write and each call keeps of each relation
 
@@ -51,16 +71,59 @@ module _ (site : Site) (P : ℕ → Table → Type 0) (keeps : Kept site P) wher
   abbrev Holds : World → Type 0
   Holds w = (relation : ℕ) → P relation (w.db relation)
 
-  wrote_holds : (w : World) (level relation : ℕ) (wr : Write) → Fitting site level relation wr → Holds w
-      → Holds (wrote site w level relation wr).world
-  wrote_holds w level relation wr fits all r = by_test (nat_eq r relation) refl
+  abbrev pub HoldsIn : Database → Type 0
+  HoldsIn db = (relation : ℕ) → P relation (db relation)
+
+  written_holds : (db : Database) (level relation : ℕ) (wr : Write) → Fitting site level relation wr → HoldsIn db
+      → HoldsIn (with_table db relation (write (site_labels site) (site_scheme site relation) level wr
+      (db relation)).table)
+  written_holds db level relation wr fits all r = by_test (nat_eq r relation) refl
     where
       by_test : (b : Bool) → nat_eq r relation ≡ b
-          → P r (cond b (write (site_labels site) (site_scheme site relation) level wr (w.db relation)).table (w.db r))
+          → P r (cond b (write (site_labels site) (site_scheme site relation) level wr (db relation)).table (db r))
       by_test true e = subst (λ q. P q (write (site_labels site) (site_scheme site relation) level wr
-          (w.db relation)).table) (sym (eqb-true r relation e)) (keeps.by_write relation level wr (w.db relation) fits
+          (db relation)).table) (sym (eqb-true r relation e)) (keeps.by_write relation level wr (db relation) fits
           (all relation))
       by_test false e = all r
+
+  wrote_holds : (w : World) (level relation : ℕ) (wr : Write) → Fitting site level relation wr → Holds w
+      → Holds (wrote site w level relation wr).world
+  wrote_holds w level relation wr fits all = written_holds w.db level relation wr fits all
+
+  -- ---- the commands of a batch
+
+  module _ (level : ℕ) (declared : level < length site.policy.labels) where
+    pub one_holds : (one : One) (db : Database) → OneFits site.policy site.schemes one → HoldsIn db
+        → HoldsIn (did_one site level one db).db
+    one_holds (ones.View relation label query counts) db fits all = all
+    one_holds (ones.Expect rows relation label query) db fits all = all
+    one_holds (ones.Write relation wr) db fits all = written_holds db level relation wr
+        (fitting site level declared relation wr fits.1) all
+
+    abbrev EndHolds : Result BatchEnd (ℕ × Outcome) → Type 0
+    EndHolds (Ok end) = HoldsIn end.db
+    EndHolds (Err refused) = ⊤
+
+    refused_holds : (o : Option Outcome) (number : ℕ) (r : Result BatchEnd (ℕ × Outcome)) → EndHolds r
+        → EndHolds (unless_refused o number r)
+    refused_holds None number r h = h
+    refused_holds (Some o) number r h = tt
+
+    all_hold : (front : List Answer) (batch : List One) (db : Database)
+        → AllByRecursion (OneFits site.policy site.schemes) batch → HoldsIn db
+        → EndHolds (did_all site level front batch db)
+    unfolding did_all
+    all_hold front [] db fits all = all
+    all_hold front (one ∷ batch) db fits all =
+        let step = did_one site level one db in
+        refused_holds (refusal_of step.answer) (length front + 1) (did_all site level (front ++ step.answer
+        ∷ []) batch step.db) (all_hold (front ++ step.answer ∷ []) batch step.db fits.1
+        (one_holds one db fits.0 all))
+
+  ended_holds : (w : World) (level : ℕ) (declared : level < length site.policy.labels)
+      (r : Result BatchEnd (ℕ × Outcome)) → Holds w → EndHolds level declared r → Holds (ended site w r).world
+  ended_holds w level declared (Ok end) all h = h
+  ended_holds w level declared (Err refused) all h = all
 
   unless_holds : (denial : Option Denial) (w : World) (e : Event) (user : ℕ) (effect : Step) → Holds w
       → (denial ≡ None → Holds effect.world) → Holds (unless site denial w e user effect).world
@@ -68,19 +131,6 @@ module _ (site : Site) (P : ℕ → Table → Type 0) (keeps : Kept site P) wher
   unless_holds (Some denial) w e user effect all new = all
 
   module _ (w : World) (e : Event) (all : Holds w) (declared : e.level < length site.policy.labels) where
-    level_fits : e.level < length (site_labels site)
-    level_fits = subst (λ n. e.level < n) (sym (length-map site.policy.labels (λ l. l.value))) declared
-
-    fitting : (relation : ℕ) (wr : Write) → IsWriteOf site.policy (site_scheme site relation) wr
-        → Fitting site e.level relation wr
-    fitting relation (Insert key values) fits =
-        record { numbers = (level_fits, AllZip-long _ (site_scheme site relation).others values fits.1); kinds = fits }
-    fitting relation (Update key key_class from sets) fits = record {
-      numbers = (level_fits, fits.3.some, fits.3.known);
-      kinds = fits.3.kinds;
-    }
-    fitting relation (Delete key key_class) fits = record { numbers = tt; kinds = tt }
-
     write_holds : (user relation : ℕ) (wr : Write) (denial : Option Denial) → Fitting site e.level relation wr
         → Holds (unless site denial w e user (wrote site w e.level relation wr)).world
     write_holds user relation wr denial fits = unless_holds denial w e user (wrote site w e.level relation wr) all
@@ -102,9 +152,12 @@ module _ (site : Site) (P : ℕ → Table → Type 0) (keeps : Kept site P) wher
         (λ none. all)
     inside_holds (commands.Dump relation) user fits read = unless_holds _ w e user _ all (λ none. all)
     inside_holds (commands.Write relation wr) user fits read = write_holds user relation wr _
-        (fitting relation wr fits.1)
+        (fitting site e.level declared relation wr fits.1)
     inside_holds (commands.Call name args) user fits read = call_holds user name args
         (stored_named site.stored name) read
+    inside_holds (commands.All batch) user fits read =
+        unless_holds _ w e user (did site w e.level batch) all (λ none. ended_holds w e.level declared
+        (did_all site e.level [] batch w.db) all (all_hold e.level declared [] batch w.db fits.each all))
     inside_holds _ user fits read = all
 
     opened_holds : (r : Result ℕ Denial) → Holds (open_step site w e r).world
@@ -151,6 +204,11 @@ module _ (site : Site) (distinct : AreDistinct (site_labels site)) where
       → CallsRead site e.command → AreStored site (step site w e).world.db
   step_stored = step_holds site InForm form_kept
 
+  -- the commands of a batch keep it, one after another
+  pub one_stored : (level : ℕ) → level < length site.policy.labels → (one : One) (db : Database)
+      → OneFits site.policy site.schemes one → AreStored site db → AreStored site (did_one site level one db).db
+  one_stored = one_holds site InForm form_kept
+
   pub run_stored : (w : World) (es : List Event) → AreStored site w.db → EventsFit site es
       → AllByRecursion (λ e. CallsRead site e.command) es → AreStored site (end_of site w es).db
   run_stored = run_holds site InForm form_kept
@@ -166,6 +224,11 @@ module _ (site : Site) (distinct : AreDistinct (site_labels site)) where
     by_call = λ tx args db read count content. call_content site.policy distinct site.schemes tx read
         (fitted tx.params args) (fitted_fit tx args count) db content;
   }
+
+  pub one_content : (level : ℕ) → level < length site.policy.labels → (one : One) (db : Database)
+      → OneFits site.policy site.schemes one → AreContent (site_labels site) site.schemes db
+      → AreContent (site_labels site) site.schemes (did_one site level one db).db
+  one_content = one_holds site Contained content_kept
 
   module _ (read : AreRead site) where
     pub step_content : (w : World) (e : Event) → AreContent (site_labels site) site.schemes w.db

@@ -3,6 +3,7 @@ pub mod ArgumentLemmas
 pub mod CalledLemmas
 pub mod ToldLemmas
 pub mod KeepingLemmas
+pub mod BatchLemmas
 pub mod RefusalLemmas
 pub mod ReplyLemmas
 pub mod LowLemmas

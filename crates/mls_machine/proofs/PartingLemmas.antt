@@ -19,18 +19,21 @@ use Rattle.mls_certcheck.specs.Meaning.{Item}
 use Rattle.mls_translang.specs.declared.event.Event.{Event}
 use Rattle.mls_translang.specs.declared.event.Command.{Command}
 use Rattle.mls_translang.specs.declared.event.Command.TheVariants as commands
+use Rattle.mls_translang.specs.declared.event.One.{One}
 use Rattle.mls_machine.specs.declared.form.Form.{Form}
 use Rattle.mls_machine.specs.declared.form.Form.TheVariants.{Lines, Table}
 use Rattle.mls_machine.specs.declared.reply.Denial.{Denial}
 use Rattle.mls_machine.specs.declared.reply.Denial.TheVariants as denials
 use Rattle.mls_machine.specs.declared.reply.Reply.{Reply}
-use Rattle.mls_machine.specs.declared.reply.Reply.TheVariants.{Opened, Closed, Rows, Dumped, Wrote, Ran, Entries, Denied}
+use Rattle.mls_machine.specs.declared.reply.Reply.TheVariants.{Opened, Closed, Rows, Dumped, Wrote, Ran, Entries, Did, Undone, Denied}
+use Rattle.mls_machine.specs.declared.reply.Answer.{Answer}
+use Rattle.mls_machine.specs.declared.reply.Answer.TheVariants as answers
 use Rattle.mls_certcheck.specs.Site.{Site, site_labels}
 use Rattle.mls_machine.specs.Reply.{code_of, word_of}
 use Rattle.mls_machine.specs.Dumping.{dump_event}
 use Rattle.mls_machine.specs.Machine.{World, step}
 use Rattle.mls_translang.specs.Writing.{cell_text}
-use Rattle.mls_machine.specs.Output.{Line, row_text, entry_text, outcome_text, denial_text, view_texts, table_texts, table_widths, script_text, dump_texts, call_texts, reply_texts, texts_in_table, front, line, item_line, item_lines, lines_with, escaped_line, reply_lines_in, run_lines, printed}
+use Rattle.mls_machine.specs.Output.{Line, row_text, entry_text, outcome_text, denial_text, view_texts, table_texts, rows_texts, table_widths, script_text, dump_texts, undone_text, looks_as, answer_texts, answers_texts, batch_texts, call_texts, reply_texts, texts_in_table, front, line, item_line, item_lines, lines_with, escaped_line, reply_lines_in, run_lines, printed}
 use Rattle.mls_machine.specs.Observation.{heard, out}
 use Rattle.mls_machine.specs.Turning.{turn_line}
 use Rattle.mls_machine.specs.Parting.{is_line_feed, IsOneLine, HasPlainNames, IsPlain, PoliciesArePlain, RepliesAreLines, RunsAreLines, TurningsAreLines, RunsPartIntoLines}
@@ -55,6 +58,11 @@ outcome_line o =
       | true ↦ refl
       | false ↦ coded_line (codes "refused ") (outcome_word o) (outcome_code o) refl (outcome_word_line o)
     ]
+
+undone_line : (number : ℕ) (o : Outcome) → IsOneLine (undone_text number o)
+undone_line number o =
+    one_line-append (outcome_text o ++ codes " at ") (decimal number)
+    (one_line-append (outcome_text o) (codes " at ") (outcome_line o) refl) (one_line-decimal number)
 
 denial_word_line : (d : Denial) → IsOneLine (word_of d)
 denial_word_line denials.NoSession = refl
@@ -93,6 +101,28 @@ module _ (site : Site) (plain : IsPlain site) where
       (scheme_line site.schemes relation plain.relations)
   in_table _ tuples = tt
 
+  rows_lines : (form : Form) (command : Command) (tuples : List Tuple)
+      → AllByRecursion IsOneLine (rows_texts form site command tuples)
+  rows_lines Lines command tuples = view_lines command tuples
+  rows_lines Table command tuples = in_table command tuples
+
+  answer_lines : (form : Form) (one : One) (a : Answer) → AllByRecursion IsOneLine (answer_texts form site one a)
+  answer_lines form one (answers.Rows tuples) = rows_lines form (looks_as one) tuples
+  answer_lines form one (answers.Became o) = (outcome_line o, tt)
+
+  answers_lines : (form : Form) (batch : List One) (given : List Answer)
+      → AllByRecursion IsOneLine (answers_texts form site batch given)
+  answers_lines form [] given = tt
+  answers_lines form (one ∷ batch) [] = tt
+  answers_lines form (one ∷ batch) (a ∷ given) =
+      all_append IsOneLine (answer_texts form site one a) (answers_texts form site batch given)
+      (answer_lines form one a) (answers_lines form batch given)
+
+  batch_lines : (form : Form) (command : Command) (given : List Answer)
+      → AllByRecursion IsOneLine (batch_texts form site command given)
+  batch_lines form (commands.All batch) given = answers_lines form batch given
+  batch_lines form _ given = tt
+
   call_lines : (command : Command) → AllByRecursion IsOneLine (call_texts command)
   call_lines (commands.Call name args) = (
     one_line-append (codes "called ") (printable name) refl
@@ -129,6 +159,8 @@ module _ (site : Site) (plain : IsPlain site) where
     all_map IsOneLine (entry_text site.policy) es
         (all (λ e. IsOneLine (entry_text site.policy e)) (entry_line site.policy plain.labels) es),
   )
+  reply_text_lines session command (Did given) = batch_lines Lines command given
+  reply_text_lines session command (Undone number o) = (undone_line number o, tt)
   reply_text_lines session command (Denied d) = (denial_line d, tt)
 
   table_text_lines : (session : Name) (command : Command) (r : Reply)
@@ -141,6 +173,8 @@ module _ (site : Site) (plain : IsPlain site) where
   table_text_lines session command (Wrote o) = (outcome_line o, tt)
   table_text_lines session command (Ran run) = call_lines command
   table_text_lines session command (Entries es) = reply_text_lines session command (Entries es)
+  table_text_lines session command (Did given) = batch_lines Table command given
+  table_text_lines session command (Undone number o) = (undone_line number o, tt)
   table_text_lines session command (Denied d) = (denial_line d, tt)
 
   -- ---- lines

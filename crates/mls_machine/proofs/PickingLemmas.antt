@@ -104,7 +104,7 @@ module _ (site : Site) (policy : IsPolicy site.policy) (read : AreRead site) whe
   unfolding run_lines
   tells_run w [] stored known fits = tt
   tells_run w (e ∷ es) stored known fits =
-      let s = step_known site policy.distinct read w stored known e fits.0.level in
+      let s = step_known site policy.distinct read w stored known e fits.0 in
       all_append (Tells site.policy policy) (reply_lines site e (step site w e).reply)
       (run_lines Lines site (step site w e).world es)
       (tells_reply e (step site w e).reply fits.0.level s.reply)

@@ -1,6 +1,6 @@
 -- What is printed: the name of a label by its value, and the lines of replies.
-use Rattle.std.proofs.Common.{◌≡◌, ◌+◌, ℕ, ◌<◌, Bool, true, false, List, [], ◌∷◌, length, drop, get_or, refl, sym, ap, ◌∙◌, add-one, drop-cons, Some, None, ◌++◌, take, codes, append-nil, append_assoc, flat_map, map, slice_get, option_map, Result, Ok, Err, OnOk}
-use Rattle.std.proofs.lemmas.List.{get_or-map, flat_map_more, take_more}
+use Rattle.std.proofs.Common.{◌≡◌, ◌+◌, ℕ, ◌<◌, ◌≤◌, ◌⊎◌, inl, inr, Bool, true, false, List, [], ◌∷◌, length, drop, get_or, refl, sym, ap, ◌∙◌, add-one, drop-cons, Some, None, ◌++◌, take, codes, append-nil, append_assoc, flat_map, map, slice_get, option_map, Result, Ok, Err, OnOk}
+use Rattle.std.proofs.lemmas.List.{get_or-map, flat_map_more, take_more, drop_more, drop_all}
 use Rattle.std.proofs.lemmas.Option.{slice_get-get_or}
 use Rattle.mls_lattice.specs.Lattice.{Pair, same_pair, bottom}
 use Rattle.mls_lattice.specs.Labels.{label_of}
@@ -20,15 +20,19 @@ use Rattle.mls_translang.specs.declared.query.Query.{Query}
 use Rattle.mls_translang.specs.declared.event.Event.{Event}
 use Rattle.mls_translang.specs.declared.event.Command.{Command}
 use Rattle.mls_translang.specs.declared.event.Command.TheVariants as commands
+use Rattle.mls_translang.specs.declared.event.One.{One}
+use Rattle.mls_updates.specs.declared.outcome.Outcome.{Outcome}
 use Rattle.mls_machine.specs.declared.form.Form.{Form}
 use Rattle.mls_machine.specs.declared.form.Form.TheVariants.{Lines, Table}
 use Rattle.mls_machine.specs.declared.reply.Reply.{Reply}
-use Rattle.mls_machine.specs.declared.reply.Reply.TheVariants.{Rows, Dumped, Ran, Entries}
+use Rattle.mls_machine.specs.declared.reply.Answer.{Answer}
+use Rattle.mls_machine.specs.declared.reply.Answer.TheVariants as answers
+use Rattle.mls_machine.specs.declared.reply.Reply.TheVariants.{Rows, Dumped, Ran, Entries, Did}
 use Rattle.mls_certcheck.specs.declared.stored.Stored.{Stored}
 use Rattle.mls_certcheck.specs.Site.{Site, site_scheme}
 use Rattle.mls_machine.specs.Dumping.{dump_event}
 use Rattle.mls_translang.specs.Writing.{cell_text}
-use Rattle.mls_machine.specs.Output.{Line, name_of, front, line, item_line, heading, count_text, row_text, entry_text, view_texts, rows_texts, dump_heading, script_text, dump_texts, call_texts, reply_texts, reply_lines, reply_lines_in, lines_with, escaped_line, table_texts, texts_in_table, printed}
+use Rattle.mls_machine.specs.Output.{Line, name_of, front, line, item_line, heading, count_text, row_text, entry_text, view_texts, rows_texts, dump_heading, script_text, dump_texts, outcome_text, looks_as, answer_texts, answers_texts, batch_texts, call_texts, reply_texts, reply_lines, reply_lines_in, lines_with, escaped_line, table_texts, texts_in_table, printed}
 use Rattle.mls_machine.specs.Under.{site_under}
 use Rattle.mls_machine.proofs.DumpLemmas.{printable_name}
 
@@ -108,14 +112,16 @@ module _ (site : Site) (e : Event) where
       ap (λ l. on_line (heading site.policy (site_scheme site relation) label query) ++ l)
       (sym (flat_map-map on_line (row_text site.policy) tuples))
 
-  module _ (relation label : ℕ) (query : Query) (counts : Bool) (tuples : List Tuple) (is : e.command
-      ≡ commands.View relation label query counts)
+  module _ (relation label : ℕ) (query : Query) (counts : Bool) (tuples : List Tuple)
       (scheme : Scheme) (same : scheme ≡ site_scheme site relation) (old new : List ℕ) where
+    abbrev view : Command
+    view = commands.View relation label query counts
+
     pub answered : (form : Form) (b : Bool) → counts ≡ b
         → flat_map on_line (rows_texts form site (commands.View relation label query b) tuples) ≡ flat_map on_line
-        (rows_texts form site e.command tuples)
-    answered form b h = sym (ap (λ x. flat_map on_line (rows_texts form site x tuples))
-        (is ∙ ap (λ c. commands.View relation label query c) h))
+        (rows_texts form site view tuples)
+    answered form b h = sym (ap (λ c. flat_map on_line
+        (rows_texts form site (commands.View relation label query c) tuples)) h)
 
     counted : (form : Form) → rows_texts form site (commands.View relation label query true) tuples
         ≡ count_text site.policy (site_scheme site relation) label query (length tuples) ∷ []
@@ -126,18 +132,18 @@ module _ (site : Site) (e : Event) where
     pub rows_more : (form : Form) → form ≡ Lines → counts ≡ false → {A F : Type 0} (r : Result A F)
         → OnOk r (new ≡ old ++ (on_line (heading site.policy scheme label query)
         ++ flat_map (λ t. on_line (row_text site.policy t)) tuples))
-        → OnOk r (new ≡ old ++ flat_map on_line (rows_texts form site e.command tuples))
+        → OnOk r (new ≡ old ++ flat_map on_line (rows_texts form site view tuples))
     rows_more form in_lines not_counted (Ok x) h =
         h ∙ ap (λ s. old ++ (on_line (heading site.policy s label query)
         ++ flat_map (λ t. on_line (row_text site.policy t)) tuples)) same
         ∙ ap (λ l. old ++ l) (rows_lines relation label query tuples ∙ answered Lines false not_counted
-        ∙ ap (λ f. flat_map on_line (rows_texts f site e.command tuples)) (sym in_lines))
+        ∙ ap (λ f. flat_map on_line (rows_texts f site view tuples)) (sym in_lines))
     rows_more form in_lines not_counted (Err f) h = h
 
     -- their number alone
     pub count_more : (form : Form) → counts ≡ true → (n : ℕ) → n ≡ length tuples → {A F : Type 0} (r : Result A F)
         → OnOk r (new ≡ old ++ on_line (count_text site.policy scheme label query n))
-        → OnOk r (new ≡ old ++ flat_map on_line (rows_texts form site e.command tuples))
+        → OnOk r (new ≡ old ++ flat_map on_line (rows_texts form site view tuples))
     count_more form counts_them n all (Ok x) h =
         h ∙ (λ i. old ++ on_line (count_text site.policy (same i) label query (all i)))
         ∙ ap (λ l. old ++ l) (sym (append-nil (on_line (count_text site.policy (site_scheme site relation) label query
@@ -156,6 +162,61 @@ module _ (site : Site) (e : Event) where
       → flat_map on_line (view_texts site e.command tuples) ≡ printed (reply_lines site e r)
   rows_printed r tuples is = sym (ap (λ x. printed (reply_lines site e x)) is ∙ only_texts
       (view_texts site e.command tuples))
+
+  -- ---- batches
+
+  pub batch_printed : (r : Reply) (given : List Answer) → r ≡ Did given
+      → flat_map on_line (batch_texts Lines site e.command given) ≡ printed (reply_lines site e r)
+  batch_printed r given is = sym (ap (λ x. printed (reply_lines site e x)) is ∙ only_texts
+      (batch_texts Lines site e.command given))
+
+  -- what became of a command
+  pub outcome_more : (form : Form) (one : One) (a : Answer) (o : Outcome) → a ≡ answers.Became o
+      → (old new : List ℕ) → {A F : Type 0} (r : Result A F) → OnOk r (new ≡ old ++ on_line (outcome_text o))
+      → OnOk r (new ≡ old ++ flat_map on_line (answer_texts form site one a))
+  outcome_more form one a o is old new (Ok x) h =
+      h ∙ ap (λ t. old ++ t) (sym (append-nil (on_line (outcome_text o)))
+      ∙ ap (λ b. flat_map on_line (answer_texts form site one b)) (sym is))
+  outcome_more form one a o is old new (Err f) h = h
+
+  -- the answers to the commands that are left
+  abbrev pub on_answers : Form → List One → List Answer → List ℕ
+  on_answers form batch given = flat_map on_line (answers_texts form site batch given)
+
+  pub answers_next : (form : Form) (one : One) (a : Answer) (batch : List One) (given : List Answer)
+      → flat_map on_line (answer_texts form site one a) ++ on_answers form batch given ≡ on_answers form (one ∷ batch)
+      (a ∷ given)
+  answers_next form one a batch given = sym (flat_map-append on_line (answer_texts form site one a)
+      (answers_texts form site batch given))
+
+  -- after the last command, or the last answer
+  no_answers : (form : Form) (batch : List One) → on_answers form batch [] ≡ []
+  no_answers form [] = refl
+  no_answers form (one ∷ batch) = refl
+
+  module _ (form : Form) (batch : List One) (given : List Answer) (k : ℕ) (text whole : List ℕ)
+      (so_far : text ++ on_answers form (drop k batch) (drop k given) ≡ whole) where
+    pub answers_all : (length batch ≤ k) ⊎ (length given ≤ k) → text ≡ whole
+    answers_all (inl past) =
+        sym (append-nil text)
+        ∙ ap (λ (xs : List One). text ++ on_answers form xs (drop k given)) (sym (drop_all k batch past)) ∙ so_far
+    answers_all (inr past) =
+        sym (append-nil text) ∙ ap (λ t. text ++ t) (sym (no_answers form (drop k batch)))
+        ∙ ap (λ (xs : List Answer). text ++ on_answers form (drop k batch) xs) (sym (drop_all k given past)) ∙ so_far
+
+    pub answers_more : (one : One) (a : Answer) → k < length batch → one ≡ get_or batch k one → k < length given
+        → a ≡ get_or given k a → (new : List ℕ) → new ≡ text ++ flat_map on_line (answer_texts form site one a)
+        → new ++ on_answers form (drop (k + 1) batch) (drop (k + 1) given) ≡ whole
+    answers_more one a one_within one_is a_within a_is new pushed =
+        let texts = flat_map on_line (answer_texts form site one a) in
+        let rest = on_answers form (drop (k + 1) batch) (drop (k + 1) given) in
+        let ones_next : one ∷ drop (k + 1) batch ≡ drop k batch
+        = ap (λ x. x ∷ drop (k + 1) batch) one_is ∙ sym (drop_more batch k one one_within) in
+        let answers_left : a ∷ drop (k + 1) given ≡ drop k given
+        = ap (λ x. x ∷ drop (k + 1) given) a_is ∙ sym (drop_more given k a a_within) in
+        ap (λ (t : List ℕ). t ++ rest) pushed ∙ append_assoc text texts rest
+        ∙ ap (λ t. text ++ t) (answers_next form one a (drop (k + 1) batch) (drop (k + 1) given)
+        ∙ (λ i. on_answers form (ones_next i) (answers_left i))) ∙ so_far
 
   -- ---- dumps
 
@@ -240,17 +301,6 @@ same_dumps : (p : Policy) (s : Schemes) (stored : List Stored) (session : Name) 
 same_dumps p s stored session (commands.Dump relation) tuples = refl
 same_dumps p s stored session command tuples = refl
 
-same_texts : (p : Policy) (s : Schemes) (stored : List Stored) (session : Name) (command : Command) (r : Reply)
-    → reply_texts (site_under p s) session command r ≡ reply_texts (record {
-      policy = p;
-      schemes = s;
-      stored =
-          stored;
-    }) session command r
-same_texts p s stored session command (Rows tuples) = same_views p s stored command tuples
-same_texts p s stored session command (Dumped tuples) = same_dumps p s stored (printable session) command tuples
-same_texts p s stored session command _ = refl
-
 same_tables : (p : Policy) (s : Schemes) (stored : List Stored) (command : Command) (tuples : List Tuple)
     → table_texts (site_under p s) command tuples ≡ table_texts (record {
       policy = p;
@@ -262,6 +312,51 @@ same_tables p s stored (commands.View relation label query counts) tuples = refl
 same_tables p s stored (commands.Dump relation) tuples = refl
 same_tables p s stored command tuples = refl
 
+same_answer : (p : Policy) (s : Schemes) (stored : List Stored) (form : Form) (one : One) (a : Answer)
+    → answer_texts form (site_under p s) one a ≡ answer_texts form (record {
+      policy = p;
+      schemes = s;
+      stored =
+          stored;
+    }) one a
+same_answer p s stored Lines one (answers.Rows tuples) = same_views p s stored (looks_as one) tuples
+same_answer p s stored Table one (answers.Rows tuples) = same_tables p s stored (looks_as one) tuples
+same_answer p s stored form one (answers.Became o) = refl
+
+same_answers : (p : Policy) (s : Schemes) (stored : List Stored) (form : Form) (batch : List One) (given : List Answer)
+    → answers_texts form (site_under p s) batch given ≡ answers_texts form (record {
+      policy = p;
+      schemes = s;
+      stored =
+          stored;
+    }) batch given
+same_answers p s stored form [] given = refl
+same_answers p s stored form (one ∷ batch) [] = refl
+same_answers p s stored form (one ∷ batch) (a ∷ given) = λ i. same_answer p s stored form one a i
+    ++ same_answers p s stored form batch given i
+
+same_batch : (p : Policy) (s : Schemes) (stored : List Stored) (form : Form) (command : Command) (given : List Answer)
+    → batch_texts form (site_under p s) command given ≡ batch_texts form (record {
+      policy = p;
+      schemes = s;
+      stored =
+          stored;
+    }) command given
+same_batch p s stored form (commands.All batch) given = same_answers p s stored form batch given
+same_batch p s stored form command given = refl
+
+same_texts : (p : Policy) (s : Schemes) (stored : List Stored) (session : Name) (command : Command) (r : Reply)
+    → reply_texts (site_under p s) session command r ≡ reply_texts (record {
+      policy = p;
+      schemes = s;
+      stored =
+          stored;
+    }) session command r
+same_texts p s stored session command (Rows tuples) = same_views p s stored command tuples
+same_texts p s stored session command (Dumped tuples) = same_dumps p s stored (printable session) command tuples
+same_texts p s stored session command (Did given) = same_batch p s stored Lines command given
+same_texts p s stored session command _ = refl
+
 same_in_table : (p : Policy) (s : Schemes) (stored : List Stored) (session : Name) (command : Command) (r : Reply)
     → texts_in_table (site_under p s) session command r ≡ texts_in_table (record {
       policy = p;
@@ -270,6 +365,7 @@ same_in_table : (p : Policy) (s : Schemes) (stored : List Stored) (session : Nam
           stored;
     }) session command r
 same_in_table p s stored session command (Rows tuples) = same_tables p s stored command tuples
+same_in_table p s stored session command (Did given) = same_batch p s stored Table command given
 same_in_table p s stored session command r = same_texts p s stored session command r
 
 pub lines_under : (form : Form) (site : Site) (e : Event) (r : Reply)

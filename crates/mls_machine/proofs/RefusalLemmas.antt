@@ -1,5 +1,6 @@
 -- What is denied or refused changes nothing but the audit list, and that grows by denials and calls alone.
 use Rattle.std.proofs.Common.{◌≡◌, ℕ, List, [], ◌++◌, Option, Some, None, Result, Ok, Err, refl, sym, ap, ◌∙◌, append-nil}
+use Rattle.mls_updates.specs.declared.outcome.Outcome.{Outcome}
 use Rattle.mls_updates.specs.Writes.{Write}
 use Rattle.mls_queries.proofs.WrittenLemmas.{table_left, same_relation}
 use Rattle.mls_scheme.specs.declared.value.Value.{Value}
@@ -7,12 +8,13 @@ use Rattle.mls_lattice.specs.Policy.{Name}
 use Rattle.mls_translang.specs.declared.event.Event.{Event}
 use Rattle.mls_translang.specs.declared.event.Command.{Command}
 use Rattle.mls_translang.specs.declared.event.Command.TheVariants as commands
+use Rattle.mls_translang.specs.declared.event.One.{One}
 use Rattle.mls_machine.specs.declared.reply.Denial.{Denial}
 use Rattle.mls_certcheck.specs.declared.stored.Stored.{Stored}
 use Rattle.mls_certcheck.specs.declared.stored.Stored.TheVariants.{Certified, Plain}
 use Rattle.mls_certcheck.specs.Site.{Site, site_labels, site_scheme}
 use Rattle.mls_machine.specs.Denying.{first_denial, cleared, user_named, stored_named, call_denials}
-use Rattle.mls_machine.specs.Machine.{World, Step, denied, unless, wrote, called, call_step, step_inside, open_step, step_outside, step_at, step}
+use Rattle.mls_machine.specs.Machine.{World, Step, BatchEnd, denied, unless, wrote, did_all, ended, called, call_step, step_inside, open_step, step_outside, step_at, step}
 use Rattle.mls_machine.specs.Laws.{ChangesNothing, entries_added, RefusalsChangeNothing, DenialsAndCallsAreEntered}
 
 -- ---- steps
@@ -46,6 +48,16 @@ module _ (site : Site) (w : World) (e : Event) where
     audit = sym (append-nil w.audit) ∙ ap (λ es. w.audit ++ es) (sym none);
   }
 
+  ended_left : (batch : List One) (user : ℕ) (r : Result BatchEnd (ℕ × Outcome)) → Leaves site w e (commands.All batch)
+      (Some user) (ended site w r)
+  ended_left batch user (Ok end) = record {
+    db = λ h. absurd h;
+    sessions = λ h. absurd h;
+    audit =
+        sym (append-nil w.audit);
+  }
+  ended_left batch user (Err refused) = all_left _ (Some user) _ refl refl
+
   unless_left : (command : Command) (denial : Option Denial) (user : ℕ) (effect : Step)
       → Leaves site w e command (Some user) effect → Leaves site w e command (Some user)
       (unless site denial w e user effect)
@@ -74,6 +86,8 @@ module _ (site : Site) (w : World) (e : Event) where
   inside_left (commands.Dump relation) user = unless_left _ _ user _ (all_left _ (Some user) _ refl refl)
   inside_left (commands.Write relation wr) user = unless_left _ _ user _ (wrote_left _ user relation wr refl)
   inside_left (commands.Call name args) user = call_left user name args (stored_named site.stored name)
+  inside_left (commands.All batch) user = unless_left _ _ user _
+      (ended_left batch user (did_all site e.level [] batch w.db))
 
   opened_left : (name : Name) (r : Result ℕ Denial) → Leaves site w e (commands.Open name) None (open_step site w e r)
   opened_left name (Ok user) = record { db = λ h. absurd h; sessions = λ h. absurd h; audit = sym (append-nil w.audit) }

@@ -1,5 +1,6 @@
 -- Over content of the stored form the numbers in a reply are those of the policy.
-use Rattle.std.proofs.Common.{nat_eq, ◌≡◌, ℕ, suc, ◌<◌, Bool, true, false, cond, not, List, [], ◌∷◌, ◌++◌, length, map, Option, Some, None, Ok, Err, inl, inr, refl, sym, subst, arith, filter, IfSome}
+use Rattle.std.proofs.Common.{nat_eq, ◌≡◌, ℕ, suc, ◌+◌, ◌<◌, Bool, true, false, cond, not, List, [], ◌∷◌, ◌++◌, length, map, Option, Some, None, Result, Ok, Err, inl, inr, refl, sym, subst, arith, filter, IfSome}
+use Rattle.std.specs.Prelude.{⊤}
 use Rattle.std.specs.List.{AllByRecursion, list_any}
 use Rattle.std.specs.FinMap.{get, entries}
 use Rattle.std.proofs.lemmas.List.{length-map}
@@ -10,7 +11,7 @@ use Rattle.mls_scheme.specs.declared.tuple.Tuple.{Tuple}
 use Rattle.mls_scheme.specs.declared.place.Place.{Place}
 use Rattle.mls_scheme.specs.declared.value.Value.{Value}
 use Rattle.mls_scheme.specs.Tuple.{at, HasClassesBelow}
-use Rattle.mls_scheme.specs.Table.{Table, tuple_at}
+use Rattle.mls_scheme.specs.Table.{Table, Database, tuple_at}
 use Rattle.mls_filterview.specs.Stored.{IsStored}
 use Rattle.mls_filterview.specs.View.{low, rows}
 use Rattle.mls_filterview.specs.Reach.{upward, of_class, low_tuples}
@@ -22,27 +23,33 @@ use Rattle.mls_translang.specs.Tx.{Tx}
 use Rattle.mls_translang.specs.Fits.{IsReadUnder}
 use Rattle.mls_certcheck.specs.Meaning.{Item, run_tx}
 use Rattle.mls_certcheck.proofs.MeaningLemmas.{call_labelled}
+use Rattle.mls_updates.specs.declared.outcome.Outcome.{Outcome}
 use Rattle.mls_updates.specs.Writes.{Write}
 use Rattle.mls_translang.specs.declared.query.Query.{Query}
 use Rattle.mls_queries.specs.Query.{has_class, meets, is_above, highest_of, first_of, found}
 use Rattle.mls_queries.proofs.PlaceLemmas.{all_filter}
-use Rattle.mls_lattice.proofs.EachLemmas.{all, all_take, each_flat}
+use Rattle.mls_lattice.proofs.EachLemmas.{all, all_take, all_append, each_flat}
 use Rattle.mls_audit.specs.declared.entry.Entry.{Entry}
 use Rattle.mls_audit.specs.Entry.{label_of}
 use Rattle.mls_translang.specs.declared.event.Event.{Event}
 use Rattle.mls_translang.specs.declared.event.Command.{Command}
 use Rattle.mls_translang.specs.declared.event.Command.TheVariants as commands
+use Rattle.mls_translang.specs.declared.event.One.{One}
+use Rattle.mls_translang.specs.declared.event.One.TheVariants as ones
+use Rattle.mls_translang.specs.Event.{OneFits, CommandFits, EventFits}
+use Rattle.mls_machine.specs.declared.reply.Answer.{Answer}
 use Rattle.mls_machine.specs.declared.reply.Denial.{Denial}
 use Rattle.mls_machine.specs.declared.reply.Denial.TheVariants.{AlreadyOpen, UnknownTransaction, NotCertified}
 use Rattle.mls_certcheck.specs.declared.stored.Stored.{Stored}
 use Rattle.mls_certcheck.specs.declared.stored.Stored.TheVariants.{Certified, Plain}
 use Rattle.mls_certcheck.specs.Site.{Site, site_labels, site_scheme, AreRead}
 use Rattle.mls_machine.specs.Denying.{first_denial, exceed, clearance_of, cleared, user_named, stored_named, fitted, call_denials}
-use Rattle.mls_machine.specs.Machine.{World, Step, unless, denial_entry, release_entry, call_entries, viewed, dumped, wrote, called, call_step, step_inside, open_step, step_outside, step_at, step}
-use Rattle.mls_machine.specs.Output.{EntriesAreKnown, ItemsAreKnown, ReplyIsKnown}
+use Rattle.mls_machine.specs.Machine.{World, Step, BatchEnd, refusal_of, unless_refused, unless, denial_entry, release_entry, call_entries, viewed, dumped, wrote, did_one, did_all, ended, did, called, call_step, step_inside, open_step, step_outside, step_at, step}
+use Rattle.mls_machine.specs.Output.{EntriesAreKnown, ItemsAreKnown, AnswerIsKnown, ReplyIsKnown}
 use Rattle.mls_machine.specs.Observation.{AreStored}
 use Rattle.mls_machine.proofs.DenyingLemmas.{user_below}
 use Rattle.mls_machine.proofs.CalledLemmas.{certified_of, all_read}
+use Rattle.mls_machine.proofs.KeepingLemmas.{one_stored}
 
 -- ---- rows
 
@@ -117,6 +124,27 @@ append_known : (policy : Policy) (es fs : List Entry) → EntriesAreKnown policy
 append_known policy [] fs h k = k
 append_known policy (e ∷ es) fs h k = (h.0, append_known policy es fs h.1 k)
 
+-- ---- views
+
+module _ (site : Site) (distinct : AreDistinct (site_labels site)) where
+  found_known : (db : Database) → AreStored site db → (relation label : ℕ) (query : Query)
+      → AllByRecursion (HasClassesBelow (length site.policy.labels)) (found (site_labels site) query
+      (rows (site_labels site) label (db relation)))
+  found_known db stored relation label query =
+      found_all (HasClassesBelow (length site.policy.labels)) (site_labels site) (rows (site_labels site) label
+      (db relation))
+      (subst (λ n. AllByRecursion (HasClassesBelow n) (rows (site_labels site) label (db relation)))
+      (length-map site.policy.labels (λ l. l.value))
+      (rows_below (site_labels site) (length (site_scheme site relation).others) (db relation)
+      (stored relation) distinct label))
+      query
+
+  answer_known : (level : ℕ) (one : One) (db : Database) → AreStored site db
+      → AnswerIsKnown site.policy (did_one site level one db).answer
+  answer_known level (ones.View relation label query counts) db stored = found_known db stored relation label query
+  answer_known level (ones.Expect expected relation label query) db stored = tt
+  answer_known level (ones.Write relation wr) db stored = tt
+
 -- ---- steps
 
 -- the numbers in a reply and in the audit list are those of the policy
@@ -125,12 +153,12 @@ pub record IsKnown (site : Site) (s : Step) : Type 0 where
   pub audit : EntriesAreKnown site.policy s.world.audit
 
 module _ (site : Site) (distinct : AreDistinct (site_labels site)) (read : AreRead site) (w : World)
-    (stored : AreStored site w.db) (known : EntriesAreKnown site.policy w.audit) (e : Event) (declared : e.level
-    < length site.policy.labels) where
+    (stored : AreStored site w.db) (known : EntriesAreKnown site.policy w.audit) (e : Event)
+    (fits : EventFits site.policy site.schemes e) where
   denied_known : (user : ℕ) (denial : Denial) → EntriesAreKnown site.policy (w.audit ++ denial_entry site e user denial
       ∷ [])
   denied_known user denial = append_known site.policy w.audit (denial_entry site e user denial ∷ []) known (
-    declared,
+    fits.level,
     tt,
   )
 
@@ -139,18 +167,36 @@ module _ (site : Site) (distinct : AreDistinct (site_labels site)) (read : AreRe
   unless_known None user effect h = h
   unless_known (Some denial) user effect h = record { reply = tt; audit = denied_known user denial }
 
-  seen_known : (relation label : ℕ) → AllByRecursion (HasClassesBelow (length site.policy.labels))
-      (rows (site_labels site) label (w.db relation))
-  seen_known relation label =
-      subst (λ n. AllByRecursion (HasClassesBelow n) (rows (site_labels site) label (w.db relation)))
-      (length-map site.policy.labels (λ l. l.value))
-      (rows_below (site_labels site) (length (site_scheme site relation).others) (w.db relation)
-      (stored relation) distinct label)
-
   viewed_known : (relation label : ℕ) (query : Query) → AllByRecursion (HasClassesBelow (length site.policy.labels))
       (found (site_labels site) query (rows (site_labels site) label (w.db relation)))
-  viewed_known relation label query = found_all (HasClassesBelow (length site.policy.labels)) (site_labels site)
-      (rows (site_labels site) label (w.db relation)) (seen_known relation label) query
+  viewed_known relation label query = found_known site distinct w.db stored relation label query
+
+  -- ---- batches
+
+  abbrev EndIsKnown : Result BatchEnd (ℕ × Outcome) → Type 0
+  EndIsKnown (Ok end) = AllByRecursion (AnswerIsKnown site.policy) end.answers
+  EndIsKnown (Err refused) = ⊤
+
+  refused_known : (o : Option Outcome) (number : ℕ) (r : Result BatchEnd (ℕ × Outcome)) → EndIsKnown r
+      → EndIsKnown (unless_refused o number r)
+  refused_known None number r h = h
+  refused_known (Some o) number r h = tt
+
+  all_known : (front : List Answer) (batch : List One) (db : Database)
+      → AllByRecursion (AnswerIsKnown site.policy) front → AllByRecursion (OneFits site.policy site.schemes) batch
+      → AreStored site db → EndIsKnown (did_all site e.level front batch db)
+  unfolding did_all
+  all_known front [] db before each held = before
+  all_known front (one ∷ batch) db before each held =
+      let s = did_one site e.level one db in
+      refused_known (refusal_of s.answer) (length front + 1) (did_all site e.level (front ++ s.answer ∷ []) batch s.db)
+      (all_known (front ++ s.answer ∷ []) batch s.db (all_append (AnswerIsKnown site.policy) front
+      (s.answer ∷ []) before (answer_known site distinct e.level one db held, tt)) each.1
+      (one_stored site distinct e.level fits.level one db each.0 held))
+
+  ended_known : (r : Result BatchEnd (ℕ × Outcome)) → EndIsKnown r → IsKnown site (ended site w r)
+  ended_known (Ok end) h = record { reply = h; audit = known }
+  ended_known (Err refused) h = record { reply = tt; audit = known }
 
   dumped_known : (relation level : ℕ) → AllByRecursion (HasClassesBelow (length site.policy.labels))
       (low_tuples (site_labels site) level (w.db relation))
@@ -177,7 +223,7 @@ module _ (site : Site) (distinct : AreDistinct (site_labels site)) (read : AreRe
       record {
         reply = (labelled.emitted, labelled.released);
         audit = append_known site.policy w.audit (call_entries site e user name released) known (
-          declared,
+          fits.level,
           releases_known user released labelled.released,
         );
       }
@@ -191,21 +237,25 @@ module _ (site : Site) (distinct : AreDistinct (site_labels site)) (read : AreRe
       unless_known (first_denial (call_denials site e.level user k.tx args)) user (called site w e user name k.tx args)
       (called_known user name k.tx args r)
 
-  inside_known : (command : Command) (user : ℕ) → IsKnown site (step_inside site w e command user)
-  inside_known (commands.Open name) user = record { reply = tt; audit = denied_known user AlreadyOpen }
-  inside_known commands.Close user = record { reply = tt; audit = known }
-  inside_known commands.Audit user = record {
+  inside_known : (command : Command) (user : ℕ) → CommandFits site.policy site.schemes command
+      → IsKnown site (step_inside site w e command user)
+  inside_known (commands.Open name) user fit = record { reply = tt; audit = denied_known user AlreadyOpen }
+  inside_known commands.Close user fit = record { reply = tt; audit = known }
+  inside_known commands.Audit user fit = record {
     reply = filter_known (λ x. below (site_labels site)
         (label_of x) e.level) site.policy w.audit known;
     audit = known;
   }
-  inside_known (commands.View relation label query counts) user = unless_known _ user
+  inside_known (commands.View relation label query counts) user fit = unless_known _ user
       (viewed site w relation label query) (record { reply = viewed_known relation label query; audit = known })
-  inside_known (commands.Dump relation) user = unless_known _ user (dumped site w relation e.level)
+  inside_known (commands.Dump relation) user fit = unless_known _ user (dumped site w relation e.level)
       (record { reply = dumped_known relation e.level; audit = known })
-  inside_known (commands.Write relation wr) user = wrote_known _ user relation wr
-  inside_known (commands.Call name args) user = call_known user name args (stored_named site.stored name)
+  inside_known (commands.Write relation wr) user fit = wrote_known _ user relation wr
+  inside_known (commands.Call name args) user fit = call_known user name args (stored_named site.stored name)
       (all_read site read (commands.Call name args))
+  inside_known (commands.All batch) user fit =
+      unless_known _ user (did site w e.level batch) (ended_known (did_all site e.level [] batch w.db)
+      (all_known [] batch w.db tt fit.each stored))
 
   cleared_known : (user : ℕ) (b : Bool) (denial : Denial) → user < length site.policy.users
       → IsKnown site (open_step site w e (cond b (Err denial) (Ok user)))
@@ -223,7 +273,7 @@ module _ (site : Site) (distinct : AreDistinct (site_labels site)) (read : AreRe
   outside_known _ = record { reply = tt; audit = known }
 
   at_known : (session : Option ℕ) → IsKnown site (step_at site w e e.command session)
-  at_known (Some user) = inside_known e.command user
+  at_known (Some user) = inside_known e.command user fits.command
   at_known None = outside_known e.command
 
   pub step_known : IsKnown site (step site w e)

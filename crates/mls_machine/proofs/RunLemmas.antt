@@ -120,7 +120,7 @@ module _ (tells : Test) (site : Site) (distinct : AreDistinct (site_labels site)
   -- ---- an event that c does not see
 
   hush : (w : World) (e : Event) → Sees e false → AreStored site w.db → IsGood e → Silent site c w e (step site w e)
-  hush w e h sw good = hidden_step site distinct c w sw e h good.safe
+  hush w e h sw good = hidden_step site distinct c w sw e h good.fits good.safe
 
   out_hidden : (form : Form) (w : World) (e : Event) (es : List Event) → Sees e false → AreStored site w.db → IsGood e
       → out_of form w (e ∷ es) ≡ out_of form (next w e) es
@@ -438,6 +438,7 @@ none_seen site c (e ∷ es) none =
     no_call_shown (commands.Dump relation) h = tt
     no_call_shown (commands.Write relation wr) h = tt
     no_call_shown (commands.Call name args) h = absurd h
+    no_call_shown (commands.All batch) h = tt
 
 -- and none calls what is not secure
 pub none_secure : (site : Site) (es : List Event) → HaveNoCall es → AreCallsSecure site es
@@ -452,3 +453,4 @@ none_secure site (e ∷ es) none = (no_call_secure e.command none.0, none_secure
     no_call_secure (commands.Dump relation) h = tt
     no_call_secure (commands.Write relation wr) h = tt
     no_call_secure (commands.Call name args) h = absurd h
+    no_call_secure (commands.All batch) h = tt

@@ -5,9 +5,11 @@ use Rattle.mls_lattice.specs.Labels.{Labels}
 use Rattle.mls_scheme.specs.declared.tuple.Tuple.{Tuple}
 use Rattle.mls_translang.specs.declared.event.Event.{Event}
 use Rattle.mls_machine.specs.declared.reply.Reply.{Reply}
-use Rattle.mls_machine.specs.declared.reply.Reply.TheVariants.{Rows}
+use Rattle.mls_machine.specs.declared.form.Form.TheVariants.{Table}
+use Rattle.mls_machine.specs.declared.reply.Answer.{Answer}
+use Rattle.mls_machine.specs.declared.reply.Reply.TheVariants.{Rows, Did}
 use Rattle.mls_certcheck.specs.Site.{Site, site_labels}
-use Rattle.mls_machine.specs.Output.{Line, front, line, lines_with, table_texts, texts_in_table, reply_lines, printed}
+use Rattle.mls_machine.specs.Output.{Line, front, line, lines_with, table_texts, batch_texts, texts_in_table, reply_lines, printed}
 use Rattle.mls_machine.specs.Observation.{heard}
 use Rattle.mls_machine.proofs.ScreenLemmas.{shown-escaped}
 use Rattle.mls_machine.specs.Seen.{hears}
@@ -43,11 +45,19 @@ module _ (site : Site) (e : Event) (reader : Option ℕ) where
       ap (λ l. printed (heard ls reader l)) (sym (append-nil (on_level (table_texts site e.command tuples))))
       ∙ ap (λ x. printed (heard ls reader (lines_with site e (texts_in_table site e.session e.command x) x))) (sym is)
 
+  pub batch_heard : (r : Reply) (given : List Answer) → r ≡ Did given
+      → printed (heard ls reader (on_level (batch_texts Table site e.command given)))
+      ≡ printed (heard ls reader (lines_with site e (texts_in_table site e.session e.command r) r))
+  batch_heard r given is =
+      ap (λ l. printed (heard ls reader l)) (sym (append-nil (on_level (batch_texts Table site e.command given))))
+      ∙ ap (λ x. printed (heard ls reader (lines_with site e (texts_in_table site e.session e.command x) x))) (sym is)
+
   -- another reply is shown as it is
   pub others_heard : (r : Reply) → ((tuples : List Tuple) → r ≡ Rows tuples → ⊥)
-      → printed (heard ls reader (reply_lines site e r))
+      → ((given : List Answer) → r ≡ Did given → ⊥) → printed (heard ls reader (reply_lines site e r))
       ≡ printed (heard ls reader (lines_with site e (texts_in_table site e.session e.command r) r))
-  others_heard (Rows tuples) other = absurd (other tuples refl)
-  others_heard r other = refl
+  others_heard (Rows tuples) other more = absurd (other tuples refl)
+  others_heard (Did given) other more = absurd (more given refl)
+  others_heard r other more = refl
 
 pub ruleset screen_steps = (shown-escaped)

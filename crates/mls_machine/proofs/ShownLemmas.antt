@@ -5,7 +5,7 @@ use Rattle.mls_certcheck.specs.declared.run.Run.{Run}
 use Rattle.mls_certcheck.specs.Meaning.{Item}
 use Rattle.mls_translang.specs.declared.event.Event.{Event}
 use Rattle.mls_machine.specs.declared.reply.Reply.{Reply}
-use Rattle.mls_machine.specs.declared.reply.Reply.TheVariants.{Opened, Closed, Rows, Dumped, Wrote, Ran, Entries, Denied}
+use Rattle.mls_machine.specs.declared.reply.Reply.TheVariants.{Opened, Closed, Rows, Dumped, Wrote, Ran, Entries, Did, Undone, Denied}
 use Rattle.mls_certcheck.specs.Site.{Site, site_labels}
 use Rattle.mls_machine.specs.Output.{Line, line, item_line, call_texts, reply_texts, reply_lines, printed}
 use Rattle.mls_machine.specs.Observation.{out}
@@ -47,6 +47,8 @@ module _ (site : Site) (e : Event) (c : ℕ) where
   plain_lines b h (Wrote o) other = all_or_none b h (reply_texts site e.session e.command (Wrote o))
   plain_lines b h (Ran run) other = absurd (other run refl)
   plain_lines b h (Entries es) other = all_or_none b h (reply_texts site e.session e.command (Entries es))
+  plain_lines b h (Did given) other = all_or_none b h (reply_texts site e.session e.command (Did given))
+  plain_lines b h (Undone number o) other = all_or_none b h (reply_texts site e.session e.command (Undone number o))
   plain_lines b h (Denied d) other = all_or_none b h (reply_texts site e.session e.command (Denied d))
 
   pub plain_seen : (b : Bool) → below ls e.level c ≡ b → (r : Reply) → ((run : Run) → r ≡ Ran run → ⊥)

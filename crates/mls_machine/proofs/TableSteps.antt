@@ -97,16 +97,17 @@ module _ (p : Policy) (e : Event) where
       ++ l))) (sym (flat_map-map on_line (table_row p widths) tuples))
 
 module _ (site : Site) (e : Event) (relation label : ℕ) (query : Query) (counts : Bool) (tuples : List Tuple)
-    (is : e.command ≡ commands.View relation label query counts)
     (s : Scheme) (same : s ≡ site_scheme site relation) (old new : List ℕ) where
   -- of the scheme of the relation
   pub table_more : (form : Form) → form ≡ Table → counts ≡ false → {A F : Type 0} (r : Result A F)
       → OnOk r (new ≡ old ++ lines_of site.policy e (table_title site.policy s label query) s tuples)
-      → OnOk r (new ≡ old ++ flat_map (on_line site.policy e) (rows_texts form site e.command tuples))
+      → OnOk r (new ≡ old ++ flat_map (on_line site.policy e)
+      (rows_texts form site (commands.View relation label query counts) tuples))
   table_more form in_table not_counted (Ok x) h =
       h ∙ ap (λ l. old ++ l) (same_lines site.policy e s label query tuples
       ∙ ap (λ x. flat_map (on_line site.policy e) (table_of site.policy x label query
       (table_widths site.policy x tuples) tuples)) same
-      ∙ answered site e relation label query counts tuples is s same old new Table false not_counted
-      ∙ ap (λ f. flat_map (on_line site.policy e) (rows_texts f site e.command tuples)) (sym in_table))
+      ∙ answered site e relation label query counts tuples s same old new Table false not_counted
+      ∙ ap (λ f. flat_map (on_line site.policy e)
+      (rows_texts f site (commands.View relation label query counts) tuples)) (sym in_table))
   table_more form in_table not_counted (Err f) h = h

@@ -147,6 +147,7 @@ module _ (tells : Test) (site : Site) (c : ℕ) where
   tells_shown (commands.Dump relation) = refl
   tells_shown (commands.Write relation wr) = refl
   tells_shown (commands.Call name args) = refl
+  tells_shown (commands.All batch) = refl
 
   pub tells_same : (e x : Event) → glimpse site c e ≡ glimpse site c x
       → is_called site (tells site c) x.command ≡ is_called site (tells site c) e.command

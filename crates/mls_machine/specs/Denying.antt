@@ -1,8 +1,8 @@
 -- Why commands are denied (after Bell and LaPadula 1976): conditions and their denials, in the order of their numbers.
 -- Which of them a command can have is said by its own step.
-use Rattle.std.specs.Prelude.{ℕ, ◌==◌, Bool, true, not, ◌&&◌, ◌||◌, bit_and, nat_eq, slice_index_or, List, [], ◌∷◌}
+use Rattle.std.specs.Prelude.{◌≡◌, ℕ, ◌==◌, Bool, true, not, ◌&&◌, ◌||◌, bit_and, nat_eq, slice_index_or, List, [], ◌∷◌}
 use Rattle.std.specs.Prelude.{length, map, zip, Option, Some, None, Result, Ok, Err, if◌then◌else◌, position, find}
-use Rattle.std.specs.Prelude.{bytes_eq}
+use Rattle.std.specs.Prelude.{bytes_eq, flat_map, ⊤}
 use Rattle.std.specs.List.{list_any}
 use Rattle.mls_lattice.specs.declared.tables.User.{User}
 use Rattle.mls_lattice.specs.Labels.{Labels, below}
@@ -10,6 +10,8 @@ use Rattle.mls_lattice.specs.Policy.{Name, Policy, granted_modes}
 use Rattle.mls_scheme.specs.declared.value.Value.{Value}
 use Rattle.mls_scheme.specs.Value.{fits_kind}
 use Rattle.mls_updates.specs.Writes.{Write, Insert, Update, Delete}
+use Rattle.mls_translang.specs.declared.event.One.{One}
+use Rattle.mls_translang.specs.declared.event.One.TheVariants as ones
 use Rattle.mls_translang.specs.declared.tx.Parameter.{Parameter}
 use Rattle.mls_translang.specs.Tx.{Tx}
 use Rattle.mls_machine.specs.declared.reply.Denial.{Denial}
@@ -120,6 +122,22 @@ view_denials site level user relation label = access_denials site level user rel
 
 abbrev pub write_denials : Site → ℕ → ℕ → ℕ → Write → List (Bool × Denial)
 write_denials site level user relation wr = access_denials site level user relation (modes_for wr) (labels_named wr)
+
+-- of a command of a batch, as of the command alone: what is expected is looked at
+abbrev pub one_denials : Site → ℕ → ℕ → One → List (Bool × Denial)
+one_denials site level user (ones.View relation label query counts) = view_denials site level user relation label
+one_denials site level user (ones.Expect rows relation label query) = view_denials site level user relation label
+one_denials site level user (ones.Write relation wr) = write_denials site level user relation wr
+
+-- what a command of a batch looks at lies below a label
+abbrev pub LooksBelow : Labels → ℕ → One → Type 0
+LooksBelow ls level (ones.View relation label query counts) = below ls label level ≡ true
+LooksBelow ls level (ones.Expect rows relation label query) = below ls label level ≡ true
+LooksBelow ls level (ones.Write relation wr) = ⊤
+
+-- of a batch: those of its commands, in their order
+abbrev pub batch_denials : Site → ℕ → ℕ → List One → List (Bool × Denial)
+batch_denials site level user = flat_map (one_denials site level user)
 
 -- of a transaction with a certificate
 abbrev pub call_denials : Site → ℕ → ℕ → Tx → List (Option Value) → List (Bool × Denial)

@@ -17,7 +17,7 @@ use Rattle.mls_translang.specs.declared.event.Command.TheVariants.{Call}
 use Rattle.mls_machine.specs.declared.form.Form.TheVariants.{Table}
 use Rattle.mls_machine.specs.declared.reply.Reply.{Reply}
 use Rattle.mls_machine.specs.declared.reply.Reply.TheVariants.{Opened, Closed, Rows, Dumped, Wrote, Ran, Entries}
-use Rattle.mls_machine.specs.declared.reply.Reply.TheVariants.{Denied}
+use Rattle.mls_machine.specs.declared.reply.Reply.TheVariants.{Did, Undone, Denied}
 use Rattle.mls_certcheck.specs.declared.stored.Stored.{Stored}
 use Rattle.mls_certcheck.specs.Stored.{tx_of}
 use Rattle.mls_certcheck.specs.Site.{Site, site_labels, AreRead, AreCertified}
@@ -28,7 +28,8 @@ use Rattle.mls_machine.specs.Observation.{PassesDownBy, PassesOnlyReleasesDown, 
 use Rattle.mls_machine.specs.Observation.{ReleaseTheSame, run_shows}
 use Rattle.mls_machine.specs.Telling.{Test, by_ceiling, by_releases, can_tell}
 
--- a denial, the rows of a view, the tuples of a dump, the entries of an audit, or a write that is refused
+-- a denial, the rows of a view, the tuples of a dump, the entries of an audit, a write that is refused, or a batch of
+-- which a command is
 abbrev pub ChangesNothing : Reply → Type 0
 ChangesNothing (Opened user) = ⊥
 ChangesNothing Closed = ⊥
@@ -37,6 +38,8 @@ ChangesNothing (Ran run) = ⊥
 ChangesNothing (Rows found) = ⊤
 ChangesNothing (Dumped ts) = ⊤
 ChangesNothing (Entries es) = ⊤
+ChangesNothing (Did given) = ⊥
+ChangesNothing (Undone number o) = ⊤
 ChangesNothing (Denied d) = ⊤
 
 -- after such a reply the database and the sessions are as they were

@@ -1,7 +1,7 @@
 -- The machine of sessions (after Bell and LaPadula 1976): what each event does to the database, the sessions and the
 -- audit list, and what it is answered.
-use Rattle.std.specs.Prelude.{ℕ, ◌&&◌, if◌then◌else◌, nat_eq, List, [], ◌∷◌, ◌++◌, map, Option, Some, None, Result, Ok}
-use Rattle.std.specs.Prelude.{Err, bytes_eq}
+use Rattle.std.specs.Prelude.{ℕ, ◌+◌, ◌&&◌, if◌then◌else◌, nat_eq, List, [], ◌∷◌, ◌++◌, map, length, Option, Some, None}
+use Rattle.std.specs.Prelude.{Result, Ok, Err, bytes_eq}
 use Rattle.mls_lattice.specs.Policy.{Name}
 use Rattle.mls_lattice.specs.Canon.{user_name}
 use Rattle.mls_scheme.specs.declared.value.Value.{Value}
@@ -10,6 +10,9 @@ use Rattle.mls_filterview.specs.View.{rows}
 use Rattle.mls_filterview.specs.Reach.{low_tuples}
 use Rattle.mls_filterview.specs.Content.{with_table}
 use Rattle.mls_updates.specs.Writes.{Write, write}
+use Rattle.mls_updates.specs.declared.outcome.Outcome.{Outcome}
+use Rattle.mls_updates.specs.declared.outcome.Outcome.TheVariants.{Done, Unexpected}
+use Rattle.mls_updates.specs.Outcome.{is_done}
 use Rattle.mls_audit.specs.declared.entry.Entry.{Entry}
 use Rattle.mls_audit.specs.declared.entry.Entry.TheVariants as entries
 use Rattle.mls_audit.specs.Entry.{visible}
@@ -20,18 +23,22 @@ use Rattle.mls_queries.specs.Query.{found}
 use Rattle.mls_translang.specs.declared.event.Event.{Event}
 use Rattle.mls_translang.specs.declared.event.Command.{Command}
 use Rattle.mls_translang.specs.declared.event.Command.TheVariants as commands
+use Rattle.mls_translang.specs.declared.event.One.{One}
+use Rattle.mls_translang.specs.declared.event.One.TheVariants as ones
 use Rattle.mls_machine.specs.declared.reply.Denial.{Denial}
 use Rattle.mls_machine.specs.declared.reply.Denial.TheVariants.{NoSession, AlreadyOpen, UnknownTransaction}
 use Rattle.mls_machine.specs.declared.reply.Denial.TheVariants.{NotCertified}
+use Rattle.mls_machine.specs.declared.reply.Answer.{Answer}
+use Rattle.mls_machine.specs.declared.reply.Answer.TheVariants as answers
 use Rattle.mls_machine.specs.declared.reply.Reply.{Reply}
 use Rattle.mls_machine.specs.declared.reply.Reply.TheVariants.{Opened, Closed, Rows, Dumped, Wrote, Ran, Entries}
-use Rattle.mls_machine.specs.declared.reply.Reply.TheVariants.{Denied}
+use Rattle.mls_machine.specs.declared.reply.Reply.TheVariants.{Did, Undone, Denied}
 use Rattle.mls_certcheck.specs.declared.stored.Stored.{Stored}
 use Rattle.mls_certcheck.specs.declared.stored.Stored.TheVariants.{Certified, Plain}
 use Rattle.mls_certcheck.specs.Site.{Site, site_labels, site_scheme}
 use Rattle.mls_machine.specs.Reply.{code_of}
 use Rattle.mls_machine.specs.Denying.{first_denial, user_named, stored_named, fitted, cleared, view_denials}
-use Rattle.mls_machine.specs.Denying.{write_denials, call_denials}
+use Rattle.mls_machine.specs.Denying.{write_denials, batch_denials, call_denials}
 
 -- the user of each open session, by its level and name; an event changes one place at most, so nothing asks
 -- that they are finitely many
@@ -67,6 +74,27 @@ opened w event user = record { world = in_session w event (Some user); reply = O
 
 abbrev pub closed : World → Event → Step
 closed w event = record { world = in_session w event None; reply = Closed }
+
+-- ---- the commands of a batch
+
+-- what one of them leaves of a database, and what it is answered
+pub record OneStep : Type 0 where
+  pub db : Database
+  pub answer : Answer
+
+-- what all of them leave, and what they are answered, in order
+pub record BatchEnd : Type 0 where
+  pub db : Database
+  pub answers : List Answer
+
+-- why one with this answer is refused, if it is
+abbrev pub refusal_of : Answer → Option Outcome
+refusal_of (answers.Rows tuples) = None
+refusal_of (answers.Became o) = if is_done o then None else Some o
+
+abbrev pub unless_refused : Option Outcome → ℕ → Result BatchEnd (ℕ × Outcome) → Result BatchEnd (ℕ × Outcome)
+unless_refused None number more = more
+unless_refused (Some o) number more = Err (number, o)
 
 module _ (site : Site) where
   -- ---- denials in an open session
@@ -110,6 +138,37 @@ module _ (site : Site) where
   abbrev pub listed : World → ℕ → Step
   listed w level = record { world = w; reply = Entries (visible (site_labels site) level w.audit) }
 
+  -- ---- batches
+
+  -- what a command of a batch answers at a level over a database, and what it leaves of it
+  abbrev pub did_one : ℕ → One → Database → OneStep
+  did_one level (ones.View relation label query counts) db =
+      let read = rows (site_labels site) label (db relation) in
+      record { db = db; answer = answers.Rows (found (site_labels site) query read) }
+  did_one level (ones.Expect expected relation label query) db =
+      let there = length (found (site_labels site) query (rows (site_labels site) label (db relation))) in
+      record { db = db; answer = answers.Became (if nat_eq there expected then Done else Unexpected) }
+  did_one level (ones.Write relation wr) db =
+      let new = write (site_labels site) (site_scheme site relation) level wr (db relation) in
+      record { db = with_table db relation new.table; answer = answers.Became new.outcome }
+
+  -- commands at a level, in order, behind those that gave these answers, each over what those before it left: what is
+  -- left and answered in the end, or the number and the outcome of the first that is refused
+  unfoldable pub did_all : ℕ → List Answer → List One → Database → Result BatchEnd (ℕ × Outcome)
+  did_all level front [] db = Ok (record { db = db; answers = front })
+  did_all level front (one ∷ batch) db =
+      let step = did_one level one db in
+      unless_refused (refusal_of step.answer) (length front + 1)
+      (did_all level (front ++ step.answer ∷ []) batch step.db)
+
+  -- all of them, or none
+  abbrev pub ended : World → Result BatchEnd (ℕ × Outcome) → Step
+  ended w (Ok end) = record { world = record w { db = end.db }; reply = Did end.answers }
+  ended w (Err refused) = record { world = w; reply = Undone refused.0 refused.1 }
+
+  abbrev pub did : World → ℕ → List One → Step
+  did w level batch = ended w (did_all level [] batch w.db)
+
   -- ---- calls
 
   -- what is released is entered at the label that may see it
@@ -149,6 +208,11 @@ module _ (site : Site) where
       unless (first_denial (write_denials site event.level user relation wr)) w event user
       (wrote w event.level relation wr)
 
+  -- each of its denials is judged before the first command
+  abbrev pub batch_step : World → Event → ℕ → List One → Step
+  batch_step w event user batch =
+      unless (first_denial (batch_denials site event.level user batch)) w event user (did w event.level batch)
+
   -- a call of what is stored by the name, if anything is
   abbrev pub call_step : World → Event → ℕ → Name → List (Option Value) → Option Stored → Step
   call_step w event user name args None = denied w event user UnknownTransaction
@@ -166,6 +230,7 @@ module _ (site : Site) where
   step_inside w event (commands.Dump relation) user = dump_step w event user relation
   step_inside w event (commands.Write relation wr) user = write_step w event user relation wr
   step_inside w event (commands.Call name args) user = call_step w event user name args (stored_named site.stored name)
+  step_inside w event (commands.All batch) user = batch_step w event user batch
 
   -- an opening, for the user that is cleared for the level
   abbrev pub open_step : World → Event → Result ℕ Denial → Step

@@ -1,6 +1,6 @@
 -- The printed output: the lines of the replies, in order, with a line feed after each.
 use Rattle.std.specs.Prelude.{◌≡◌, ℕ, Bool, true, if◌then◌else◌, is_some, List, [], ◌∷◌, ◌++◌, map, Option, Some, codes}
-use Rattle.std.specs.Prelude.{length, ◌<◌, ⊤, flat_map, decimal}
+use Rattle.std.specs.Prelude.{length, ◌<◌, ⊤, flat_map, decimal, zip}
 use Rattle.std.specs.List.{AllByRecursion}
 use Rattle.mls_tokens.specs.Writing.{printable}
 use Rattle.mls_tokens.specs.Screen.{escaped}
@@ -23,13 +23,17 @@ use Rattle.mls_translang.specs.declared.query.Query.{Query}
 use Rattle.mls_translang.specs.declared.event.Event.{Event}
 use Rattle.mls_translang.specs.declared.event.Command.{Command}
 use Rattle.mls_translang.specs.declared.event.Command.TheVariants as commands
+use Rattle.mls_translang.specs.declared.event.One.{One}
+use Rattle.mls_translang.specs.declared.event.One.TheVariants as ones
 use Rattle.mls_translang.specs.Writing.{cell_text, line_text, is_writable}
 use Rattle.mls_machine.specs.declared.form.Form.{Form}
 use Rattle.mls_machine.specs.declared.form.Form.TheVariants.{Lines, Table}
 use Rattle.mls_machine.specs.declared.reply.Denial.{Denial}
+use Rattle.mls_machine.specs.declared.reply.Answer.{Answer}
+use Rattle.mls_machine.specs.declared.reply.Answer.TheVariants as answers
 use Rattle.mls_machine.specs.declared.reply.Reply.{Reply}
 use Rattle.mls_machine.specs.declared.reply.Reply.TheVariants.{Opened, Closed, Rows, Dumped, Wrote, Ran, Entries}
-use Rattle.mls_machine.specs.declared.reply.Reply.TheVariants.{Denied}
+use Rattle.mls_machine.specs.declared.reply.Reply.TheVariants.{Did, Undone, Denied}
 use Rattle.mls_certcheck.specs.Site.{Site}
 use Rattle.mls_machine.specs.Dumping.{dump_event}
 use Rattle.mls_machine.specs.Reply.{code_of, word_of}
@@ -178,6 +182,30 @@ outcome_text o =
 abbrev pub denial_text : Denial → List ℕ
 denial_text d = codes "denied " ++ decimal (code_of d) ++ codes " " ++ word_of d
 
+-- a refusal that undid the commands of a batch, by its number
+abbrev pub undone_text : ℕ → Outcome → List ℕ
+undone_text number o = outcome_text o ++ codes " at " ++ decimal number
+
+-- the command that a command of a batch is where it looks
+abbrev pub looks_as : One → Command
+looks_as (ones.View relation label query counts) = commands.View relation label query counts
+looks_as (ones.Expect rows relation label query) = commands.View relation label query true
+looks_as (ones.Write relation wr) = commands.Write relation wr
+
+-- the texts of an answer, as they are to the command alone
+abbrev pub answer_texts : Form → Site → One → Answer → List (List ℕ)
+answer_texts form site one (answers.Rows tuples) = rows_texts form site (looks_as one) tuples
+answer_texts form site one (answers.Became o) = outcome_text o ∷ []
+
+-- those of all answers, in order
+abbrev pub answers_texts : Form → Site → List One → List Answer → List (List ℕ)
+answers_texts form site batch given = flat_map (λ x. answer_texts form site x.0 x.1) (zip batch given)
+
+-- they answer a batch and nothing else
+abbrev pub batch_texts : Form → Site → Command → List Answer → List (List ℕ)
+batch_texts form site (commands.All batch) given = answers_texts form site batch given
+batch_texts form site command given = []
+
 -- the text of a call, which answers nothing else
 abbrev pub call_texts : Command → List (List ℕ)
 call_texts (commands.Call name args) = (codes "called " ++ printable name) ∷ []
@@ -193,11 +221,14 @@ reply_texts site session command (Dumped tuples) = dump_texts site (printable se
 reply_texts site session command (Wrote o) = outcome_text o ∷ []
 reply_texts site session command (Ran run) = call_texts command
 reply_texts site session command (Entries es) = codes "audit" ∷ map (entry_text site.policy) es
+reply_texts site session command (Did given) = batch_texts Lines site command given
+reply_texts site session command (Undone number o) = undone_text number o ∷ []
 reply_texts site session command (Denied d) = denial_text d ∷ []
 
 -- the same with a table for a view
 abbrev pub texts_in_table : Site → Name → Command → Reply → List (List ℕ)
 texts_in_table site session command (Rows tuples) = table_texts site command tuples
+texts_in_table site session command (Did given) = batch_texts Table site command given
 texts_in_table site session command r = reply_texts site session command r
 
 -- ---- lines
@@ -257,10 +288,18 @@ printed = flat_map (λ l. l.text ++ codes "\n")
 
 -- ---- the numbers in a reply are those of the policy and the schemes
 
+abbrev pub IsKnownLook : Site → ℕ → ℕ → Type 0
+IsKnownLook site relation label = (relation < length site.schemes) × (label < length site.policy.labels)
+
+abbrev pub OneIsKnown : Site → One → Type 0
+OneIsKnown site (ones.View relation label query counts) = IsKnownLook site relation label
+OneIsKnown site (ones.Expect rows relation label query) = IsKnownLook site relation label
+OneIsKnown site (ones.Write relation wr) = ⊤
+
 abbrev pub CommandIsKnown : Site → Command → Type 0
-CommandIsKnown site (commands.View relation label query counts) = (relation < length site.schemes)
-    × (label < length site.policy.labels)
+CommandIsKnown site (commands.View relation label query counts) = IsKnownLook site relation label
 CommandIsKnown site (commands.Dump relation) = relation < length site.schemes
+CommandIsKnown site (commands.All batch) = AllByRecursion (OneIsKnown site) batch
 CommandIsKnown site command = ⊤
 
 -- the labels of entries are declared
@@ -271,6 +310,10 @@ EntriesAreKnown p = AllByRecursion (λ e. label_of e < length p.labels)
 abbrev pub ItemsAreKnown : Policy → List Item → Type 0
 ItemsAreKnown p = AllByRecursion (λ i. i.0 < length p.labels)
 
+abbrev pub AnswerIsKnown : Policy → Answer → Type 0
+AnswerIsKnown p (answers.Rows tuples) = AllByRecursion (HasClassesBelow (length p.labels)) tuples
+AnswerIsKnown p (answers.Became o) = ⊤
+
 abbrev pub ReplyIsKnown : Policy → Reply → Type 0
 ReplyIsKnown p (Opened user) = user < length p.users
 ReplyIsKnown p Closed = ⊤
@@ -279,6 +322,8 @@ ReplyIsKnown p (Dumped tuples) = AllByRecursion (HasClassesBelow (length p.label
 ReplyIsKnown p (Wrote o) = ⊤
 ReplyIsKnown p (Ran run) = ItemsAreKnown p run.emitted × ItemsAreKnown p run.released
 ReplyIsKnown p (Entries es) = EntriesAreKnown p es
+ReplyIsKnown p (Did given) = AllByRecursion (AnswerIsKnown p) given
+ReplyIsKnown p (Undone number o) = ⊤
 ReplyIsKnown p (Denied d) = ⊤
 
 pub record CanBePrinted (site : Site) (e : Event) (r : Reply) : Type 0 where

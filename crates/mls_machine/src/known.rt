@@ -1,9 +1,10 @@
 //! Whether what a store gave can be printed.
 ghost use Rattle.std.specs.Prelude.{◌≡◌, IsTrue};
 ghost use Rattle.mls_machine.specs.Output.{ReplyIsKnown};
-ghost use Rattle.mls_machine.specs.Known.{elements_known, tuple_known, tuples_known, HasKnownNumbers};
+ghost use Rattle.mls_machine.specs.Known.{elements_known, tuple_known, tuples_known, answer_known, answers_known};
+ghost use Rattle.mls_machine.specs.Known.{HasKnownNumbers};
 
-use crate::Reply;
+use crate::{Answer, Reply};
 use mls_lattice::Policy;
 use mls_queries::Selection;
 use mls_scheme::{Element, Tuple};
@@ -47,6 +48,26 @@ fn are_tuples_known(count: usize, tuples: &[Tuple]) -> bool
     true
 }
 
+fn is_answer_known(count: usize, answer: &Answer) -> bool
+    ensures { result ≡ answer_known count answer.now }
+{
+    match answer {
+        Answer::Rows(rows) => are_rows_known(count, rows),
+        Answer::Became(_) => true,
+    }
+}
+
+fn are_answers_known(count: usize, answers: &[Answer]) -> bool
+    ensures { result ≡ answers_known count answers.now }
+{
+    for answer in answers {
+        if !is_answer_known(count, answer) {
+            return false;
+        }
+    }
+    true
+}
+
 /// Whether the classes in a reply are declared, as they are over a clean store. Over another one a view
 /// promises nothing of them: where they are not, the engine answers Store.
 #[tactic(auto, using(crate::proofs::KnownLemmas::known_steps))]
@@ -58,6 +79,7 @@ pub fn is_known(policy: &Policy, reply: &Reply) -> bool
     match reply {
         Reply::Rows(rows) => are_rows_known(policy.label_count(), rows),
         Reply::Dumped(tuples) => are_tuples_known(policy.label_count(), tuples),
+        Reply::Did(answers) => are_answers_known(policy.label_count(), answers),
         _ => true,
     }
 }

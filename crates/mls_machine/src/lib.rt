@@ -11,6 +11,7 @@ mod form;
 mod known;
 mod laws;
 mod printing;
+mod printing_batch;
 mod printing_items;
 mod printing_rows;
 mod replies;
@@ -30,7 +31,7 @@ pub use laws::{
     secure_runs_are_alike, tables_are_harmless, untold_runs_release_the_same,
 };
 pub use replies::reply_bytes;
-pub use reply::{Denial, Reply};
+pub use reply::{Answer, Denial, Reply};
 pub use showing::shown_to;
 pub use shown::shown_bytes;
 pub use turning::turn_bytes;

@@ -5,24 +5,26 @@ ghost use Rattle.mls_lattice.specs.Canon.{user_name};
 ghost use Rattle.mls_scheme.specs.Tuple.{HasClassesBelow};
 ghost use Rattle.mls_updates.specs.Outcome.{is_done};
 ghost use Rattle.mls_machine.specs.Under.{site_under};
-ghost use Rattle.mls_machine.specs.Output.{on_line, heading, count_text, outcome_text, denial_text, row_text};
-ghost use Rattle.mls_machine.specs.Output.{entry_text, rows_texts, reply_lines, printed, CommandIsKnown};
-ghost use Rattle.mls_machine.specs.Output.{EntriesAreKnown, CanBePrinted};
+ghost use Rattle.mls_translang.specs.declared.event.Command.TheVariants as commands;
+ghost use Rattle.mls_machine.specs.Output.{on_line, heading, count_text, outcome_text, undone_text, denial_text};
+ghost use Rattle.mls_machine.specs.Output.{row_text, entry_text, rows_texts, reply_lines, printed, IsKnownLook};
+ghost use Rattle.mls_machine.specs.Output.{CommandIsKnown, EntriesAreKnown, CanBePrinted};
 
 use crate::answered::Answered;
 use crate::asked::{Asked, push_asked};
 use crate::dumping::dump_bytes;
 use crate::printing::{push_entry, push_front, push_number};
+use crate::printing_batch::batch_bytes;
 use crate::printing_items::ran_bytes;
 use crate::printing_rows::push_row;
 use crate::table::push_table;
 use crate::{Denial, Form, Reply};
 use mls_audit::Entry;
-use mls_lattice::{Policy, UserNo};
+use mls_lattice::{LabelNo, Policy, UserNo};
 use mls_queries::Selection;
-use mls_scheme::{Attributes, Schemes};
+use mls_scheme::{Attributes, RelNo, Schemes};
 use mls_tokens::push_str;
-use mls_translang::{Command, Event};
+use mls_translang::{Command, Event, Query};
 use mls_updates::Outcome;
 use std::alloc::{AllocError, Global};
 
@@ -47,13 +49,24 @@ fn coded_text(alloc: Global, deed: &str, code: u8, word: &str) -> Result<String,
     Ok(text)
 }
 
-fn outcome_text(alloc: Global, outcome: Outcome) -> Result<String, AllocError>
+pub(crate) fn outcome_text(alloc: Global, outcome: Outcome) -> Result<String, AllocError>
     ensures { IfOk result (λ text. string_bytes text ≡ outcome_text outcome) }
 {
     if is_done(outcome) {
         return String::from_str(alloc, "done");
     }
     coded_text(alloc, "refused ", outcome.code(), outcome.word())
+}
+
+/// Why a batch is refused, and the number of the command for which it is.
+fn undone_text(alloc: Global, number: usize, outcome: Outcome) -> Result<String, AllocError>
+    ensures { IfOk result (λ text. string_bytes text ≡ undone_text number outcome) }
+{
+    let mut text = outcome_text(alloc, outcome)?;
+    let digits = format!(in alloc; "{number}")?;
+    text.push_str(" at ")?;
+    text.push_str(&digits)?;
+    Ok(text)
 }
 
 fn denial_text(alloc: Global, denial: Denial) -> Result<String, AllocError>
@@ -143,6 +156,38 @@ fn push_view(
     push_rows(text, to, rows)
 }
 
+/// Appends the lines of the rows that a view found, or of their number alone.
+pub(crate) fn push_found(
+    text: &mut Vec<u8>,
+    to: &Answered,
+    relation: RelNo,
+    label: LabelNo,
+    query: &Query,
+    counts: bool,
+    rows: &Selection,
+    form: Form,
+) -> Result<(), AllocError>
+    requires known { IsKnownLook (site_under to.now.policy.now to.now.schemes.now) relation label }
+    requires classes { AllByRecursion (HasClassesBelow (length to.now.policy.now.labels)) rows.now }
+    ensures { OnOk result (text.new.items ≡ text.old.items ++ flat_map (on_line to.now.policy.now to.now.event.now)
+        (rows_texts form (site_under to.now.policy.now to.now.schemes.now)
+        (commands.View relation label query.now counts) rows.now)) }
+{
+    let what = Asked {
+        policy: to.policy,
+        scheme: to.schemes.scheme(relation),
+        label,
+        query,
+    };
+    if counts {
+        return push_count_line(text, to, &what, rows.len());
+    }
+    match form {
+        Form::Lines => push_view(text, to, &what, rows),
+        Form::Table => push_table(text, to, &what, rows),
+    }
+}
+
 /// Appends the lines of rows, or of their number alone, which answer a view and nothing else.
 fn push_answer(
     text: &mut Vec<u8>,
@@ -161,21 +206,7 @@ fn push_answer(
             label,
             query,
             counts,
-        } => {
-            let what = Asked {
-                policy: to.policy,
-                scheme: to.schemes.scheme(*relation),
-                label: *label,
-                query,
-            };
-            if *counts {
-                return push_count_line(text, to, &what, rows.len());
-            }
-            match form {
-                Form::Lines => push_view(text, to, &what, rows),
-                Form::Table => push_table(text, to, &what, rows),
-            }
-        }
+        } => push_found(text, to, *relation, *label, query, *counts, rows, form),
         _ => Ok(()),
     }
 }
@@ -264,6 +295,10 @@ pub fn reply_bytes(
         Reply::Wrote(outcome) => line_bytes(&to, &outcome_text(alloc, *outcome)?),
         Reply::Ran(run) => ran_bytes(&to, run),
         Reply::Entries(entries) => audit_bytes(&to, entries),
+        Reply::Did(answers) => batch_bytes(&to, answers, Form::Lines),
+        Reply::Undone { number, outcome } => {
+            line_bytes(&to, &undone_text(alloc, *number, *outcome)?)
+        }
         Reply::Denied(denial) => line_bytes(&to, &denial_text(alloc, *denial)?),
     }
 }

@@ -57,6 +57,15 @@ impl Denial {
     }
 }
 
+/// What one of the commands of a batch is answered.
+#[derive(Drop)]
+pub enum Answer {
+    /// What was found of a view, in the order of rows.
+    Rows(Selection),
+    /// What became of a write, or of what was expected.
+    Became(Outcome),
+}
+
 /// What a command is answered.
 #[derive(Drop)]
 pub enum Reply {
@@ -74,5 +83,9 @@ pub enum Reply {
     Ran(Run),
     /// The entries of the audit list that the session's level dominates, in order.
     Entries(Items<Entry>),
+    /// The commands of a batch are done, and answered so, in order.
+    Did(Items<Answer>),
+    /// None of the commands of a batch is done: the one of this number, from 1, is refused.
+    Undone { number: usize, outcome: Outcome },
     Denied(Denial),
 }

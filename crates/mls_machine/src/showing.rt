@@ -5,14 +5,16 @@ ghost use Rattle.mls_lattice.specs.Policy.{labels_of};
 ghost use Rattle.mls_scheme.specs.Tuple.{HasClassesBelow};
 ghost use Rattle.mls_machine.specs.Under.{site_under};
 ghost use Rattle.mls_machine.specs.Seen.{hears};
-ghost use Rattle.mls_machine.specs.Output.{line, lines_with, table_texts, texts_in_table, reply_lines, printed};
-ghost use Rattle.mls_machine.specs.Output.{CommandIsKnown, CanBePrinted};
+ghost use Rattle.mls_machine.specs.Output.{line, lines_with, table_texts, batch_texts, texts_in_table, reply_lines};
+ghost use Rattle.mls_machine.specs.Output.{printed, AnswerIsKnown, CommandIsKnown, CanBePrinted};
+ghost use Rattle.mls_machine.specs.declared.form.Form.TheVariants.{Table};
 ghost use Rattle.mls_machine.specs.Observation.{heard, reply_shows};
 
 use crate::answered::Answered;
+use crate::printing_batch::batch_bytes;
 use crate::replies::{reply_bytes, view_bytes};
 use crate::shown::shown_bytes;
-use crate::{Audience, Form, Reply};
+use crate::{Answer, Audience, Form, Reply};
 use mls_lattice::{LabelNo, Policy};
 use mls_queries::Selection;
 use mls_scheme::Schemes;
@@ -73,6 +75,27 @@ fn heard_table(
     }
 }
 
+/// The lines of a batch with tables for its views, if the reader dominates the level of its session.
+fn heard_tables(
+    to: &Answered,
+    answers: &[Answer],
+    reader: Option<LabelNo>,
+) -> Result<Vec<u8>, AllocError>
+    requires command { CommandIsKnown (site_under to.now.policy.now to.now.schemes.now) to.now.event.now.command }
+    requires answers { AllByRecursion (AnswerIsKnown to.now.policy.now) answers.now }
+    requires reader { IfSome reader (λ c. c < length to.now.policy.now.labels) }
+    ensures { IfOk result (λ text. text.items ≡ printed (heard (labels_of to.now.policy.now) reader
+        (map (line to.now.policy.now to.now.event.now to.now.event.now.level)
+        (batch_texts Table (site_under to.now.policy.now to.now.schemes.now)
+        to.now.event.now.command answers.now)))) }
+{
+    if is_shown(to.policy, to.event.level, reader) {
+        batch_bytes(to, answers, Form::Table)
+    } else {
+        Ok(Vec::new(to.alloc))
+    }
+}
+
 /// What a screen is shown, before it is escaped.
 fn bare_bytes(
     alloc: Global,
@@ -90,16 +113,15 @@ fn bare_bytes(
         (texts_in_table (site_under policy.now schemes.now) event.now.session event.now.command reply.now)
         reply.now))) }
 {
+    let to = Answered {
+        alloc,
+        policy,
+        schemes,
+        event,
+    };
     match reply {
-        Reply::Rows(rows) => {
-            let to = Answered {
-                alloc,
-                policy,
-                schemes,
-                event,
-            };
-            heard_table(&to, rows, reader)
-        }
+        Reply::Rows(rows) => heard_table(&to, rows, reader),
+        Reply::Did(answers) => heard_tables(&to, answers, reader),
         _ => heard_bytes(alloc, policy, schemes, event, reply, reader),
     }
 }

@@ -1,19 +1,11 @@
+use Rattle.std.proofs.Common.{◌≡◌, ◌++◌, OnOk, flat_map, sym, subst}
+use Rattle.mls_machine.specs.Output.{on_line, rows_texts}
 use Rattle.mls_machine.specs.Under.{site_under}
-use Rattle.mls_machine.proofs.PrintingSteps.{rows_more, count_more}
-use Rattle.mls_machine.proofs.TableSteps.{table_more}
 use Rattle.mls_machine.proofs.replies.push_answer.Goals as goal
 
-pub returns-then-counts : goal.returns-then-counts
-returns-then-counts c =
-    count_more (site_under c.args.to.now.policy.now c.args.to.now.schemes.now) c.args.to.now.event.now c.in-View.relation c.in-View.label c.in-View.query c.in-View.counts c.args.rows.now c.in-View.is
-    c.scheme.result.now c.scheme.ensures.row c.args.text.now.items _ c.args.form c.if-counts.true c.len.result c.len.ensures c.push_count_line.result c.push_count_line.ensures
-
-pub returns-in-Lines : goal.returns-in-Lines
-returns-in-Lines c =
-    rows_more (site_under c.args.to.now.policy.now c.args.to.now.schemes.now) c.args.to.now.event.now c.in-View.relation c.in-View.label c.in-View.query c.in-View.counts c.args.rows.now c.in-View.is
-    c.scheme.result.now c.scheme.ensures.row c.args.text.now.items _ c.args.form c.in-Lines.is c.if-counts.false c.push_view.result c.push_view.ensures
-
-pub returns-in-Table : goal.returns-in-Table
-returns-in-Table c =
-    table_more (site_under c.args.to.now.policy.now c.args.to.now.schemes.now) c.args.to.now.event.now c.in-View.relation c.in-View.label c.in-View.query c.in-View.counts c.args.rows.now c.in-View.is
-    c.scheme.result.now c.scheme.ensures.row c.args.text.now.items _ c.args.form c.in-Table.is c.if-counts.false c.push_table.result c.push_table.ensures
+pub returns-in-View : goal.returns-in-View
+returns-in-View c =
+    let policy = c.args.to.now.policy.now in
+    subst (λ command. OnOk c.push_found.result (c.push_found.new.text.items ≡ c.args.text.now.items
+    ++ flat_map (on_line policy c.args.to.now.event.now) (rows_texts c.args.form
+    (site_under policy c.args.to.now.schemes.now) command c.args.rows.now))) (sym c.in-View.is) c.push_found.ensures

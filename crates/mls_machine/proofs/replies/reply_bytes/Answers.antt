@@ -1,8 +1,8 @@
 use Rattle.std.proofs.Common.{◌∙◌, ap, sym}
 use Rattle.std.proofs.lemmas.Result.{IfOk-weaker}
-use Rattle.mls_machine.specs.declared.reply.Reply.TheVariants.{Dumped, Entries}
+use Rattle.mls_machine.specs.declared.reply.Reply.TheVariants.{Dumped, Entries, Did}
 use Rattle.mls_machine.specs.Under.{site_under}
-use Rattle.mls_machine.proofs.PrintingSteps.{rows_printed, dump_printed, entries_printed, ran_printed}
+use Rattle.mls_machine.proofs.PrintingSteps.{rows_printed, dump_printed, entries_printed, ran_printed, batch_printed}
 use Rattle.mls_machine.proofs.replies.reply_bytes.Goals as goal
 
 pub returns-in-Rows : goal.returns-in-Rows
@@ -24,3 +24,8 @@ pub returns-in-Dumped : goal.returns-in-Dumped
 returns-in-Dumped c =
     IfOk-weaker c.dump_bytes.result _ _
     (λ v h. h ∙ dump_printed (site_under c.args.policy.now c.args.schemes.now) c.args.event.now c.requires.session c.args.reply.now c.deref.result.now (c.in-Dumped.is ∙ ap Dumped (sym c.deref.ensures))) c.dump_bytes.ensures
+
+pub returns-in-Did : goal.returns-in-Did
+returns-in-Did c =
+    IfOk-weaker c.batch_bytes.result _ _
+    (λ v h. h ∙ batch_printed (site_under c.args.policy.now c.args.schemes.now) c.args.event.now c.args.reply.now c.deref-in-Did.result.now (c.in-Did.is ∙ ap Did (sym c.deref-in-Did.ensures))) c.batch_bytes.ensures

@@ -12,15 +12,16 @@ use Rattle.mls_translang.specs.declared.event.Event.{Event}
 use Rattle.mls_translang.specs.declared.event.Command.{Command}
 use Rattle.mls_translang.specs.declared.event.Command.TheVariants as commands
 use Rattle.mls_translang.specs.Event.{EventFits}
+use Rattle.mls_updates.specs.declared.outcome.Outcome.{Outcome}
 use Rattle.mls_certcheck.specs.declared.stored.Stored.{Stored}
 use Rattle.mls_certcheck.specs.declared.stored.Stored.TheVariants.{Certified, Plain}
 use Rattle.mls_certcheck.specs.Site.{Site, site_labels, AreRead}
 use Rattle.mls_machine.specs.declared.reply.Denial.{Denial}
 use Rattle.mls_machine.specs.declared.reply.Reply.{Reply}
 use Rattle.mls_certcheck.specs.declared.run.Run.{Run}
-use Rattle.mls_machine.specs.declared.reply.Reply.TheVariants.{Opened, Closed, Rows, Dumped, Wrote, Ran, Entries, Denied}
-use Rattle.mls_machine.specs.Denying.{first_denial, cleared, user_named, stored_named, view_denials, write_denials, call_denials}
-use Rattle.mls_machine.specs.Machine.{World, Step, unless, call_step, step_inside, open_step, step_outside, step_at, step}
+use Rattle.mls_machine.specs.declared.reply.Reply.TheVariants.{Opened, Closed, Rows, Dumped, Wrote, Did, Undone, Ran, Entries, Denied}
+use Rattle.mls_machine.specs.Denying.{first_denial, cleared, user_named, stored_named, view_denials, write_denials, batch_denials, call_denials}
+use Rattle.mls_machine.specs.Machine.{World, Step, BatchEnd, unless, did_all, ended, call_step, step_inside, open_step, step_outside, step_at, step}
 use Rattle.mls_machine.specs.Observation.{AreStored, EventsFit, AreSecure, shown, glimpse, seen, released_in, reply_shown}
 use Rattle.mls_machine.specs.Telling.{by_ceiling}
 use Rattle.mls_machine.proofs.CalledLemmas.{all_read, all_safe, all_judged}
@@ -30,6 +31,12 @@ use Rattle.mls_machine.proofs.KeepingLemmas.{step_stored}
 use Rattle.mls_machine.proofs.HiddenLemmas.{hidden_step}
 use Rattle.mls_machine.proofs.CallLemmas.{seen_steps}
 use Rattle.mls_lives.specs.Lives.{ran, all_ran}
+
+-- a batch leaves the sessions
+ended_sessions : (site : Site) (w : World) (r : Result BatchEnd (ℕ × Outcome)) → (ended site w r).world.sessions
+    ≡ w.sessions
+ended_sessions site w (Ok end) = refl
+ended_sessions site w (Err refused) = refl
 
 module _ (site : Site) (c : ℕ) where
   -- ---- steps in one session over other content
@@ -73,6 +80,13 @@ module _ (site : Site) (c : ℕ) where
         same_unless _ (first_denial (write_denials site e.level user relation wr)) user _ _ (record {
           ran_same = refl;
           sessions = refl;
+        })
+    same_inside (commands.All batch) user =
+        same_unless _ (first_denial (batch_denials site e.level user batch)) user _ _
+        (record {
+          ran_same = refl;
+          sessions = ended_sessions site w (did_all site e.level [] batch w.db)
+              ∙ sym (ended_sessions site u (did_all site e.level [] batch db));
         })
     same_inside (commands.Call name args) user = same_call name args user (stored_named site.stored name)
 
@@ -121,6 +135,9 @@ module _ (site : Site) (c : ℕ) where
         quiet_unless (first_denial (view_denials site e.level user relation e.level)) user _ (inl refl)
     quiet_inside (commands.Write relation wr) user =
         quiet_unless (first_denial (write_denials site e.level user relation wr)) user _ (inl refl)
+    quiet_inside (commands.All batch) user =
+        quiet_unless (first_denial (batch_denials site e.level user batch)) user _
+        (inl (ended_sessions site w (did_all site e.level [] batch w.db)))
     quiet_inside (commands.Call name args) user = quiet_call name args user (stored_named site.stored name)
 
     quiet_open : (r : Result ℕ Denial) → Quiet (open_step site w e r)
@@ -149,6 +166,8 @@ module _ (site : Site) (c : ℕ) where
   ran_shown (commands.Call name args) (Rows tuples) = refl
   ran_shown (commands.Call name args) (Dumped tuples) = refl
   ran_shown (commands.Call name args) (Wrote o) = refl
+  ran_shown (commands.Call name args) (Did answers) = refl
+  ran_shown (commands.Call name args) (Undone number o) = refl
   ran_shown (commands.Call name args) (Entries es) = refl
   ran_shown (commands.Call name args) (Denied d) = refl
   ran_shown a r = refl
@@ -248,8 +267,10 @@ module _ (site : Site) (c : ℕ) where
         (next w e) es) h
 
     -- sessions after an event that c does not see
-    still : (w : World) (e : Event) → AreStored site w.db → Sees e false → SameSessions w (next w e)
-    still w e sw h = (hidden_step site distinct c w sw e h (all_safe site read secure e.command)).world.sessions
+    still : (w : World) (e : Event) → AreStored site w.db → EventFits site.policy site.schemes e → Sees e false
+        → SameSessions w (next w e)
+    still w e sw fits h = (hidden_step site distinct c w sw e h fits
+        (all_safe site read secure e.command)).world.sessions
 
     cons_head : (x y : Event) (xs ys : List Event) → x ∷ xs ≡ y ∷ ys → x ≡ y
     cons_head x y xs ys e = cc
@@ -297,7 +318,7 @@ module _ (site : Site) (c : ℕ) where
               ran_next v e es true b ∙ (λ i. two.ran_same i ++ rest i) ∙ sym (ran_next w x fs true q)
           | inr q ↦
               meet e es claim v fe b sv fs (next w x) gf.1 (stored_next w x sw gf.0) (λ l n p. h l n p
-              ∙ still w x sw q l n p) (same ∙ sees_next site c x fs false q)
+              ∙ still w x sw gf.0 q l n p) (same ∙ sees_next site c x fs false q)
               ∙ sym (ran_next w x fs false q)
         ]
 
@@ -308,7 +329,8 @@ module _ (site : Site) (c : ℕ) where
         elim (cases_Bool (below (site_labels site) e.level c)) [
           | inl b ↦ meet e es (interleaved es) v fe b sv fs w gf sw h (sym (sees_next site c e es true b) ∙ same)
           | inr b ↦ ran_next v e es false b
-              ∙ interleaved es fs (next v e) w fe.1 gf (stored_next v e sv fe.0) sw (λ l n p. sym (still v e sv b l n p)
+              ∙ interleaved es fs (next v e) w fe.1 gf (stored_next v e sv fe.0) sw
+              (λ l n p. sym (still v e sv fe.0 b l n p)
               ∙ h l n p) (sym (sees_next site c e es false b) ∙ same)
         ]
 

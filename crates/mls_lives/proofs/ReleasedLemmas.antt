@@ -10,6 +10,7 @@ use Rattle.mls_lattice.specs.Policy.{Name}
 use Rattle.mls_scheme.specs.declared.value.Value.{Value}
 use Rattle.mls_scheme.specs.Scheme.{Schemes}
 use Rattle.mls_scheme.specs.Table.{Database}
+use Rattle.mls_updates.specs.declared.outcome.Outcome.{Outcome}
 use Rattle.mls_certcheck.specs.Meaning.{Item, run_tx}
 use Rattle.mls_certcheck.specs.Secure.{seen_items}
 use Rattle.mls_translang.specs.Tx.{Tx}
@@ -21,8 +22,8 @@ use Rattle.mls_certcheck.specs.declared.stored.Stored.TheVariants.{Certified, Pl
 use Rattle.mls_certcheck.specs.Stored.{tx_of}
 use Rattle.mls_certcheck.specs.Site.{Site, site_labels, AreRead}
 use Rattle.mls_machine.specs.declared.reply.Denial.{Denial}
-use Rattle.mls_machine.specs.Denying.{first_denial, cleared, user_named, stored_named, fitted, view_denials, write_denials, call_denials}
-use Rattle.mls_machine.specs.Machine.{World, Step, unless, called as machine_called, viewed, dumped, wrote, call_step, step_inside, open_step, step_outside, step_at, step}
+use Rattle.mls_machine.specs.Denying.{first_denial, cleared, user_named, stored_named, fitted, view_denials, write_denials, batch_denials, call_denials}
+use Rattle.mls_machine.specs.Machine.{World, Step, BatchEnd, unless, called as machine_called, viewed, dumped, wrote, did_all, ended, did, call_step, step_inside, open_step, step_outside, step_at, step}
 use Rattle.mls_machine.specs.Observation.{AreStored, EventsFit, is_called, released_in, run_told, told_to}
 use Rattle.mls_machine.specs.Telling.{by_releases}
 use Rattle.mls_machine.proofs.CalledLemmas.{all_read}
@@ -176,6 +177,16 @@ module _ (site : Site) (c : ℕ) where
             (wrote site w e.level relation wr))
         by_denial (Some denial) = rest
         by_denial None = rest
+    gives_inside (commands.All batch) user = by_denial (first_denial (batch_denials site e.level user batch))
+      where
+        by_end : (r : Result BatchEnd (ℕ × Outcome)) → Gives (commands.All batch) (ended site w r)
+        by_end (Ok end) = rest
+        by_end (Err refused) = rest
+
+        by_denial : (denial : Option Denial) → Gives (commands.All batch) (unless site denial w e user
+            (did site w e.level batch))
+        by_denial (Some denial) = rest
+        by_denial None = by_end (did_all site e.level [] batch w.db)
     gives_inside (commands.Call name args) user = gives_call name args user (stored_named site.stored name) refl
 
     gives_open : (name : Name) (r : Result ℕ Denial) → Gives (commands.Open name) (open_step site w e r)
@@ -189,6 +200,7 @@ module _ (site : Site) (c : ℕ) where
     gives_outside (commands.View relation label query counts) = rest
     gives_outside (commands.Dump relation) = rest
     gives_outside (commands.Write relation wr) = rest
+    gives_outside (commands.All batch) = rest
     gives_outside (commands.Call name args) =
         gives_nothing (is_called site (by_releases site c) (commands.Call name args))
 

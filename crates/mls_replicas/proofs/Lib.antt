@@ -1,3 +1,5 @@
 pub mod ReplicaLemmas
 pub mod AgainLemmas
 pub mod RecoveryLemmas
+pub mod DoneLemmas
+pub mod BatchLemmas

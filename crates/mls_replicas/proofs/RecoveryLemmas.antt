@@ -63,10 +63,11 @@ module _ (site : Site) (v w : World) (e : Event) where
   done_at (commands.View relation label query counts) is user h = absurd is
   done_at (commands.Dump relation) is user h = absurd is
   done_at (commands.Call name args) is user h = absurd is
+  done_at (commands.All batch) is user h = absurd is
 
 pub recovered : WritesAgainRecover
 unfolding step
-recovered site v w e is same stands =
+recovered site w e is v same stands =
     subst (λ user. (step_at site v e e.command user).world.db
     ≡ (step_at site w e e.command (w.sessions e.level e.session)).world.db) (sym same)
     (done_at site v w e e.command is (w.sessions e.level e.session) stands)

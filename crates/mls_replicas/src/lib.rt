@@ -1,7 +1,8 @@
 //! Replicas: what stores that are fed one log show, and writes that are done again.
 #![tactic(auto)]
 
-ghost use Rattle.mls_replicas.specs.Again.{WritesAgainChangeNothing, WritesAgainRecover};
+ghost use Rattle.mls_replicas.specs.Again.{WritesAgainChangeNothing, WritesAgainRecover, AllAgainChangeNothing};
+ghost use Rattle.mls_replicas.specs.Again.{BatchesAgainRecover};
 ghost use Rattle.mls_replicas.specs.Replicas.{AcceptedReplicasAgree, FeedsAreFed, ReplicasAgree};
 
 /// A store that is fed what another one is told up to a level, and has a life of its own above it, shows that level the
@@ -15,9 +16,15 @@ pub fn replicas_agree()
 {}
 
 /// A write that is done again changes nothing. So after a stop it may be done once more, whether the store has its
-/// change
-/// or not: it then has it, once.
+/// change or not: it then has it, once.
 pub fn writes_again_change_nothing()
     ensures tables { WritesAgainChangeNothing }
     ensures events { WritesAgainRecover }
+{}
+
+/// Writes of a batch that are all done, and all done again, change nothing the second time. So after a stop a batch may
+/// be done once more, as a write may.
+pub fn batches_again_change_nothing()
+    ensures tables { AllAgainChangeNothing }
+    ensures events { BatchesAgainRecover }
 {}

@@ -40,6 +40,7 @@ ceiling_of_write site level commands.Close h = absurd (true≢false (sym h))
 ceiling_of_write site level commands.Audit h = absurd (true≢false (sym h))
 ceiling_of_write site level (commands.View relation label query counts) h = absurd (true≢false (sym h))
 ceiling_of_write site level (commands.Dump relation) h = absurd (true≢false (sym h))
+ceiling_of_write site level (commands.All batch) h = absurd (true≢false (sym h))
 ceiling_of_write site level (commands.Write relation wr) h = refl
 
 module _ {B : Type 0} (seen : B → Seen) (a b : B) (site : Site) where

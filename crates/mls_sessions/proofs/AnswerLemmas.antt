@@ -13,7 +13,7 @@ use Rattle.mls_machine.specs.declared.form.Audience.{Audience}
 use Rattle.mls_updates.specs.declared.outcome.Outcome.{Outcome}
 use Rattle.mls_updates.specs.Outcome.{is_done as is_write_done}
 use Rattle.mls_machine.specs.declared.reply.Reply.{Reply}
-use Rattle.mls_machine.specs.declared.reply.Reply.TheVariants.{Denied, Wrote}
+use Rattle.mls_machine.specs.declared.reply.Reply.TheVariants.{Denied, Wrote, Undone}
 use Rattle.mls_certcheck.specs.Site.{Site, site_labels}
 use Rattle.mls_machine.specs.Machine.{World, step, end_of}
 use Rattle.mls_machine.specs.Output.{run_lines, ReplyIsKnown}
@@ -103,7 +103,7 @@ module _ {B : Type 0} (seen : B → Seen) (old new : Engine B) (event : Event) (
       subst (λ at. ReplyIsKnown (site_of_run at).policy r) (sym kept)
       (subst (ReplyIsKnown (site old).policy) (sym h.reply)
       (step_known (site old) old.site.distinct ready.read (world_of seen old) (stored_at seen old ready c)
-      (entries_known (length (site old).policy.labels) (seen old.base).state.now.audit) event fits.level).reply)
+      (entries_known (length (site old).policy.labels) (seen old.base).state.now.audit) event fits).reply)
 
 -- ---- the cause of the store
 
@@ -139,6 +139,7 @@ is_refused outcome false = refl
 noticed_one : (r : Reply) → is_some (notice_of r) ≡ not (is_done r)
 noticed_one (Wrote outcome) = is_refused outcome (is_write_done outcome)
 noticed_one (Denied denial) = refl
+noticed_one (Undone number outcome) = refl
 noticed_one _ = refl
 
 module _ (site : Site) where

@@ -12,6 +12,7 @@ use Rattle.mls_translang.specs.declared.query.Query.{Query}
 use Rattle.mls_translang.specs.declared.event.Event.{Event}
 use Rattle.mls_translang.specs.declared.event.Command.{Command}
 use Rattle.mls_translang.specs.declared.event.Command.TheVariants as commands
+use Rattle.mls_translang.specs.declared.event.One.{One}
 use Rattle.mls_translang.specs.Event.{EventFits}
 use Rattle.mls_machine.specs.declared.reply.Denial.{Denial}
 use Rattle.mls_machine.specs.declared.reply.Denial.TheVariants.{AlreadyOpen, UnknownTransaction, NotCertified}
@@ -19,11 +20,11 @@ use Rattle.mls_certcheck.specs.declared.stored.Stored.{Stored}
 use Rattle.mls_certcheck.specs.declared.stored.Stored.TheVariants.{Certified, Plain}
 use Rattle.mls_machine.specs.Denying.{stored_named, call_denial}
 use Rattle.mls_machine.specs.declared.reply.Reply.{Reply}
-use Rattle.mls_machine.specs.declared.reply.Reply.TheVariants.{Closed, Rows, Dumped}
+use Rattle.mls_machine.specs.declared.reply.Reply.TheVariants.{Closed, Rows, Dumped, Did}
 use Rattle.mls_machine.specs.Known.{HasKnownNumbers}
 use Rattle.mls_machine.specs.Output.{ReplyIsKnown}
 use Rattle.mls_certcheck.specs.Site.{Site, site_labels}
-use Rattle.mls_machine.specs.Machine.{World, Step, with_session, closed, denied, unless, viewed, dumped, wrote, listed, called, call_step, step_inside, step_outside, step_at, step}
+use Rattle.mls_machine.specs.Machine.{World, Step, with_session, closed, denied, unless, viewed, dumped, wrote, listed, did, called, call_step, step_inside, step_outside, step_at, step}
 use Rattle.mls_machine.proofs.KeepingLemmas.{step_content}
 use Rattle.mls_sessions.specs.declared.engine.Engine.{Engine}
 use Rattle.mls_sessions.specs.declared.session.Session.{Session}
@@ -70,6 +71,7 @@ module _ (at : Site) (w : World) (e : Event) where
     denied_inside (commands.Dump relation) d h = ap (λ o. unless at o w e user (dumped at w relation e.level)) h
     denied_inside (commands.Write relation wr) d h = ap (λ o. unless at o w e user (wrote at w e.level relation wr)) h
     denied_inside (commands.Call name args) d h = denied_call name args (stored_named at.stored name) d h
+    denied_inside (commands.All batch) d h = ap (λ o. unless at o w e user (did at w e.level batch)) h
 
     pub denied_is : (d : Denial) → denial_in at e.level user e.command ≡ Some d → step at w e ≡ denied at w e user d
     denied_is d h = inside_is ∙ denied_inside e.command d h
@@ -88,6 +90,12 @@ module _ (at : Site) (w : World) (e : Event) where
         inside_is ∙ ap (λ x. step_inside at w e x user) is
         ∙ ap (λ o. unless at o w e user (dumped at w relation e.level)) (sym (ap (denial_in at e.level user) is) ∙ h)
 
+    pub did_is : (batch : List One) → e.command ≡ commands.All batch → denial_in at e.level user e.command ≡ None
+        → step at w e ≡ did at w e.level batch
+    did_is batch is h =
+        inside_is ∙ ap (λ x. step_inside at w e x user) is
+        ∙ ap (λ o. unless at o w e user (did at w e.level batch)) (sym (ap (denial_in at e.level user) is) ∙ h)
+
     pub listed_is : e.command ≡ commands.Audit → step at w e ≡ listed at w e.level
     listed_is is = inside_is ∙ ap (λ x. step_inside at w e x user) is
 
@@ -105,6 +113,7 @@ none_from (Some d) h = absurd (h d refl)
 pub numbers_known : (policy : Policy) (r : Reply) → ReplyIsKnown policy r → HasKnownNumbers policy r
 numbers_known policy (Rows tuples) h = tt
 numbers_known policy (Dumped tuples) h = tt
+numbers_known policy (Did given) h = tt
 numbers_known policy _ h = h
 
 -- ---- engines

@@ -3,6 +3,8 @@ pub mod StepLemmas
 pub mod KeptLemmas
 pub mod CallLemmas
 pub mod EnteringLemmas
+pub mod GoingLemmas
+pub mod BatchLemmas
 pub mod EngineLemmas
 pub mod NamingLemmas
 pub mod AnswerLemmas

@@ -27,6 +27,7 @@ ceiling site level (commands.View relation label query counts) = level
 ceiling site level (commands.Dump relation) = level
 ceiling site level (commands.Write relation wr) = level
 ceiling site level (commands.Call name args) = upper_end level (stored_named site.stored name)
+ceiling site level (commands.All batch) = level
 
 module _ {B : Type 0} (seen : B → Seen) (site : Site) where
   -- an event reads below its ceiling, and changes at labels that dominate its level

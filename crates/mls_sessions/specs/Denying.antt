@@ -5,7 +5,8 @@ use Rattle.mls_translang.specs.declared.event.Command.TheVariants as commands
 use Rattle.mls_machine.specs.declared.reply.Denial.{Denial}
 use Rattle.mls_machine.specs.declared.reply.Denial.TheVariants.{AlreadyOpen}
 use Rattle.mls_certcheck.specs.Site.{Site}
-use Rattle.mls_machine.specs.Denying.{first_denial, stored_named, view_denials, write_denials, call_denial}
+use Rattle.mls_machine.specs.Denying.{first_denial, stored_named, view_denials, write_denials, batch_denials}
+use Rattle.mls_machine.specs.Denying.{call_denial}
 
 -- in the open session of a level and a user
 abbrev pub denial_in : Site → ℕ → ℕ → Command → Option Denial
@@ -18,3 +19,4 @@ denial_in site level user (commands.Dump relation) = first_denial (view_denials 
 denial_in site level user (commands.Write relation wr) =
     first_denial (write_denials site level user relation wr)
 denial_in site level user (commands.Call name args) = call_denial site level user args (stored_named site.stored name)
+denial_in site level user (commands.All batch) = first_denial (batch_denials site level user batch)

@@ -10,3 +10,4 @@ pub mod Denying
 pub mod Sessions
 pub mod Sites
 pub mod Access
+pub mod Batches

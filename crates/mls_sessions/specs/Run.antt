@@ -6,7 +6,7 @@ use Rattle.mls_translang.specs.declared.event.Event.{Event}
 use Rattle.mls_updates.specs.Outcome.{is_done as is_write_done}
 use Rattle.mls_machine.specs.declared.form.Audience.{Audience}
 use Rattle.mls_machine.specs.declared.reply.Reply.{Reply}
-use Rattle.mls_machine.specs.declared.reply.Reply.TheVariants.{Denied, Wrote}
+use Rattle.mls_machine.specs.declared.reply.Reply.TheVariants.{Denied, Wrote, Undone}
 use Rattle.mls_certcheck.specs.Site.{Site}
 use Rattle.mls_machine.specs.Machine.{World, step, end_of}
 use Rattle.mls_machine.specs.Observation.{reply_shows, run_shows}
@@ -20,10 +20,11 @@ use Rattle.mls_sessions.specs.declared.notice.Notice.TheVariants as notices
 abbrev pub world_after : Site → World → List Event → ℕ → World
 world_after site w es n = end_of site w (take n es)
 
--- what was asked for is done: it is not denied, and is no write that is refused
+-- what was asked for is done: it is not denied, and is no write, and no batch, that is refused
 abbrev pub is_done : Reply → Bool
 is_done (Denied denial) = false
 is_done (Wrote outcome) = is_write_done outcome
+is_done (Undone number outcome) = false
 is_done reply = true
 
 -- all events of a run from a world are done
@@ -35,6 +36,7 @@ are_done site w (e ∷ es) = is_done (step site w e).reply && are_done site (ste
 abbrev pub notice_of : Reply → Option Notice
 notice_of (Denied denial) = Some (notices.Denied denial)
 notice_of (Wrote outcome) = if is_write_done outcome then None else Some (notices.Refused outcome)
+notice_of (Undone number outcome) = Some (notices.Undone number outcome)
 notice_of reply = None
 
 -- the later one, or else the earlier

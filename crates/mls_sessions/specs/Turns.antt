@@ -101,10 +101,10 @@ module _ {Self : Type 0} (seen : Self → Seen) where
     pub sound : (seen base).is_clean → IsSoundContent site.policy site.schemes (seen base).state.now
     pub views : AreViews site.policy seen base kept
 
--- an event that looks: no change is begun, and it is answered as by a step of the machine, by numbers of the policy
+-- an event is answered as by a step of the machine, by numbers of the policy, and no change is begun then
 module _ {Self : Type 0} (seen : Self → Seen)
     (site : Site) (step : World → Step) where
-  pub record HasLooked (old new : Self) (result : Result Reply BaseFault) : Type 0 where
+  pub record HasAnswered (old new : Self) (result : Result Reply BaseFault) : Type 0 where
     pub over : EndsChange seen old new result
     pub done : (seen new).is_clean → IfOk result (IsStepOver site step (seen old).state.now (seen new).state.now)
     pub known : IfOk result (HasKnownNumbers site.policy)

@@ -2,10 +2,10 @@
 ghost use Rattle.std.specs.Prelude.{◌≡◌, ◌==◌, ◌<◌, bit_and, length, map};
 ghost use Rattle.std.specs.List.{AllByRecursion, list_any};
 ghost use Rattle.mls_scheme.specs.Scheme.{scheme_of};
-ghost use Rattle.mls_translang.specs.Event.{IsWriteOf, CommandFits};
+ghost use Rattle.mls_translang.specs.Event.{IsWriteOf, OneFits, CommandFits};
 ghost use Rattle.mls_certcheck.specs.Site.{AreRead};
 ghost use Rattle.mls_machine.specs.Denying.{first_denial, clearance_of, exceed, lacks_rights_on, lacks, access_denials};
-ghost use Rattle.mls_machine.specs.Denying.{write_denials};
+ghost use Rattle.mls_machine.specs.Denying.{view_denials, write_denials, one_denials, batch_denials};
 ghost use Rattle.mls_sessions.specs.Denying.{denial_in};
 ghost use Rattle.mls_sessions.specs.Sessions.{site_of_run};
 
@@ -15,7 +15,7 @@ use bitflags::Flags;
 use mls_lattice::{LabelNo, Modes, Policy, UserNo};
 use mls_machine::Denial;
 use mls_scheme::{RelNo, Value, Write};
-use mls_translang::Command;
+use mls_translang::{Command, One};
 
 fn has_any(granted: Modes, modes: &[Modes]) -> bool
     ensures { result ≡ list_any (λ mode. bit_and granted.0 mode == mode) (map (λ m. m.0) modes.now) }
@@ -95,6 +95,24 @@ fn access_denial(
     None
 }
 
+/// Why a view is denied in a session of a level and a user, if it is.
+fn view_denial(
+    site: &Site,
+    level: LabelNo,
+    user: UserNo,
+    relation: RelNo,
+    label: LabelNo,
+) -> Option<Denial>
+    requires level { level < length site.now.policy.now.labels }
+    requires user { user < length site.now.policy.now.users }
+    requires relation { relation < length site.now.schemes.now }
+    requires label { label < length site.now.policy.now.labels }
+    ensures { result ≡ first_denial (view_denials (site_of_run site.now) level user relation label) }
+{
+    let modes = [Modes::READ, Modes::WRITE];
+    access_denial(site, level, user, relation, &modes, &[label])
+}
+
 /// Why a write is denied in a session of a level and a user, if it is.
 fn write_denial(
     site: &Site,
@@ -128,6 +146,44 @@ fn write_denial(
     }
 }
 
+/// Why a command of a batch is denied in a session of a level and a user, if it is.
+fn one_denial(site: &Site, level: LabelNo, user: UserNo, one: &One) -> Option<Denial>
+    requires level { level < length site.now.policy.now.labels }
+    requires user { user < length site.now.policy.now.users }
+    requires fits { OneFits site.now.policy.now site.now.schemes.now one.now }
+    ensures { result ≡ first_denial (one_denials (site_of_run site.now) level user one.now) }
+{
+    match one {
+        One::View {
+            relation,
+            label,
+            ..
+        } => view_denial(site, level, user, *relation, *label),
+        One::Expect {
+            relation,
+            label,
+            ..
+        } => view_denial(site, level, user, *relation, *label),
+        One::Write { relation, write } => write_denial(site, level, user, *relation, write),
+    }
+}
+
+/// Why a batch is denied in a session of a level and a user, if it is: the first denial of the first command that has
+/// one.
+fn batch_denial(site: &Site, level: LabelNo, user: UserNo, batch: &[One]) -> Option<Denial>
+    requires level { level < length site.now.policy.now.labels }
+    requires user { user < length site.now.policy.now.users }
+    requires fits { AllByRecursion (OneFits site.now.policy.now site.now.schemes.now) batch.now }
+    ensures { result ≡ first_denial (batch_denials (site_of_run site.now) level user batch.now) }
+{
+    for one in batch {
+        if let Some(denial) = one_denial(site, level, user, one) {
+            return Some(denial);
+        }
+    }
+    None
+}
+
 /// Why a command is denied in an open session of a level and a user, if it is.
 pub(crate) fn denial_of(
     site: &Site,
@@ -148,15 +204,10 @@ pub(crate) fn denial_of(
             relation,
             label,
             ..
-        } => {
-            let modes = [Modes::READ, Modes::WRITE];
-            access_denial(site, level, user, *relation, &modes, &[*label])
-        }
-        Command::Dump { relation } => {
-            let modes = [Modes::READ, Modes::WRITE];
-            access_denial(site, level, user, *relation, &modes, &[level])
-        }
+        } => view_denial(site, level, user, *relation, *label),
+        Command::Dump { relation } => view_denial(site, level, user, *relation, level),
         Command::Write { relation, write } => write_denial(site, level, user, *relation, write),
         Command::Call { tx, args } => call_denial(site, level, user, tx, args),
+        Command::All(batch) => batch_denial(site, level, user, batch),
     }
 }

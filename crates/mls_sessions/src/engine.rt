@@ -9,6 +9,7 @@ ghost use Rattle.mls_sessions.specs.Access.{IsPermitted};
 ghost use Rattle.mls_sessions.specs.Engine.{site, world_of, MayServe, IsAtRest, IsEngineReady, Answers};
 ghost use Rattle.mls_machine.specs.Known.{HasKnownNumbers};
 
+use crate::batch::do_batch;
 use crate::change::{Effect, change};
 use crate::denying::denial_of;
 use crate::looking::{audit, dump, look};
@@ -157,6 +158,13 @@ impl<'a, B: Base> Engine<'a, B> {
                 let effect = Effect::Call { user };
                 change(&self.site, &mut self.base, &mut self.views, event, effect)
             }
+            Command::All(batch) => do_batch(
+                &self.site,
+                &mut self.base,
+                &mut self.views,
+                event.level,
+                batch,
+            ),
         }
     }
 

@@ -2,6 +2,7 @@
 #![tactic(auto)]
 
 mod arguments;
+mod batch;
 mod calling;
 mod cause;
 mod change;
@@ -19,8 +20,8 @@ mod writing;
 
 pub use engine::Engine;
 pub use mls_certcheck::{Run, Stored};
-pub use mls_machine::{Denial, Reply};
-pub use mls_translang::{Command, Event, RunCause, RunFault};
+pub use mls_machine::{Answer, Denial, Reply};
+pub use mls_translang::{Command, Event, One, RunCause, RunFault};
 pub use notice::Notice;
 pub use running::{run, run_to};
 pub use turning::turn;

@@ -9,7 +9,7 @@ ghost use Rattle.mls_machine.specs.Machine.{viewed, dumped, listed};
 ghost use Rattle.mls_machine.specs.Output.{EntriesAreKnown};
 ghost use Rattle.mls_sessions.specs.Sessions.{site_of_run};
 ghost use Rattle.mls_sessions.specs.World.{declared, entries_in};
-ghost use Rattle.mls_sessions.specs.Turns.{IsOpen, HasLooked};
+ghost use Rattle.mls_sessions.specs.Turns.{IsOpen, HasAnswered};
 ghost use Rattle.mls_queries.specs.Views.{AreViews};
 
 use crate::site::Site;
@@ -34,7 +34,7 @@ pub(crate) fn look<B: Base>(
     requires found { IsOpen B.seen (site_of_run site.now) false base.old views.old }
     requires relation { relation < length site.now.schemes.now }
     requires label { label < length site.now.policy.now.labels }
-    ensures looked { HasLooked B.seen (site_of_run site.now)
+    ensures looked { HasAnswered B.seen (site_of_run site.now)
         (λ w. viewed (site_of_run site.now) w relation label query.now) base.old base.new result }
     ensures access { NoReadUp B.seen (labels_of site.now.policy.now) label base.old base.new }
     ensures views { AreViews site.now.policy.now B.seen base.new views.new }
@@ -63,7 +63,7 @@ pub(crate) fn dump<B: Base>(
     requires level { level < length site.now.policy.now.labels }
     requires sound { (B.seen base.old).is_clean → IsSoundContent site.now.policy.now site.now.schemes.now
         (B.seen base.old).state.now }
-    ensures looked { HasLooked B.seen (site_of_run site.now)
+    ensures looked { HasAnswered B.seen (site_of_run site.now)
         (λ w. dumped (site_of_run site.now) w relation level) base.old base.new result }
     ensures access { NoReadUp B.seen (labels_of site.now.policy.now) level base.old base.new }
 {
@@ -128,7 +128,7 @@ pub(crate) fn seen_of(
 pub(crate) fn audit<B: Base>(site: &Site, base: &mut B, level: LabelNo) -> Result<Reply, BaseFault>
     requires idle { (B.seen base.old).state.begun ≡ false }
     requires level { level < length site.now.policy.now.labels }
-    ensures looked { HasLooked B.seen (site_of_run site.now)
+    ensures looked { HasAnswered B.seen (site_of_run site.now)
         (λ w. listed (site_of_run site.now) w level) base.old base.new result }
     ensures access { NoAccess B.seen base.old base.new }
 {

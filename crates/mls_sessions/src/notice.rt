@@ -11,6 +11,8 @@ pub enum Notice {
     Denied(Denial),
     /// A write was refused: the outcome is none that is done.
     Refused(Outcome),
+    /// A command of a batch was refused, by its number, from 1, and so none of them is done.
+    Undone { number: usize, outcome: Outcome },
 }
 
 /// Why an event with this reply was not done. What became of the statements of a call is no part of that.
@@ -20,6 +22,10 @@ fn notice_of(reply: &Reply) -> Option<Notice>
     match reply {
         Reply::Denied(denial) => Some(Notice::Denied(*denial)),
         Reply::Wrote(outcome) if !outcome.is_done() => Some(Notice::Refused(*outcome)),
+        Reply::Undone { number, outcome } => Some(Notice::Undone {
+            number: *number,
+            outcome: *outcome,
+        }),
         _ => None,
     }
 }

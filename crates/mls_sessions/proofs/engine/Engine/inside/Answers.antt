@@ -1,16 +1,19 @@
-use Rattle.std.proofs.Common.{refl, sym, ap, ◌∙◌, None}
+use Rattle.std.proofs.Common.{refl, sym, ap, ◌∙◌, subst, None}
 use Rattle.std.proofs.lemmas.Result.{IfOk-weaker}
-use Rattle.mls_machine.specs.Machine.{with_session, denied, viewed, dumped, listed, step_inside}
+use Rattle.mls_translang.specs.declared.event.Command.TheVariants.{All}
+use Rattle.mls_translang.specs.Event.{CommandFits}
+use Rattle.mls_machine.specs.Machine.{with_session, denied, viewed, dumped, listed, did, step_inside}
 use Rattle.mls_sessions.specs.Sessions.{sessions_of}
 use Rattle.mls_sessions.specs.Turns.{is_call}
 use Rattle.mls_sessions.specs.Engine.{site, world_of}
 use Rattle.mls_sessions.proofs.SessionLemmas.{user_known}
-use Rattle.mls_sessions.proofs.EngineLemmas.{none_from, denied_is, viewed_is, dumped_is, listed_is, closed_is, wrote_is, answers_over, answers_stay, answers_closed}
+use Rattle.mls_sessions.proofs.EngineLemmas.{none_from, denied_is, viewed_is, dumped_is, did_is, listed_is, closed_is, wrote_is, answers_over, answers_stay, answers_closed}
 use Rattle.mls_filterview.proofs.AccessLemmas.{avoids_some}
-use Rattle.mls_machine.proofs.DenyingLemmas.{view_below}
+use Rattle.mls_machine.proofs.DenyingLemmas.{view_below, batch_below}
 use Rattle.mls_sessions.specs.Denying.{denial_in}
 use Rattle.mls_sessions.specs.Access.{ceiling}
-use Rattle.mls_sessions.proofs.AccessLemmas.{read_permitted, view_permitted}
+use Rattle.mls_sessions.proofs.AccessLemmas.{level_permitted, read_permitted, view_permitted}
+use Rattle.mls_sessions.proofs.BatchLemmas.{may_do}
 use Rattle.mls_sessions.proofs.engine.Engine.inside.Goals as goal
 
 pub denial_of-requires-clause-user : goal.denial_of-requires-clause-user
@@ -95,3 +98,34 @@ returns-in-Dump-clause-access g c =
 
 pub returns-in-Audit-clause-access : goal.returns-in-Audit-clause-access
 returns-in-Audit-clause-access g c = avoids_some c.audit.ensures.access
+
+pub do_batch-requires-clause-may : goal.do_batch-requires-clause-may
+do_batch-requires-clause-may g c =
+    let at = site c.args.self.now in
+    let e = c.args.event.now in
+    let batch = c.deref-in-All.result.now in
+    let is = c.in-All.is ∙ ap All (sym c.deref-in-All.ensures) in
+    let none = sym (ap (denial_in at e.level c.args.user) is) ∙ sym c.denial_of.ensures
+    ∙ none_from c.denial_of.result c.in_default.not-Some in
+    let fits = subst (CommandFits at.policy at.schemes) is c.requires.fits.command in
+    record {
+      declared = c.requires.fits.level;
+      each = may_do at e.level batch c.requires.fits.level fits.each (batch_below at e.level c.args.user batch none);
+    }
+
+pub returns-in-All-clause-answers : goal.returns-in-All-clause-answers
+returns-in-All-clause-answers g c =
+    answers_over g.B.Base.seen c.args.self.now c.requires.ready c.args.event.now c.requires.fits c.do_batch.new.base
+    (λ w. did (site c.args.self.now) w c.args.event.now.level c.deref-in-All.result.now)
+    (did_is (site c.args.self.now) (world_of g.B.Base.seen c.args.self.now) c.args.event.now c.args.user c.requires.held
+    c.deref-in-All.result.now (c.in-All.is ∙ ap All (sym c.deref-in-All.ensures))
+    (sym c.denial_of.ensures ∙ none_from c.denial_of.result c.in_default.not-Some)) c.do_batch.new.views
+    c.do_batch.result c.do_batch.ensures.answered.over.turn c.do_batch.ensures.answered.over.idle
+    c.do_batch.ensures.answered.done c.do_batch.ensures.views
+
+pub returns-in-All-clause-access : goal.returns-in-All-clause-access
+returns-in-All-clause-access g c =
+    let at = site c.args.self.now in
+    let e = c.args.event.now in
+    level_permitted g.B.Base.seen c.args.self.now.base c.do_batch.new.base at e (ap (ceiling at e.level) c.in-All.is)
+    c.do_batch.ensures.access

@@ -19,22 +19,54 @@ const TEST: &str = "  Wanted: a test, as in `A = 1`.\n";
 /// The verbs that a relation stands behind.
 const ON_RELATIONS: [&str; 6] = ["view", "count", "dump", "insert", "update", "delete"];
 
-/// A line of a script up to a place, and from there on. Its words are a label, a session, a verb and what that is for.
+/// The number of the word behind the last brace or semicolon.
+fn behind_mark(words: &[&[u8]]) -> usize {
+    let mut place = 3;
+    for (number, word) in words.iter().enumerate() {
+        if is(*word, "{") || is(*word, ";") {
+            place = number.saturating_add(1);
+        }
+    }
+    place
+}
+
+/// The number of the verb of a command, the last one of a batch: behind what is expected stands that of a count.
+fn verb_place(around: &Around<'_>) -> usize {
+    if !is(around.word(2), "all") {
+        return 2;
+    }
+    let place = behind_mark(&around.before);
+    if is(around.word(place), "expect") {
+        place.saturating_add(2)
+    } else {
+        place
+    }
+}
+
+/// A line of a script up to a place, and from there on. Its words are a label, a session, a verb and what that is for;
+/// of a batch the verb is that of the command in which the place is.
 #[derive(Drop)]
 struct Line<'n, 'a> {
     names: Names<'n>,
     around: Around<'a>,
+    verb_at: usize,
 }
 
 impl<'n, 'a> Line<'n, 'a> {
     fn verb(&self) -> &'a [u8] {
-        self.around.word(2)
+        self.around.word(self.verb_at)
+    }
+
+    /// Whether a semicolon may stand in the line.
+    fn is_batch(&self) -> bool {
+        is(self.around.word(2), "all")
     }
 
     /// The scheme of the relation that the command is for.
     fn scheme(&self) -> Option<&'n Scheme> {
         if is_in(self.verb(), &ON_RELATIONS) {
-            self.names.scheme_named(self.around.word(3))
+            self.names
+                .scheme_named(self.around.word(self.verb_at.saturating_add(1)))
         } else {
             None
         }
@@ -49,7 +81,13 @@ impl<'n, 'a> Line<'n, 'a> {
 
     /// Whether an attribute stands at the place that an update sets.
     fn is_set(&self) -> bool {
-        is(self.verb(), "update") && self.around.before.iter().any(|word| is(*word, "set"))
+        is(self.verb(), "update")
+            && self
+                .around
+                .before
+                .iter()
+                .skip(self.verb_at)
+                .any(|word| is(*word, "set"))
     }
 
     /// Appends which names can stand where another one does.
@@ -59,7 +97,8 @@ impl<'n, 'a> Line<'n, 'a> {
             self.names.labels_to(text, here)?;
             return text.push_str(advice_of(23));
         }
-        if self.around.before.len() == 3 && is_in(self.verb(), &ON_RELATIONS) {
+        let is_next = self.around.before.len() == self.verb_at.saturating_add(1);
+        if is_next && is_in(self.verb(), &ON_RELATIONS) {
             self.names.relations_to(text, here)?;
             return text.push_str(advice_of(23));
         }
@@ -96,7 +135,7 @@ impl<'n, 'a> Line<'n, 'a> {
     fn wanted_to(&self, text: &mut String, code: u8) -> Told {
         match code {
             22 if self.is_bare() => text.push_str(QUOTES),
-            22 if is(self.around.here(), ";") => text.push_str(END),
+            22 if is(self.around.here(), ";") && !self.is_batch() => text.push_str(END),
             23 => self.names_to(text),
             24 => self.kind_to(text),
             _ => Ok(()),
@@ -105,7 +144,7 @@ impl<'n, 'a> Line<'n, 'a> {
 
     /// Appends which kind is wanted where another one stands, or how many values.
     fn kind_to(&self, text: &mut String) -> Told {
-        if is(self.around.back(1), "first") {
+        if is_in(self.around.back(1), &["first", "expect"]) {
             return text.push_str(ROWS);
         }
         let Some(scheme) = self.scheme() else {
@@ -142,7 +181,12 @@ impl<'n, 'a> Line<'n, 'a> {
 pub fn command_advice(names: Names<'_>, slip: Slip<'_>) -> Result<String, AllocError> {
     let around = Around::of(names.alloc, slip.line_before(), slip.rest())?;
     let mut text = String::new(names.alloc);
-    let line = Line { names, around };
+    let verb_at = verb_place(&around);
+    let line = Line {
+        names,
+        around,
+        verb_at,
+    };
     match habit_at(slip.code, &line.around) {
         Some(habit) => text.push_str(habit)?,
         None => line.wanted_to(&mut text, slip.code)?,

@@ -11,7 +11,7 @@ macro_rules! forms {
 }
 
 /// A verb, and the form of its command.
-static FORMS: [(&str, &str); 10] = forms! {
+static FORMS: [(&str, &str); 11] = forms! {
     "open" " USER"
     "close" ""
     "view" " RELATION at LABEL [highest] [class OP LABEL] [first N] [where CONDITION]"
@@ -20,12 +20,13 @@ static FORMS: [(&str, &str); 10] = forms! {
     "insert" " RELATION key (VALUE, ..) values (VALUE, ..)"
     "update" " RELATION key (VALUE, ..) class LABEL from LABEL set ATTRIBUTE = VALUE, .."
     "delete" " RELATION key (VALUE, ..) class LABEL"
+    "all" " { COMMAND; .. }, of view, count, expect N count, insert, update and delete"
     "audit" ""
     "call" " TRANSACTION (VALUE, ..)"
 };
 
 const NO_VERB: &str =
-    "  The form: LABEL SESSION, then open, close, view, count, dump, insert, update, delete, audit or call.\n";
+    "  The form: LABEL SESSION, then open, close, view, count, dump, insert, update, delete, all, audit or call.\n";
 
 pub(crate) const KINDS: &str = "  The kinds are int and text.\n";
 

@@ -12,7 +12,7 @@ use std::alloc::AllocError;
 
 const NO_TOPIC: &str =
     "  No command is called so. There are view, count, dump, insert, update, delete,
-  call, audit, describe, help, close, quit and exit.
+  all, call, audit, describe, help, close, quit and exit.
 ";
 
 const NO_OBJECT: &str =

@@ -5,7 +5,7 @@ ghost use Rattle.mls_runs.specs.Explaining.{Explaining};
 
 use crate::denials::denial_text;
 use crate::describing::asked_text;
-use crate::refusals::refusal_text;
+use crate::refusals::{refusal_text, undone_text};
 use crate::shell_session::{Fate, ShellSession};
 use crate::telling::column_of;
 use crate::typed::text_of;
@@ -21,7 +21,7 @@ const TOO_LONG: &str =
     "  A line has at most 1,048,575 bytes before its end. Nothing of this one was done.\n";
 
 const NO_VERB: &str =
-    "  A line begins with view, count, dump, insert, update, delete, call, audit or close. `help` has examples.\n";
+    "  A line begins with view, count, dump, insert, update, delete, all, call, audit or close. `help` has examples.\n";
 
 const MORE_WORDS: &str =
     "  `describe` shows what is declared, and `quit` and `exit` end the shell too.\n";
@@ -126,6 +126,9 @@ impl Listener<'_> {
         match notice {
             Notice::Denied(denial) => denial_text(self, &event.command, denial),
             Notice::Refused(outcome) => refusal_text(self, &event.command, outcome),
+            Notice::Undone { number, outcome } => {
+                undone_text(self, &event.command, number, outcome)
+            }
         }
     }
 

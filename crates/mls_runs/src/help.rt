@@ -11,6 +11,7 @@ update SOD key (\"Enterprise\") class U from U set Objective = \"Spying\"
                                                                gives attributes of a tuple new values at your label; tuples
                                                                above it that have them from it get the new ones too
 delete SOD key (\"Enterprise\") class U                          removes your label's tuple of a key, and every one above it
+all { delete SOD key (\"Old\") class U; view SOD at U }          does several of these as one: all of them, or none
 call Known (1, \"x\", null)                                      runs a stored transaction
 audit                                                          shows the audit list up to your label
 close                                                          ends the session, and the shell
@@ -21,7 +22,7 @@ const LEAVING: &str = "  close
 ";
 
 /// Each command, and its form, an example and what it does.
-pub(crate) static TOPICS: [(&str, &str); 13] = [
+pub(crate) static TOPICS: [(&str, &str); 14] = [
     (
         "view",
         "  view RELATION at LABEL [highest] [class OP LABEL] [first N] [where CONDITION]
@@ -65,6 +66,14 @@ pub(crate) static TOPICS: [(&str, &str); 13] = [
   For example: delete SOD key (\"Enterprise\") class U
   It removes the tuple of a key, and of the class of that key, at the session's label,
   and every tuple of that key and that class above it.
+",
+    ),
+    (
+        "all",
+        "  all { COMMAND; .. }
+  For example: all { expect 1 count SOD at U where Starship = \"Old\"; delete SOD key (\"Old\") class U }
+  It does commands in order, each over what those before it left: all of them, or, where one is refused, none.
+  They are view, count, insert, update and delete, and expect N count .., which is refused where the count is not N.
 ",
     ),
     (

@@ -5,9 +5,14 @@ use crate::words::{
 };
 use mls_lattice::LabelNo;
 use mls_scheme::{Attributes, RelNo, Value, Write};
-use mls_translang::Command;
+use mls_translang::{Command, One};
 use mls_updates::Outcome;
 use std::alloc::AllocError;
+
+const UNEXPECTED: &str =
+    "  There are more rows, or fewer, than were expected. Look at them anew.\n";
+
+const UNDONE: &str = "  Nothing of the batch is done.\n";
 
 /// What a write is about: a tuple, by its key, key class and class, and the attributes that get other values.
 #[derive(Drop)]
@@ -30,20 +35,17 @@ fn changed<'a>(
     }
 }
 
-/// What a command of a session at a level writes.
-fn target_of<'a>(level: LabelNo, command: &'a Command) -> Option<Target<'a>> {
-    let Command::Write { relation, write } = command else {
-        return None;
-    };
+/// What a write of a session at a level is about.
+fn target_of<'a>(level: LabelNo, relation: RelNo, write: &'a Write<Option<Value>>) -> Target<'a> {
     let key_class = write.key_class(level);
     let (class, sets) = changed(level, write);
-    Some(Target {
-        relation: *relation,
+    Target {
+        relation,
         key: write.key(),
         key_class,
         class,
         sets,
-    })
+    }
 }
 
 /// Why a write is refused.
@@ -53,9 +55,37 @@ pub(crate) fn refusal_text(
     outcome: Outcome,
 ) -> Result<String, AllocError> {
     let mut text = String::new(to.alloc);
-    if let Some(target) = target_of(to.session.level, command) {
+    if let Command::Write { relation, write } = command {
+        let target = target_of(to.session.level, *relation, write);
         refusal_to(&mut text, to, &target, outcome)?;
     }
+    Ok(text)
+}
+
+/// The command of a number, from 1, of a batch.
+fn one_of(command: &Command, number: usize) -> Option<&One> {
+    match command {
+        Command::All(batch) => batch.get(number.saturating_sub(1)),
+        _ => None,
+    }
+}
+
+/// Why a command of a batch is refused, by its number.
+pub(crate) fn undone_text(
+    to: &Listener<'_>,
+    command: &Command,
+    number: usize,
+    outcome: Outcome,
+) -> Result<String, AllocError> {
+    let mut text = String::new(to.alloc);
+    match one_of(command, number) {
+        Some(One::Write { relation, write }) => {
+            let target = target_of(to.session.level, *relation, write);
+            refusal_to(&mut text, to, &target, outcome)?;
+        }
+        _ => text.push_str(UNEXPECTED)?,
+    }
+    text.push_str(UNDONE)?;
     Ok(text)
 }
 
@@ -74,6 +104,7 @@ fn refusal_to(
         Outcome::Inherited => inherited_to(text, to, target),
         Outcome::OutOfInterval => interval_to(text, to, target),
         Outcome::AlreadyDerived => derived_to(text, to, target),
+        Outcome::Unexpected => text.push_str(UNEXPECTED),
     }
 }
 

@@ -117,6 +117,7 @@ outcomes_are outcome.NullAboveKey = refl
 outcomes_are outcome.Inherited = refl
 outcomes_are outcome.OutOfInterval = refl
 outcomes_are outcome.AlreadyDerived = refl
+outcomes_are outcome.Unexpected = refl
 
 rules_are : (x : Rule) → rule_table.text_of x ≡ rule_text x
 rules_are rule.Assignment = refl

@@ -116,6 +116,7 @@ outcome_word outcome.NullAboveKey = codes "NullAboveKey"
 outcome_word outcome.Inherited = codes "Inherited"
 outcome_word outcome.OutOfInterval = codes "OutOfInterval"
 outcome_word outcome.AlreadyDerived = codes "AlreadyDerived"
+outcome_word outcome.Unexpected = codes "Unexpected"
 
 abbrev pub rule_text : Rule → List ℕ
 rule_text rule.Assignment = codes "F1"

@@ -23,7 +23,7 @@ use mls_translang::Event;
 use std::alloc::Global;
 
 /// The scripts, in the order in which they are told.
-static FILES: [(&str, Trials); 9] = [
+static FILES: [(&str, Trials); 10] = [
     ("first.script", Trials::Each(What::Write)),
     ("audit.script", Trials::Calls),
     ("writes.script", Trials::Calls),
@@ -33,6 +33,7 @@ static FILES: [(&str, Trials); 9] = [
     ("key.script", Trials::Calls),
     ("calls.script", Trials::Calls),
     ("calls.script", Trials::Each(What::Piece)),
+    ("batch.script", Trials::Calls),
 ];
 
 fn tell_scripts(

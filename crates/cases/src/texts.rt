@@ -2,9 +2,10 @@
 use std::rt::Files;
 use std::{fs, io};
 
-static NAMES: [&str; 31] = [
+static NAMES: [&str; 32] = [
     "again.script",
     "audit.script",
+    "batch.script",
     "calls.script",
     "certificates.txt",
     "checks.txt",

@@ -19,11 +19,11 @@ use Rattle.mls_sessions.specs.Engine.{site, world_of, IsEngineReady, IsKept}
 use Rattle.mls_host.specs.declared.ending.Ending.{Ending}
 use Rattle.mls_host.specs.Ending.{ending_if}
 use Rattle.mls_runs.specs.declared.shell_session.Fate.{Fate}
-use Rattle.mls_runs.specs.Shell.{Turn, IsShellTurn, events_of, events_in, is_last, is_failed, is_lost, FateFits, IsLineRead}
+use Rattle.mls_runs.specs.Shell.{Turn, IsShellTurn, AreLines, events_of, events_in, is_last, is_failed, is_lost, FateFits, IsLineRead}
 use Rattle.mls_runs.proofs.ShellLemmas.{or_none, end_of-append, events-snoc, any-snoc, none_failed, failed_there}
 use Rattle.mls_runs.proofs.TalkLemmas.{AreHeard, heard_more, fits_more, last_line, failed_last}
 use Rattle.mls_runs.specs.Marks.{mark_of}
-use Rattle.mls_runs.specs.Desk.{IsDeskFate, AreLines, answer_of, desk, IsCutShort, IsDeskFollowed, IsService, at_line, between}
+use Rattle.mls_runs.specs.Desk.{IsDeskFate, answer_of, desk, IsCutShort, IsDeskFollowed, IsService, at_line, between}
 
 -- ---- a line more
 
@@ -46,21 +46,20 @@ module _ (site : Site) where
   world-snoc w ts t = sym (ap (end_of site w) (events-snoc ts t) ∙ end_of-append site w (events_in ts)
       (events_of t.fate))
 
-pub lines-snoc : (echo : List ℕ → List ℕ) (policy : Policy) (schemes : Schemes) (a b c : Option (List ℕ)) (ts : List Turn)
-    (t : Turn) → AreLines echo policy schemes a b ts → list_any (λ (t : Turn). is_last t.fate) ts ≡ false
-    → IsShellTurn echo (IsDeskFate policy schemes) b c t → AreLines echo policy schemes a c (ts ++ t ∷ [])
+pub lines-snoc : (echo : List ℕ → List ℕ) (IsFateOf : List ℕ → Fate → Type 0) (a b c : Option (List ℕ)) (ts : List Turn)
+    (t : Turn) → AreLines echo IsFateOf a b ts → list_any (λ (t : Turn). is_last t.fate) ts ≡ false
+    → IsShellTurn echo IsFateOf b c t → AreLines echo IsFateOf a c (ts ++ t ∷ [])
 unfolding AreLines
-lines-snoc echo policy schemes a b c [] t h l n = (
+lines-snoc echo IsFateOf a b c [] t h l n = (
   c,
-  subst (λ x. IsShellTurn echo (IsDeskFate policy schemes) x c t)
-      (sym h) n,
+  subst (λ x. IsShellTurn echo IsFateOf x c t) (sym h) n,
   (λ e. absurd (e refl)),
   refl,
 )
-lines-snoc echo policy schemes a b c (x ∷ ts) t h l n =
+lines-snoc echo IsFateOf a b c (x ∷ ts) t h l n =
     let (left, turn, on, more) = h in
     let none = or_none (is_last x.fate) (list_any (λ (t : Turn). is_last t.fate) ts) l in
-    (left, turn, (λ e. none.0), lines-snoc echo policy schemes left b c ts t more none.1 n)
+    (left, turn, (λ e. none.0), lines-snoc echo IsFateOf left b c ts t more none.1 n)
 
 -- behind what the line shows
 shown_before : (shown answer part : List ℕ) (stands : Bool) (fault : RunFault) → IsCutShort [] answer part stands fault
@@ -85,7 +84,7 @@ module _ {B : Type 0} (seen : B → Seen) (echo : List ℕ → List ℕ) (first 
   pub record SoFar (now : Engine B) (left is : Option (List ℕ)) (last : Bool) : Type 0 where
     pub turns : List Turn
     pub heard : AreHeard seen first now turns last
-    pub lines : AreLines echo at.policy at.schemes given left turns
+    pub lines : AreLines echo (IsDeskFate at.policy at.schemes) given left turns
     pub world : (seen now.base).is_clean → world_of seen now ≡ end_of at w (events_in turns)
     pub written : (seen now.base).is_clean → Appends was is (desk at w turns)
 
@@ -124,8 +123,10 @@ module _ {B : Type 0} (seen : B → Seen) (echo : List ℕ → List ℕ) (first 
       fits_now : EventsFit at (events_in turns)
       fits_now = fits_more at s.turns turn fate s.heard.fits l.read.same l.fits
 
-      lines_now : AreLines echo at.policy at.schemes given over turns
-      lines_now = lines-snoc echo at.policy at.schemes given left over s.turns turn s.lines s.heard.last_is l.read.is_turn
+      lines_now : AreLines echo (IsDeskFate at.policy at.schemes) given over turns
+      lines_now =
+          lines-snoc echo (IsDeskFate at.policy at.schemes) given left over s.turns turn s.lines s.heard.last_is
+          l.read.is_turn
 
       broken_now : list_any (λ (t : Turn). is_failed t.fate) turns ≡ true → Broken
       broken_now h = l.read.broken (sym l.read.same ∙ failed_there s.turns turn s.heard.last_is h)

@@ -67,7 +67,7 @@ all_parts p (x ∷ xs) ys h =
     let rest = all_parts p xs ys first.1 in
     (ap (λ b. b && list_all p xs) first.0 ∙ rest.0, rest.1)
 
-pub all_joined : {A : Type 0} (p : A → Bool) (xs ys : List A) → list_all p xs ≡ true → list_all p ys ≡ true
+all_joined : {A : Type 0} (p : A → Bool) (xs ys : List A) → list_all p xs ≡ true → list_all p ys ≡ true
     → list_all p (xs ++ ys) ≡ true
 all_joined p [] ys h k = k
 all_joined p (x ∷ xs) ys h k =
@@ -253,7 +253,7 @@ module _ (session : ShellSession) where
   own_cut (fates.Said events) k = absurd k
   own_cut _ k = refl
 
-  pub own_turn : (site : Site) (echo : List ℕ → List ℕ) (a b : Option (List ℕ)) (t : Turn)
+  own_turn : (site : Site) (echo : List ℕ → List ℕ) (a b : Option (List ℕ)) (t : Turn)
       → IsShellTurn echo (IsShellFate site.policy site.schemes session) a b t → AreOwn (events_of t.fate)
   own_turn site echo a b t (whole n s e f) = own_fate site t.line t.fate f
   own_turn site echo a b t (long l e f) = ap (λ (y : Fate). list_all (is_own session) (events_of y)) f

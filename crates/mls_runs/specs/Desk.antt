@@ -28,7 +28,7 @@ use Rattle.mls_host.specs.Ending.{ending_if}
 use Rattle.mls_runs.specs.Running.{first_world, IsLeftBy}
 use Rattle.mls_runs.specs.declared.shell_session.Fate.{Fate}
 use Rattle.mls_runs.specs.declared.shell_session.Fate.TheVariants.{Over, Said, Refused}
-use Rattle.mls_runs.specs.Shell.{Turn, IsShellTurn, FateFits, events_of, events_in, is_last, is_failed, is_lost}
+use Rattle.mls_runs.specs.Shell.{Turn, AreLines, FateFits, events_of, events_in, is_failed, is_lost}
 use Rattle.mls_runs.specs.Marks.{mark_of}
 
 -- ---- what becomes of a line, whatever the database
@@ -69,14 +69,6 @@ pub record TellsOne (policy : Policy) (schemes : Schemes) (fate : Fate) : Type 0
   pub one : length (events_of fate) ≤ 1
 
 -- ---- lines, one after another
-
--- none lost, and none behind a last one
-unfoldable pub AreLines : (List ℕ → List ℕ) → Policy → Schemes → Option (List ℕ) → Option (List ℕ) → List Turn → Type 0
-AreLines echo policy schemes before after [] = before ≡ after
-AreLines echo policy schemes before after (t ∷ ts) =
-    (left : Option (List ℕ)) × IsShellTurn echo (IsDeskFate policy schemes) before left t
-    × (ts ≢ [] → is_last t.fate ≡ false)
-    × AreLines echo policy schemes left after ts
 
 module _ (site : Site) where
   -- a line as it is shown, and right behind it its answers: of each the lines that the level of its session may see
@@ -142,7 +134,7 @@ module _ (echo : List ℕ → List ℕ) (site : Site) (before after : Option (Li
     pub turns : List Turn
     -- the events whose changes stand
     pub kept : List Event
-    pub lines : AreLines echo site.policy site.schemes before after turns
+    pub lines : AreLines echo (IsDeskFate site.policy site.schemes) before after turns
     pub broken : list_any (λ t. is_failed t.fate) turns ≡ true → Broken
     pub written : IsEndOf site w turns Wrote after kept end
 

@@ -221,6 +221,14 @@ pub data IsShellTurn (echo : List ℕ → List ℕ) (IsFateOf : List ℕ → Fat
 abbrev pub events_in : List Turn → List Event
 events_in = flat_map (λ t. events_of t.fate)
 
+-- lines are read one after another, none lost, and none behind a last one
+unfoldable pub AreLines : (List ℕ → List ℕ) → (List ℕ → Fate → Type 0) → Option (List ℕ) → Option (List ℕ) → List Turn
+    → Type 0
+AreLines echo IsFateOf before after [] = before ≡ after
+AreLines echo IsFateOf before after (t ∷ ts) =
+    (left : Option (List ℕ)) × IsShellTurn echo IsFateOf before left t × (ts ≢ [] → is_last t.fate ≡ false)
+    × AreLines echo IsFateOf left after ts
+
 module _ (site : Site) (session : ShellSession) where
   -- what the session's level sees of the replies to events
   abbrev pub answers : World → List Event → List ℕ

@@ -8,7 +8,7 @@ ghost use Rattle.mls_sessions.specs.Engine.{site, world_of, MayServe, IsAtRest, 
 ghost use Rattle.mls_host.specs.Hosting.{IsAppended};
 ghost use Rattle.mls_certcheck.specs.Site.{site_of};
 ghost use Rattle.mls_runs.specs.Shell.{events_of, is_failed, is_lost};
-ghost use Rattle.mls_runs.specs.Desk.{TellsOne, IsDeskFollowed, IsService, IsDesk};
+ghost use Rattle.mls_runs.specs.Desk.{IsDeskFate, TellsOne, IsDeskFollowed, IsService, IsDesk};
 ghost use Rattle.mls_runs.specs.Marks.{mark_of};
 ghost use Rattle.mls_runs.specs.Access.{AreLinesPermitted};
 
@@ -128,8 +128,8 @@ fn serve<B: Base, L: TypedLines, W: Write>(
     requires policy { (site engine.old).policy ≡ policy.now }
     requires schemes { (site engine.old).schemes ≡ schemes.now }
     ensures continues { Continues B.seen engine.old engine.new result }
-    ensures access { AreLinesPermitted B.seen (site engine.old) L.echo (L.remaining lines.old) (L.remaining lines.new)
-        engine.old.base engine.new.base }
+    ensures access { AreLinesPermitted B.seen (site engine.old) L.echo (IsDeskFate policy.now schemes.now) []
+        (L.remaining lines.old) (L.remaining lines.new) engine.old.base engine.new.base }
     ensures service { (B.seen engine.new.base).is_clean → IsService L.echo (site engine.old) (L.remaining lines.old)
         (L.remaining lines.new) (L.breaks lines.new) (IsAppended W.contents out.old out.new) result
         (world_of B.seen engine.old) (world_of B.seen engine.new) }
@@ -168,8 +168,8 @@ pub(crate) fn desk_over_base<B: Base, L: TypedLines, W: Write>(
     requires rest { IsAtRest B.seen policy.now schemes.now base }
     ensures leaves { Leaves B.seen base result.1 result.0 }
     // No line reads up, and none writes down.
-    ensures access { AreLinesPermitted B.seen (site_of policy.now schemes.now stored) L.echo (L.remaining lines.old)
-        (L.remaining lines.new) base result.1 }
+    ensures access { AreLinesPermitted B.seen (site_of policy.now schemes.now stored) L.echo
+        (IsDeskFate policy.now schemes.now) [] (L.remaining lines.old) (L.remaining lines.new) base result.1 }
     ensures desk { (B.seen result.1).is_clean → IsDesk L.echo (site_of policy.now schemes.now stored)
         (L.remaining lines.old)
         (L.remaining lines.new) (L.breaks lines.new) (IsAppended W.contents out.old out.new) result.0

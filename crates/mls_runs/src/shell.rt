@@ -7,13 +7,14 @@ ghost use Rattle.mls_sessions.specs.Run.{notice_in};
 ghost use Rattle.mls_host.specs.Ending.{ending_if};
 ghost use Rattle.mls_host.specs.Hosting.{IsAppended, IsTold};
 ghost use Rattle.mls_certcheck.specs.Site.{site_of};
-ghost use Rattle.mls_runs.specs.Access.{IsSessionPermitted};
+ghost use Rattle.mls_runs.specs.Access.{AreLinesPermitted};
 ghost use Rattle.mls_runs.specs.Shell.{opening, audience_at, events_of, is_short, end_told, is_last};
 ghost use Rattle.mls_runs.specs.Shell.{
   is_lost,
   noticed_by,
   FateFits,
   MayTalk,
+  IsShellFate,
   IsShellFollowed,
   IsConversation,
   IsShell,
@@ -183,7 +184,8 @@ fn converse<X: Explains, B: Base, L: TypedLines, W: Write, E: Write>(
     requires fits { EventsFit (site engine.old) (opening session.now ∷ []) }
     requires level { session.now.level < length policy.now.labels }
     ensures continues { Continues B.seen engine.old engine.new result }
-    ensures access { IsSessionPermitted B.seen (site engine.old) session.now engine.old.base engine.new.base }
+    ensures access { AreLinesPermitted B.seen (site engine.old) L.echo (IsShellFate policy.now schemes.now session.now)
+        (opening session.now ∷ []) (L.remaining lines.old) (L.remaining lines.new) engine.old.base engine.new.base }
     ensures conversation { (B.seen engine.new.base).is_clean → IsConversation X.explaining L.echo (site engine.old)
         session.now (L.remaining lines.old) (L.remaining lines.new) (W.contents out.old) (W.contents out.new)
         (L.breaks lines.new)
@@ -242,8 +244,10 @@ pub(crate) fn shell_over_base<X: Explains, B: Base, L: TypedLines, W: Write, E: 
     requires may { MayTalk (site_of policy.now schemes.now stored) session.now first.now }
     requires rest { IsAtRest B.seen policy.now schemes.now base }
     ensures leaves { Leaves B.seen base result.1 result.0 }
-    // No command reads up, and none writes down.
-    ensures access { IsSessionPermitted B.seen (site_of policy.now schemes.now stored) session.now base result.1 }
+    // No line reads up, and none writes down.
+    ensures access { AreLinesPermitted B.seen (site_of policy.now schemes.now stored) L.echo
+        (IsShellFate policy.now schemes.now session.now) (opening session.now ∷ []) (L.remaining lines.old)
+        (L.remaining lines.new) base result.1 }
     ensures shell { (B.seen result.1).is_clean → IsShell X.explaining L.echo (site_of policy.now schemes.now stored)
         session.now (L.remaining lines.old) (L.remaining lines.new) (L.breaks lines.new)
         (IsAppended W.contents out.old out.new)

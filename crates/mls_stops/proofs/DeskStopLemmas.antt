@@ -21,8 +21,8 @@ use Rattle.mls_runs.specs.declared.shell_session.Fate.TheVariants as fates
 use Rattle.mls_runs.specs.Running.{first_world}
 use Rattle.mls_runs.specs.ScriptRun.{site_of_setting}
 use Rattle.mls_runs.specs.Marks.{mark_of}
-use Rattle.mls_runs.specs.Shell.{Turn, IsShellTurn, whole, long, cut, events_of, events_in, is_lost, IsSilent}
-use Rattle.mls_runs.specs.Desk.{AreLines, answer_of, desk, IsCutAt, IsGivenUp, at_line, between, IsEndOf, IsDesk}
+use Rattle.mls_runs.specs.Shell.{Turn, IsShellTurn, AreLines, whole, long, cut, events_of, events_in, is_lost, IsSilent}
+use Rattle.mls_runs.specs.Desk.{IsDeskFate, answer_of, desk, IsCutAt, IsGivenUp, at_line, between, IsEndOf, IsDesk}
 use Rattle.mls_stops.specs.SoFar.{IsFirstPart, AgreeSoFar}
 use Rattle.mls_stops.specs.Stops.{AreWrittenAlike, StandAlike, heard_turns, ServeTheSameSoFar}
 use Rattle.mls_stops.proofs.SoFarLemmas.{part_of_part, agree_parts}
@@ -180,8 +180,8 @@ module _ (echo : List ℕ → List ℕ) (silent : IsSilent echo) where
   shows_nothing Fated a b t (long l e f) = e
   shows_nothing Fated a b t (cut line rest r e k) = nothing_in_front t.shown rest (e ∙ silent line)
 
-  none_shown : (site : Site) (a b : Option (List ℕ)) (ts : List Turn) → AreLines echo site.policy site.schemes a b ts
-      → AreQuiet site ts
+  none_shown : (site : Site) (a b : Option (List ℕ)) (ts : List Turn)
+      → AreLines echo (IsDeskFate site.policy site.schemes) a b ts → AreQuiet site ts
   unfolding AreLines
   none_shown site a b [] h = tt
   none_shown site a b (t ∷ ts) h = let (left, turn, on, more) = h in (
@@ -295,7 +295,7 @@ quiet_part site (t ∷ ts) us h = (h.0, quiet_part site ts us h.1)
 
 -- lines of lists of which what each shows is nothing
 last_quiet : (echo : List ℕ → List ℕ) (silent : IsSilent echo) (site : Site) (a b : Option (List ℕ)) (front : List Turn)
-    (last : Turn) → AreLines echo site.policy site.schemes a b (front ++ last ∷ []) → last.shown ≡ []
+    (last : Turn) → AreLines echo (IsDeskFate site.policy site.schemes) a b (front ++ last ∷ []) → last.shown ≡ []
 unfolding AreLines
 last_quiet echo silent site a b [] last h = let (left, turn, on, more) = h
     in shows_nothing echo silent _ a left last turn
@@ -341,10 +341,10 @@ module _ (echo other_echo : List ℕ → List ℕ) (site : Site) (c : ℕ) (befo
       let quiet = none_shown echo silent site before after ts a.service.lines in
       let quiet_2 = none_shown other_echo silent_2 site before_2 after_2 us b.service.lines in
       let x = end_written site v ts (λ front last all. last_quiet echo silent site before after front last
-      (subst (AreLines echo site.policy site.schemes before after) all a.service.lines)) W
+      (subst (AreLines echo (IsDeskFate site.policy site.schemes) before after) all a.service.lines)) W
       after a.service.kept end a.service.written in
       let y = end_written site w us (λ front last all. last_quiet other_echo silent_2 site before_2 after_2 front last
-      (subst (AreLines other_echo site.policy site.schemes before_2 after_2) all b.service.lines)) V
+      (subst (AreLines other_echo (IsDeskFate site.policy site.schemes) before_2 after_2) all b.service.lines)) V
       after_2 b.service.kept over b.service.written in
       let quiet_x = quiet_part site x.front x.first.0 (subst (AreQuiet site) (sym x.first.1) quiet) in
       let quiet_y = quiet_part site y.front y.first.0 (subst (AreQuiet site) (sym y.first.1) quiet_2) in

@@ -1,10 +1,11 @@
-use Rattle.std.proofs.Common.{ap, subst}
+use Rattle.std.proofs.Common.{[], ap, subst}
 use Rattle.mls_lattice.specs.Labels.{AreDistinct}
 use Rattle.mls_certcheck.specs.Site.{Site, site_labels, site_of as site_for}
 use Rattle.mls_sessions.specs.World.{world_at}
 use Rattle.mls_sessions.specs.Sessions.{sessions_of}
 use Rattle.mls_host.specs.Hosting.{IsAppended}
 use Rattle.mls_runs.specs.Running.{first_world}
+use Rattle.mls_runs.specs.Desk.{IsDeskFate}
 use Rattle.mls_runs.proofs.DeskLemmas.{service_at}
 use Rattle.mls_runs.proofs.DeskEndLemmas.{desk_at}
 use Rattle.mls_sessions.proofs.FrameLemmas.{left_behind, given_back}
@@ -46,5 +47,6 @@ returns-clause-desk g c = λ clean.
 
 pub returns-clause-access : goal.returns-clause-access
 returns-clause-access g c =
-    lines_given g.B.Base.seen g.L.TypedLines.echo _ _ _ _ _ _ _ _ c.new-engine.ensures.site c.new-engine.ensures.base
+    lines_given g.B.Base.seen g.L.TypedLines.echo (IsDeskFate c.args.policy.now c.args.schemes.now) []
+    _ _ _ _ _ _ _ _ c.new-engine.ensures.site c.new-engine.ensures.base
     c.finish.ensures c.serve-outcome.ensures.access

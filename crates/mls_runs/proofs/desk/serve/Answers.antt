@@ -1,14 +1,15 @@
-use Rattle.std.proofs.Common.{Ok, false, refl, sym, ap, ◌∙◌, subst}
+use Rattle.std.proofs.Common.{[], Ok, false, refl, sym, ap, ◌∙◌, subst}
 use Rattle.mls_sessions.specs.Sessions.{site_of_run}
 use Rattle.mls_sessions.specs.Engine.{site, world_of, Continues}
 use Rattle.mls_host.specs.Ending.{ending_if}
 use Rattle.mls_host.specs.Hosting.{IsAppended}
 use Rattle.mls_runs.proofs.TalkLemmas.{fits_at}
-use Rattle.mls_runs.specs.Desk.{IsService}
+use Rattle.mls_runs.specs.Desk.{IsDeskFate, IsService}
 use Rattle.mls_runs.proofs.ReadingLemmas.{one_event}
 use Rattle.mls_runs.proofs.DeskLemmas.{SoFar, Heard, so_far_start, so_far_more, broken, over_last, worn_out, heard_at}
 use Rattle.mls_sessions.proofs.FrameLemmas.{carried, goes_nowhere, goes_on, goes_to, worn_frame}
-use Rattle.mls_runs.proofs.AccessLemmas.{LinesSoFar, lines_start, lines_more, lines_are}
+use Rattle.mls_sessions.proofs.AccessLemmas.{permitted_start}
+use Rattle.mls_runs.proofs.AccessLemmas.{LinesSoFar, lines_start, lines_more, lines_are, lines_read}
 use Rattle.mls_runs.proofs.desk.serve.Goals as goal
 
 pub loop-init : goal.loop-init
@@ -16,8 +17,10 @@ loop-init g c = (
   goes_nowhere g.B.Base.seen c.args.engine.now c.requires.ready (Ok tt) tt,
   so_far_start g.B.Base.seen g.L.TypedLines.echo c.args.engine.now (g.L.TypedLines.remaining c.args.lines.now)
       (g.W.Write.contents c.args.out.now) c.requires.ready,
-  lines_start g.B.Base.seen (site c.args.engine.now) g.L.TypedLines.echo (g.L.TypedLines.remaining c.args.lines.now)
-      c.args.engine.now.base,
+  lines_start g.B.Base.seen (site c.args.engine.now) g.L.TypedLines.echo
+      (IsDeskFate c.args.policy.now c.args.schemes.now) [] (g.L.TypedLines.remaining c.args.lines.now)
+      c.args.engine.now.base c.args.engine.now.base
+      (permitted_start g.B.Base.seen (site c.args.engine.now) [] c.args.engine.now.base),
 )
 
 pub follow-requires-clause-ready : goal.follow-requires-clause-ready
@@ -98,15 +101,16 @@ loop-preserved g c =
           (so_far_more g.B.Base.seen g.L.TypedLines.echo c.args.engine.now given was c.loop.engine left is c.loop.invariant.1 c.next_fate-fate.result over shown Broken heard
           c.follow.new.engine (g.W.Write.contents c.follow.new.out) c.follow.ensures.continues.clean c.follow.ensures.continues.kept c.in_ok-follow.ensures.found c.in_ok-follow.ensures.followed),
       subst (λ b. LinesSoFar g.B.Base.seen (site c.args.engine.now) g.L.TypedLines.echo
+          (IsDeskFate c.args.policy.now c.args.schemes.now) []
           (g.L.TypedLines.remaining c.args.lines.now) (g.L.TypedLines.remaining c.next_fate-fate.new.lines) b
           c.args.engine.now.base c.follow.new.engine.base) (sym c.is_last.ensures ∙ c.if-is_last.false)
-          (lines_more g.B.Base.seen (site c.args.engine.now) g.L.TypedLines.echo (g.L.TypedLines.remaining c.args.lines.now)
+          (lines_more g.B.Base.seen (site c.args.engine.now) g.L.TypedLines.echo
+          (IsDeskFate c.args.policy.now c.args.schemes.now) [] (g.L.TypedLines.remaining c.args.lines.now)
           (g.L.TypedLines.remaining c.loop.lines) (g.L.TypedLines.remaining c.next_fate-fate.new.lines)
           (g.W.Write.contents c.loop.out) (g.W.Write.contents c.next_fate-fate.new.out)
           (g.L.TypedLines.breaks c.next_fate-fate.new.lines) (site c.loop.engine) c.args.engine.now.base c.loop.engine.base
           c.follow.new.engine.base c.next_fate-fate.result (ap site_of_run c.loop.invariant.1.heard.kept.site) c.loop.invariant.2
-          (heard_at g.L.TypedLines.echo (site c.args.engine.now) c.args.policy.now c.args.schemes.now _ _ _ _ _ _ c.requires.policy c.requires.schemes c.next_fate-fate.ensures.read)
-          c.follow.ensures.access),
+          c.next_fate-fate.ensures.read c.follow.ensures.access),
     )
 
 pub returns-clause-continues : goal.returns-clause-continues
@@ -121,29 +125,26 @@ returns-clause-service g c = λ clean.
 
 pub returns-in_err-follow-clause-access : goal.returns-in_err-follow-clause-access
 returns-in_err-follow-clause-access g c =
-    lines_are g.B.Base.seen (site c.args.engine.now) g.L.TypedLines.echo (g.L.TypedLines.remaining c.args.lines.now)
-    (g.L.TypedLines.remaining c.next_fate-fate.new.lines) _ c.args.engine.now.base c.follow.new.engine.base
-    (lines_more g.B.Base.seen (site c.args.engine.now) g.L.TypedLines.echo (g.L.TypedLines.remaining c.args.lines.now)
+    lines_read g.B.Base.seen (site c.args.engine.now) g.L.TypedLines.echo
+    (IsDeskFate c.args.policy.now c.args.schemes.now) [] (g.L.TypedLines.remaining c.args.lines.now)
     (g.L.TypedLines.remaining c.loop.lines) (g.L.TypedLines.remaining c.next_fate-fate.new.lines)
     (g.W.Write.contents c.loop.out) (g.W.Write.contents c.next_fate-fate.new.out)
     (g.L.TypedLines.breaks c.next_fate-fate.new.lines) (site c.loop.engine) c.args.engine.now.base c.loop.engine.base
     c.follow.new.engine.base c.next_fate-fate.result (ap site_of_run c.loop.invariant.1.heard.kept.site) c.loop.invariant.2
-    (heard_at g.L.TypedLines.echo (site c.args.engine.now) c.args.policy.now c.args.schemes.now _ _ _ _ _ _ c.requires.policy c.requires.schemes c.next_fate-fate.ensures.read)
-    c.follow.ensures.access)
+    c.next_fate-fate.ensures.read c.follow.ensures.access
 
 pub returns-then-is_last-clause-access : goal.returns-then-is_last-clause-access
 returns-then-is_last-clause-access g c =
-    lines_are g.B.Base.seen (site c.args.engine.now) g.L.TypedLines.echo (g.L.TypedLines.remaining c.args.lines.now)
-    (g.L.TypedLines.remaining c.next_fate-fate.new.lines) _ c.args.engine.now.base c.follow.new.engine.base
-    (lines_more g.B.Base.seen (site c.args.engine.now) g.L.TypedLines.echo (g.L.TypedLines.remaining c.args.lines.now)
+    lines_read g.B.Base.seen (site c.args.engine.now) g.L.TypedLines.echo
+    (IsDeskFate c.args.policy.now c.args.schemes.now) [] (g.L.TypedLines.remaining c.args.lines.now)
     (g.L.TypedLines.remaining c.loop.lines) (g.L.TypedLines.remaining c.next_fate-fate.new.lines)
     (g.W.Write.contents c.loop.out) (g.W.Write.contents c.next_fate-fate.new.out)
     (g.L.TypedLines.breaks c.next_fate-fate.new.lines) (site c.loop.engine) c.args.engine.now.base c.loop.engine.base
     c.follow.new.engine.base c.next_fate-fate.result (ap site_of_run c.loop.invariant.1.heard.kept.site) c.loop.invariant.2
-    (heard_at g.L.TypedLines.echo (site c.args.engine.now) c.args.policy.now c.args.schemes.now _ _ _ _ _ _ c.requires.policy c.requires.schemes c.next_fate-fate.ensures.read)
-    c.follow.ensures.access)
+    c.next_fate-fate.ensures.read c.follow.ensures.access
 
 pub returns-clause-access : goal.returns-clause-access
 returns-clause-access g c =
-    lines_are g.B.Base.seen (site c.args.engine.now) g.L.TypedLines.echo (g.L.TypedLines.remaining c.args.lines.now)
+    lines_are g.B.Base.seen (site c.args.engine.now) g.L.TypedLines.echo
+    (IsDeskFate c.args.policy.now c.args.schemes.now) [] (g.L.TypedLines.remaining c.args.lines.now)
     (g.L.TypedLines.remaining c.loop.lines) false c.args.engine.now.base c.loop.engine.base c.loop.invariant.2

@@ -6,10 +6,10 @@ use Rattle.mls_sessions.specs.World.{world_at}
 use Rattle.mls_sessions.specs.Sessions.{sessions_of}
 use Rattle.mls_host.specs.Hosting.{IsTold}
 use Rattle.mls_runs.specs.Running.{first_world}
-use Rattle.mls_runs.specs.Shell.{opening}
+use Rattle.mls_runs.specs.Shell.{opening, IsShellFate}
 use Rattle.mls_runs.proofs.ShellEndLemmas.{opening_fits, conversation_at, shell_at}
 use Rattle.mls_sessions.proofs.FrameLemmas.{left_behind, given_back}
-use Rattle.mls_runs.proofs.AccessLemmas.{session_given}
+use Rattle.mls_runs.proofs.AccessLemmas.{lines_given}
 use Rattle.mls_runs.proofs.shell.shell_over_base.Goals as goal
 
 pub converse-outcome-requires-clause-policy : goal.converse-outcome-requires-clause-policy
@@ -55,5 +55,7 @@ returns-clause-shell g c = λ clean.
 
 pub returns-clause-access : goal.returns-clause-access
 returns-clause-access g c =
-    session_given g.B.Base.seen c.args.session.now _ _ _ _ _ _ c.new-engine.ensures.site c.new-engine.ensures.base
+    lines_given g.B.Base.seen g.L.TypedLines.echo
+    (IsShellFate c.args.policy.now c.args.schemes.now c.args.session.now) (opening c.args.session.now ∷ [])
+    _ _ _ _ _ _ _ _ c.new-engine.ensures.site c.new-engine.ensures.base
     c.finish.ensures c.converse-outcome.ensures.access

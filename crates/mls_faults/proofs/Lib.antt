@@ -1,0 +1,10 @@
+pub mod ReadsLemmas
+pub mod StepLemmas
+pub mod ExprReads
+pub mod BlockReads
+pub mod TxReads
+pub mod ConditionReads
+pub mod ScriptReads
+pub mod PlaceLemmas
+pub mod LayoutLemmas
+pub mod LawLemmas

@@ -1,0 +1,2 @@
+-- Faults of the form of texts of transactions: where they stand.
+pub mod Faults

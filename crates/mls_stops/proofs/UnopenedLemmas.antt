@@ -1,4 +1,4 @@
--- What a crash leaves of files that no connection was made to.
+-- What a crash leaves of files that no connection was made to, and of files that could not be closed.
 use Rattle.std.proofs.Common.{◌≡◌, refl, subst, inl, inr}
 use Rattle.std.proofs.Math.Logic.{∥∥₁_map}
 use Rattle.sqlite_disk.specs.declared.Disk.{Ghosts}
@@ -11,7 +11,7 @@ use Rattle.sqlite_store.specs.declared.store.FileStore.{FileStore}
 use Rattle.sqlite_store.specs.declared.store.open.Unopened.{Unopened}
 use Rattle.sqlite_trees.specs.Tree.{Trees}
 use Rattle.sqlite.specs.Closing.{files_left}
-use Rattle.sqlite.specs.Files.{HoldsDatabase, IsEmpty, LeavesFiles, image_of}
+use Rattle.sqlite.specs.Files.{HoldsDatabase, IsEmpty, LeavesFiles, image_of, file_state}
 use Rattle.sqlite.specs.FileStore.{files, recovers}
 use Rattle.sqlite.specs.Recovery.{Image}
 use Rattle.sqlite.specs.WalFiles.{outcomes}
@@ -19,7 +19,10 @@ use Rattle.sqlite.specs.WalReads.{AreClean}
 use Rattle.sqlite.specs.declared.file.Leftover.{Leftover}
 use Rattle.sqlite.specs.declared.file.Leftover.TheVariants as left
 use Rattle.mls_fragments.specs.Again.{unused, unread, unmade}
+use Rattle.mls_fragments.specs.Based.{state_of}
 use Rattle.mls_fragments.specs.Creating.{IsBlankImage, LeavesBlank}
+use Rattle.mls_fragments.specs.Holdings.{HasHoldings, holdings_of}
+use Rattle.mls_stops.specs.Unclosed.{UnclosedFilesKeep}
 use Rattle.mls_stops.specs.Unopened.{ReadsAs, MayBecome, as_it_was, same_pages, same_trees, nothing, empty, UnopenedFilesStay}
 
 -- a database is what recovery reads
@@ -101,3 +104,25 @@ unopened_files_stay {D} g start now (unread rest same h) clean image may =
     leaves start rest (h clean) (at_left now rest same clean) image (may_left now rest same image may)
 unopened_files_stay {D} g start now (unmade rest same h) clean image may =
     leaves_none start rest (h clean).0 (h clean).1 (at_left now rest same clean) image (may_left now rest same image may)
+
+-- ---- files that could not be closed
+
+pub unclosed_files_keep : {D : Type 0} (g : Ghosts D) → UnclosedFilesKeep g
+unclosed_files_keep {D} g b now h clean =
+    let found = h.may (h.clean clean) in
+    let m = found.2 in
+    let holdings = holdings_of found.0 (state_of b).now in (
+      found.0,
+      found.1,
+      record {
+        conn = m.conn;
+        last = m.last;
+        files_are = m.files_are;
+        closed = m.closed;
+        each = λ is_open image may. recovered m.last image
+            (λ db. HasHoldings (record (file_state m.conn).now { trees = db }) holdings)
+            (λ db back. m.finds clean is_open db back)
+            (subst (λ (f : D × D). AreClean g f.0 f.1) m.files_are clean)
+            (subst (λ (f : D × D). outcomes g f.0 f.1 image) m.files_are may);
+      },
+    )

@@ -8,6 +8,7 @@ ghost use Rattle.mls_stops.specs.AnswerLines.{AnswersAreUnmarked};
 ghost use Rattle.mls_stops.specs.Lifetimes.{LifetimesPassOnlyReleases};
 ghost use Rattle.mls_stops.specs.Marks.{MarksAreLines, OnlyMarksAreMarked};
 ghost use Rattle.mls_stops.specs.SoFar.{RunsAgreeSoFar, StopsTellFew};
+ghost use Rattle.mls_stops.specs.Unclosed.{UnclosedFilesKeep};
 ghost use Rattle.mls_stops.specs.Unopened.{UnopenedFilesStay};
 ghost use Rattle.mls_stops.specs.Stops.{ServeTheSameSoFar, TellTheSameSoFar, WriteTheSameSoFar};
 
@@ -64,4 +65,10 @@ pub fn lifetimes_pass_only_releases()
 /// before, or has the same pages or the same database; or there was no database, and still is none, or an empty one.
 pub fn unopened_files_stay<D: Disk>()
     ensures { UnopenedFilesStay D.Disk }
+{}
+
+/// Files that could not be closed keep what the base's tables had, also after a crash: each image that it may leave
+/// reads as a database that has it, where the connection was open that was to be closed.
+pub fn unclosed_files_keep<D: Disk>()
+    ensures { UnclosedFilesKeep D.Disk }
 {}

@@ -25,6 +25,7 @@ FAULTS = (
         "event.cells[label] = [line for line in group if line_of(line).label in shown]",
         "event.cells[label] = [line for line in group[:1] if line_of(line).label in shown]",
     ),
+    ("mlpages/replies.py", "for reply in replies[:count]", "for reply in replies[:1]"),
     ("mlpages/play.py", "Sight(rows, [not highest[row] for row in rows])", "Sight(rows, [False for row in rows])"),
     ("mlpages/play.py", 'if line.verb == "release"]', 'if line.verb == "emitted"]'),
     ("mlpages/play.py", "(highest[first.rest], line.label, line.rest)", "(line.label, line.label, line.rest)"),

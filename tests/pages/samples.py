@@ -108,7 +108,10 @@ def awkward(work: Path) -> list[Page]:
         f"# {SCRIPT} & \u202e\nU a open ann\nS b open bob\nU t open tom\n"
         f'U a insert SOD key ("{SCRIPT}") values ("{SIGNS}", "Talos")\n'
         f'S b update SOD key ("{SCRIPT}") class U from U set Destination = "</td></table>"\n'
-        f'U t call Known ()\nS b view SOD at H\nU a view SOD at U # {SCRIPT}\n', encoding="utf-8",
+        f'U t call Known ()\nS b view SOD at H\nU a view SOD at U # {SCRIPT}\n'
+        'U a all { insert SOD key ("; }") values (null, "}"); view SOD at U ; expect 2 count SOD at U; } # } ;\n'
+        'U a all{delete SOD key ("; }") class U;expect 0 count SOD at U}\n'
+        'U t all { view SOD at U; delete SOD key ("; }") class H }\nU a count SOD at U\n', encoding="utf-8",
     )
     (folder / "audit.txt").write_text(
         "U entry U denied tom t 38\nU entry U denied tom t 38\nS entry S denied bob b 37 2026-11-28T10:00:00Z\n"
@@ -153,6 +156,11 @@ PLAY_SHOWN = (
         "a cover story is struck through in the higher column",
         "document.querySelectorAll('#e5 .cell[data-label=S] tr.cover').length === 1 && "
         "document.querySelectorAll('#e5 .cell[data-label=U] tr.cover').length === 0",
+    ),
+    (
+        "a batch is one event, with all its lines",
+        f"{text_of('#e9 .lines .cell[data-label=U] pre')}.split('\\n').length === 5 && "
+        f"{text_of('#e10 .lines .cell[data-label=U] pre')} === 'U U/a refused 18 Unexpected at 2'",
     ),
     (
         "that there are no rows is said",

@@ -34,6 +34,8 @@ FAULTS = {
     ),
     "half a record stays": ("            self.file.truncate(place)\n", "            pass\n"),
     "a write is not done again": ("            self.do(line, b\"again\")\n", ""),
+    "a batch is not done again": ('b"delete", b"all", b"call"}', 'b"delete", b"call"}'),
+    "a batch is refused without a number": ('f"{refusal} at {number}"', 'f"{refusal}"'),
     "a call is done again": (
         'if verb_of(line) == b"call":\n            self.journal.put', 'if False:\n            self.journal.put'
     ),

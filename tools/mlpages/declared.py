@@ -6,7 +6,7 @@ from dataclasses import dataclass, field
 from pathlib import Path
 
 from .program import MOST_BYTES, Program, Refused
-from .replies import by_event, is_view, line_of
+from .replies import is_view, line_of, replies_of
 
 
 @dataclass
@@ -95,7 +95,7 @@ def answers(program: Program, files: list[str], options: list[str], blocks: list
         path = Path(folder) / "script"
         for lines in scripts:
             path.write_text("".join(f"{line}\n" for line in lines), encoding="utf-8")
-            replies += by_event(program.lines("run", *options, *files, str(path)))
+            replies += replies_of(program.lines("run", *options, *files, str(path)))
     return replies
 
 

@@ -69,9 +69,10 @@ def name_users(events: list[Event], groups: list[list[str]]) -> None:
         event.user = users.get((event.level, event.session), "")
 
 
-def fill_columns(program: Program, found: Declared, words: list[str], full: list[str], events: list[Event]) -> None:
+def fill_columns(
+    program: Program, found: Declared, words: list[str], full: list[str], groups: list[list[str]], events: list[Event]
+) -> None:
     """Lays what `run --at LABEL` prints beside the events: the lines of all labels say which line is of which."""
-    groups = by_event(full)
     if len(groups) != len(events):
         raise Refused(f"the program answered {len(groups)} of {len(events)} events: is this another version of mldb?")
     for label in found.labels:
@@ -93,9 +94,9 @@ def ceilings(program: Program, policy: str, schemes: str, transactions: str | No
     return {one[1]: one[2] for one in found if one}
 
 
-def fill_releases(highest: dict[str, str], full: list[str], events: list[Event]) -> None:
+def fill_releases(highest: dict[str, str], groups: list[list[str]], events: list[Event]) -> None:
     """Notes what each call let down: from which label, to which, and the value."""
-    for event, group in zip(events, by_event(full)):
+    for event, group in zip(events, groups):
         first = line_of(group[0])
         told = [line_of(line) for line in group[1:]]
         event.releases = [(highest[first.rest], line.label, line.rest) for line in told if line.verb == "release"]
@@ -126,12 +127,12 @@ class Watch:
         step = room // most if most else max(len(lines), 1)
         return [range(first, min(first + step, len(lines))) for first in range(0, len(lines), step)]
 
-    def script(self, lines: list[str], part: range) -> str:
+    def script(self, lines: list[str], part: range) -> list[str]:
         """The events up to the end of a part, with the views behind those of the part."""
         told = list(self.opens)
         for number, line in enumerate(lines[: part.stop]):
             told += [line, *(ask for _, _, ask in self.asks if number in part)]
-        return "".join(f"{line}\n" for line in told)
+        return told
 
     def take(self, replies, reply_of: list[list[str]], part: range, events: list[Event]) -> None:
         """Takes the views of a part. The events themselves have to be answered as without them."""
@@ -153,7 +154,7 @@ def fill_sights(
     watch: Watch,
     words: list[str],
     lines: list[str],
-    full: list[str],
+    groups: list[list[str]],
     events: list[Event],
 ) -> None:
     """Looks at every relation as every label sees it, behind each event."""
@@ -162,9 +163,10 @@ def fill_sights(
     with tempfile.TemporaryDirectory() as folder:
         path = Path(folder) / "script"
         for part in watch.chunks(lines):
-            path.write_text(watch.script(lines, part), encoding="utf-8", newline="\n")
-            replies = iter(by_event(program.lines("run", *words[:-1], str(path))))
-            watch.take(replies, by_event(full), part, events)
+            script = watch.script(lines, part)
+            path.write_text("".join(f"{line}\n" for line in script), encoding="utf-8", newline="\n")
+            replies = iter(by_event(program.lines("run", *words[:-1], str(path)), script))
+            watch.take(replies, groups, part, events)
 
 
 def play(
@@ -182,10 +184,11 @@ def play(
     found = declared(program, policy, schemes)
     text = read_text(script)
     lines, events = events_of(text)
-    fill_columns(program, found, words, full, events)
-    fill_releases(ceilings(program, policy, schemes, transactions), full, events)
+    groups = by_event(full, lines)
+    fill_columns(program, found, words, full, groups, events)
+    fill_releases(ceilings(program, policy, schemes, transactions), groups, events)
     watch = Watch(found, access(program, [policy, schemes], found).readers, text)
-    fill_sights(program, found, watch, words, lines, full, events)
+    fill_sights(program, found, watch, words, lines, groups, events)
     return Story(script, found, events, program.version())
 
 

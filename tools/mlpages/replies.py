@@ -10,6 +10,10 @@ CELL = re.compile(rf"({VALUE}) ({NAME}) \| ")
 ROW = re.compile(rf"((?:{VALUE} {NAME} \| )+)({NAME})")
 # The lines that go on with the reply of the line above them.
 FURTHER = {"row", "line", "unread", "emit", "release", "entry"}
+UNDONE = {"denied", "refused"}
+# A batch, in which nothing is quoted.
+BATCH = re.compile(r"\s*[^\s#]+\s+[^\s#]+\s+all\s*\{([^}#]*)\}")
+QUOTED = re.compile(TEXT)
 
 
 class Line(NamedTuple):
@@ -34,15 +38,33 @@ def line_of(text: str) -> Line:
     return Line(label, session, verb, rest[0] if rest else "")
 
 
-def by_event(lines: list[str]) -> list[list[str]]:
-    """The lines of each event: the first one of a reply, and those that go on with it."""
-    events: list[list[str]] = []
+def replies_of(lines: list[str]) -> list[list[str]]:
+    """The lines of each reply: its first one, and those that go on with it."""
+    replies: list[list[str]] = []
     for text in lines:
         if line_of(text).verb in FURTHER:
-            events[-1].append(text)
+            replies[-1].append(text)
         else:
-            events.append([text])
-    return events
+            replies.append([text])
+    return replies
+
+
+def commands_in(event: str) -> int:
+    """How many commands a line of a script has: of a batch each one that is between its braces."""
+    found = BATCH.match(QUOTED.sub("0", event))
+    return sum(bool(one.strip()) for one in found[1].split(";")) if found else 1
+
+
+def by_event(lines: list[str], script: list[str]) -> list[list[str]]:
+    """The lines of each event of a script. A batch has a reply for each of its commands, unless it is denied or
+    refused."""
+    replies, events = replies_of(lines), []
+    for event in script:
+        count = commands_in(event) if replies and line_of(replies[0][0]).verb not in UNDONE else 1
+        if replies:
+            events.append([line for reply in replies[:count] for line in reply])
+        replies = replies[count:]
+    return events + replies
 
 
 def rows_of(reply: list[str]) -> list[Row]:

@@ -12,13 +12,16 @@ from mldb.errors import InterfaceError, NotSupportedError, OperationalError, Pro
 from mldb.local import Local
 from mldb.program import Path, Program, serve
 from mldb.session import NAME, Session
+from mldb.transaction import Transaction
 from mldb.wire import ProcessWire, SocketWire, Wire
 
 BELOW = ("leave", "derive")
+LEVELS = (None, "BATCH")
 
 
 class Connection:
-    """A session of one user at one label. Each command is a change of its own: `commit` has nothing to do."""
+    """A session of one user at one label. Each command is a change of its own, and `commit` has nothing to do; or, with
+    isolation_level="BATCH", what is written waits for it."""
 
     Warning, Error = errors.Warning, errors.Error
     InterfaceError, DatabaseError = errors.InterfaceError, errors.DatabaseError
@@ -31,6 +34,7 @@ class Connection:
             raise InterfaceError(f"below={below!r}: it is 'leave' or 'derive'")
         self._session, self._leave = session, leave
         self._local: Local | None = None
+        self._transaction: Transaction | None = None
         self.label, self.user = session.label, session.user
         self.relations, self.below = relations, below
         self.is_closed = False
@@ -45,6 +49,7 @@ class Connection:
         """The copy in SQLite, which is made at the first statement."""
         self.session()
         self._local = self._local or Local(self._session, self.relations)
+        self._local.transaction = self._transaction
         return self._local
 
     def ask(self, line: str) -> list[str]:
@@ -73,8 +78,12 @@ class Connection:
             raise ProgrammingError(f"{told}: name attributes outside the key: {', '.join(kinds) or 'there are none'}")
         told = ", ".join(values.spelt(value, one.kind, one.name) for value, one in zip(key, scheme.key))
         sets = ", ".join(f"{name} = {values.spelt(value, kinds[name], name)}" for name, value in changes.items())
-        front = f"update {relation} key ({told}) class {key_class} from {from_class or key_class}"
-        self.session().command(f"{front} set {sets}")
+        command = f"update {relation} key ({told}) class {key_class} from {from_class or key_class} set {sets}"
+        if self._transaction is None:
+            self.session().command(command)
+        else:
+            self.session()
+            self._transaction.blind(scheme, command)
 
     def cursor(self) -> Cursor:
         """A cursor. All cursors of a connection see the same."""
@@ -89,24 +98,49 @@ class Connection:
         """A new cursor that has executed a statement for each row."""
         return self.cursor().executemany(sql, rows)
 
+    def _begin(self, isolation_level: str | None) -> None:
+        """Transactions from now on, or none."""
+        self._transaction = Transaction(self.label) if isolation_level else None
+
+    @property
+    def isolation_level(self) -> str | None:
+        """"BATCH" of a connection with transactions, else None."""
+        return None if self._transaction is None else "BATCH"
+
     @property
     def autocommit(self) -> bool:
-        """True: each command is kept when it is done."""
-        return True
+        """Whether each command is kept when it is done."""
+        return self._transaction is None
 
     @autocommit.setter
     def autocommit(self, value: bool) -> None:
-        if not value:
-            raise NotSupportedError("each command is kept when it is done: nothing waits for a commit")
+        if value != self.autocommit:
+            raise NotSupportedError('connect with isolation_level="BATCH" for transactions, and without it for none')
+
+    @property
+    def in_transaction(self) -> bool:
+        """Whether something was read or is to be written since the last commit."""
+        return self._transaction is not None and self._transaction.has_begun
 
     def commit(self) -> None:
-        """Nothing: each command is kept when it is done."""
-        self.session()
+        """Sends what the transaction writes as one batch: it is done whole, or not at all. It is refused where rows
+        that were read by their key, or are changed, do not stand as they did. Without transactions it does nothing."""
+        session = self.session()
+        batch = self._transaction and self._transaction.batch()
+        if batch:
+            session.encoded(batch)
+            self._begin(self.isolation_level)
+            session.command(batch)
+        else:
+            self._begin(self.isolation_level)
 
     def rollback(self) -> None:
-        """Not supported: each command is kept when it is done."""
+        """Forgets what the transaction read and would write. Not supported without transactions: each command is kept
+        when it is done."""
         self.session()
-        raise NotSupportedError("each command is kept when it is done: nothing can be taken back")
+        if self._transaction is None:
+            raise NotSupportedError("each command is kept when it is done: nothing can be taken back")
+        self._begin(self.isolation_level)
 
     def interrupt(self) -> None:
         """Ends the statement that is at work, which raises KeyboardInterrupt. Any thread may call it."""
@@ -156,17 +190,28 @@ def _of_own_program(program: Program, label: str, user: str, schemes: Path | Non
 def connect(target: Path | Sequence[Path] | Program | None = None, label: str | None = None, *, user: str | None = None,
             schemes: Path | None = None, policy: Path | None = None, store: Path | None = None,
             transactions: Path | None = None, certificates: Path | None = None, program: Path = "mldb",
-            below: str = "leave", gateway: bool | None = None, timeout: float | None = None) -> Connection:
+            below: str = "leave", isolation_level: str | None = None, gateway: bool | None = None,
+            timeout: float | None = None) -> Connection:
     """A connection at a label.
 
     `target` is the path of a gateway's socket; or the words of a command that leads to a gateway, or that is `mldb
-    serve` itself (one that has the word `serve`, unless `gateway` says what it is); or a Program that `serve` returned.
-    Without one the program is started here, with `policy`, `schemes` and `store`. `user` is else the name of the
-    account. `below="derive"` lets an UPDATE of lower rows make tuples above them. `timeout` is of a socket, in
-    seconds."""
+    serve` itself (one that has the word `serve`, unless `gateway` says what it is); or a Program that `serve`
+    returned. Without one the program is started here, with `policy`, `schemes` and `store`. `user` is else the name
+    of the account. `below="derive"` lets an UPDATE of lower rows make tuples above them. With
+    `isolation_level="BATCH"` what is written waits for `commit`. `timeout` is of a socket, in seconds."""
     if label is None:
         raise InterfaceError("give a label: connect(target, label, ..)")
-    user = user or getpass.getuser()
+    if isolation_level not in LEVELS:
+        raise InterfaceError(f"isolation_level={isolation_level!r}: it is None or 'BATCH'")
+    made = _connected(target, label, user or getpass.getuser(), schemes, policy, store, transactions, certificates,
+                      program, below, gateway, timeout)
+    made._begin(isolation_level)
+    return made
+
+
+def _connected(target: Path | Sequence[Path] | Program | None, label: str, user: str, schemes: Path | None,
+               policy: Path | None, store: Path | None, transactions: Path | None, certificates: Path | None,
+               program: Path, below: str, gateway: bool | None, timeout: float | None) -> Connection:
     if isinstance(target, Program):
         return _of_program(target, label, user, schemes, below)
     if target is None:

@@ -5,7 +5,7 @@ from functools import partial
 from typing import TYPE_CHECKING
 
 from mldb import results, values
-from mldb.errors import ProgrammingError
+from mldb.errors import NotSupportedError, ProgrammingError
 from mldb.local import Local, Plan
 from mldb.wire import UNDER_WAY
 from mldb.writing import Changes, insertions, resumed, send
@@ -81,10 +81,16 @@ class Cursor:
             plan.check(one)
         derives = plan.deed == "update" and self.connection.below == "derive"
         local.fill(plan, given[0], derives)
-        notes = local.note(plan, given)
+        notes, transaction = local.note(plan, given), local.transaction
         if plan.deed == "insert":
-            return send(session, insertions(plan.writes, session.label, notes), UNDER_WAY if len(given) > 1 else 1)
-        return send(session, Changes(local, plan.writes, session.label, derives).commands(notes), 1)
+            made = insertions(plan.writes, session.label, notes)
+            if transaction is None:
+                return send(session, made, UNDER_WAY if len(given) > 1 else 1)
+            for note, command in zip(notes, made):
+                transaction.insert(plan.writes, note.new[:-1], command)
+            return len(made)
+        changes = Changes(local, plan.writes, session.label, derives)
+        return send(session, changes.commands(notes), 1) if transaction is None else changes.take(notes, transaction)
 
     def _keep(self, names: Sequence[str] | None, rows: list[tuple], plan: Plan | None = None) -> None:
         if names is not None:
@@ -97,6 +103,8 @@ class Cursor:
         releases, and at which label."""
         self._ready()
         session = self.connection.session()
+        if self.connection.in_transaction:
+            raise NotSupportedError("a call is no part of a transaction: commit or roll back first")
         told = ", ".join(values.spelt(values.parameter(value, True)) for value in arguments)
         first, *lines = session.ask(f"call {name} ({told})")
         session.told([first])

@@ -4,9 +4,9 @@ import re
 
 from mldb import words
 
-REPLY = re.compile(r"(denied|refused) ([0-9]+) ([A-Za-z]+)\Z")
+REPLY = re.compile(r"(denied|refused) ([0-9]+) ([A-Za-z]+)(?: at [0-9]+)?\Z")
 FAULT = re.compile(r"([0-9]+) ([A-Za-z]+) at ([0-9]+)\Z")
-MEMORY = 29
+MEMORY, UNEXPECTED = 29, 18
 
 
 class Warning(Exception):  # noqa: A001 (the name is the standard's)
@@ -46,7 +46,7 @@ class DataError(DatabaseError):
 
 
 class OperationalError(DatabaseError):
-    """A denial; a program, a gateway or a connection that ended."""
+    """A denial; a program, a gateway or a connection that ended; what a transaction read has changed."""
 
 
 class IntegrityError(DatabaseError):
@@ -76,7 +76,7 @@ def of_reply(told: str) -> Error | None:
     found = REPLY.match(told)
     if found is None:
         return None
-    kind = OperationalError if found[1] == "denied" else IntegrityError
+    kind = OperationalError if found[1] == "denied" or int(found[2]) == UNEXPECTED else IntegrityError
     return kind(explained(told, int(found[2])), code=int(found[2]), name=found[3], told=told)
 
 

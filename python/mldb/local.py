@@ -10,11 +10,12 @@ from mldb import statements, values
 from mldb.catalogue import Relation
 from mldb.errors import NotSupportedError, ProgrammingError
 from mldb.pushing import Test, tests_of
-from mldb.rows import Reader
+from mldb.rows import Reader, Rows
 from mldb.session import Session
 from mldb.sqltokens import tokens
 from mldb.statements import quoted
 from mldb.tables import Table, tables_of
+from mldb.transaction import Shown, Transaction
 
 DEEDS = {sqlite3.SQLITE_INSERT: "insert", sqlite3.SQLITE_UPDATE: "update", sqlite3.SQLITE_DELETE: "delete"}
 # What a statement may begin with; what SQLite would do for others, as VACUUM, it does not always ask about.
@@ -49,6 +50,11 @@ class Plan(NamedTuple):
             if isinstance(value, str):
                 values.spelt(value)
 
+    def names_key(self, parameters: Any) -> bool:
+        """Whether what is read is the rows of one whole key."""
+        told = {one.attribute.name for one in self.tests if one.sign == "=" and one.spelt(parameters)}
+        return bool(told) and all(one.name in told for one in self.reads[0].relation.key)
+
 
 class Note(NamedTuple):
     """A row that a statement would have inserted, updated or deleted."""
@@ -73,6 +79,8 @@ class Local:
         self._notes: list[Note] = []
         self._is_noting = self._is_stopped = False
         self._judge: _Judge | None = None
+        self.transaction: Transaction | None = None
+        self._shown: dict[str, Shown] = {}
         self._db = self._made()
         self._pages = dict(self._db.execute("SELECT rootpage, lower(name) FROM sqlite_master WHERE type = 'table'"))
 
@@ -150,27 +158,61 @@ class Local:
             words = " highest" if table.form == "_highest" else ""
             asked.setdefault(f"view {table.relation.name} at {self._session.label}{words}{where}", []).append(table)
         if asked:
-            for tables, answer in zip(asked.values(), self._session.answers([*asked])):
+            is_keyed = self.transaction is not None and plan.names_key(parameters)
+            for (command, tables), answer in zip(asked.items(), self._answers([*asked])):
                 if self._is_stopped:
                     raise KeyboardInterrupt
-                self._load([table for table in tables if self._loaded.get(table.name) != answer], answer)
+                if self.transaction is None:
+                    self._load([table for table in tables if self._loaded.get(table.name) != answer], answer)
+                else:
+                    self._load_behind(self.transaction, command if is_keyed else None, tables, answer)
+
+    def _answers(self, commands: list[str]) -> list[bytes]:
+        """The answers to views, of one moment; in a transaction those that are kept, where they are of one."""
+        kept = self.transaction and self.transaction.kept(commands)
+        if kept:
+            return kept
+        answers = self._session.views(commands)
+        front = f"{self._session.label} {self._session.label}/{self._session.user} view ".encode()
+        if self.transaction is not None and all(one.startswith(front) for one in answers):
+            self.transaction.keep(commands, answers)
+        return answers
 
     def _load(self, tables: list[Table], answer: bytes) -> None:
         """Fills tables with the rows of one answer, which is read once."""
-        if not tables:
-            return
-        rows = self._readers[tables[0].relation.name].read(answer, any(table.form == "_classes" for table in tables))
+        if tables:
+            with_labels = any(table.form == "_classes" for table in tables)
+            rows = self._readers[tables[0].relation.name].read(answer, with_labels)
+            for table in tables:
+                self._put(table, rows)
+                self._loaded[table.name] = answer
+
+    def _load_behind(self, transaction: Transaction, keyed: str | None, tables: list[Table], answer: bytes) -> None:
+        """Fills tables with the rows of one answer, as they are behind what a transaction writes."""
+        relation = tables[0].relation
+        read = self._readers[relation.name].read(answer, True)
+        if keyed is not None:
+            transaction.read(keyed, relation, read)
         for table in tables:
-            self._loaded.pop(table.name, None)
-            try:
-                with self._db:
-                    self._db.execute("BEGIN")
-                    self._db.execute(f"DELETE FROM {quoted(table.name)}")
-                    self._db.executemany(table.insertion, zip(*table.cells(rows)))
-            except sqlite3.Error as fault:
-                raise self._fault(fault) from fault
-            self._key_classes[table.name] = rows.key_classes
-            self._loaded[table.name] = answer
+            shown = Shown(read, transaction.merged(read, relation, table.form))
+            self._put(table, shown.now)
+            self._shown[table.name] = shown
+
+    def _put(self, table: Table, rows: Rows) -> None:
+        """Fills a table with rows."""
+        self._loaded.pop(table.name, None)
+        try:
+            with self._db:
+                self._db.execute("BEGIN")
+                self._db.execute(f"DELETE FROM {quoted(table.name)}")
+                self._db.executemany(table.insertion, zip(*table.cells(rows)))
+        except sqlite3.Error as fault:
+            raise self._fault(fault) from fault
+        self._key_classes[table.name] = rows.key_classes
+
+    def shown(self, relation: Relation) -> Shown:
+        """The rows of a relation as they were read in the transaction, and as they are in the copy."""
+        return self._shown[relation.name]
 
     def key_class(self, relation: Relation, row: int) -> str:
         """The class of the key of a row of a relation."""

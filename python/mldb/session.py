@@ -95,6 +95,18 @@ class Session:
             raise refusal
         return texts
 
+    def views(self, commands: Sequence[str]) -> list[bytes]:
+        """The answers to views. Several are asked as a batch: they are of one moment."""
+        if len(commands) < 2:
+            return self.answers(commands)
+        [answer] = self.answers([f"all {{ {'; '.join(commands)} }}"])
+        heading = f"\n{self.label} {self.label}/{self.user} view ".encode()
+        first, *found = (b"\n" + answer.removesuffix(b"\n=\n")).split(heading)
+        if first or len(found) != len(commands) or not answer.endswith(b"\n=\n"):
+            self.told(self.lines(answer))
+            raise InternalError(f"{len(found)} views of {len(commands)}: a batch answers each of its commands")
+        return [heading[1:] + one + b"\n=\n" for one in found]
+
     def answers(self, commands: Sequence[str], is_bad: Callable[[bytes], bool] | None = None,
                 under_way: int = UNDER_WAY) -> list[bytes]:
         """The answers to commands, of which some are under way; where `is_bad` is given, up to a bad one and those that

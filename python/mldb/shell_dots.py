@@ -97,7 +97,7 @@ class Dots:
             "SQL goes over several lines, up to its semicolon. Tables: R (attributes, class), R_highest (without cover",
             "stories), R_classes (a class beside each value).",
             "A line that begins with a command of sessions goes to mldb as it is:",
-            "  view, count, dump R ..; audit; call T (..); insert R key (..) values (..);",
+            "  view, count, dump R ..; audit; call T (..); insert R key (..) values (..); all { ..; .. };",
             "  update R key (..) class K from F set A = ..;",
             "  delete R key (..) class K   (takes every tuple of that key and key class above it, too)",
         ]

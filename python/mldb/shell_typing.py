@@ -23,7 +23,8 @@ except ImportError:  # a Python without it types plain lines
 SQL = """SELECT FROM WHERE GROUP BY HAVING ORDER LIMIT OFFSET JOIN LEFT INNER CROSS ON USING AS DISTINCT UNION ALL
 EXCEPT INTERSECT WITH RECURSIVE INSERT INTO VALUES UPDATE SET DELETE AND OR NOT NULL IS IN LIKE GLOB BETWEEN EXISTS CASE
 WHEN THEN ELSE END CAST ASC DESC OVER PARTITION count( sum( min( max( avg( length( substr( coalesce( date(""".split()
-COMMANDS = "view count dump audit call insert update delete at key values class from set highest first where".split()
+COMMANDS = """view count dump audit call insert update delete all expect at key values class from set highest first
+where""".split()
 BEHIND_TABLE = re.compile(r"(?i)\b(?:from|join|into|update|view|count|dump|insert|delete)\s+\S*\Z")
 LINES = 2000
 

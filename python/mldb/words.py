@@ -26,13 +26,12 @@ REFUSED = _table(
     (
         13, "NoTuple", "update, delete",
         "no tuple has the class after from (of a delete: your label); or that class does not lie between the "
-        "key class and your label. In a view, the class beside the key is what class wants, the last column "
-        "what from wants",
+        "key class and your label. In a view, class wants the class beside the key, from the last column",
     ),
     (
         14, "NullAboveKey", "update",
         "a null, and your label is above the key class: give a value; or delete your tuple (those above it go"
-        " too): then you see the one below",
+        " too), and see the one below",
     ),
     (
         15, "Inherited", "update from your label",
@@ -47,6 +46,7 @@ REFUSED = _table(
         17, "AlreadyDerived", "update from below",
         "there is a tuple of your label already: update from your own label",
     ),
+    (18, "Unexpected", "expect", "there is another number of rows: read them anew"),
 )
 
 DENIED = _table(
@@ -115,10 +115,7 @@ SCRIPTS = _table(
         "no token begins there: a byte or a number that has no place, a text that is not closed, a name of "
         "more than 32 characters, bytes that are not UTF-8. Mend that place; texts have double quotes",
     ),
-    (
-        22, "Expected", "",
-        "a token, or the end, with which nothing goes on: explain shows the form, see the grammar",
-    ),
+    (22, "Expected", "", "a token, or the end, with which nothing goes on: see the grammar"),
     (
         23, "UnknownName", "",
         "a name that means nothing there: declare it, or spell it as it is declared; explain lists what could"
@@ -137,7 +134,7 @@ SCRIPTS = _table(
     ),
     (
         27, "TooLong", "",
-        "a text of more than 1,024 bytes; in transactions also too many things of a kind. See the limits",
+        "a text of more than 1,024 bytes; in transactions and all also too many things. See the limits",
     ),
     (
         28, "LabelOrder", "",
@@ -166,8 +163,8 @@ CERTIFICATES = _table(
 STORES = _table(
     (
         1, "Store", "",
-        "no store can be opened at that path, often since another program has it open; or the store failed "
-        "meanwhile. Wait for the other program; see to the path, its folder, its rights and the disk",
+        "no store can be opened at that path, often since another program has it open; or it failed "
+        "meanwhile. Wait for that program; see to the path, its folder, its rights and the disk",
     ),
     (
         2, "OtherPolicy", "",

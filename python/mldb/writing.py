@@ -7,6 +7,7 @@ from mldb.catalogue import Relation
 from mldb.errors import Error, NotSupportedError, OperationalError
 from mldb.local import Local, Note
 from mldb.session import Session
+from mldb.transaction import Transaction
 
 DONE, NO_TUPLE = b" done\n=\n", b" refused 13 NoTuple\n=\n"
 
@@ -33,8 +34,19 @@ class Changes:
 
     def commands(self, notes: Iterable[Note]) -> list[str | None]:
         """A command for each row that is changed; None for one that has these values already."""
-        return [self._command(note, key_class) for note in notes
+        return [command for _, command in self._made(notes)]
+
+    def _made(self, notes: Iterable[Note]) -> list[tuple[Note, str | None]]:
+        return [(note, self._command(note, key_class)) for note in notes
                 if self._is_changed(note, key_class := self._key_class(note))]
+
+    def take(self, notes: Iterable[Note], transaction: Transaction) -> int:
+        """Leaves the changes to a transaction: how many rows they are of."""
+        made, shown = self._made(notes), self._local.shown(self._relation)
+        for note, command in made:
+            if command is not None:
+                transaction.change(self._relation, shown, note.row, note.new, command)
+        return len(made)
 
     def _key_class(self, note: Note) -> str:
         return self._local.key_class(self._relation, note.row)

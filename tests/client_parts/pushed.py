@@ -59,8 +59,9 @@ CASES = [
 def try_all():
     with tried.serve() as program, mldb.connect(program, "U", user="ann") as connection:
         asked = tried.Asked(connection)
-        for sql, given, wanted in CASES:
+        for sql, given, views in CASES:
             connection.execute(sql, given)
+            wanted = [f"all {{ {'; '.join(views)} }}"] if len(views) > 1 else views
             tried.expect(f"asked of {sql} {given}", asked.taken(), wanted)
         connection.execute("INSERT INTO CREW (Id, Post) VALUES (1, 'a')")
         asked.taken()

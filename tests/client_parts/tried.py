@@ -9,7 +9,7 @@ import mldb
 ROOT = os.path.dirname(os.path.dirname(os.path.dirname(os.path.abspath(__file__))))
 POLICY, SCHEMES = f"{ROOT}/samples/policy.toml", f"{ROOT}/samples/schemes.toml"
 TRANSACTIONS, CERTIFICATES = f"{ROOT}/samples/transactions.txt", f"{ROOT}/samples/certificates.txt"
-PROGRAM, STATEMENTS = "", 3000
+PROGRAM, STATEMENTS, IS_BRIEF = "", 3000, False
 passed = 0
 failures = []
 AWKWARD = [
@@ -23,11 +23,17 @@ AWKWARD = [
 ]
 
 
+class Found(BaseException):
+    """A planted fault is found."""
+
+
 def failed(what, fault=None):
     failures.append(what)
     print(f"not so: {what}", flush=True)
     if fault is not None:
         traceback.print_exception(fault)
+    if IS_BRIEF and passed:
+        raise Found
 
 
 def expect(what, got, wanted):

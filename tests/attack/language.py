@@ -8,6 +8,7 @@ COMMANDS = {
     "open": "open {target}", "close": "close", "audit": "audit", "dump": "dump {relation}",
     "call": "call {target} {values}",
     "view": "view {relation} at {at}{query}", "count": "count {relation} at {at}{query}",
+    "all": "all {{ {ones} }}", "expect": "expect {expected} count {relation} at {at}{query}",
     "insert": "insert {relation} key {key} values {values}", "delete": "delete {relation} key {key} class {key_class}",
     "update": "update {relation} key {key} class {key_class} from {start} set {sets}"}
 STATEMENTS = {
@@ -38,7 +39,9 @@ def written(one, forms=None):
     lists = {name: "(" + ", ".join(map(text_of, getattr(one, name))) + ")" for name in ("key", "values")}
     blocks = ["{\n" + "".join(map(written, block)) + "}" for block in one.blocks]
     return (forms or STATEMENTS)[one.verb].format(**vars(one) | lists | {
-        "query": query, "expr": text_of(one.expr), "blocks": blocks, "outcome": f" as {one.target}" * bool(one.target),
+        "query": query, "expr": text_of(one.expr), "blocks": blocks,
+        "outcome": f" as {one.target}" * bool(one.target),
+        "ones": "; ".join(written(each, forms)[:-1] for each in one.ones),
         "sets": ", ".join(f"{name} = {text_of(tree)}" for name, tree in one.sets.items()),
         "other": f" else {blocks[1]}" if one.blocks[1:] and one.blocks[1] else ""}) + "\n"
 

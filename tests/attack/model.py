@@ -5,7 +5,7 @@ import re
 from collections import namedtuple
 
 OUTCOMES = {11: "KeyNull", 12: "Duplicate", 13: "NoTuple", 14: "NullAboveKey", 15: "Inherited", 16: "OutOfInterval",
-            17: "AlreadyDerived"}
+            17: "AlreadyDerived", 18: "Unexpected"}
 DENIALS = {31: "NoSession", 32: "AlreadyOpen", 33: "UnknownUser", 34: "UnknownTransaction", 35: "NotCertified",
            36: "Ds", 37: "Ss", 38: "Star", 39: "Trust", 40: "Arguments"}
 ARITHMETIC = {"+": operator.add, "-": operator.sub, "*": operator.mul}
@@ -215,6 +215,9 @@ class Site(namedtuple("Site", "policy schemes stored table")):
                 yield 37
         elif user is None:
             yield 31
+        elif verb == "all":
+            for one in event.ones:
+                yield from self.denials(world, one)
         elif verb not in ("close", "audit"):
             yield from [34] if verb == "call" and not tx else [] if certified else [35]
             target = event.target if verb == "call" else event.relation
@@ -248,6 +251,8 @@ class Site(namedtuple("Site", "policy schemes stored table")):
             return world._replace(audit=world.audit + entries), [(event.label, f"denied {code} {DENIALS[code]}")]
         if event.verb == "call":
             return self.call(world, event, user)
+        if event.verb == "all":
+            return self.batch(world, event)
         if event.verb in ("open", "close"):
             others = {one: who for one, who in world.sessions.items() if one != at}
             world = world._replace(sessions=others if user else others | {at: event.target})
@@ -261,8 +266,23 @@ class Site(namedtuple("Site", "policy schemes stored table")):
         elif event.verb == "dump":
             lines = self.dump(event, world.relations[event.relation])
         else:
-            lines = self.shown(event, self.found(event, self.policy.view(world.relations[event.relation], event.at)))
+            rows = self.found(event, self.policy.view(world.relations[event.relation], event.at))
+            lines = [self.met(event, rows)] if event.verb == "expect" else self.shown(event, rows)
         return world, [(event.label, line) for line in lines]
+
+    def batch(self, world, event):
+        """Commands in order, each over what those before it left: all of them, or none."""
+        now, told = world, []
+        for number, one in enumerate(event.ones, 1):
+            now, lines = self.answer(now, one)
+            if lines[0][1].startswith("refused"):
+                return world, [(event.label, f"{lines[0][1]} at {number}")]
+            told += lines
+        return now, told
+
+    @staticmethod
+    def met(event, rows):
+        return "done" if len(rows) == event.expected else f"refused 18 {OUTCOMES[18]}"
 
     def call(self, world, event, user):
         tx, told = self.stored[event.target][0], {"emit": [], "release": []}

@@ -9,14 +9,16 @@ COMPARISONS, RELATIONS = ["=", "<>", "<", "<=", ">", ">="], ["REL", "ODD", "wher
 STORED, KINDS = ["Tx0", "Tx1", "Tx2", "Tx3"], ["int", "text"]
 POOLS = {"int": [0, 1, 2, -1, 7, 10, 2**63 - 1, -2**63],
          "text": ["", "a", "b", "Vega", 'q"\\', "é #", "x\u0085", "Talos"]}
+INSIDE = ["view", "count", "insert", "update", "delete"]  # what may stand in a batch, and what is expected
 COMMANDS = ["insert", "view", "call"] * 3 + ["update"] * 4 + ["count", "delete", "dump", "audit", "close"]
 STATEMENTS = "assign assign release release emit insert update delete if for if for".split()
 
 
 def record(verb, **fields):
     """A command or a statement; what it has not is none or empty."""
-    lacking = ("label", "target", "relation", "at", "test", "first", "where", "joint", "key_class", "start", "expr")
-    blank = dict.fromkeys(lacking) | {"key": (), "values": (), "sets": {}, "blocks": [], "highest": False}
+    lacking = ("label", "target", "relation", "at", "test", "first", "where", "joint", "key_class", "start", "expr",
+               "expected")
+    blank = dict.fromkeys(lacking) | {"key": (), "values": (), "sets": {}, "blocks": [], "ones": (), "highest": False}
     return SimpleNamespace(**blank | {"verb": verb} | fields)
 
 
@@ -79,7 +81,23 @@ class Maker:
         return tuple(self.value(one.kind) for one in attributes)
 
     def event(self, world, may=lambda label: True):
-        """An event of a session whose level may speak."""
+        """An event of a session whose level may speak: of one command, or of several as one."""
+        one = self.single(world, may)
+        return self.batch(world, one) if one.verb in INSIDE and self.chance(0.15) else one
+
+    def batch(self, world, first):
+        """A batch of this command and of others at its level."""
+        more = [self.single(world, lambda label: label == first.label) for _ in range(self.pick([0, 1, 1, 2, 4]))]
+        ones = [first] + [one for one in more if one.verb in INSIDE]
+        for one in ones:
+            one.session = first.session
+            if one.verb == "count" and self.chance(0.7):
+                one.verb, one.expected = "expect", self.pick([0, 0, 1, 1, 2, 3])
+        self.rng.shuffle(ones)
+        return record("all", label=first.label, session=first.session, ones=ones)
+
+    def single(self, world, may):
+        """An event of one command."""
         policy, labels, verb = self.policy, list(self.policy.labels), self.pick(COMMANDS)
         relation, name = self.pick(list(self.schemes.values())), self.pick([*self.stored] * 9 + STORED)
         rows, tx = sorted(world.relations[relation.name], key=repr), self.stored.get(name, (None, None))[0]

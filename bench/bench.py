@@ -52,6 +52,12 @@ def inserts(n, at=0):
     return [("U", "insert", f"{i}", tuple(vs[i % 3] for vs in values)) for i in range(at, at + n)]
 
 
+def batches(n):
+    """The same, a hundred in a batch."""
+    ones = inserts(n)
+    return [("U", "all", ones[at:at + 100]) for at in range(0, n, 100)]
+
+
 def instances(n):
     """Tuples of n entities at U, a second one of each above it, and a third one of each tenth."""
     commands = inserts(n)
@@ -102,6 +108,8 @@ def workloads(seed, entities):
     return [
         Workload("n inserts", sizes, inserts),
         Workload("n inserts, file", sizes, inserts, in_file=True),
+        Workload("n inserts in batches of 100", sizes, batches),
+        Workload("n inserts in batches of 100, file", sizes, batches, in_file=True),
         Workload("n tuples, n above, n/10 higher", sizes, instances),
         Workload("the same, file", sizes, instances, in_file=True),
         Workload("n mixed", sizes, lambda n: mixed(n, seed)),
@@ -155,6 +163,9 @@ def line_of(command):
     head = f"{level} {session} {what}"
     if what == "open":
         return f"{head} {user}\n"
+    if what == "all":
+        place = len(f"{level} {session} ")
+        return f"{head} {{ {'; '.join(line_of(one)[place:-1] for one in rest[0])} }}\n"
     if what == "insert":
         return f"{head} SOD key ({spelled(rest[0])}) values ({', '.join(map(spelled, rest[1]))})\n"
     if what == "update":
@@ -243,7 +254,7 @@ def row_text(level):
 
 
 class Plain:
-    """The same commands over the same tables, each in a transaction of its own."""
+    """The same commands over the same tables, each in a transaction of its own, and a batch in one."""
 
     def __init__(self, path, out):
         self.conn = sqlite3.connect(path, isolation_level=None)
@@ -256,6 +267,7 @@ class Plain:
         self.views = {level: view_text(level, row_text(level)) for level in NAMES}
         self.found = {(level, at): view_text(level, row_text(level), at) for level in NAMES for at in range(3)}
         self.tally = view_text("S", "n.ent, n0.value, n1.value")
+        self.batched = False
 
     def perform(self, command):
         level, what, *rest = command
@@ -265,19 +277,34 @@ class Plain:
     def open(self, level):
         return [f"opened {USERS[level][1]}"]
 
+    def begin(self):
+        if not self.batched:
+            self.run("BEGIN")
+
     def end(self, code=None):
-        if code is None:
-            self.run("COMMIT")
-            return ["done"]
-        self.run("ROLLBACK")
-        return [f"refused {code} {REFUSED[code]}"]
+        if not self.batched:
+            self.run("COMMIT" if code is None else "ROLLBACK")
+        return ["done"] if code is None else [f"refused {code} {REFUSED[code]}"]
+
+    def all(self, level, ones):
+        self.run("BEGIN")
+        self.batched, told = True, []
+        for number, (_, what, *rest) in enumerate(ones, 1):
+            lines = getattr(self, what)(level, *rest)
+            if lines[0].startswith("refused"):
+                told = [f"{lines[0]} at {number}"]
+                break
+            told += lines
+        self.batched = False
+        self.run("COMMIT" if told[-1] == "done" else "ROLLBACK")
+        return told
 
     def node(self, key, label):
         return self.run(NODE, (key, label)).fetchone()
 
     def insert(self, level, key, values):
         key, label = key.encode(), LABELS[level]
-        self.run("BEGIN")
+        self.begin()
         if self.node(key, label):
             return self.end(12)
         self.run(ADD_NODE, (key, label, label, label))
@@ -286,7 +313,7 @@ class Plain:
 
     def update(self, level, key, source, sets):
         key, own, low = key.encode(), LABELS[level], LABELS[source]
-        self.run("BEGIN")
+        self.begin()
         classes = self.node(key, low)
         if not classes:
             return self.end(13)
@@ -308,7 +335,7 @@ class Plain:
 
     def delete(self, level, key):
         key = key.encode()
-        self.run("BEGIN")
+        self.begin()
         if not self.node(key, LABELS[level]):
             return self.end(13)
         high = ", ".join(str(LABELS[name]) for name in ABOVE[level])

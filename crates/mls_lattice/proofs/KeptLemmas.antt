@@ -1,9 +1,8 @@
 -- What holds of every policy, since a document says it.
-use Rattle.std.proofs.Common.{◌≡◌, ◌≢◌, ℕ, zero, suc, ◌<◌, ◌^◌, Bool, true, false, nat_eq, List, [], ◌∷◌, ◌++◌, append_assoc, length, map, Option, None, Some, Ok, refl, sym, ap, subst, ◌∙◌, arith, cond, Err, position, bit_or, IfSome, fold, bytes_eq, append-nil}
+use Rattle.std.proofs.Common.{◌≡◌, ◌≢◌, ℕ, zero, suc, ◌<◌, ◌^◌, Bool, true, false, List, [], ◌∷◌, ◌++◌, append_assoc, length, map, Option, None, Some, Ok, refl, sym, ap, subst, ◌∙◌, arith, cond, Err, position, bit_or, IfSome, fold, bytes_eq, append-nil, flat_map}
 use Rattle.std.specs.List.{list_any, AllByRecursion, IsDistinct}
-use Rattle.std.specs.Cmp.{IsEquivalence, nat_eq_equiv}
 use Rattle.std.specs.Cmp.Lexicographic.{nat_list_eq_equiv}
-use Rattle.std.proofs.lemmas.Bool.{or_parts, and_parts, and_from}
+use Rattle.std.proofs.lemmas.Bool.{or_parts}
 use Rattle.std.proofs.lemmas.Nat.{or_lt}
 use Rattle.std.proofs.lemmas.List.{map_push}
 use Rattle.std.proofs.lemmas.List.Quantifiers.{position-Some}
@@ -13,13 +12,15 @@ use Rattle.mls_lattice.specs.declared.fault.FieldFault.TheVariants.{UnknownName}
 use Rattle.mls_lattice.specs.declared.version.Version.{Version}
 use Rattle.mls_lattice.specs.declared.tables.User.{User}
 use Rattle.mls_lattice.specs.declared.tables.Right.{Right}
+use Rattle.mls_lattice.specs.declared.tables.Grant.{Grant}
 use Rattle.mls_lattice.specs.Lattice.{Pair, same_pair}
 use Rattle.mls_lattice.specs.Labels.{label_of, AreDistinct, below}
 use Rattle.mls_lattice.specs.Name.{is_name}
-use Rattle.mls_lattice.specs.Policy.{Name, Named, Policy, labels_of, HasLevel, IsCleared, IsTrusted, HasUser, HasKnownModes, same_entry, AreNames, IsPolicy}
-use Rattle.mls_lattice.specs.Says.{Rows, SaysName, SaysLabel, SaysUser, SaysTrusted, SaysMode, SaysRight, Says}
+use Rattle.mls_lattice.specs.Policy.{Name, Named, Policy, labels_of, HasLevel, IsCleared, IsTrusted, HasUser, HasKnownModes, right_of, rights_of, AreNames, IsPolicy}
+use Rattle.mls_lattice.specs.Says.{Rows, SaysName, SaysLabel, SaysUser, SaysTrusted, SaysMode, SaysUserNo, SaysGrant, Says}
 use Rattle.mls_lattice.specs.Reading.{version_at}
 use Rattle.mls_lattice.specs.PolicyReading.{levels_at, categories_at, labels_at, users_at, matrix_at, policy_at}
+use Rattle.mls_lattice.proofs.EachLemmas.{all, all_if, all_map, each_flat}
 use Rattle.mls_lattice.proofs.ReadsPolicyLemmas.{says_found}
 use Rattle.mls_lattice.proofs.LatticeLemmas.{same_pair-refl}
 use Rattle.mls_lattice.proofs.ReadingLemmas.{ok_is}
@@ -193,41 +194,44 @@ user-within : (users : List User) (name : Name) (k : ℕ) → position (λ u. by
 user-within [] name k e = absurd cc
 user-within (u ∷ us) name k e = (position-Some (λ x. bytes_eq x.name name) (u ∷ us) k u e).0
 
+-- what holds of each entry of the matrix, since it holds of each entry of a grant
+each-entry : (document : Members) (p : Policy) → Says document p → (P : Right → Type 0)
+    → ((d : Data) (g : Grant) → SaysGrant p.users d g
+    → AllByRecursion (λ user. AllByRecursion (λ object. P (right_of user g.modes object)) g.objects) g.users)
+    → AllByRecursion P p.matrix
+each-entry document p says P has =
+    let m = says.matrix in
+    let entries : AllByRecursion P (flat_map rights_of m.grants) =
+    each_flat P rights_of m.grants
+    (each-row (λ before. SaysGrant p.users) (λ g. AllByRecursion P (rights_of g)) (λ before d g h. of-grant P g
+    (has d g h)) [] m.has.0 m.grants m.has.2) in
+    subst (λ (rs : List Right). AllByRecursion P rs) (sym m.entries) entries
+  where
+    of-grant : (P : Right → Type 0) (g : Grant)
+        → AllByRecursion (λ user. AllByRecursion (λ object. P (right_of user g.modes object)) g.objects) g.users
+        → AllByRecursion P (rights_of g)
+    of-grant P g h =
+        each_flat P (λ user. map (right_of user g.modes) g.objects) g.users
+        (all_if (λ user. AllByRecursion (λ object. P (right_of user g.modes object)) g.objects)
+        (λ user. AllByRecursion P (map (right_of user g.modes) g.objects))
+        (λ user. all_map P (right_of user g.modes) g.objects) g.users h)
+
 kept-held : (document : Members) (p : Policy) → Says document p → AllByRecursion (HasUser (length p.users)) p.matrix
 kept-held document p says =
-    each-row (SaysRight p.users) (HasUser (length p.users)) (λ before d r h. record {
-      user =
-          user-within p.users h.name r.user h.user;
-    }) [] says.matrix.0 p.matrix says.matrix.2
+    each-entry document p says (HasUser (length p.users))
+    (λ d g h. all_if (λ user. user < length p.users) (λ user. AllByRecursion (λ object. HasUser (length p.users)
+    (right_of user g.modes object)) g.objects)
+    (λ user declared. all (λ object. HasUser (length p.users) (right_of user g.modes object))
+    (λ object. record { user = declared }) g.objects) g.users
+    (each-row (SaysUserNo p.users) (λ k. k < length p.users)
+    (λ before d k says. user-within p.users says.name k says.place) [] h.subjects g.users h.says_users))
 
 kept-object_names : (document : Members) (p : Policy) → Says document p → AreNames (map (λ r. r.object) p.matrix)
 kept-object_names document p says =
-    named-rows (λ (r : Right). r.object) (SaysRight p.users)
-    (λ before d r h. h.object.is_name) [] says.matrix.0 p.matrix says.matrix.2
-
-entry-equiv : IsEquivalence same_entry
-entry-equiv = record {
-  refl = λ r. and_from _ _ (nat_eq_equiv.refl r.user) (nat_list_eq_equiv.refl r.object);
-  symm = λ r s. rw (nat_eq_equiv.symm s.user r.user, nat_list_eq_equiv.symm s.object r.object) refl;
-  congr = congr;
-}
-  where
-    congr : (r s t : Right) → same_entry r s ≡ true → same_entry r t ≡ same_entry s t
-    congr r s t e =
-        let p = and_parts (nat_eq s.user r.user) (bytes_eq s.object r.object) e in
-        let user : nat_eq t.user r.user ≡ nat_eq t.user s.user =
-        nat_eq_equiv.symm t.user r.user ∙ sym (nat_eq_equiv.congr s.user r.user t.user p.0)
-        ∙ nat_eq_equiv.symm s.user t.user in
-        let object : bytes_eq t.object r.object ≡ bytes_eq t.object s.object =
-        nat_list_eq_equiv.symm t.object r.object ∙ sym (nat_list_eq_equiv.congr s.object r.object t.object p.1)
-        ∙ nat_list_eq_equiv.symm s.object t.object in
-        rw (user, object) refl
-
-kept-entries_distinct : (document : Members) (p : Policy) → Says document p → IsDistinct same_entry p.matrix
-kept-entries_distinct document p says =
-    all-rows (SaysRight p.users) (IsDistinct same_entry)
-    (λ before d r h apart. IsDistinct-push entry-equiv before r apart h.new) [] says.matrix.0 p.matrix says.matrix.2
-    (none-distinct same_entry)
+    all_map (λ name. is_name name ≡ true) (λ (r : Right). r.object) p.matrix
+    (each-entry document p says (λ r. is_name r.object ≡ true)
+    (λ d g h. all (λ user. AllByRecursion (λ object. is_name object ≡ true) g.objects)
+    (λ user. names-named h.things g.objects h.says_objects) g.users))
 
 mode-small : (b c d e : Bool) (m : ℕ) → cond b (Ok 1) (cond c (Ok 2) (cond d (Ok 4) (cond e (Ok 8) (Err UnknownName))))
     ≡ Ok m → m < 2 ^ 4
@@ -244,12 +248,13 @@ together-small n (m ∷ modes) small all = together-small (bit_or n m) modes (or
 
 kept-modes : (document : Members) (p : Policy) → Says document p → AllByRecursion HasKnownModes p.matrix
 kept-modes document p says =
-    each-row (SaysRight p.users) HasKnownModes
-    (λ before d r h. record {
-      modes = subst (λ (n : ℕ). n < 16) (sym h.all_modes) (together-small 0 h.modes (omega arith)
-          (each-row SaysMode (λ m. m < 2 ^ 4) (λ before d m h. mode-small _ _ _ _ m h.is_word) [] h.items h.modes h.says_modes));
-    })
-    [] says.matrix.0 p.matrix says.matrix.2
+    each-entry document p says HasKnownModes
+    (λ d g h.
+    let known : g.modes.0 < 16 = subst (λ (n : ℕ). n < 16) (sym h.all_modes) (together-small 0 h.modes (omega arith)
+    (each-row SaysMode (λ m. m < 2 ^ 4) (λ before d m h. mode-small _ _ _ _ m h.is_word) [] h.items h.modes h.says_modes)) in
+    all (λ user. AllByRecursion (λ object. HasKnownModes (right_of user g.modes object)) g.objects)
+    (λ user. all (λ object. HasKnownModes (right_of user g.modes object))
+    (λ object. record { modes = known }) g.objects) g.users)
 
 pub policy-kept : (document : Members) (p : Policy) → Says document p → IsPolicy p
 policy-kept document p says = record {
@@ -271,11 +276,11 @@ policy-kept document p says = record {
   users = kept-users_distinct document p says;
   cleared = kept-cleared document p says;
   trusted = kept-trusted document p says;
-  few_rights = says.few_rights;
+  few_rights = says.matrix.few;
   object_names = kept-object_names document p says;
   held = kept-held document p says;
   known = kept-modes document p says;
-  entries = kept-entries_distinct document p says;
+  entries = says.matrix.apart;
 }
 
 -- a policy that reading gives part by part

@@ -5,12 +5,15 @@ pub mod ReadingLemmas
 pub mod ReadsPolicyLemmas
 pub mod SaysLemmas
 pub mod SaysTablesLemmas
+pub mod MatrixLemmas
+pub mod MatrixSteps
 pub mod TablesLemmas
 pub mod LatticeLemmas
 pub mod FlowLemmas
 pub mod PolicyLemmas
 pub mod PolicyReadingLemmas
 pub mod RowSteps
+pub mod KnownLemmas
 pub mod KeptLemmas
 pub mod AsciiLemmas
 pub mod NameLemmas

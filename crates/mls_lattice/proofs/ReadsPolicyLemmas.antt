@@ -8,15 +8,16 @@ use Rattle.mls_lattice.specs.declared.fault.PolicyFault.TheVariants.{Memory}
 use Rattle.mls_lattice.specs.Fault.{failed_fault_of}
 use Rattle.mls_lattice.specs.Policy.{Policy}
 use Rattle.mls_lattice.specs.Reading.{Gives, version_at}
-use Rattle.mls_lattice.specs.PolicyReading.{new_name_at, levels_at, categories_at, label_at, labels_at, user_at, users_at, right_at, matrix_at, policy_at}
-use Rattle.mls_lattice.specs.Says.{SaysName, SaysLabel, SaysUser, SaysRight, Says}
+use Rattle.mls_lattice.specs.PolicyReading.{new_name_at, levels_at, categories_at, label_at, labels_at, user_at, users_at, matrix_at, policy_at}
+use Rattle.mls_lattice.specs.Says.{SaysName, SaysLabel, SaysUser, Says}
 use Rattle.mls_lattice.specs.ReadsPolicy.{IsDocument, ReadsPolicy, SaysOne, ReadingIsExact}
 use Rattle.mls_lattice.proofs.ReadingLemmas.{ok_is, same_ok, bind_ok}
 use Rattle.mls_lattice.proofs.SaysLemmas.{required_found, required_again, optional_rows_found, optional_rows_again}
-use Rattle.mls_lattice.proofs.SaysTablesLemmas.{new_name_found, new_name_again, name_kind, label_found, label_again, label_kind, user_found, user_again, user_kind, right_found, right_again, right_kind, version_found, version_again}
+use Rattle.mls_lattice.proofs.MatrixLemmas.{matrix_found, matrix_again}
+use Rattle.mls_lattice.proofs.SaysTablesLemmas.{new_name_found, new_name_again, name_kind, label_found, label_again, label_kind, user_found, user_again, user_kind, version_found, version_again}
 
 pub says_found : (document : Members) (p : Policy) → policy_at document ≡ Ok p → Says document p
-unfolding policy_at levels_at categories_at labels_at users_at matrix_at
+unfolding policy_at levels_at categories_at labels_at users_at
 says_found document p e =
     let v = bind_ok (version_at document) _ p e in
     let l = bind_ok (levels_at document) _ p v.2 in
@@ -39,10 +40,8 @@ says_found document p e =
     (codes "categories") document 32 new_name_found c.0 c.1 in
     let labels = required_found (label_at l.0 c.0) (SaysLabel l.0 c.0) (λ x. is_some (as_table x))
     (codes "label") document 64 (label_found l.0 c.0) b.0 b.1 in
-    let users = optional_rows_found (user_at b.0) (SaysUser b.0) (λ x. is_some (as_table x)) (codes "user") document 64
-    (user_found b.0) u.0 u.1 in
-    let matrix = optional_rows_found (right_at u.0) (SaysRight u.0) (λ x. is_some (as_table x))
-    (codes "matrix") document 1024 (right_found u.0) m.0 m.1 in
+    let users = optional_rows_found (user_at b.0) (SaysUser b.0) (λ x. is_some (as_table x))
+    (codes "user") document 1024 (user_found b.0) u.0 u.1 in
     subst (λ (x : Policy). Says document x) (ok_is made p m.2)
     (record {
       version = version_found document v.0 v.1;
@@ -56,8 +55,7 @@ says_found document p e =
       few_labels = labels.few;
       users = users.has;
       few_users = users.few;
-      matrix = matrix.has;
-      few_rights = matrix.few;
+      matrix = matrix_found u.0 document m.0 m.1;
     })
 
 levels_again : (document : Members) (p : Policy) → Says document p → levels_at document ≡ Ok p.levels
@@ -80,12 +78,7 @@ labels_again document p h = required_again (label_at p.levels p.categories) (Say
 users_again : (document : Members) (p : Policy) → Says document p → users_at p.labels document ≡ Ok p.users
 unfolding users_at
 users_again document p h = optional_rows_again (user_at p.labels) (SaysUser p.labels) (λ x. is_some (as_table x))
-    (codes "user") document 64 (user_again p.labels) (user_kind p.labels) p.users h.users h.few_users
-
-matrix_again : (document : Members) (p : Policy) → Says document p → matrix_at p.users document ≡ Ok p.matrix
-unfolding matrix_at
-matrix_again document p h = optional_rows_again (right_at p.users) (SaysRight p.users) (λ x. is_some (as_table x))
-    (codes "matrix") document 1024 (right_again p.users) (right_kind p.users) p.matrix h.matrix h.few_rights
+    (codes "user") document 1024 (user_again p.labels) (user_kind p.labels) p.users h.users h.few_users
 
 pub says_again : (document : Members) (p : Policy) → Says document p → policy_at document ≡ Ok p
 unfolding policy_at
@@ -96,7 +89,7 @@ says_again document p h =
       categories_again document p h,
       labels_again document p h,
       users_again document p h,
-      matrix_again document p h,
+      matrix_again p.users document p.matrix h.matrix,
     ) refl
 
 pub exact : ReadingIsExact

@@ -42,7 +42,7 @@ field_again key fields name h = rw (h.text, h.is_name) refl
 
 -- ---- rows
 
-rows_found : {B : Type 0} (read : List B → Data → Result B FieldFault) (R : List B → Data → B → Type 0)
+pub rows_found : {B : Type 0} (read : List B → Data → Result B FieldFault) (R : List B → Data → B → Type 0)
     → ((before : List B) (d : Data) (row : B) → read before d ≡ Ok row → R before d row)
     → (front : List B) (ds : Items) (all : List B) → rows_at read front ds ≡ Ok all → (rows : List B)
     × (all ≡ front ++ rows) × Rows R front ds rows
@@ -52,7 +52,7 @@ rows_found read R found front (item d ds) all e =
     let more = rows_found read R found (front ++ a.0 ∷ []) ds all a.2 in
     (a.0 ∷ more.0, more.1 ∙ append_assoc front (a.0 ∷ []) more.0, (found front d a.0 a.1, more.2))
 
-rows_again : {B : Type 0} (read : List B → Data → Result B FieldFault) (R : List B → Data → B → Type 0)
+pub rows_again : {B : Type 0} (read : List B → Data → Result B FieldFault) (R : List B → Data → B → Type 0)
     → ((before : List B) (d : Data) (row : B) → R before d row → read before d ≡ Ok row)
     → (front : List B) (ds : Items) (rows : List B) → Rows R front ds rows → rows_at read front ds ≡ Ok (front ++ rows)
 rows_again read R again front no_items [] h = ap (λ x. Ok x) (sym (append-nil front))
@@ -62,7 +62,7 @@ rows_again read R again front (item d ds) (row ∷ rows) h =
     rw (again front d row h.0) (rows_again read R again (front ++ row ∷ []) ds rows h.1 ∙ ap (λ x. Ok x)
     (append_assoc front (row ∷ []) rows))
 
-rows_len : {B : Type 0} (R : List B → Data → B → Type 0) (front : List B) (ds : Items) (rows : List B)
+pub rows_len : {B : Type 0} (R : List B → Data → B → Type 0) (front : List B) (ds : Items) (rows : List B)
     → Rows R front ds rows → items_len ds ≡ length rows
 rows_len R front no_items [] h = refl
 rows_len R front no_items (row ∷ rows) h = absurd h

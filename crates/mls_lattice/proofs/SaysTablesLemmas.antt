@@ -1,5 +1,5 @@
 -- Table by table: the rows that reading gives are those that the items say.
-use Rattle.std.proofs.Common.{◌≡◌, ℕ, ℤ, Bool, true, cond, ◌==◌, List, [], ◌∷◌, ◌++◌, append_assoc, is_some, false, map, codes, pos, Option, None, Some, Ok, Err, refl, sym, ap, ◌∙◌, subst, bit_and, position, bit_or, bytes_eq, int_eq, append-nil}
+use Rattle.std.proofs.Common.{◌≡◌, ℕ, ℤ, Bool, true, cond, ◌==◌, List, [], ◌∷◌, ◌++◌, append_assoc, is_some, false, map, codes, pos, Option, None, Some, Ok, Err, refl, sym, ap, ◌∙◌, subst, bit_and, position, bit_or, bytes_eq, int_eq, append-nil, ◌<◌, length, Result, inl, inr, arith, nat_eq, ne_eqb}
 use Rattle.std.specs.List.{list_any}
 use Rattle.std.specs.FinSet as set
 use Rattle.std.proofs.lemmas.Bool.Decides.{Decides-int_eq}
@@ -7,20 +7,22 @@ use Rattle.std.proofs.lemmas.List.Sums.{fold_push}
 use Rattle.std.specs.FinSet.{nat_cmp-IsAntisymmetric}
 use Rattle.std.proofs.lemmas.Cmp.{nat_cmp_total}
 use Rattle.toml.specs.Data.{Data, Items, no_items, item, Members, get_member, integer, array, table, as_str, as_integer, as_table}
+use Rattle.std.proofs.lemmas.Bool.{eqb-false}
+use Rattle.mls_lattice.specs.declared.fault.FieldFault.{FieldFault}
 use Rattle.mls_lattice.specs.declared.fault.FieldFault.TheVariants.{MissingField, WrongKind, Repeated, UnknownName, EmptyInterval}
 use Rattle.mls_lattice.specs.declared.version.Version.{Version}
 use Rattle.mls_lattice.specs.declared.version.Version.TheVariants.{One, Two}
 use Rattle.mls_lattice.specs.declared.tables.User.{User}
-use Rattle.mls_lattice.specs.declared.tables.Right.{Right}
+use Rattle.mls_lattice.specs.declared.tables.Grant.{Grant}
 use Rattle.mls_lattice.specs.Lattice.{Categories, Pair, same_pair}
 use Rattle.mls_lattice.specs.Labels.{below}
 use Rattle.mls_lattice.specs.Version.{version_number}
-use Rattle.mls_lattice.specs.Policy.{Name, Named, is_entry}
-use Rattle.mls_lattice.specs.Reading.{wanted, text_at, integer_at, table_at, name_at, name_field, texts_at, optional, version_at}
-use Rattle.mls_lattice.specs.PolicyReading.{once, place_in, label_place, user_place, new_name_at, more_categories, value_at, label_at, label_name_at, interval_at, trusted_at, user_at, mode_of, more_modes, right_at}
-use Rattle.mls_lattice.specs.Says.{Rows, SaysName, SaysCategory, SaysValue, SaysLabel, SaysPlace, SaysTrusted, SaysUser, SaysMode, together, SaysRight}
+use Rattle.mls_lattice.specs.Policy.{Name, Named}
+use Rattle.mls_lattice.specs.Reading.{◌>>=◌, wanted, text_at, integer_at, table_at, name_at, name_field, texts_at, optional, version_at, items_len, all_items}
+use Rattle.mls_lattice.specs.PolicyReading.{once, place_in, label_place, user_place, new_name_at, more_categories, value_at, label_at, label_name_at, interval_at, trusted_at, user_at, mode_of, more_modes, rows_at, one_or_more, user_no_at, user_nos_at, objects_at, grant_at}
+use Rattle.mls_lattice.specs.Says.{Rows, SaysName, SaysCategory, SaysValue, SaysLabel, SaysPlace, SaysTrusted, SaysUser, SaysMode, together, SaysUserNo, HasOneOrMore, SaysGrant}
 use Rattle.mls_lattice.proofs.ReadingLemmas.{ok_is, bind_ok, guard_ok, pass_ok, found_ok, string_from_as_str, integer_from_as_integer, table_from_as_table}
-use Rattle.mls_lattice.proofs.SaysLemmas.{rows_all, once_ok, name_found, field_found, field_again, kind_found, optional_found, optional_again}
+use Rattle.mls_lattice.proofs.SaysLemmas.{rows_found, rows_again, rows_len, rows_all, once_ok, name_found, field_found, field_again, kind_found, optional_found, optional_again}
 
 pub table_found : (d : Data) (fields : Members) → table_at d ≡ Ok fields → d ≡ table fields
 table_found d fields e = table_from_as_table d fields (found_ok (as_table d) WrongKind fields e)
@@ -299,58 +301,138 @@ modes_again before (item d ds) (m ∷ modes) h =
 mode_kind : (before : List ℕ) (d : Data) (mode : ℕ) → SaysMode before d mode → is_some (as_str d) ≡ true
 mode_kind before d mode h = rw h.text refl
 
-pub right_found : (users : List User) (before : List Right) (d : Data) (r : Right) → right_at users before d ≡ Ok r
-    → SaysRight users before d r
-unfolding right_at
-right_found users before d r e =
-    let t = bind_ok (table_at d) _ r e in
-    let a = bind_ok (name_field (codes "user") t.0) _ r t.2 in
-    let b = bind_ok (user_place users a.0) _ r a.2 in
-    let c = bind_ok (name_field (codes "object") t.0) _ r b.2 in
-    let f = bind_ok (wanted (codes "modes") t.0) _ r c.2 in
-    let g = bind_ok (texts_at f.0) _ r f.2 in
-    let m = bind_ok (more_modes 0 g.0) _ r g.2 in
-    let o = bind_ok (once (list_any (is_entry b.0 c.0) before)) _ r m.2 in
-    let modes = modes_found [] g.0 m.0 m.1 in
-    let made : Right = record { user = b.0; object = c.0; modes = record { 0 = m.0 } } in
-    subst (λ (x : Right). SaysRight users before d x) (ok_is made r o.2)
+-- ---- users and objects of a grant
+
+one_found : (one many : List ℕ) (fields : Members) (ds : Items) → one_or_more (get_member one fields)
+    (get_member many fields) ≡ Ok ds → HasOneOrMore one many fields ds × (0 < items_len ds)
+one_found one many fields ds e = go (get_member one fields) (get_member many fields) refl refl e
+  where
+    go : (o p : Option Data) → get_member one fields ≡ o → get_member many fields ≡ p → one_or_more o p ≡ Ok ds
+        → HasOneOrMore one many fields ds × (0 < items_len ds)
+    go None None is are e = absurd cc
+    go None (Some d) is are e =
+        let a = bind_ok (texts_at d) _ ds e in
+        let b = guard_ok (items_len a.0 == 0) MissingField (Ok a.0) ds a.2 in
+        let same : a.0 ≡ ds = ok_is a.0 ds b.1 in
+        let not_none : items_len a.0 ≡ 0 → ⊥ = eqb-false (items_len a.0) 0 b.0 in
+        let len : items_len a.0 ≡ items_len ds = ap items_len same in (
+          inr (is, are ∙ ap (λ (x : Data). Some x) (kind_found (λ x. is_some (as_str x)) d a.0 a.1 ∙ ap array same)),
+          omega (arith, not_none, len),
+        )
+    go (Some d) None is are e =
+        let same : item d no_items ≡ ds = ok_is (item d no_items) ds e in
+        (inl (d, is, are, sym same), subst (λ (x : Items). 0 < items_len x) same (omega arith))
+    go (Some d) (Some ds) is are e = absurd cc
+
+one_again : (one many : List ℕ) (fields : Members) (ds : Items) → HasOneOrMore one many fields ds
+    → all_items (λ x. is_some (as_str x)) ds ≡ true → 0 < items_len ds
+    → one_or_more (get_member one fields) (get_member many fields) ≡ Ok ds
+one_again one many fields ds (inl (d, is, are, same)) all some = rw (is, are) (ap (λ (x : Items). Ok x) (sym same))
+one_again one many fields ds (inr (is, are)) all some =
+    rw (is, are, all, ne_eqb (items_len ds) 0 (λ e. omega (arith, some, e))) refl
+
+user_no_found : (users : List User) (before : List ℕ) (d : Data) (k : ℕ) → user_no_at users before d ≡ Ok k
+    → SaysUserNo users before d k
+unfolding user_no_at
+user_no_found users before d k e =
+    let a = bind_ok (name_at d) _ k e in
+    let b = bind_ok (user_place users a.0) _ k a.2 in
+    let c = bind_ok (once (list_any (λ other. nat_eq other b.0) before)) _ k b.2 in
+    let n = name_found d a.0 a.1 in
+    subst (λ (x : ℕ). SaysUserNo users before d x) (ok_is b.0 k c.2)
+    (record {
+      name = a.0;
+      text = n.0;
+      is_name = n.1;
+      place = found_ok (position (λ u. bytes_eq u.name a.0) users) UnknownName b.0 b.1;
+      new = once_ok _ c.0 c.1;
+    })
+
+user_no_again : (users : List User) (before : List ℕ) (d : Data) (k : ℕ) → SaysUserNo users before d k
+    → user_no_at users before d ≡ Ok k
+unfolding user_no_at
+user_no_again users before d k h = rw (h.text, h.is_name, h.place, h.new) refl
+
+user_no_kind : (users : List User) (before : List ℕ) (d : Data) (k : ℕ) → SaysUserNo users before d k
+    → is_some (as_str d) ≡ true
+user_no_kind users before d k h = rw h.text refl
+
+-- the rows that stand at one of two keys
+module _ {B : Type 0} (read : List B → Data → Result B FieldFault) (R : List B → Data → B → Type 0) (one many : List ℕ)
+    (fields : Members) where
+  some_rows_found : ((before : List B) (d : Data) (row : B) → read before d ≡ Ok row → R before d row)
+      → (all : List B) → (one_or_more (get_member one fields) (get_member many fields) >>= rows_at read []) ≡ Ok all
+      → (ds : Items) × HasOneOrMore one many fields ds × Rows R [] ds all × (0 < length all)
+  some_rows_found found all e =
+      let a = bind_ok (one_or_more (get_member one fields) (get_member many fields)) _ all e in
+      let has = one_found one many fields a.0 a.1 in
+      let r = rows_found read R found [] a.0 all a.2 in
+      let rows : Rows R [] a.0 all = subst (λ (x : List B). Rows R [] a.0 x) (sym r.1) r.2 in
+      let len = rows_len R [] a.0 all rows in
+      let some = has.1 in
+      (a.0, has.0, rows, omega (arith, some, len))
+
+  some_rows_again : ((before : List B) (d : Data) (row : B) → R before d row → read before d ≡ Ok row)
+      → ((before : List B) (d : Data) (row : B) → R before d row → is_some (as_str d) ≡ true)
+      → (ds : Items) (all : List B) → HasOneOrMore one many fields ds → Rows R [] ds all → 0 < length all
+      → (one_or_more (get_member one fields) (get_member many fields) >>= rows_at read []) ≡ Ok all
+  some_rows_again again kind ds all has rows some =
+      let len = rows_len R [] ds all rows in
+      let texts = rows_all R (λ x. is_some (as_str x)) kind [] ds all rows in
+      rw (one_again one many fields ds has texts (omega (arith, some, len))) (rows_again read R again [] ds all rows)
+
+-- ---- grants
+
+pub grant_found : (users : List User) (d : Data) (g : Grant) → grant_at users d ≡ Ok g → SaysGrant users d g
+unfolding grant_at
+grant_found users d g e =
+    let t = bind_ok (table_at d) _ g e in
+    let a = bind_ok (user_nos_at users t.0) _ g t.2 in
+    let c = bind_ok (objects_at t.0) _ g a.2 in
+    let f = bind_ok (wanted (codes "modes") t.0) _ g c.2 in
+    let h = bind_ok (texts_at f.0) _ g f.2 in
+    let m = bind_ok (more_modes 0 h.0) _ g h.2 in
+    let modes = modes_found [] h.0 m.0 m.1 in
+    let subjects = some_rows_found (user_no_at users) (SaysUserNo users) (codes "user") (codes "users") t.0
+    (user_no_found users) a.0 a.1 in
+    let things = some_rows_found new_name_at SaysName (codes "object") (codes "objects") t.0 new_name_found c.0 c.1 in
+    let made : Grant = record { users = a.0; objects = c.0; modes = record { 0 = m.0 } } in
+    subst (λ (x : Grant). SaysGrant users d x) (ok_is made g m.2)
     (record {
       fields = t.0;
       is_table = table_found d t.0 t.1;
-      name = a.0;
-      has_user = field_found (codes "user") t.0 a.0 a.1;
-      user = found_ok (position (λ u. bytes_eq u.name a.0) users) UnknownName b.0 b.1;
-      object = field_found (codes "object") t.0 c.0 c.1;
-      items = g.0;
+      subjects = subjects.0;
+      has_users = subjects.1;
+      says_users = subjects.2;
+      some_user = subjects.3;
+      things = things.0;
+      has_objects = things.1;
+      says_objects = things.2;
+      some_object = things.3;
+      items = h.0;
       has_items = found_ok (get_member (codes "modes") t.0) MissingField f.0 f.1 ∙ ap (λ (x : Data). Some x)
-          (kind_found (λ x. is_some (as_str x)) f.0 g.0 g.1);
+          (kind_found (λ x. is_some (as_str x)) f.0 h.0 h.1);
       modes = modes.0;
       says_modes = modes.1;
       all_modes = modes.2;
-      new = once_ok _ o.0 o.1;
     })
 
-pub right_again : (users : List User) (before : List Right) (d : Data) (r : Right) → SaysRight users before d r
-    → right_at users before d ≡ Ok r
-unfolding right_at
-right_again users before d r h =
+pub grant_again : (users : List User) (d : Data) (g : Grant) → SaysGrant users d g → grant_at users d ≡ Ok g
+unfolding grant_at
+grant_again users d g h =
     let kinds = rows_all SaysMode (λ x. is_some (as_str x)) mode_kind [] h.items h.modes h.says_modes in
-    let modes : more_modes 0 h.items ≡ Ok r.modes.0 = modes_again [] h.items h.modes h.says_modes ∙ ap (λ (n : ℕ). Ok n)
+    let modes : more_modes 0 h.items ≡ Ok g.modes.0 = modes_again [] h.items h.modes h.says_modes ∙ ap (λ (n : ℕ). Ok n)
     (sym h.all_modes) in
-    rw (
-      h.is_table,
-      field_again (codes "user") h.fields h.name h.has_user,
-      h.user,
-      field_again (codes "object") h.fields r.object h.object,
-      h.has_items,
-      kinds,
-      modes,
-      h.new,
-    ) refl
+    let subjects : user_nos_at users h.fields ≡ Ok g.users =
+    some_rows_again (user_no_at users) (SaysUserNo users) (codes "user") (codes "users") h.fields (user_no_again users)
+    (user_no_kind users) h.subjects g.users h.has_users h.says_users h.some_user in
+    let things : objects_at h.fields ≡ Ok g.objects =
+    some_rows_again new_name_at SaysName (codes "object")
+    (codes "objects") h.fields new_name_again name_kind h.things g.objects h.has_objects h.says_objects h.some_object in
+    rw (h.is_table, subjects, things, h.has_items, kinds, modes) refl
 
-pub right_kind : (users : List User) (before : List Right) (d : Data) (r : Right) → SaysRight users before d r
-    → is_some (as_table d) ≡ true
-right_kind users before d r h = rw h.is_table refl
+pub grant_kind : (users : List User) (d : Data) (g : Grant) → SaysGrant users d g → is_some (as_table d) ≡ true
+grant_kind users d g h = rw h.is_table refl
 
 -- ---- all of it
 

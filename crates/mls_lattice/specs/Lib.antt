@@ -3,9 +3,11 @@
 pub mod Fault
 pub mod Name
 pub mod Version
+pub mod Time
 pub mod Lattice
 pub mod Labels
 pub mod Policy
+pub mod Known
 pub mod Reading
 pub mod PolicyReading
 pub mod Canon

@@ -1,5 +1,5 @@
 -- What a policy is: its version, levels, categories, labels and users, and the matrix of rights.
-use Rattle.std.specs.Prelude.{◌≡◌, ℕ, ◌<◌, ◌≤◌, Bool, true, ◌&&◌, List, [], ◌∷◌, map, length, if◌then◌else◌, nat_eq}
+use Rattle.std.specs.Prelude.{◌≡◌, ℕ, ◌<◌, ◌≤◌, Bool, true, ◌&&◌, List, [], ◌∷◌, map, length, if◌then◌else◌, nat_eq, flat_map}
 use Rattle.std.specs.Prelude.{IfSome, bytes_eq}
 use Rattle.std.specs.List.{AllByRecursion, IsDistinct}
 use Rattle.mls_lattice.specs.Lattice.{Pair, pair_of}
@@ -9,6 +9,8 @@ use Rattle.mls_lattice.specs.declared.version.Version.{Version}
 use Rattle.mls_lattice.specs.declared.tables.NamedLabel.{NamedLabel}
 use Rattle.mls_lattice.specs.declared.tables.User.{User}
 use Rattle.mls_lattice.specs.declared.tables.Right.{Right}
+use Rattle.mls_lattice.specs.declared.tables.Grant.{Grant}
+use Rattle.mls_lattice.specs.declared.modes.Modes.{Modes}
 
 -- the bytes of a name
 abbrev pub Name : Type 0
@@ -68,6 +70,13 @@ is_entry user object r = nat_eq r.user user && bytes_eq r.object object
 abbrev pub same_entry : Right → Right → Bool
 same_entry r s = is_entry r.user r.object s
 
+-- an entry of a grant, and all of them: users outside, in the order of both lists
+abbrev pub right_of : ℕ → Modes → Name → Right
+right_of user modes object = record { user = user; object = object; modes = modes }
+
+abbrev pub rights_of : Grant → List Right
+rights_of g = flat_map (λ user. map (right_of user g.modes) g.objects) g.users
+
 -- What holds of every policy: names are NAMEs, none is twice where it names a thing, no two labels have one value, what
 -- a row
 -- names is declared, and a trusted interval isn't empty.
@@ -85,12 +94,12 @@ pub record IsPolicy (p : Policy) : Type 0 where
   pub names : IsDistinct bytes_eq (map (λ l. l.name) p.labels)
   pub distinct : AreDistinct (labels_of p)
   pub ranked : AllByRecursion (HasLevel (length p.levels)) p.labels
-  pub few_users : length p.users ≤ 64
+  pub few_users : length p.users ≤ 1024
   pub user_names : AreNames (map (λ u. u.name) p.users)
   pub users : IsDistinct bytes_eq (map (λ u. u.name) p.users)
   pub cleared : AllByRecursion (IsCleared (length p.labels)) p.users
   pub trusted : AllByRecursion (IsTrusted (labels_of p)) p.users
-  pub few_rights : length p.matrix ≤ 1024
+  pub few_rights : length p.matrix ≤ 16384
   pub object_names : AreNames (map (λ r. r.object) p.matrix)
   pub held : AllByRecursion (HasUser (length p.users)) p.matrix
   pub known : AllByRecursion HasKnownModes p.matrix

@@ -1,19 +1,20 @@
 -- The policy that a document says, or its first fault.
 use Rattle.std.specs.Prelude.{ℕ, Bool, ◌==◌, bit_and, List, [], ◌∷◌, ◌++◌, map, codes, if◌then◌else◌, Option, Some}
-use Rattle.std.specs.Prelude.{None, Result, Ok, Err, ok_or, position, bit_or, bytes_eq}
+use Rattle.std.specs.Prelude.{None, Result, Ok, Err, ok_or, position, bit_or, bytes_eq, length, nat_eq, nat_le}
 use Rattle.std.specs.Ordering.{nat_cmp}
 use Rattle.std.specs.List.{list_any}
 use Rattle.std.specs.FinSet as set
 use Rattle.toml.specs.Data.{Data, Items, no_items, item, Members, get_member}
 use Rattle.mls_lattice.specs.declared.fault.FieldFault.{FieldFault}
-use Rattle.mls_lattice.specs.declared.fault.FieldFault.TheVariants.{WrongKind, Repeated, UnknownName, EmptyInterval}
+use Rattle.mls_lattice.specs.declared.fault.FieldFault.TheVariants.{MissingField, WrongKind, Repeated, UnknownName, TooMany, EmptyInterval}
 use Rattle.mls_lattice.specs.declared.tables.User.{User}
 use Rattle.mls_lattice.specs.declared.tables.Right.{Right}
+use Rattle.mls_lattice.specs.declared.tables.Grant.{Grant}
 use Rattle.mls_lattice.specs.Lattice.{Pair, same_pair}
 use Rattle.mls_lattice.specs.Labels.{below}
-use Rattle.mls_lattice.specs.Policy.{Name, Named, Policy, is_entry}
+use Rattle.mls_lattice.specs.Policy.{Name, Named, Policy, same_entry, rights_of}
 use Rattle.mls_lattice.specs.Reading.{◌>>=◌, wanted, text_at, table_at, version_at, name_at, name_field, texts_at}
-use Rattle.mls_lattice.specs.Reading.{tables_at, optional, bounded, some_of}
+use Rattle.mls_lattice.specs.Reading.{tables_at, optional, bounded, some_of, items_len}
 
 -- the rows of the items, after those in front, which each row may depend on
 abbrev pub rows_at : {B : Type 0} → (List B → Data → Result B FieldFault) → List B → Items → Result (List B) FieldFault
@@ -35,6 +36,10 @@ abbrev pub user_place : List User → Name → Result ℕ FieldFault
 user_place users name = ok_or (position (λ u. bytes_eq u.name name) users) UnknownName
 
 -- ---- levels, categories
+
+-- those in front and a name that is none of them
+abbrev pub with_name : List Name → Name → Result (List Name) FieldFault
+with_name front name = once (list_any (bytes_eq name) front) >>= λ new. Ok (front ++ name ∷ [])
 
 -- a name that is none of those in front
 unfoldable pub new_name_at : List Name → Data → Result Name FieldFault
@@ -118,7 +123,7 @@ user_at labels front d = do
 unfoldable pub users_at : List Named → Members → Result (List User) FieldFault
 users_at labels document = do
   all ← optional tables_at (get_member (codes "user") document)
-  ds ← bounded 64 all
+  ds ← bounded 1024 all
   rows_at (user_at labels) [] ds
 
 -- ---- the matrix
@@ -137,23 +142,60 @@ more_modes modes (item d ds) =
     text_at d >>= λ word. mode_of word >>= λ mode.
     if bit_and modes mode == mode then Err Repeated else more_modes (bit_or modes mode) ds
 
-unfoldable pub right_at : List User → List Right → Data → Result Right FieldFault
-right_at users front d = do
-  fields ← table_at d
-  name ← name_field (codes "user") fields
+-- the items at one of two keys: a name at the first, or a list of them at the second, one at least
+abbrev pub one_or_more : Option Data → Option Data → Result Items FieldFault
+one_or_more None None = Err MissingField
+one_or_more None (Some many) = texts_at many >>= λ ds. if items_len ds == 0 then Err MissingField else Ok ds
+one_or_more (Some one) None = Ok (item one no_items)
+one_or_more (Some one) (Some many) = Err WrongKind
+
+abbrev pub is_named : List ℕ → ℕ → Bool
+is_named front user = list_any (λ other. nat_eq other user) front
+
+-- a user that is none of those in front
+unfoldable pub user_no_at : List User → List ℕ → Data → Result ℕ FieldFault
+user_no_at users front d = do
+  name ← name_at d
   user ← user_place users name
-  object ← name_field (codes "object") fields
+  new ← once (is_named front user)
+  Ok user
+
+abbrev pub user_nos_at : List User → Members → Result (List ℕ) FieldFault
+user_nos_at users fields =
+    one_or_more (get_member (codes "user") fields) (get_member (codes "users") fields) >>= rows_at (user_no_at users) []
+
+abbrev pub objects_at : Members → Result (List Name) FieldFault
+objects_at fields = one_or_more (get_member (codes "object") fields) (get_member (codes "objects") fields) >>=
+    rows_at new_name_at []
+
+unfoldable pub grant_at : List User → Data → Result Grant FieldFault
+grant_at users d = do
+  fields ← table_at d
+  nos ← user_nos_at users fields
+  objects ← objects_at fields
   words ← wanted (codes "modes") fields
   ds ← texts_at words
   modes ← more_modes 0 ds
-  new ← once (list_any (is_entry user object) front)
-  Ok (record { user = user; object = object; modes = record { 0 = modes } })
+  Ok (record { users = nos; objects = objects; modes = record { 0 = modes } })
+
+-- the entries after those in front, one by one: each of them is new, and there are 16,384 at most
+abbrev pub more_rights : List Right → List Right → Result (List Right) FieldFault
+more_rights front [] = Ok front
+more_rights front (r ∷ rs) =
+    if list_any (same_entry r) front then Err Repeated else
+    if nat_le 16384 (length front) then Err TooMany else more_rights (front ++ r ∷ []) rs
+
+-- the entries of all grants, which are read and added one by one
+abbrev pub rights_at : List User → List Right → Items → Result (List Right) FieldFault
+rights_at users front no_items = Ok front
+rights_at users front (item d ds) =
+    grant_at users d >>= λ grant. more_rights front (rights_of grant) >>= λ more. rights_at users more ds
 
 unfoldable pub matrix_at : List User → Members → Result (List Right) FieldFault
 matrix_at users document = do
   all ← optional tables_at (get_member (codes "matrix") document)
-  ds ← bounded 1024 all
-  rows_at (right_at users) [] ds
+  ds ← bounded 16384 all
+  rights_at users [] ds
 
 -- ---- all of it
 

@@ -1,16 +1,17 @@
 -- The document of a policy: how each table stands in it, with no word of how it is read.
 use Rattle.std.specs.Prelude.{◌≡◌, ◌⊎◌, ℕ, pos, ◌<◌, ◌≤◌, true, false, ◌==◌, bit_and, List, [], ◌∷◌, ◌++◌, length, map}
-use Rattle.std.specs.Prelude.{codes, nat_eq, Option, Some, None, Ok, position, ⊤, bit_or, fold, bytes_eq}
-use Rattle.std.specs.List.{list_any}
+use Rattle.std.specs.Prelude.{codes, nat_eq, Option, Some, None, Ok, position, ⊤, bit_or, fold, bytes_eq, flat_map}
+use Rattle.std.specs.List.{list_any, IsDistinct}
 use Rattle.std.specs.FinSet as set
 use Rattle.toml.specs.Data.{Data, Items, no_items, item, Members, get_member, string, integer, array, table}
 use Rattle.mls_lattice.specs.declared.tables.User.{User}
 use Rattle.mls_lattice.specs.declared.tables.Right.{Right}
+use Rattle.mls_lattice.specs.declared.tables.Grant.{Grant}
 use Rattle.mls_lattice.specs.Lattice.{Pair, same_pair}
 use Rattle.mls_lattice.specs.Labels.{below}
 use Rattle.mls_lattice.specs.Name.{is_name}
 use Rattle.mls_lattice.specs.Version.{version_number}
-use Rattle.mls_lattice.specs.Policy.{Name, Named, Policy, is_entry}
+use Rattle.mls_lattice.specs.Policy.{Name, Named, Policy, same_entry, rights_of}
 use Rattle.mls_lattice.specs.PolicyReading.{mode_of}
 
 -- the items say the rows, one each, where a row may depend on those before it
@@ -107,19 +108,44 @@ pub record SaysMode (before : List ℕ) (d : Data) (mode : ℕ) : Type 0 where
   pub is_word : mode_of word ≡ Ok mode
   pub new : (bit_and (together before) mode == mode) ≡ false
 
-pub record SaysRight (users : List User) (before : List Right) (d : Data) (r : Right) : Type 0 where
+-- the user of a name, who is none of those before
+pub record SaysUserNo (users : List User) (before : List ℕ) (d : Data) (k : ℕ) : Type 0 where
+  pub name : Name
+  pub text : d ≡ string name
+  pub is_name : is_name name ≡ true
+  pub place : position (λ u. bytes_eq u.name name) users ≡ Some k
+  pub new : list_any (λ other. nat_eq other k) before ≡ false
+
+-- one of two keys is there: the first has the one item, or the second an array of these items
+abbrev pub HasOneOrMore : List ℕ → List ℕ → Members → Items → Type 0
+HasOneOrMore one many fields ds =
+    ((d : Data) × (get_member one fields ≡ Some d) × (get_member many fields ≡ None) × (ds ≡ item d no_items))
+    ⊎ ((get_member one fields ≡ None) × HasItems many fields ds)
+
+pub record SaysGrant (users : List User) (d : Data) (g : Grant) : Type 0 where
   pub fields : Members
   pub is_table : d ≡ table fields
-  pub name : Name
-  pub has_user : HasName (codes "user") fields name
-  pub user : position (λ u. bytes_eq u.name name) users ≡ Some r.user
-  pub object : HasName (codes "object") fields r.object
+  pub subjects : Items
+  pub has_users : HasOneOrMore (codes "user") (codes "users") fields subjects
+  pub says_users : Rows (SaysUserNo users) [] subjects g.users
+  pub some_user : 0 < length g.users
+  pub things : Items
+  pub has_objects : HasOneOrMore (codes "object") (codes "objects") fields things
+  pub says_objects : Rows SaysName [] things g.objects
+  pub some_object : 0 < length g.objects
   pub items : Items
   pub has_items : HasItems (codes "modes") fields items
   pub modes : List ℕ
   pub says_modes : Rows SaysMode [] items modes
-  pub all_modes : r.modes.0 ≡ together modes
-  pub new : list_any (is_entry r.user r.object) before ≡ false
+  pub all_modes : g.modes.0 ≡ together modes
+
+-- the tables say grants, whose entries are the matrix: no user has two for one object
+pub record SaysMatrix (users : List User) (document : Members) (matrix : List Right) : Type 0 where
+  pub grants : List Grant
+  pub has : (ds : Items) × MayHaveItems (codes "matrix") document ds × Rows (λ before. SaysGrant users) [] ds grants
+  pub entries : matrix ≡ flat_map rights_of grants
+  pub apart : IsDistinct same_entry matrix
+  pub few : length matrix ≤ 16384
 
 -- ---- all of it
 
@@ -142,6 +168,5 @@ pub record Says (document : Members) (p : Policy) : Type 0 where
   pub some_label : 0 < length p.labels
   pub few_labels : length p.labels ≤ 64
   pub users : MayHaveRows (SaysUser p.labels) (codes "user") document p.users
-  pub few_users : length p.users ≤ 64
-  pub matrix : MayHaveRows (SaysRight p.users) (codes "matrix") document p.matrix
-  pub few_rights : length p.matrix ≤ 1024
+  pub few_users : length p.users ≤ 1024
+  pub matrix : SaysMatrix p.users document p.matrix

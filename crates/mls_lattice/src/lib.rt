@@ -24,6 +24,7 @@ mod number;
 mod policy;
 mod tables;
 mod text;
+mod time;
 mod trail;
 mod users;
 mod version;
@@ -38,6 +39,7 @@ pub use name::{is_name, is_name_byte};
 pub use number::{LabelNo, UserNo};
 pub use policy::Policy;
 pub use text::{Str, ascii_text, digits_len};
+pub use time::{TIME_BYTES, is_time};
 pub use trail::{Refused, Step, Trail};
 pub use version::Version;
 

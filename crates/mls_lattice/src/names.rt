@@ -1,9 +1,9 @@
 //! Lists of names.
-ghost use Rattle.std.specs.Prelude.{◌≡◌, ◌<◌, [], length, IfOk, IfSome, position, bytes_eq};
-ghost use Rattle.std.specs.List.{list_any};
-ghost use Rattle.toml.specs.View.{view, items_view};
+ghost use Rattle.std.specs.Prelude.{◌≡◌, ◌<◌, [], length, IfOk, OnOk, IfSome, position, bytes_eq};
+ghost use Rattle.toml.specs.View.{items_view};
 ghost use Rattle.mls_lattice.specs.Reading.{Shows, Gives};
-ghost use Rattle.mls_lattice.specs.PolicyReading.{rows_at, new_name_at, place_in};
+ghost use Rattle.mls_lattice.specs.PolicyReading.{rows_at, with_name, new_name_at, place_in};
+ghost use Rattle.mls_lattice.specs.Known.{KnowsNames};
 
 use crate::document::name_of;
 use crate::failed::Failed;
@@ -11,39 +11,44 @@ use crate::fault::FieldFault;
 use crate::text::Str;
 use crate::trail::Trail;
 use std::alloc::Global;
+use std::collections::BTreeSet;
 use toml::Value;
 
-fn contains(names: &[Str], name: &str) -> bool
-    ensures { result ≡ list_any (bytes_eq name.now) names.now }
+/// Adds a name to those that a reader has met, where it is new.
+#[tactic(auto, using(crate::proofs::KnownLemmas::add_steps))]
+fn add_name(
+    names: &mut Vec<Str>,
+    known: &mut BTreeSet<Str>,
+    name: Str,
+) -> Result<(), Failed<FieldFault>>
+    requires known { KnowsNames known.old names.old.items }
+    ensures adds { Gives (λ _. names.new.items) result (with_name names.old.items name) }
+    ensures known { OnOk result (KnowsNames known.new names.new.items) }
 {
-    names.iter().any(|other| name == other.as_str())
-}
-
-#[tactic(auto, unfolding(crate::specs::PolicyReading::new_name_at))]
-fn new_name<'a>(names: &[Str], value: &'a Value) -> Result<&'a str, FieldFault>
-    ensures { Shows (λ s. s.now) result (new_name_at names.now (view value.now)) }
-{
-    let name = name_of(value)?;
-    if contains(names, name) {
-        return Err(FieldFault::Repeated);
+    if !known.insert(name.clone()?)? {
+        return Err(Failed::Fault(FieldFault::Repeated));
     }
-    Ok(name)
+    names.push(name)?;
+    Ok(())
 }
 
-/// The names of an array, none of them twice.
+/// The names of an array, none of them twice; it stands so many steps below the top.
+#[tactic(auto, using(crate::proofs::KnownLemmas::name_steps))]
 pub(crate) fn names_of(
     alloc: Global,
     items: &[Value],
     at: &mut Trail,
+    depth: usize,
 ) -> Result<Vec<Str>, Failed<FieldFault>>
     ensures reads { Gives (λ v. v.items) result (rows_at new_name_at [] (items_view items.now)) }
     ensures count { IfOk result (λ v. length v.items ≡ length items.now) }
 {
     let mut names = Vec::new(alloc);
+    let mut known = BTreeSet::new(alloc);
     for value in items {
-        at.next(0);
-        let name = new_name(&names, value)?;
-        names.push(Str::copy_of(alloc, name)?)?;
+        at.next(depth);
+        let name = Str::copy_of(alloc, name_of(value)?)?;
+        add_name(&mut names, &mut known, name)?;
     }
     Ok(names)
 }

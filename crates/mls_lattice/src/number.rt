@@ -45,7 +45,7 @@ impl LabelNo {
 /// The number of a user: its place in the policy, from 0.
 #[derive(Clone, Copy, PartialEq, Eq, PartialOrd, Ord)]
 pub struct UserNo {
-    number: u8,
+    number: u16,
 }
 
 impl Model for UserNo {
@@ -60,7 +60,7 @@ impl Model for UserNo {
 
 impl UserNo {
     /// The number as one.
-    pub fn new(number: u8) -> UserNo
+    pub fn new(number: u16) -> UserNo
         ensures { result ≡ number }
     {
         UserNo { number }

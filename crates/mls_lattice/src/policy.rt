@@ -251,7 +251,7 @@ impl Policy {
         ensures { result ≡ position (λ u. bytes_eq u.name name.now) self.now.users }
     {
         match position_of_user(&self.users, name) {
-            Some(place) => Some(UserNo::new(place as u8)),
+            Some(place) => Some(UserNo::new(place as u16)),
             None => None,
         }
     }
@@ -332,7 +332,7 @@ fn levels_of(
 {
     let all = texts_of(wanted(document, at.field(0, "levels"))?)?;
     let items = some_of(all, MAX_LEVELS)?;
-    names_of(alloc, items, at)
+    names_of(alloc, items, at, 0)
 }
 
 #[tactic(auto, using(crate::proofs::ReadingLemmas::counts), unfolding(crate::specs::PolicyReading::categories_at))]
@@ -346,7 +346,7 @@ fn categories_of(
 {
     let all = optional_texts(document, at.field(0, "categories"))?;
     let items = bounded(all, MAX_CATEGORIES)?;
-    names_of(alloc, items, at)
+    names_of(alloc, items, at, 0)
 }
 
 #[tactic(auto, unfolding(crate::specs::PolicyReading::policy_at))]

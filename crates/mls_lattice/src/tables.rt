@@ -1,4 +1,5 @@
 //! The rows of a policy's tables.
+use crate::items::Items;
 use crate::label::Label;
 use crate::modes::Modes;
 use crate::number::{LabelNo, UserNo};
@@ -24,5 +25,13 @@ pub struct User {
 pub struct Right {
     pub user: UserNo,
     pub object: Str,
+    pub modes: Modes,
+}
+
+/// What a table of the matrix grants: these modes to each of the users, for each of the objects.
+#[derive(Drop)]
+pub struct Grant {
+    pub users: Items<UserNo>,
+    pub objects: Items<Str>,
     pub modes: Modes,
 }

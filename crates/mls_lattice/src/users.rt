@@ -21,7 +21,7 @@ use std::alloc::Global;
 use toml::{Table, Value};
 
 /// The most users of a policy.
-const MAX_USERS: usize = 64;
+const MAX_USERS: usize = 1024;
 
 /// The number of the label that a string names.
 fn label_named(labels: &[NamedLabel], value: &Value) -> Result<LabelNo, FieldFault>
@@ -143,7 +143,7 @@ pub(crate) fn users_of(
 ) -> Result<Vec<User>, Failed<FieldFault>>
     requires { length labels.now ≤ 64 }
     ensures reads { Gives (λ v. v.items) result (users_at (map named labels.now) (table_view document.now)) }
-    ensures count { IfOk result (λ v. length v.items ≤ 64) }
+    ensures count { IfOk result (λ v. length v.items ≤ 1024) }
 {
     let all = optional_tables(document, at.field(0, "user"))?;
     let items = bounded(all, MAX_USERS)?;

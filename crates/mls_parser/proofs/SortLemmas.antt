@@ -194,8 +194,8 @@ module _ (p : Context) where
 
   pub literal_kind : (v : Value) → IsLiteral v → is_kind v (kind_of v) ≡ true
   literal_kind (values.Int n) h = signed-from n h
-  literal_kind (values.Text s) h = sym (text-from s h.utf8) ∙ (let lt : length s ≤ 1024 = h.short
+  literal_kind (values.Text s) h = sym (text-from s h.utf8) ∙ (let lt : length s ≤ 8192 = h.short
       in short (length s) lt)
     where
-      short : (n : ℕ) → n ≤ 1024 → nat_lt n (2 ^ 32) ≡ true
+      short : (n : ℕ) → n ≤ 8192 → nat_lt n (2 ^ 32) ≡ true
       short n h = grind (arith, nat_tests)

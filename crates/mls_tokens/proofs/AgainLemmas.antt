@@ -1,20 +1,21 @@
 -- What the relation says is what is scanned.
-use Rattle.std.proofs.Common.{◌≡◌, ℕ, zero, suc, ◌<◌, ◌≤◌, ◌^◌, ℤ, pos, neg_ℤ, true, false, ◌&&◌, ◌||◌, ◌==◌, List, [], ◌∷◌, ◌++◌, length, slice_index, Ok, inl, inr, refl, sym, ap, ◌∙◌, subst, arith, one-add, append_assoc, FitsSigned, w64, flat_map, le-ltb, le-leb, lt-ltb, take_at, drop_at, append-nil}
-use Rattle.std.specs.List.{AllByRecursion}
+use Rattle.std.proofs.Common.{◌≡◌, ℕ, zero, suc, Bool, ◌<◌, ◌≤◌, ◌^◌, ℤ, pos, neg_ℤ, true, false, ◌&&◌, ◌||◌, ◌==◌, List, [], ◌∷◌, ◌++◌, length, slice_index, Ok, inl, inr, refl, sym, ap, ◌∙◌, subst, arith, one-add, append_assoc, FitsSigned, w64, flat_map, le-ltb, le-leb, lt-ltb, take_at, drop_at, append-nil}
 use Rattle.std.specs.Char.{is_ascii_alphabetic, is_ascii_digit}
 use Rattle.std.specs.Str.{all_ascii_digits}
 use Rattle.std.specs.Str.Parse.{digits_value}
 use Rattle.std.proofs.lemmas.Str.{is_utf8-from_IsUtf8}
-use Rattle.std.proofs.lemmas.Bool.{cases_Bool, and_parts}
+use Rattle.std.proofs.lemmas.Bool.{and_parts}
 use Rattle.std.proofs.lemmas.Bool.Decides.{nat_tests}
 use Rattle.mls_lattice.specs.Name.{is_name_byte}
+use Rattle.mls_tokens.specs.declared.quoted.Mode.TheVariants.{Plain}
 use Rattle.mls_tokens.specs.declared.token.Token.{Token}
 use Rattle.mls_tokens.specs.declared.token.Token.TheVariants.{Word, Int, Text, Sign as Sign_token}
 use Rattle.mls_tokens.specs.declared.sign.Sign.{Sign}
 use Rattle.mls_tokens.specs.Sign.{sign_text, sign_goes_on}
-use Rattle.mls_tokens.specs.Writing.{is_control, is_escaped, quoted_byte, quoted}
-use Rattle.mls_tokens.specs.Text.{is_blank, IsWord, IsDigits, IsInt, IsText, Spells, goes_on}
+use Rattle.mls_tokens.specs.Writing.{is_control, is_escaped, quoted_byte, quoted, IsText}
+use Rattle.mls_tokens.specs.Text.{is_blank, IsWord, IsDigits, IsInt, Spells, goes_on}
 use Rattle.mls_tokens.specs.Scanning.{leading_word, int_value, int_length, leading_int, starts_int, text_at, utf8_of, leading_quoted, leading_token}
+use Rattle.mls_tokens.proofs.HexLemmas.{digits_pair}
 use Rattle.mls_tokens.proofs.RunLemmas.{AllAre, run_len}
 use Rattle.mls_tokens.proofs.SignLemmas.{sign_again, are_sign_bytes, sign_bytes}
 use Rattle.mls_tokens.proofs.GapLemmas.{begins_gap}
@@ -105,26 +106,28 @@ letter_front b h = (grind (arith, nat_tests), grind (arith, nat_tests))
 escaped_quote : (b : ℕ) → is_escaped b ≡ false → ((b == 34) ≡ false) × ((b == 92) ≡ false)
 escaped_quote b h = (grind (arith, nat_tests), grind (arith, nat_tests))
 
-text_again : (s front rest : List ℕ) → AllByRecursion (λ b. is_control b ≡ false) s
-    → text_at false front (flat_map quoted_byte s ++ 34 ∷ rest) ≡ Ok (front ++ s, rest)
-text_again [] front rest h = ap (λ (x : List ℕ). Ok (x, rest)) (sym (append-nil front))
-text_again (b ∷ bs) front rest h =
-    elim (cases_Bool (is_escaped b)) [
-      | inl on ↦ rw (on, on) (text_again bs (front ++ b ∷ []) rest h.1 ∙ ap (λ (x : List ℕ). Ok (x, rest))
-          (append_assoc front (b ∷ []) bs))
-      | inr off ↦
-          let p = escaped_quote b off in
-          rw (off, h.0, p.0, p.1, h.0) (text_again bs (front ++ b ∷ []) rest h.1 ∙ ap (λ (x : List ℕ). Ok (x, rest))
-          (append_assoc front (b ∷ []) bs))
-    ]
+-- a byte as it is written
+byte_again : (b : ℕ) (front more : List ℕ) → text_at Plain front (quoted_byte b ++ more)
+    ≡ text_at Plain (front ++ b ∷ []) more
+byte_again b front more = go (is_escaped b) (is_control b) refl refl
+  where
+    go : (p q : Bool) → is_escaped b ≡ p → is_control b ≡ q → text_at Plain front (quoted_byte b ++ more)
+        ≡ text_at Plain (front ++ b ∷ []) more
+    go true q escaped control = rw (escaped, escaped) refl
+    go false true escaped control = let d = digits_pair b control in rw (escaped, control, d.0, d.1) refl
+    go false false escaped control = let p = escaped_quote b escaped in rw (escaped, control, p.0, p.1, control) refl
+
+text_again : (s front rest : List ℕ) → text_at Plain front (flat_map quoted_byte s ++ 34 ∷ rest) ≡ Ok (front ++ s, rest)
+text_again [] front rest = ap (λ (x : List ℕ). Ok (x, rest)) (sym (append-nil front))
+text_again (b ∷ bs) front rest =
+    ap (text_at Plain front) (append_assoc (quoted_byte b) (flat_map quoted_byte bs) (34 ∷ rest))
+    ∙ byte_again b front (flat_map quoted_byte bs ++ 34 ∷ rest)
+    ∙ text_again bs (front ++ b ∷ []) rest
+    ∙ ap (λ (x : List ℕ). Ok (x, rest)) (append_assoc front (b ∷ []) bs)
 
 quoted_again : (s rest : List ℕ) → IsText s → leading_quoted (flat_map quoted_byte s ++ 34 ∷ rest) ≡ Ok (s, rest)
 unfolding leading_quoted utf8_of
-quoted_again s rest h = rw (
-  text_again s [] rest h.no_control,
-  is_utf8-from_IsUtf8 s h.utf8,
-  le-ltb 1024 (length s) h.short,
-) refl
+quoted_again s rest h = rw (text_again s [] rest, is_utf8-from_IsUtf8 s h.utf8, le-ltb 8192 (length s) h.short) refl
 
 -- ---- any of them
 

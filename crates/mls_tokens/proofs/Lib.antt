@@ -1,5 +1,6 @@
 pub mod RunLemmas
 pub mod IntLemmas
+pub mod HexLemmas
 pub mod TextLemmas
 pub mod QuoteSteps
 pub mod WritingSteps

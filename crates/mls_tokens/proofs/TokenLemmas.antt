@@ -1,6 +1,6 @@
 -- What is scanned is what the relation says.
 use Rattle.std.proofs.Common.{◌≡◌, ℕ, zero, suc, ◌<◌, ◌≤◌, ◌^◌, Bor, ℤ, pos, neg_ℤ, Bool, true, false, ◌==◌, nat_lt, nat_le, cond, List, [], ◌∷◌, ◌++◌, length, slice_index, take, drop, Option, Some, None, Result, Ok, Err, ◌⊎◌, inl, inr, refl, sym, ap, ◌∙◌, subst, arith, one-add, append_assoc, FitsSigned, IfOk, IsUtf8, w64, flat_map, ltb-false, leb-true, ltb-true, eqb-true, take-append-drop, length-append, length-take, append-nil}
-use Rattle.std.specs.List.{prefix_len, AllByRecursion}
+use Rattle.std.specs.List.{prefix_len}
 use Rattle.std.specs.Char.{is_ascii_alphabetic, is_ascii_digit}
 use Rattle.std.specs.Str.{all_ascii_digits, is_utf8}
 use Rattle.std.specs.Str.Parse.{digits_value}
@@ -12,15 +12,18 @@ use Rattle.mls_lattice.specs.Reading.{◌>>=◌, Gives}
 use Rattle.mls_lattice.specs.declared.failed.Failed.{Failed}
 use Rattle.mls_tokens.specs.declared.fault.ScanFault.{ScanFault}
 use Rattle.mls_tokens.specs.declared.fault.ScanFault.TheVariants.{Token as BadToken, TooLong}
+use Rattle.mls_tokens.specs.declared.quoted.Mode.{Mode}
+use Rattle.mls_tokens.specs.declared.quoted.Mode.TheVariants.{Plain, Behind, Hex, Digit}
 use Rattle.mls_tokens.specs.declared.token.Token.{Token}
 use Rattle.mls_tokens.specs.declared.token.Token.TheVariants.{Word, Int, Text, Sign as Sign_token}
 use Rattle.mls_tokens.specs.declared.sign.Sign.{Sign}
 use Rattle.mls_tokens.specs.Sign.{sign_text, leading_sign}
-use Rattle.mls_tokens.specs.Writing.{is_control, is_escaped, quoted_byte, quoted}
+use Rattle.mls_tokens.specs.Writing.{is_control, is_escaped, hex_pair, is_control_pair, quoted_byte, quoted}
 use Rattle.mls_tokens.specs.Text.{IsWord, IsInt, Spells, goes_on}
 use Rattle.mls_tokens.specs.Scanning.{Found, found, IsIntText, leading_word, int_value, int_length, leading_int, starts_int, text_at, utf8_of, leading_quoted, sign_found, leading_token}
 use Rattle.mls_lattice.proofs.ReadingLemmas.{ok_is, bind_ok, guard_ok, pass_ok}
 use Rattle.mls_tokens.proofs.RunLemmas.{run_all, run_stops}
+use Rattle.mls_tokens.proofs.HexLemmas.{pair_quoted}
 use Rattle.mls_tokens.proofs.IntLemmas.{int_text}
 use Rattle.mls_tokens.proofs.SignLemmas.{sign_parts, sign_ends, sign_some}
 
@@ -133,7 +136,6 @@ record Unquoted (bytes : List ℕ) (front s rest : List ℕ) : Type 0 where
   own : List ℕ
   whole : s ≡ front ++ own
   parts : bytes ≡ flat_map quoted_byte own ++ 34 ∷ rest
-  no_control : AllByRecursion (λ b. is_control b ≡ false) own
 
 unquoted_end : (bs front s rest : List ℕ) (b : ℕ) → (b == 34) ≡ true → front ≡ s → bs ≡ rest
     → Unquoted (b ∷ bs) front s rest
@@ -141,84 +143,103 @@ unquoted_end bs front s rest b quote same after = record {
   own = [];
   whole = sym same ∙ sym (append-nil front);
   parts = λ i. eqb-true b 34 quote i ∷ after i;
-  no_control = tt;
 }
 
-unquoted_more : (bytes bs front s rest : List ℕ) (b : ℕ) → bytes ≡ quoted_byte b ++ bs → is_control b ≡ false
+unquoted_more : (bytes bs front s rest : List ℕ) (b : ℕ) → bytes ≡ quoted_byte b ++ bs
     → Unquoted bs (front ++ b ∷ []) s rest → Unquoted bytes front s rest
-unquoted_more bytes bs front s rest b is plain u = record {
+unquoted_more bytes bs front s rest b is u = record {
   own = b ∷ u.own;
   whole = u.whole ∙ append_assoc front (b ∷ []) u.own;
   parts = is ∙ ap (λ (x : List ℕ). quoted_byte b ++ x) u.parts
       ∙ sym (append_assoc (quoted_byte b) (flat_map quoted_byte u.own) (34 ∷ rest));
-  no_control = (plain, u.no_control);
 }
-
-escaped_plain : (b : ℕ) → is_escaped b ≡ true → is_control b ≡ false
-escaped_plain b h = grind (arith, nat_tests)
 
 plain_byte : (b : ℕ) → (b == 34) ≡ false → (b == 92) ≡ false → is_control b ≡ false → quoted_byte b ≡ b ∷ []
 plain_byte b p q r = rw (p, q, r) refl
 
--- what is left to read, with the backslash that was read last
-abbrev left : Bool → List ℕ → List ℕ
-left true bs = 92 ∷ bs
-left false bs = bs
+-- what is left to read, with the part of an escape that was read last
+abbrev left : Mode → List ℕ → List ℕ
+left Plain bs = bs
+left Behind bs = 92 ∷ bs
+left Hex bs = 92 ∷ 120 ∷ bs
+left (Digit a) bs = 92 ∷ 120 ∷ a ∷ bs
 
-text_found : (escaped : Bool) (bs front s rest : List ℕ) → text_at escaped front bs ≡ Ok (s, rest)
-    → Unquoted (left escaped bs) front s rest
-text_found escaped [] front s rest e = absurd cc
-text_found true (b ∷ bs) front s rest e =
-    let h = pass_ok (is_escaped b) BadToken (text_at false (front ++ b ∷ []) bs) (s, rest) e in
-    unquoted_more (92 ∷ b ∷ bs) bs front s rest b (rw h.0 refl) (escaped_plain b h.0)
-    (text_found false bs (front ++ b ∷ []) s rest h.1)
-text_found false (b ∷ bs) front s rest e =
-    elim (chosen (b == 34) _ _ _ e) [
-      | inl quote ↦
-          let pair : (front, bs) ≡ (s, rest) = ok_is _ _ quote.1 in
-          unquoted_end bs front s rest b quote.0 (λ i. (pair i).0) (λ i. (pair i).1)
-      | inr more ↦ elim (chosen (b == 92) _ _ _ more.1) [
-        | inl slash ↦ subst (λ (x : ℕ). Unquoted (x ∷ bs) front s rest) (sym (eqb-true b 92 slash.0))
-            (text_found true bs front s rest slash.1)
-        | inr plain ↦
-            let h = guard_ok (is_control b) BadToken (text_at false (front ++ b ∷ []) bs) (s, rest) plain.1 in
-            unquoted_more (b ∷ bs) bs front s rest b (ap (λ (x : List ℕ). x ++ bs)
-            (sym (plain_byte b more.0 plain.0 h.0))) h.0 (text_found false bs (front ++ b ∷ []) s rest h.1)
-      ]
-    ]
+-- how the rest of a text is read
+abbrev FoundIn : List ℕ → List ℕ → List ℕ → Type 0
+FoundIn bs s rest = (mode : Mode) (front : List ℕ) → text_at mode front bs ≡ Ok (s, rest)
+    → Unquoted (left mode bs) front s rest
 
-first_text : (bs s rest : List ℕ) → Unquoted bs [] s rest → IsUtf8 s → length s ≤ 1024 → First (34 ∷ bs) (Text s) rest
+bad : {X : Type 0} (x : List ℕ × List ℕ) → Path (Result (List ℕ × List ℕ) ScanFault) (Err BadToken) (Ok x) → X
+bad x e = absurd cc
+
+plain_found : (b : ℕ) (bs front s rest : List ℕ) → FoundIn bs s rest → text_at Plain front (b ∷ bs) ≡ Ok (s, rest)
+    → Unquoted (b ∷ bs) front s rest
+plain_found b bs front s rest more e = go (b == 34) (b == 92) (is_control b) refl refl refl
+  where
+    go : (p q r : Bool) → (b == 34) ≡ p → (b == 92) ≡ q → is_control b ≡ r → Unquoted (b ∷ bs) front s rest
+    go true q r quote slash control =
+        let pair : (front, bs) ≡ (s, rest) = ok_is _ _ (rw quote at e) in
+        unquoted_end bs front s rest b quote (λ i. (pair i).0) (λ i. (pair i).1)
+    go false true r quote slash control = subst (λ (x : ℕ). Unquoted (x ∷ bs) front s rest) (sym (eqb-true b 92 slash))
+        (more Behind front (rw (quote, slash) at e))
+    go false false true quote slash control = bad (s, rest) (rw (quote, slash, control) at e)
+    go false false false quote slash control =
+        unquoted_more (b ∷ bs) bs front s rest b (ap (λ (x : List ℕ). x ++ bs) (sym (plain_byte b quote slash control)))
+        (more Plain (front ++ b ∷ []) (rw (quote, slash, control) at e))
+
+behind_found : (b : ℕ) (bs front s rest : List ℕ) → FoundIn bs s rest → text_at Behind front (b ∷ bs) ≡ Ok (s, rest)
+    → Unquoted (92 ∷ b ∷ bs) front s rest
+behind_found b bs front s rest more e = go (is_escaped b) (b == 120) refl refl
+  where
+    go : (p q : Bool) → is_escaped b ≡ p → (b == 120) ≡ q → Unquoted (92 ∷ b ∷ bs) front s rest
+    go true q escaped digits = unquoted_more (92 ∷ b ∷ bs) bs front s rest b (rw escaped refl)
+        (more Plain (front ++ b ∷ []) (rw escaped at e))
+    go false true escaped digits = subst (λ (x : ℕ). Unquoted (92 ∷ x ∷ bs) front s rest) (sym (eqb-true b 120 digits))
+        (more Hex front (rw (escaped, digits) at e))
+    go false false escaped digits = bad (s, rest) (rw (escaped, digits) at e)
+
+digit_found : (a b : ℕ) (bs front s rest : List ℕ) → FoundIn bs s rest → text_at (Digit a) front (b ∷ bs) ≡ Ok (s, rest)
+    → Unquoted (92 ∷ 120 ∷ a ∷ b ∷ bs) front s rest
+digit_found a b bs front s rest more e = go (is_control_pair a b) refl
+  where
+    go : (p : Bool) → is_control_pair a b ≡ p → Unquoted (92 ∷ 120 ∷ a ∷ b ∷ bs) front s rest
+    go true pair =
+        unquoted_more (92 ∷ 120 ∷ a ∷ b ∷ bs) bs front s rest (hex_pair a b) (ap (λ (x : List ℕ). x ++ bs)
+        (sym (pair_quoted a b pair)))
+        (more Plain (front ++ hex_pair a b ∷ []) (rw pair at e))
+    go false pair = bad (s, rest) (rw pair at e)
+
+text_found : (bs s rest : List ℕ) → FoundIn bs s rest
+text_found [] s rest mode front e = absurd cc
+text_found (b ∷ bs) s rest Plain front e = plain_found b bs front s rest (text_found bs s rest) e
+text_found (b ∷ bs) s rest Behind front e = behind_found b bs front s rest (text_found bs s rest) e
+text_found (b ∷ bs) s rest Hex front e = text_found bs s rest (Digit b) front e
+text_found (b ∷ bs) s rest (Digit a) front e = digit_found a b bs front s rest (text_found bs s rest) e
+
+first_text : (bs s rest : List ℕ) → Unquoted bs [] s rest → IsUtf8 s → length s ≤ 8192 → First (34 ∷ bs) (Text s) rest
 first_text bs s rest q utf8 few = record {
   text = quoted s;
   parts = ap (λ (x : List ℕ). 34 ∷ x) (q.parts ∙ ap (λ (x : List ℕ). flat_map quoted_byte x ++ 34 ∷ rest) (sym q.whole)
       ∙ sym (append_assoc (flat_map quoted_byte s) (34 ∷ []) rest));
-  spells = (
-    refl,
-    record {
-      utf8 = utf8;
-      no_control = subst (λ (x : List ℕ). AllByRecursion (λ b. is_control b
-          ≡ false) x) (sym q.whole) q.no_control;
-      short = few;
-    },
-  );
+  spells = (refl, record { utf8 = utf8; short = few });
   ends = refl;
 }
 
 quoted_found : (bs s rest : List ℕ) → leading_quoted bs ≡ Ok (s, rest) → First (34 ∷ bs) (Text s) rest
 unfolding leading_quoted utf8_of
 quoted_found bs s rest e =
-    let read = bind_ok (text_at false [] bs) (λ x. utf8_of x.0 >>= λ text. cond (nat_lt 1024 (length text))
+    let read = bind_ok (text_at Plain [] bs) (λ x. utf8_of x.0 >>= λ text. cond (nat_lt 8192 (length text))
     (Err TooLong) (Ok (text, x.1))) (s, rest) e in
-    let text = bind_ok (utf8_of read.0.0) (λ text. cond (nat_lt 1024 (length text)) (Err TooLong) (Ok (text, read.0.1)))
+    let text = bind_ok (utf8_of read.0.0) (λ text. cond (nat_lt 8192 (length text)) (Err TooLong) (Ok (text, read.0.1)))
     (s, rest) read.2 in
     let utf8 = pass_ok (is_utf8 read.0.0) BadToken (Ok read.0.0) text.0 text.1 in
-    let short = guard_ok (nat_lt 1024 (length text.0)) TooLong (Ok (text.0, read.0.1)) (s, rest) text.2 in
-    let few : length text.0 ≤ 1024 = ltb-false _ _ short.0 in
+    let short = guard_ok (nat_lt 8192 (length text.0)) TooLong (Ok (text.0, read.0.1)) (s, rest) text.2 in
+    let few : length text.0 ≤ 8192 = ltb-false _ _ short.0 in
     let same : read.0.0 ≡ text.0 = ok_is _ _ utf8.1 in
     let pair : (text.0, read.0.1) ≡ (s, rest) = ok_is _ _ short.1 in
     let is_text : IsUtf8 text.0 = subst (λ (x : List ℕ). IsUtf8 x) same (IsUtf8-from_is_utf8 read.0.0 utf8.0) in
     let q : Unquoted bs [] text.0 read.0.1 = subst (λ (x : List ℕ). Unquoted bs [] x read.0.1) same
-    (text_found false bs [] read.0.0 read.0.1 read.1) in
+    (text_found bs read.0.0 read.0.1 Plain [] read.1) in
     subst (λ (p : List ℕ × List ℕ). First (34 ∷ bs) (Text p.0) p.1) pair (first_text bs text.0 read.0.1 q is_text few)
 
 -- ---- any of them

@@ -83,6 +83,38 @@ pass_name_of (p ∷ ps) stop = named_first p.at (left ps stop) (name_of_token p.
 abbrev pub pass_name : Left → Result (PlacedName × Left) TokenFault
 pass_name l = pass_name_of l.placed l.stop
 
+-- ---- texts
+
+abbrev pub is_text : Token → Bool
+is_text (Word s) = false
+is_text (Int n) = false
+is_text (Text s) = true
+is_text (Sign_token s) = false
+
+abbrev pub text_first_of : List Placed → Bool
+text_first_of [] = false
+text_first_of (p ∷ ps) = is_text p.token
+
+-- a text is next
+abbrev pub starts_with_text : Left → Bool
+starts_with_text l = text_first_of l.placed
+
+-- a text and its place
+abbrev pub PlacedText : Type 0
+PlacedText = List ℕ × ℕ
+
+abbrev pub text_first : ℕ → Token → List Placed → TokenFault → Option PlacedText × Left
+text_first at (Text s) ps stop = (Some (s, at), left ps stop)
+text_first at token ps stop = (None, left (record { token = token; at = at } ∷ ps) stop)
+
+-- a text, if one is next, and what is left behind it; or what is answered where no token is left
+abbrev pub pass_text_of : List Placed → TokenFault → Result (Option PlacedText × Left) TokenFault
+pass_text_of [] stop = Err stop
+pass_text_of (p ∷ ps) stop = Ok (text_first p.at p.token ps stop)
+
+abbrev pub pass_text : Left → Result (Option PlacedText × Left) TokenFault
+pass_text l = pass_text_of l.placed l.stop
+
 -- ---- the end
 
 abbrev pub is_expected : TokenCause → Bool

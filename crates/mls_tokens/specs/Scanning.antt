@@ -20,7 +20,11 @@ use Rattle.mls_tokens.specs.declared.token.Token.{Token}
 use Rattle.mls_tokens.specs.declared.token.Token.TheVariants.{Word, Int, Text, Sign as Sign_token}
 use Rattle.mls_tokens.specs.declared.token.Placed.{Placed}
 use Rattle.mls_tokens.specs.declared.sign.Sign.{Sign}
-use Rattle.mls_tokens.specs.Writing.{is_control, is_escaped}
+use Rattle.mls_tokens.specs.declared.quoted.Mode.{Mode}
+use Rattle.mls_tokens.specs.declared.quoted.Mode.TheVariants.{Plain, Behind, Hex, Digit}
+use Rattle.mls_tokens.specs.declared.quoted.Part.{Part}
+use Rattle.mls_tokens.specs.declared.quoted.Part.TheVariants.{End, Bad, Goes, Byte}
+use Rattle.mls_tokens.specs.Writing.{is_control, is_escaped, is_control_pair, hex_pair}
 use Rattle.mls_tokens.specs.Sign.{leading_sign}
 use Rattle.mls_tokens.specs.Text.{is_blank, is_no_feed, AreTokens}
 
@@ -74,23 +78,33 @@ leading_int bytes = int_value (take (int_length bytes) bytes) >>= λ n. Ok (n, d
 
 -- ---- texts
 
--- the text after what was read before, which may end in a backslash, and what follows its quote
-abbrev pub text_at : Bool → List ℕ → List ℕ → Result (List ℕ × List ℕ) ScanFault
-text_at escaped front [] = Err scan.Token
-text_at escaped front (b ∷ bs) =
-    if escaped then (if is_escaped b then text_at false (front ++ b ∷ []) bs else Err scan.Token)
-    else (if b == 34 then Ok (front, bs)
-    else (if b == 92 then text_at true front bs
-    else (if is_control b then Err scan.Token else text_at false (front ++ b ∷ []) bs)))
+-- what a byte is to a reader of a text
+abbrev pub step : Mode → ℕ → Part
+step Plain b = if b == 34 then End else if b == 92 then Goes Behind else if is_control b then Bad else Byte b
+step Behind b = if is_escaped b then Byte b else if b == 120 then Goes Hex else Bad
+step Hex b = Goes (Digit b)
+step (Digit a) b = if is_control_pair a b then Byte (hex_pair a b) else Bad
+
+abbrev pub after_step : Part → List ℕ → List ℕ → (Mode → List ℕ → Result (List ℕ × List ℕ) ScanFault)
+    → Result (List ℕ × List ℕ) ScanFault
+after_step End front bs more = Ok (front, bs)
+after_step Bad front bs more = Err scan.Token
+after_step (Goes mode) front bs more = more mode front
+after_step (Byte b) front bs more = more Plain (front ++ b ∷ [])
+
+-- the text after what was read before, which may end inside an escape, and what follows its quote
+abbrev pub text_at : Mode → List ℕ → List ℕ → Result (List ℕ × List ℕ) ScanFault
+text_at mode front [] = Err scan.Token
+text_at mode front (b ∷ bs) = after_step (step mode b) front bs (λ mode front. text_at mode front bs)
 
 unfoldable pub utf8_of : List ℕ → Result (List ℕ) ScanFault
 utf8_of bytes = if is_utf8 bytes then Ok bytes else Err scan.Token
 
 unfoldable pub leading_quoted : List ℕ → Result (List ℕ × List ℕ) ScanFault
 leading_quoted bytes = do
-  x ← text_at false [] bytes
+  x ← text_at Plain [] bytes
   text ← utf8_of x.0
-  if nat_lt 1024 (length text) then Err scan.TooLong else Ok (text, x.1)
+  if nat_lt 8192 (length text) then Err scan.TooLong else Ok (text, x.1)
 
 -- ---- any of them
 

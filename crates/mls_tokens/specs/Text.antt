@@ -12,7 +12,7 @@ use Rattle.mls_tokens.specs.declared.token.Token.{Token}
 use Rattle.mls_tokens.specs.declared.token.Token.TheVariants.{Word, Int, Text, Sign as Sign_token}
 use Rattle.mls_tokens.specs.declared.sign.Sign.TheVariants.{Comma}
 use Rattle.mls_tokens.specs.Sign.{sign_text, sign_goes_on}
-use Rattle.mls_tokens.specs.Writing.{is_control, quoted}
+use Rattle.mls_tokens.specs.Writing.{quoted, IsText}
 
 -- ---- names and reserved words
 
@@ -35,13 +35,6 @@ IsInt text n =
     FitsSigned w64 n
     × ((IsDigits text × (n ≡ pos (digits_value 10 text)))
     ⊎ ((digits : List ℕ) × (text ≡ 45 ∷ digits) × IsDigits digits × (n ≡ neg_ℤ (pos (digits_value 10 digits)))))
-
--- ---- texts between quotes
-
-pub record IsText (s : List ℕ) : Type 0 where
-  pub utf8 : IsUtf8 s
-  pub no_control : AllByRecursion (λ b. is_control b ≡ false) s
-  pub short : length s ≤ 1024
 
 -- ---- tokens
 

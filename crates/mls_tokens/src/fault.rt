@@ -13,7 +13,7 @@ pub enum TokenCause {
     Token,
     /// Another token is wanted here, or no more than the end.
     Expected,
-    /// A text between quotes has more than 1,024 bytes.
+    /// A text between quotes has more than 8,192 bytes.
     TooLong,
     /// A growth was refused.
     Memory,

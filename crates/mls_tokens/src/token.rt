@@ -1,6 +1,6 @@
 //! Tokens, and tokens with their places.
 ghost use Rattle.std.specs.Prelude.{◌≡◌};
-ghost use Rattle.mls_tokens.specs.Passing.{is_word, is_sign, name_of_token};
+ghost use Rattle.mls_tokens.specs.Passing.{is_word, is_sign, is_text, name_of_token};
 
 use crate::sign::Sign;
 use mls_lattice::{Str, is_name};
@@ -40,6 +40,16 @@ impl Token {
     {
         match self {
             Token::Sign(own) => own.text() == sign.text(),
+            _ => false,
+        }
+    }
+
+    /// Whether this is a text.
+    pub fn is_text(&self) -> bool
+        ensures { result ≡ is_text self.now }
+    {
+        match self {
+            Token::Text(_) => true,
             _ => false,
         }
     }

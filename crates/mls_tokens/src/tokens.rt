@@ -3,13 +3,13 @@ ghost use Rattle.std.specs.Prelude.{◌≡◌, ◌<◌, ◌^◌, [], ◌∷◌, 
 ghost use Rattle.mls_tokens.specs.declared.fault.TokenCause.TheVariants.{Memory};
 ghost use Rattle.mls_tokens.specs.Scanning.{Reads, next_placed, tokens_at};
 ghost use Rattle.mls_tokens.specs.Passing.{left, refused, is_word, is_sign, taken, pass, pass_name, has_ended};
-ghost use Rattle.mls_tokens.specs.Passing.{pass_end};
+ghost use Rattle.mls_tokens.specs.Passing.{starts_with_text, pass_text, pass_end};
 
 use crate::fault::{TokenCause, TokenFault};
 use crate::gap::after_gap;
 use crate::scanner::leading_token;
 use crate::sign::Sign;
-use crate::token::Placed;
+use crate::token::{Placed, Token};
 use mls_lattice::Str;
 use std::alloc::Global;
 use std::collections::VecDeque;
@@ -173,6 +173,38 @@ impl Tokens {
                 at: first.at,
                 cause: TokenCause::Expected,
             }),
+        }
+    }
+
+    /// Whether a text is next.
+    #[tactic(auto, using(crate::proofs::PassingSteps::first_steps))]
+    pub fn starts_with_text(&self) -> bool
+        ensures { result ≡ starts_with_text self.now }
+    {
+        match self.placed.front() {
+            Some(first) => first.token.is_text(),
+            None => false,
+        }
+    }
+
+    /// Passes a text if it is next, and gives it with its place. Where no token is left it is told why.
+    #[tactic(auto, using(crate::proofs::PassingSteps::first_steps))]
+    pub fn takes_text(&mut self) -> Result<Option<(Str, usize)>, TokenFault>
+        ensures { Reads (λ o. (option_map (λ x. (x.0, x.1)) o, self.new)) result (pass_text self.old) }
+    {
+        if self.placed.is_empty() {
+            return Err(self.stop);
+        }
+        if !self.starts_with_text() {
+            return Ok(None);
+        }
+        let Some(first) = self.pop() else {
+            return Ok(None);
+        };
+        let at = first.at;
+        match first.token {
+            Token::Text(text) => Ok(Some((text, at))),
+            _ => Ok(None),
         }
     }
 

@@ -1,12 +1,12 @@
 //! Names, numbers and texts, as they are written.
-ghost use Rattle.std.specs.Prelude.{◌≡◌, ◌<◌, ◌++◌, OnOk, flat_map};
+ghost use Rattle.std.specs.Prelude.{◌≡◌, ◌<◌, ◌++◌, OnOk, flat_map, true, Some, None, if◌then◌else◌};
 ghost use Rattle.std.specs.Fmt.{signed_decimal};
 ghost use Rattle.mls_tokens.specs.Writing.{is_control, is_escaped, hex_digit, printable_byte, printable, quoted_byte};
-ghost use Rattle.mls_tokens.specs.Writing.{quoted};
+ghost use Rattle.mls_tokens.specs.Writing.{quoted, is_hex, hex_value, hex_pair, is_control_pair};
 
 use std::alloc::{AllocError, Global};
 
-/// Whether a byte is a control character, which stands in no text between quotes.
+/// Whether a byte is a control character, which stands in a text between quotes as `\x` and two digits.
 pub(crate) fn is_control(byte: u8) -> bool
     ensures { result ≡ is_control byte }
 {
@@ -30,6 +30,36 @@ pub(crate) fn hex_digit(number: u8) -> u8
     } else {
         b'a' - 10 + number
     }
+}
+
+fn is_hex(byte: u8) -> bool
+    ensures { result ≡ is_hex byte }
+{
+    byte.is_ascii_digit() || byte >= b'a' && byte <= b'f'
+}
+
+/// The number of a hexadecimal digit in lower case.
+fn hex_value(digit: u8) -> u8
+    requires { is_hex digit ≡ true }
+    ensures value { result ≡ hex_value digit }
+    ensures small { result < 16 }
+{
+    if digit.is_ascii_digit() {
+        digit - b'0'
+    } else {
+        digit - b'a' + 10
+    }
+}
+
+/// The control character that two digits spell, if they spell one.
+pub(crate) fn control_of(high: u8, low: u8) -> Option<u8>
+    ensures { result ≡ (if is_control_pair high low then Some (hex_pair high low) else None) }
+{
+    if !is_hex(high) || !is_hex(low) {
+        return None;
+    }
+    let byte = 16 * hex_value(high) + hex_value(low);
+    if is_control(byte) { Some(byte) } else { None }
 }
 
 fn push_byte(text: &mut Vec<u8>, byte: u8) -> Result<(), AllocError>

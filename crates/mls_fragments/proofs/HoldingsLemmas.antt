@@ -1,6 +1,5 @@
 -- What a database has is one thing, what is taken of it, and what a base has then.
 use Rattle.std.proofs.Common.{◌≡◌, ◌≢◌, inl, inr, ℕ, zero, suc, pos, List, [], ◌∷◌, ◌++◌, length, Option, Some, None, refl, sym, ap, subst, ◌∙◌, arith, append-nil, option_map, length-take-le}
-use Rattle.std.specs.List.{AllZip}
 use Rattle.std.specs.FinMap.{get, same_map}
 use Rattle.sqlite.specs.Effect.{Database}
 use Rattle.mls_lattice.specs.Canon as lattice
@@ -12,7 +11,7 @@ use Rattle.mls_scheme.specs.Canon as scheme
 use Rattle.mls_scheme.specs.declared.file.SchemesFile.{SchemesFile}
 use Rattle.mls_scheme.specs.declared.tuple.Element.{Element}
 use Rattle.mls_scheme.specs.declared.place.Place.{Place}
-use Rattle.mls_scheme.specs.Extending.{schemes_before, HadOthers}
+use Rattle.mls_scheme.specs.Extending.{schemes_before, AllFirst, HadOthers}
 use Rattle.mls_scheme.specs.Scheme.{Schemes, scheme_of}
 use Rattle.mls_scheme.proofs.OrderLemmas.{place_exact, place_total}
 use Rattle.mls_filterview.specs.Content.{Content, no_content}
@@ -183,11 +182,10 @@ base_among Had Has policy file b all over = record {
 -- ---- widening of what is sound already
 
 -- a relation that has as many attributes as it had gains none
-none_more : (p : Policy) (counts : List ℕ) (schemes : Schemes) → AllZip (HadOthers p) counts schemes → (relation : ℕ)
+none_more : (p : Policy) (counts : List ℕ) (schemes : Schemes) → AllFirst (HadOthers p) counts schemes → (relation : ℕ)
     → length (scheme_of (schemes_before counts schemes) relation).others ≡ length (scheme_of schemes relation).others
     → more schemes counts relation ≡ 0
-none_more p [] [] h relation e = refl
-none_more p [] (s ∷ schemes) h relation e = absurd h
+none_more p [] schemes h relation e = omega (arith, e)
 none_more p (n ∷ counts) [] h relation e = absurd h
 none_more p (n ∷ counts) (s ∷ schemes) h zero e = let few = h.0.0
     in omega (arith, few, e, length-take-le n s.others few)
@@ -195,7 +193,7 @@ none_more p (n ∷ counts) (s ∷ schemes) h (suc relation) e = none_more p coun
 
 module _ (policy : Policy) (file : SchemesFile) (before now : Content)
     (sound : IsSoundContent policy file.schemes before) (labels : ℕ) (counts : List ℕ)
-    (had : AllZip (HadOthers policy) counts file.schemes)
+    (had : AllFirst (HadOthers policy) counts file.schemes)
     (was : IsSoundBefore policy file.schemes labels counts before)
     (wide : IsWidenedContent file.schemes counts before now) where
   same_tuple : (relation : ℕ) (p : Place) (o : Option (List Element)) → get (before.db relation) p ≡ o

@@ -6,6 +6,7 @@ pub mod JoiningLemmas
 pub mod CutLemmas
 pub mod JudgingLemmas
 pub mod MigratingLemmas
+pub mod NewerLemmas
 pub mod NotedLemmas
 pub mod SettingLemmas
 pub mod OneContentLemmas

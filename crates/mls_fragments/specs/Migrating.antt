@@ -1,17 +1,23 @@
 -- Stores of older policies and schemes, and content under schemes with more attributes.
 use Rattle.std.specs.Prelude.{◌≡◌, ◌⊎◌, ℕ, suc, ◌-◌, ◌≤◌, pos, List, [], ◌∷◌, length, map, slice_index_or}
-use Rattle.std.specs.Prelude.{IsPermutation}
+use Rattle.std.specs.Prelude.{IsPermutation, None, ◌↔◌}
+use Rattle.std.specs.FinMap.{get}
 use Rattle.std.specs.List.{AllByRecursion}
-use Rattle.mls_lattice.specs.Policy.{Policy}
+use Rattle.mls_lattice.specs.Labels.{Labels}
+use Rattle.mls_lattice.specs.Policy.{Policy, labels_of}
 use Rattle.mls_lattice.specs.declared.version.Version.TheVariants.{Two}
 use Rattle.mls_lattice.specs.Canon as lattice
 use Rattle.mls_lattice.specs.Extending as older_lattice
 use Rattle.mls_scheme.specs.declared.file.SchemesFile.{SchemesFile}
 use Rattle.mls_scheme.specs.Scheme.{Schemes, scheme_of}
+use Rattle.mls_scheme.specs.declared.place.Place.{Place}
+use Rattle.mls_scheme.specs.declared.tuple.Tuple.{Tuple}
+use Rattle.mls_scheme.specs.Table.{IsIn}
 use Rattle.mls_scheme.specs.Canon as scheme
 use Rattle.mls_scheme.specs.Extending as older_schemes
 use Rattle.mls_filterview.specs.Content.{Content}
-use Rattle.mls_filterview.specs.Widen.{IsWidened, widened_entry}
+use Rattle.mls_filterview.specs.View.{View}
+use Rattle.mls_filterview.specs.Widen.{IsWidened, Widen, widened_entry}
 use Rattle.mls_audit.specs.Sound.{IsSoundContent}
 use Rattle.mls_tables.specs.declared.rows.MetaRow.{MetaRow}
 use Rattle.mls_tables.specs.declared.adopting.AllRows.{AllRows}
@@ -95,3 +101,21 @@ pub record HasWidened (policy : Policy) (schemes : Schemes) (labels : ℕ) (coun
 pub record AreSpelledTables (f : Found) : Type 0 where
   pub few : length f.tables.items ≤ 256
   pub spelled : AllByRecursion (λ t. AllByRecursion IsSpelledEntry t.entries) f.tables.items
+
+-- ---- what is seen of content that is widened
+
+-- Of a relation that is not new each label sees what it saw, widened by the new attributes; of a new one there is
+-- nothing to see.
+pub record IsSeenAlike (ls : Labels) (schemes : Schemes) (counts : List ℕ) (had now : Content) : Type 0 where
+  pub older : (relation c : ℕ) (t : Tuple)
+      → View ls (IsIn (now.db relation)) c t ↔ Widen (more schemes counts relation)
+      (View ls (IsIn (had.db relation)) c) t
+  pub newer : (relation : ℕ) → length counts ≤ relation → (p : Place) → get (now.db relation) p ≡ None
+
+-- so of what the rows of an older store held
+abbrev pub WidenedIsSeenAlike : Type 0
+WidenedIsSeenAlike =
+    (policy : Policy) (schemes : Schemes) (text : List ℕ) (labels : ℕ) (counts : List ℕ) (rows : Tables)
+    (had now : Content)
+    → older_schemes.Extends policy schemes text counts → Holds rows had → IsSoundBefore policy schemes labels counts had
+    → IsWidenedContent schemes counts had now → IsSeenAlike (labels_of policy) schemes counts had now

@@ -3,6 +3,7 @@
 //! again. Nothing runs here: each function is empty, and its contract is the law, which callers use by calling it.
 ghost use Rattle.mls_fragments.specs.OneContent.{RowsHoldOneContent};
 ghost use Rattle.mls_fragments.specs.Holdings.{DatabaseHasOneHoldings, GivenBackIsTaken, SoundIsTakenAsItWas};
+ghost use Rattle.mls_fragments.specs.Migrating.{WidenedIsSeenAlike};
 ghost use Rattle.mls_fragments.specs.Again.{BlankIsNothing, KeptIsFound, KeptIsTaken};
 
 /// The rows of a store hold one content at most: two contents that the same rows hold are equal.
@@ -41,4 +42,10 @@ pub fn blank_is_nothing()
 /// Where policy and schemes are those that the content is sound under, nothing is widened: it is taken as it was.
 pub fn sound_is_taken_as_it_was()
     ensures { SoundIsTakenAsItWas }
+{}
+
+/// What a label sees of the relations of an older store stays, widened by their new attributes, and relations behind
+/// them are empty.
+pub fn widened_is_seen_alike()
+    ensures { WidenedIsSeenAlike }
 {}

@@ -24,7 +24,7 @@ pub use design::Design;
 pub use in_memory::InMemory;
 pub use laws::{
     blank_is_nothing, database_has_one_holdings, given_back_is_taken, kept_is_found, kept_is_taken,
-    rows_hold_one_content, sound_is_taken_as_it_was,
+    rows_hold_one_content, sound_is_taken_as_it_was, widened_is_seen_alike,
 };
 pub use memory_base::MemoryBase;
 pub use memory_file::MemoryFile;

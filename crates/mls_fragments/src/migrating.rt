@@ -1,12 +1,12 @@
 //! Stores of older policies and schemes, whose content is widened. That is a transaction of its own, before the
 //! base is made: a base has no state between two schemes.
 ghost use Rattle.std.specs.Prelude.{◌≡◌, ◌≤◌, ℕ, List, map, length, string_bytes, None, IfOk, IfErr, IfSome, IsSorted};
-ghost use Rattle.std.specs.List.{AllZip};
 ghost use Rattle.sqlite.specs.Held.{state};
 ghost use Rattle.mls_lattice.specs.Canon as lattice;
 ghost use Rattle.mls_lattice.specs.Extending as older_lattice;
 ghost use Rattle.mls_scheme.specs.Canon as scheme;
 ghost use Rattle.mls_scheme.specs.Extending as older_schemes;
+ghost use Rattle.mls_scheme.specs.Extending.{AllFirst, AtMost};
 ghost use Rattle.mls_filterview.specs.Content.{Content};
 ghost use Rattle.mls_tables.specs.Adopting.{AreAll};
 ghost use Rattle.mls_tables.specs.Rows.{Tables};
@@ -28,7 +28,7 @@ use std::alloc::{AllocError, Global};
 pub(crate) struct Older {
     /// How many of the policy's labels it knows: the first ones.
     pub labels: usize,
-    /// How many attributes outside the key each of its relations has: the first ones.
+    /// How many attributes outside the key each of its relations has: the first ones of the first relations.
     pub counts: Vec<usize>,
 }
 
@@ -97,15 +97,15 @@ pub(crate) fn lineage_of(
     }
 }
 
-/// The tables of relations, each widened by the attributes that its scheme has behind the first so many.
+/// The tables of the first relations, each widened by the attributes that its scheme has behind the first so many.
 fn widened_tables(
     alloc: Global,
     schemes: &Schemes,
     counts: &[usize],
     tables: Vec<TupleMap>,
 ) -> Result<Vec<TupleMap>, AllocError>
-    requires counts { AllZip (λ n s. n ≤ length s.others) counts.now schemes.now }
-    requires count { length tables.items ≡ length schemes.now }
+    requires counts { AllFirst AtMost counts.now schemes.now }
+    requires count { length tables.items ≡ length counts.now }
     requires few { length tables.items ≤ 256 }
     ensures { IfOk result (λ wide. map (λ t. t.entries) wide.items
         ≡ wide_tables schemes.now counts.now 0 (map (λ t. t.entries) tables.items)) }
@@ -120,9 +120,9 @@ fn widened_tables(
     Ok(wide)
 }
 
-/// What the rows of an older store hold, with its relations widened. The older relations are the new ones with
-/// fewer attributes, and the older labels the first ones, so its rows are found as those of any other store,
-/// and then widened.
+/// What the rows of an older store hold, with its relations widened. The older relations are the first of the new
+/// ones with fewer attributes, and the older labels the first ones, so its rows are found as those of any other
+/// store, and then widened. Relations behind those of the store are empty.
 pub(crate) fn find_widened(
     alloc: Global,
     design: &Design<'_>,

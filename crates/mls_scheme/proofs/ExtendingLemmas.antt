@@ -17,6 +17,10 @@ use Rattle.mls_scheme.specs.Extending.{scheme_before, schemes_before, Contains, 
 apart : Path ℕ 114 97 → ⊥
 apart e = omega (arith, e)
 
+-- a text that a relation begins is not empty
+nothing : Path ℕ 0 114 → ⊥
+nothing e = omega (arith, e)
+
 -- ---- attributes that may have more classes
 
 -- the attribute of a place, and those after it
@@ -99,6 +103,10 @@ module _ (p : Policy) where
   relation_headless s text none m other begins = none (flat_map line (take m s.others) ++ other) (begins.split
       ∙ append_assoc (head_lines p s) (flat_map line (take m s.others)) other)
 
+  some_lines : (s : Scheme) (n : ℕ) (text rest : List ℕ) → text ≡ relation_lines p (scheme_before n s) ++ rest
+      → text ≡ [] → ⊥
+  some_lines s n text rest split none = nothing (ap (λ (x : List ℕ). get_or x 0 0) (sym none ∙ split))
+
   -- ---- all relations
 
   -- The front of the text is the lines of the relations before these, in one way.
@@ -133,7 +141,7 @@ module _ (p : Policy) where
       where
         next : (ms more : List ℕ) → ms ≡ front ++ more → AreLines p (s ∷ schemes) rest more → (more : List ℕ)
             × (ms ≡ (front ++ n ∷ []) ++ more) × AreLines p schemes after more
-        next ms [] split lines = absurd lines.counts_are
+        next ms [] split lines = absurd (some_lines s n rest after begins.split lines.split)
         next ms (m ∷ more) split lines =
             let same = one m _ (past_lines (schemes_before more schemes)) (lines_first s schemes rest m more lines) in
             let here : ms ≡ front ++ n ∷ more = split ∙ ap (λ k. front ++ k ∷ more) (sym same.0) in (
@@ -147,17 +155,19 @@ module _ (p : Policy) where
             )
 
     pub before-none : (s : Scheme) (schemes : Schemes) (rest : List ℕ) → Before all text front (s ∷ schemes) rest
+        → (rest ≡ [] → ⊥)
         → ((m : ℕ) (other : List ℕ) → IsPastAttributes p other → BeginsWith p s rest m other → ⊥) → (ms : List ℕ)
         → AreLines p all text ms → ⊥
-    before-none s schemes rest before none ms lines = let only = before.only ms lines in by only.0 only.2
+    before-none s schemes rest before full none ms lines = let only = before.only ms lines in by only.0 only.2
       where
         by : (more : List ℕ) → AreLines p (s ∷ schemes) rest more → ⊥
-        by [] lines = absurd lines.counts_are
+        by [] lines = full lines.split
         by (m ∷ more) lines = none m _ (past_lines (schemes_before more schemes))
             (lines_first s schemes rest m more lines)
 
-    pub before-all : (rest : List ℕ) → Before all text front [] rest → rest ≡ [] → AreLines p all text front
-    before-all rest before over = subst (AreLines p all text) (append-nil front)
+    pub before-all : (schemes : Schemes) (rest : List ℕ) → Before all text front schemes rest → rest ≡ []
+        → AreLines p all text front
+    before-all schemes rest before over = subst (AreLines p all text) (append-nil front)
         (before.completes [] (record { counts_are = tt; split = over }))
 
     pub before-left : (rest : List ℕ) → Before all text front [] rest → (rest ≡ [] → ⊥) → (ms : List ℕ)
@@ -181,7 +191,7 @@ first_lines One Two rest other e = absurd (first_apart (ap (λ (x : List ℕ). g
 first_lines Two One rest other e = absurd (first_apart (sym (ap (λ (x : List ℕ). get_or x 8 0) e)))
 
 module _ (p : Policy) (schemes : Schemes) where
-  extends_lines : (old rest counts : List ℕ) → ((v : Version) × (old ≡ first_line v ++ rest))
+  pub extends_lines : (old rest counts : List ℕ) → ((v : Version) × (old ≡ first_line v ++ rest))
       → Extends p schemes old counts → AreLines p schemes rest counts
   extends_lines old rest counts (v, first) e = record {
     counts_are = e.counts_are;
@@ -193,11 +203,13 @@ module _ (p : Policy) (schemes : Schemes) where
 
 lines_one : (p : Policy) (schemes : Schemes) (text ns ms : List ℕ) → AreLines p schemes text ns
     → AreLines p schemes text ms → ns ≡ ms
-lines_one p [] text [] [] a b = refl
+lines_one p schemes text [] [] a b = refl
 lines_one p [] text [] (m ∷ ms) a b = absurd b.counts_are
 lines_one p [] text (n ∷ ns) ms a b = absurd a.counts_are
-lines_one p (s ∷ schemes) text [] ms a b = absurd a.counts_are
-lines_one p (s ∷ schemes) text (n ∷ ns) [] a b = absurd b.counts_are
+lines_one p (s ∷ schemes) text [] (m ∷ ms) a b =
+    absurd (some_lines p s m text (flat_map (relation_lines p) (schemes_before ms schemes)) b.split a.split)
+lines_one p (s ∷ schemes) text (n ∷ ns) [] a b =
+    absurd (some_lines p s n text (flat_map (relation_lines p) (schemes_before ns schemes)) a.split b.split)
 lines_one p (s ∷ schemes) text (n ∷ ns) (m ∷ ms) a b =
     let after = flat_map (relation_lines p) (schemes_before ns schemes) in
     let other = flat_map (relation_lines p) (schemes_before ms schemes) in
@@ -222,3 +234,24 @@ old_counts_one p schemes old ns ms a b =
     let first : (v : Version) × (old ≡ first_line v ++ rest) = (a.version, a.text) in
     lines_one p schemes rest ns ms (extends_lines p schemes old rest ns first a)
     (extends_lines p schemes old rest ms first b)
+
+-- a text without a relation is that of none that is extended
+pub none_extended : (p : Policy) (schemes : Schemes) (old rest ns counts : List ℕ)
+    → ((v : Version) × (old ≡ first_line v ++ rest)) → AreLines p schemes rest ns → length ns ≡ 0
+    → Extends p schemes old counts → ⊥
+none_extended p schemes old rest ns counts first lines none extends =
+    let same = lines_one p schemes rest ns counts lines (extends_lines p schemes old rest counts first extends) in
+    let some = extends.some in
+    omega (arith, none, ap length same, some)
+
+-- and that of some is
+pub extended : (p : Policy) (schemes : Schemes) (old rest ns : List ℕ) → ((v : Version) × (old ≡ first_line v ++ rest))
+    → AreLines p schemes rest ns → (length ns ≡ 0 → ⊥) → Extends p schemes old ns
+extended p schemes old rest ns first lines some = record {
+  version = first.0;
+  some = omega (arith, some);
+  counts_are = lines.counts_are;
+  text = first.1 ∙ ap (λ (x : List ℕ). first_line first.0 ++ x) lines.split;
+}
+
+pub ruleset extended_steps = (none_extended, extended)

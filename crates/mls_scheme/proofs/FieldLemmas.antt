@@ -163,16 +163,16 @@ other_again fields ts (inr missing) few = rw (missing.0, missing.1) refl
 pub record RelationTables (document : Members) (ds : Items) : Type 0 where
   pub field_is : get_member (codes "relation") document ≡ Some (array ds)
   pub some : 0 < items_len ds
-  pub few : items_len ds ≤ 16
+  pub few : items_len ds ≤ 64
 
 pub relation_found : (document : Members) (ds : Items) → relation_items document ≡ Ok ds → RelationTables document ds
 unfolding relation_items
 relation_found document ds e =
-    let a = bind_ok (wanted (codes "relation") document >>= tables_at) (some_of 16) ds
-    (lift_ok (wanted (codes "relation") document >>= tables_at >>= some_of 16) ds e) in
+    let a = bind_ok (wanted (codes "relation") document >>= tables_at) (some_of 64) ds
+    (lift_ok (wanted (codes "relation") document >>= tables_at >>= some_of 64) ds e) in
     let b = bind_ok (wanted (codes "relation") document) tables_at a.0 a.1 in
-    let c = guard_ok (items_len a.0 == 0) MissingField (bounded 16 a.0) ds a.2 in
-    let d = most_found 16 a.0 ds c.1 in
+    let c = guard_ok (items_len a.0 == 0) MissingField (bounded 64 a.0) ds a.2 in
+    let d = most_found 64 a.0 ds c.1 in
     let not_none : items_len a.0 ≡ 0 → ⊥ = eqb-false (items_len a.0) 0 c.0 in
     let len : items_len a.0 ≡ items_len ds = ap items_len d.0 in
     let few = d.1 in
@@ -184,7 +184,7 @@ relation_found document ds e =
     }
 
 pub relation_again : (document : Members) (ts : List Members) → HoldsTables (get_member (codes "relation") document) ts
-    → 0 < items_len (tables_of ts) → items_len (tables_of ts) ≤ 16 → relation_items document ≡ Ok (tables_of ts)
+    → 0 < items_len (tables_of ts) → items_len (tables_of ts) ≤ 64 → relation_items document ≡ Ok (tables_of ts)
 unfolding relation_items
 relation_again document ts h some few =
-    rw (h, are_tables ts, ne_eqb (items_len (tables_of ts)) 0 (λ e. omega arith), most_again 16 (tables_of ts) few) refl
+    rw (h, are_tables ts, ne_eqb (items_len (tables_of ts)) 0 (λ e. omega arith), most_again 64 (tables_of ts) few) refl

@@ -1,13 +1,13 @@
 -- Schemes with the first of their attributes outside the key are schemes.
 use Rattle.std.proofs.Common.{◌≡◌, ℕ, zero, suc, arith, ◌+◌, ◌<◌, ◌≤◌, false, List, [], ◌∷◌, ◌++◌, append_assoc, length, get_or, take, drop, map, slice_get, option_map, Some, refl, sym, ap, subst, ◌∙◌, bytes_eq, take-append-drop}
-use Rattle.std.specs.List.{AllZip, AllByRecursion, IsDistinct}
+use Rattle.std.specs.List.{AllByRecursion, IsDistinct}
 use Rattle.std.proofs.lemmas.List.{drop_more}
 use Rattle.mls_lattice.specs.Policy.{Name, Policy, AreNames}
 use Rattle.mls_lattice.proofs.EachLemmas.{all_take}
 use Rattle.mls_scheme.specs.declared.attributes.Column.{Column}
 use Rattle.mls_scheme.specs.Named.{has_name}
 use Rattle.mls_scheme.specs.Scheme.{Attribute, Scheme, Schemes, IsScheme, AreSchemes, IsAmongLabels, AreUnder, scheme_of, no_scheme, column_of}
-use Rattle.mls_scheme.specs.Extending.{scheme_before, schemes_before, HadOthers, Extends}
+use Rattle.mls_scheme.specs.Extending.{scheme_before, schemes_before, AllFirst, AtMost, HadOthers, Extends}
 use Rattle.mls_scheme.proofs.CanonLemmas.{attribute_there}
 use Rattle.mls_scheme.proofs.GatherLemmas.{fresh}
 
@@ -76,34 +76,42 @@ first_new attributes k name c apart e g =
 -- ---- all relations
 
 module _ (R : ℕ → Scheme → Type 0) where
-  pub counts_long : (counts : List ℕ) (schemes : Schemes) → AllZip R counts schemes → length counts ≡ length schemes
-  counts_long [] [] h = refl
-  counts_long [] (s ∷ schemes) h = absurd h
-  counts_long (n ∷ counts) [] h = absurd h
-  counts_long (n ∷ counts) (s ∷ schemes) h = ap suc (counts_long counts schemes h.1)
+  pub counts_few : (counts : List ℕ) (schemes : Schemes) → AllFirst R counts schemes → length counts ≤ length schemes
+  counts_few [] schemes h = omega arith
+  counts_few (n ∷ counts) [] h = absurd h
+  counts_few (n ∷ counts) (s ∷ schemes) h = let few = counts_few counts schemes h.1 in omega (arith, few)
 
-  pub count_there : (counts : List ℕ) (schemes : Schemes) (k : ℕ) (m : ℕ) (d : Scheme) → AllZip R counts schemes
-      → k < length schemes → R (get_or counts k m) (get_or schemes k d)
-  count_there [] [] k m d h within = absurd (omega (arith, within))
-  count_there [] (s ∷ schemes) k m d h within = absurd h
+  pub count_there : (counts : List ℕ) (schemes : Schemes) (k : ℕ) (m : ℕ) (d : Scheme) → AllFirst R counts schemes
+      → k < length counts → R (get_or counts k m) (get_or schemes k d)
+  count_there [] schemes k m d h within = absurd (omega (arith, within))
   count_there (n ∷ counts) [] k m d h within = absurd h
   count_there (n ∷ counts) (s ∷ schemes) zero m d h within = h.0
   count_there (n ∷ counts) (s ∷ schemes) (suc k) m d h within = count_there counts schemes k m d h.1
       (omega (arith, within))
 
-pub before_long : (counts : List ℕ) (schemes : Schemes) → length counts ≡ length schemes
-    → length (schemes_before counts schemes) ≡ length schemes
-before_long [] [] e = refl
-before_long [] (s ∷ schemes) e = absurd cc
-before_long (n ∷ counts) [] e = absurd cc
+pub before_long : (counts : List ℕ) (schemes : Schemes) → length counts ≤ length schemes
+    → length (schemes_before counts schemes) ≡ length counts
+before_long [] schemes e = refl
+before_long (n ∷ counts) [] e = absurd (omega (arith, e))
 before_long (n ∷ counts) (s ∷ schemes) e = ap suc (before_long counts schemes (omega (arith, e)))
 
-before_names : (counts : List ℕ) (schemes : Schemes) → length counts ≡ length schemes → map (λ (s : Scheme). s.name)
-    (schemes_before counts schemes) ≡ map (λ (s : Scheme). s.name) schemes
-before_names [] [] e = refl
-before_names [] (s ∷ schemes) e = absurd cc
-before_names (n ∷ counts) [] e = absurd cc
-before_names (n ∷ counts) (s ∷ schemes) e = ap (λ xs. s.name ∷ xs) (before_names counts schemes (omega (arith, e)))
+-- the names of the first relations are apart
+before_apart : (name : Name) (counts : List ℕ) (schemes : Schemes) → AllByRecursion (λ y. bytes_eq name y ≡ false)
+    (map (λ (s : Scheme). s.name) schemes)
+    → AllByRecursion (λ y. bytes_eq name y ≡ false) (map (λ (s : Scheme). s.name) (schemes_before counts schemes))
+before_apart name [] schemes h = tt
+before_apart name (n ∷ counts) [] h = tt
+before_apart name (n ∷ counts) (s ∷ schemes) h = (h.0, before_apart name counts schemes h.1)
+
+before_distinct : (counts : List ℕ) (schemes : Schemes) → IsDistinct bytes_eq (map (λ (s : Scheme). s.name) schemes)
+    → IsDistinct bytes_eq (map (λ (s : Scheme). s.name) (schemes_before counts schemes))
+unfolding IsDistinct
+before_distinct [] schemes h = tt
+before_distinct (n ∷ counts) [] h = tt
+before_distinct (n ∷ counts) (s ∷ schemes) h = (
+  before_apart s.name counts schemes h.0,
+  before_distinct counts schemes h.1,
+)
 
 before_each : (counts : List ℕ) (schemes : Schemes) → AllByRecursion IsScheme schemes
     → AllByRecursion IsScheme (schemes_before counts schemes)
@@ -111,17 +119,16 @@ before_each [] schemes h = tt
 before_each (n ∷ counts) [] h = tt
 before_each (n ∷ counts) (s ∷ schemes) h = (before_is n s h.0, before_each counts schemes h.1)
 
-pub before_are : (counts : List ℕ) (schemes : Schemes) → length counts ≡ length schemes → AreSchemes schemes
-    → AreSchemes (schemes_before counts schemes)
-before_are counts schemes e valid =
-    let long = before_long counts schemes e in
-    let some = valid.some in
+pub before_are : (counts : List ℕ) (schemes : Schemes) → 0 < length counts → length counts ≤ length schemes
+    → AreSchemes schemes → AreSchemes (schemes_before counts schemes)
+before_are counts schemes some fewer valid =
+    let long = before_long counts schemes fewer in
     let few = valid.few in
     record {
       some = omega (arith, long, some);
-      few = omega (arith, long, few);
+      few = omega (arith, long, fewer, few);
       each = before_each counts schemes valid.each;
-      distinct = subst (IsDistinct bytes_eq) (sym (before_names counts schemes e)) valid.distinct;
+      distinct = before_distinct counts schemes valid.distinct;
     }
 
 -- labels stay in bounds
@@ -135,13 +142,12 @@ before_under count (n ∷ counts) (s ∷ schemes) h = (
 )
 
 -- a relation by its number
-pub before_at : (counts : List ℕ) (schemes : Schemes) (relation : ℕ) → length counts ≡ length schemes
-    → relation < length schemes
+pub before_at : (counts : List ℕ) (schemes : Schemes) (relation : ℕ) → length counts ≤ length schemes
+    → relation < length counts
     → scheme_of (schemes_before counts schemes) relation ≡ scheme_before (get_or counts relation 0)
     (scheme_of schemes relation)
-before_at [] [] relation e within = absurd (omega (arith, within))
-before_at [] (s ∷ schemes) relation e within = absurd cc
-before_at (n ∷ counts) [] relation e within = absurd cc
+before_at [] schemes relation e within = absurd (omega (arith, within))
+before_at (n ∷ counts) [] relation e within = absurd (omega (arith, e))
 before_at (n ∷ counts) (s ∷ schemes) zero e within = refl
 before_at (n ∷ counts) (s ∷ schemes) (suc relation) e within = before_at counts schemes relation (omega (arith, e))
     (omega (arith, within))
@@ -149,8 +155,8 @@ before_at (n ∷ counts) (s ∷ schemes) (suc relation) e within = before_at cou
 -- one relation more
 before_next : (counts : List ℕ) (schemes : Schemes) (k : ℕ) (m : ℕ) (d : Scheme) → k < length counts
     → k < length schemes
-    → schemes_before (take (suc k) counts) (take (suc k) schemes) ≡ schemes_before (take k counts) (take k schemes)
-    ++ scheme_before (get_or counts k m) (get_or schemes k d) ∷ []
+    → schemes_before (take (suc k) counts) schemes ≡ schemes_before (take k counts) schemes ++ scheme_before
+    (get_or counts k m) (get_or schemes k d) ∷ []
 before_next [] schemes k m d c s = absurd (omega (arith, c))
 before_next (n ∷ counts) [] k m d c s = absurd (omega (arith, s))
 before_next (n ∷ counts) (x ∷ schemes) zero m d c s = refl
@@ -159,27 +165,26 @@ before_next (n ∷ counts) (x ∷ schemes) (suc k) m d c s = ap (λ xs. scheme_b
 
 pub before_more : (counts : List ℕ) (schemes : Schemes) (k : ℕ) (m : ℕ) (d : Scheme) → k < length counts
     → k < length schemes
-    → schemes_before (take (k + 1) counts) (take (k + 1) schemes) ≡ schemes_before (take k counts) (take k schemes)
-    ++ scheme_before (get_or counts k m) (get_or schemes k d) ∷ []
+    → schemes_before (take (k + 1) counts) schemes ≡ schemes_before (take k counts) schemes ++ scheme_before
+    (get_or counts k m) (get_or schemes k d) ∷ []
 before_more counts schemes k m d c s =
     let next : k + 1 ≡ suc k = omega arith in
-    ap (λ n. schemes_before (take n counts) (take n schemes)) next ∙ before_next counts schemes k m d c s
+    ap (λ n. schemes_before (take n counts) schemes) next ∙ before_next counts schemes k m d c s
 
 -- ---- what schemes that extend others have
 
 module _ (p : Policy) (schemes : Schemes) (old counts : List ℕ) (extends : Extends p schemes old counts) where
-  pub extends_long : length counts ≡ length schemes
-  extends_long = counts_long (HadOthers p) counts schemes extends.counts_are
+  pub extends_few : length counts ≤ length schemes
+  extends_few = counts_few (HadOthers p) counts schemes extends.counts_are
 
-  pub extends_few : AllZip (λ n s. n ≤ length s.others) counts schemes
-  extends_few = by counts schemes extends.counts_are
+  pub extends_most : AllFirst AtMost counts schemes
+  extends_most = by counts schemes extends.counts_are
     where
-      by : (ns : List ℕ) (ss : Schemes) → AllZip (HadOthers p) ns ss → AllZip (λ n s. n ≤ length s.others) ns ss
-      by [] [] h = tt
-      by [] (s ∷ ss) h = absurd h
+      by : (ns : List ℕ) (ss : Schemes) → AllFirst (HadOthers p) ns ss → AllFirst AtMost ns ss
+      by [] ss h = tt
       by (n ∷ ns) [] h = absurd h
       by (n ∷ ns) (s ∷ ss) h = (h.0.0, by ns ss h.1)
 
-  pub extends_at : (relation : ℕ) → relation < length schemes → HadOthers p (get_or counts relation 0)
+  pub extends_at : (relation : ℕ) → relation < length counts → HadOthers p (get_or counts relation 0)
       (scheme_of schemes relation)
   extends_at relation within = count_there (HadOthers p) counts schemes relation 0 no_scheme extends.counts_are within

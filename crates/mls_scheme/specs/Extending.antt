@@ -1,6 +1,6 @@
 -- Older schemes, of which only the canonical text is left, and how later schemes extend them.
-use Rattle.std.specs.Prelude.{◌≡◌, ◌≢◌, ℕ, ◌≤◌, true, List, [], ◌∷◌, ◌++◌, length, take, drop, codes, flat_map}
-use Rattle.std.specs.List.{AllByRecursion, AllZip}
+use Rattle.std.specs.Prelude.{◌≡◌, ◌≢◌, ⊤, ℕ, ◌<◌, ◌≤◌, true, List, [], ◌∷◌, ◌++◌, length, take, drop, codes, flat_map}
+use Rattle.std.specs.List.{AllByRecursion}
 use Rattle.mls_lattice.specs.Labels.{Labels, below}
 use Rattle.mls_lattice.specs.Policy.{Policy, labels_of}
 use Rattle.mls_lattice.specs.declared.version.Version.{Version}
@@ -11,7 +11,7 @@ use Rattle.mls_scheme.specs.Canon.{attribute_line, relation_lines, canon_of}
 abbrev pub scheme_before : ℕ → Scheme → Scheme
 scheme_before n s = record { name = s.name; keys = s.keys; others = take n s.others }
 
--- relations, each with the first so many of its attributes outside the key
+-- the first relations, as many as there are counts, each with the first so many of its attributes outside the key
 abbrev pub schemes_before : List ℕ → Schemes → Schemes
 schemes_before [] schemes = []
 schemes_before (n ∷ counts) [] = []
@@ -30,10 +30,22 @@ CoversKey ls n s = AllByRecursion (Contains ls (first_key s).1.low (first_key s)
 abbrev pub HadOthers : Policy → ℕ → Scheme → Type 0
 HadOthers p n s = (n ≤ length s.others) × CoversKey (labels_of p) n s
 
--- The schemes extend those that an old text says, of which each relation had so many attributes outside its key.
+-- what holds of each count and the relation of its number, and nothing of the relations behind them
+abbrev pub AllFirst : (ℕ → Scheme → Type 0) → List ℕ → Schemes → Type 0
+AllFirst P [] schemes = ⊤
+AllFirst P (n ∷ counts) [] = ⊥
+AllFirst P (n ∷ counts) (s ∷ schemes) = P n s × AllFirst P counts schemes
+
+-- no more attributes than a relation has
+abbrev pub AtMost : ℕ → Scheme → Type 0
+AtMost n s = n ≤ length s.others
+
+-- The schemes extend those that an old text says: its relations, one at least, are the first ones, and each had so many
+-- attributes outside its key.
 pub record Extends (p : Policy) (schemes : Schemes) (old : List ℕ) (counts : List ℕ) : Type 0 where
   pub version : Version
-  pub counts_are : AllZip (HadOthers p) counts schemes
+  pub some : 0 < length counts
+  pub counts_are : AllFirst (HadOthers p) counts schemes
   pub text : old ≡ canon_of p version (schemes_before counts schemes)
 
 -- the old numbers of attributes are one list
@@ -49,9 +61,9 @@ pub record BeginsWith (p : Policy) (s : Scheme) (text : List ℕ) (n : ℕ) (res
   pub had : HadOthers p n s
   pub split : text ≡ relation_lines p (scheme_before n s) ++ rest
 
--- A text is the lines of relations, each with the first so many of its attributes outside the key.
+-- A text is the lines of the first relations, each with the first so many of its attributes outside the key.
 pub record AreLines (p : Policy) (schemes : Schemes) (text : List ℕ) (counts : List ℕ) : Type 0 where
-  pub counts_are : AllZip (HadOthers p) counts schemes
+  pub counts_are : AllFirst (HadOthers p) counts schemes
   pub split : text ≡ flat_map (relation_lines p) (schemes_before counts schemes)
 
 -- no attribute's line begins the text: it is at the end or at a relation

@@ -118,9 +118,9 @@ scheme_at p before d = do
   attributes ← attributes_at p fields
   Ok (record { name = name; keys = attributes.0; others = attributes.1 })
 
--- from 1 to 16 tables
+-- from 1 to 64 tables
 unfoldable pub relation_items : Members → Result Items FileFault
-relation_items document = lift Field (wanted (codes "relation") document >>= tables_at >>= some_of 16)
+relation_items document = lift Field (wanted (codes "relation") document >>= tables_at >>= some_of 64)
 
 -- all that a document says
 unfoldable pub file_at : Policy → Members → Result (Version × Schemes) FileFault

@@ -60,7 +60,7 @@ pub record IsScheme (scheme : Scheme) : Type 0 where
 
 pub record AreSchemes (schemes : Schemes) : Type 0 where
   pub some : 0 < length schemes
-  pub few : length schemes ≤ 16
+  pub few : length schemes ≤ 64
   pub each : AllByRecursion IsScheme schemes
   pub distinct : IsDistinct bytes_eq (map (λ s. s.name) schemes)
 

@@ -1,4 +1,4 @@
-//! Which older schemes schemes extend: those whose lines of attributes begin their own, relation by relation.
+//! Which older schemes schemes extend: those of their first relations, whose lines of attributes begin their own.
 ghost use Rattle.std.specs.Prelude.{◌≡◌, ◌≢◌, ◌↔◌, ◌<◌, ◌++◌, ℕ, true, List, length, drop, codes, None, IfOk, IfSome};
 ghost use Rattle.std.specs.Prelude.{IsSomeAnd, MatchOption};
 ghost use Rattle.std.specs.List.{AllByRecursion};
@@ -127,7 +127,7 @@ fn relation_before<'a>(
     }
 }
 
-/// How many attributes outside the key each relation had, where a text is their lines.
+/// How many attributes outside the key each of the first relations had, where a text is their lines.
 pub(crate) fn relations_before(
     alloc: Global,
     policy: &Policy,
@@ -142,6 +142,9 @@ pub(crate) fn relations_before(
     let mut counts = Vec::new(alloc);
     let mut rest = text;
     for scheme in relations {
+        if rest.is_empty() {
+            return Ok(Some(counts));
+        }
         let Some((count, after)) = relation_before(alloc, policy, scheme, rest)? else {
             return Ok(None);
         };

@@ -78,7 +78,7 @@ const MAX_KEYS: usize = 4;
 
 const MAX_OTHERS: usize = 15;
 
-const MAX_RELATIONS: usize = 16;
+const MAX_RELATIONS: usize = 64;
 
 /// The tables of the key attributes.
 #[tactic(auto, using(mls_lattice::proofs::ReadingLemmas::counts), unfolding(crate::specs::Reading::key_items))]

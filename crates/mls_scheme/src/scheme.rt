@@ -1,8 +1,7 @@
 //! Schemes: relations, their attributes and the intervals of these.
 ghost use Rattle.std.specs.Prelude.{◌≡◌, ◌<◌, ◌≤◌, ℕ, List, length, position, None, IfOk, IfSome, bytes_eq};
-ghost use Rattle.std.specs.List.{AllZip};
 ghost use Rattle.mls_scheme.specs.Scheme.{Scheme as Relation, scheme_of, IsScheme, AreSchemes, AreUnder};
-ghost use Rattle.mls_scheme.specs.Extending.{scheme_before, schemes_before, Extends};
+ghost use Rattle.mls_scheme.specs.Extending.{scheme_before, schemes_before, AllFirst, AtMost, Extends};
 
 use crate::attributes::{Attributes, first_of};
 use crate::extending::{after_first, relations_before};
@@ -144,9 +143,10 @@ impl Schemes {
         scheme
     }
 
-    /// How many attributes outside its key each relation had in older schemes that these extend: those relations with
-    /// these keys,
-    /// and later attributes whose classes may be all that the key may have. They are given as their canonical text.
+    /// How many attributes outside its key each relation had in older schemes that these extend: the first relations
+    /// with these keys, and later attributes whose classes may be all that the key may have. They are given as their
+    /// canonical text.
+    #[tactic(auto, using(crate::proofs::ExtendingLemmas::extended_steps))]
     pub fn extends(
         &self,
         alloc: Global,
@@ -158,15 +158,22 @@ impl Schemes {
         ensures none { IfOk result (λ o. o ≡ None → (counts : List ℕ) → Extends policy.now self.now old.now counts
             → ⊥) }
     {
-        match after_first(old) {
-            Some(rest) => relations_before(alloc, policy, &self.relations, rest),
-            None => Ok(None),
+        let Some(rest) = after_first(old) else {
+            return Ok(None);
+        };
+        let Some(counts) = relations_before(alloc, policy, &self.relations, rest)? else {
+            return Ok(None);
+        };
+        if counts.is_empty() {
+            return Ok(None);
         }
+        Ok(Some(counts))
     }
 
-    /// A copy in which each relation has the first so many of its attributes outside the key.
+    /// A copy of the first relations, in which each has the first so many of its attributes outside the key.
     pub fn before(&self, alloc: Global, counts: &[usize]) -> Result<Schemes, AllocError>
-        requires { AllZip (λ n s. n ≤ length s.others) counts.now self.now }
+        requires some { 0 < length counts.now }
+        requires first { AllFirst AtMost counts.now self.now }
         ensures { IfOk result (λ s. s ≡ schemes_before counts.now self.now) }
     {
         self.use_invariant();
@@ -175,17 +182,20 @@ impl Schemes {
     }
 }
 
-/// Copies of relations, each with the first so many of its attributes outside the key.
+/// Copies of the first relations, each with the first so many of its attributes outside the key.
 fn relations_of(
     alloc: Global,
     relations: &[Scheme],
     counts: &[usize],
 ) -> Result<Vec<Scheme>, AllocError>
-    requires { AllZip (λ n s. n ≤ length s.others) counts.now relations.now }
+    requires { AllFirst AtMost counts.now relations.now }
     ensures { IfOk result (λ v. v.items ≡ schemes_before counts.now relations.now) }
 {
     let mut older = Vec::new(alloc);
     for (place, scheme) in relations.iter().enumerate() {
+        if place >= counts.len() {
+            return Ok(older);
+        }
         let copy = scheme.before(alloc, counts[place])?;
         older.push(copy)?;
     }

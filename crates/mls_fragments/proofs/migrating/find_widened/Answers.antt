@@ -1,5 +1,5 @@
 use Rattle.std.proofs.Common.{◌≡◌, ℕ, ◌<◌, ◌≤◌, [], length, map, rules, arith, refl, sym, ap, subst, ◌∙◌, slice_index_or}
-use Rattle.std.specs.List.{AllByRecursion, AllZip}
+use Rattle.std.specs.List.{AllByRecursion}
 use Rattle.std.specs.List.Sorted.{IsStrictlySortedBy}
 use Rattle.std.specs.Map.{keys_of}
 use Rattle.std.proofs.lemmas.List.{length-map}
@@ -7,8 +7,8 @@ use Rattle.sqlite_trees.proofs.ListLemmas.{all-map}
 use Rattle.mls_lattice.specs.Policy.{labels_of}
 use Rattle.mls_scheme.specs.Scheme.{Schemes, scheme_of, IsScheme, IsUnder, AreUnder}
 use Rattle.mls_scheme.specs.Table.{place_cmp}
-use Rattle.mls_scheme.specs.Extending.{scheme_before, schemes_before}
-use Rattle.mls_scheme.proofs.OlderLemmas.{before_under, before_at, before_long, extends_long, extends_few, extends_at}
+use Rattle.mls_scheme.specs.Extending.{scheme_before, schemes_before, AllFirst, AtMost}
+use Rattle.mls_scheme.proofs.OlderLemmas.{before_under, before_at, before_long, extends_few, extends_most, extends_at}
 use Rattle.mls_filterview.specs.Stored.{IsContent}
 use Rattle.mls_rows.specs.Changes.{table_in, found}
 use Rattle.mls_rows.specs.Finding.{IsSpelledEntry, IsSoundWithin}
@@ -19,11 +19,14 @@ use Rattle.mls_rows.proofs.FindingLemmas.{tables_each, are_content, holds_found}
 use Rattle.mls_fragments.proofs.MigratingLemmas.{each_table, scheme_each, wide_length, sorted_wide, tables_wide, content_wide, spelled_wide, entries_more}
 use Rattle.mls_fragments.proofs.migrating.find_widened.Goals as goal
 
-pub before-requires : goal.before-requires
-before-requires c =
+pub before-requires-clause-some : goal.before-requires-clause-some
+before-requires-clause-some c = subst (λ ns. 0 < length ns) (sym c.deref.ensures.value) c.requires.before.extends.some
+
+pub before-requires-clause-first : goal.before-requires-clause-first
+before-requires-clause-first c =
     let b = c.requires.before in
-    subst (λ ns. AllZip (λ n s. n ≤ length s.others) ns c.args.design.now.file.now.schemes) (sym c.deref.ensures.value)
-    (extends_few c.args.design.now.policy.now c.args.design.now.file.now.schemes b.text c.args.older.now.counts.items b.extends)
+    subst (λ ns. AllFirst AtMost ns c.args.design.now.file.now.schemes) (sym c.deref.ensures.value)
+    (extends_most c.args.design.now.policy.now c.args.design.now.file.now.schemes b.text c.args.older.now.counts.items b.extends)
 
 pub find-requires : goal.find-requires
 find-requires c = record {
@@ -43,8 +46,8 @@ returns-in_err-tables-clause-only c t all content holds sound =
 pub widened_tables-requires-clause-counts : goal.widened_tables-requires-clause-counts
 widened_tables-requires-clause-counts c =
     let b = c.requires.before in
-    subst (λ ns. AllZip (λ n s. n ≤ length s.others) ns c.args.design.now.file.now.schemes)
-    (sym c.deref-2.ensures.value) (extends_few c.args.design.now.policy.now c.args.design.now.file.now.schemes b.text c.args.older.now.counts.items b.extends)
+    subst (λ ns. AllFirst AtMost ns c.args.design.now.file.now.schemes) (sym c.deref-2.ensures.value)
+    (extends_most c.args.design.now.policy.now c.args.design.now.file.now.schemes b.text c.args.older.now.counts.items b.extends)
 
 pub widened_tables-requires-clause-count : goal.widened_tables-requires-clause-count
 widened_tables-requires-clause-count c =
@@ -52,7 +55,8 @@ widened_tables-requires-clause-count c =
     c.in_ok-tables.ensures.found.count ∙ ap length (c.in_ok-before.ensures
     ∙ ap (λ ns. schemes_before ns c.args.design.now.file.now.schemes) c.deref.ensures.value)
     ∙ before_long c.args.older.now.counts.items c.args.design.now.file.now.schemes
-    (extends_long c.args.design.now.policy.now c.args.design.now.file.now.schemes b.text c.args.older.now.counts.items b.extends)
+    (extends_few c.args.design.now.policy.now c.args.design.now.file.now.schemes b.text c.args.older.now.counts.items b.extends)
+    ∙ ap length (sym c.deref-2.ensures.value)
 
 -- ---- what is found
 
@@ -66,7 +70,7 @@ returns-clause-widened c =
     let f = c.in_ok-tables.ensures.found in
     let lists = c.in_ok-tables.field-0.tables.items in
     let entries = c.in_ok-tables.field-0.entries in
-    let long = extends_long policy schemes b.text counts b.extends in
+    let fewer = extends_few policy schemes b.text counts b.extends in
     let tables = map (λ t. t.entries) lists in
     let wide = map (λ t. t.entries) c.in_ok-widened_tables.field-0.items in
     let before : c.in_ok-before.before ≡ schemes_before counts schemes = c.in_ok-before.ensures
@@ -79,25 +83,26 @@ returns-clause-widened c =
     let spelled : (relation : ℕ) → AllByRecursion IsSpelledEntry (slice_index_or tables relation [])
     = each_table (AllByRecursion IsSpelledEntry) tt tables (all-map (AllByRecursion IsSpelledEntry)
     (λ t. t.entries) lists f.spelled) in
-    let shorter : length c.in_ok-before.before ≡ length schemes = ap length before ∙ before_long counts schemes long in
+    let shorter : length c.in_ok-before.before ≡ length counts = ap length before ∙ before_long counts schemes fewer in
     let listed : length wide ≡ length tables = ap length is ∙ wide_length schemes counts 0 tables in
     let counted : length tables ≡ length c.in_ok-before.before = length-map lists (λ t. t.entries) ∙ f.count in
-    let count : length wide ≡ length schemes = listed ∙ counted ∙ shorter in
+    let count : length wide ≡ length counts = listed ∙ counted ∙ shorter in
     let all_content = are_content ls schemes wide (λ relation l.
-    let within : relation < length schemes = omega (arith, l, count) in
+    let old : relation < length counts = omega (arith, l, count) in
+    let within : relation < length schemes = omega (arith, old, fewer) in
     let at : scheme_of c.in_ok-before.before relation ≡ scheme_before (slice_index_or counts relation 0)
     (scheme_of schemes relation) = ap (λ (ss : Schemes). scheme_of ss relation) before
-    ∙ before_at counts schemes relation long within in
+    ∙ before_at counts schemes relation fewer old in
     content_wide schemes counts tables wide is sorted policy relation within
     (subst (λ s. 0 < length s.keys) at (scheme_each IsScheme c.in_ok-before.before f.valid.each relation
-    (omega (arith, within, shorter))).some_key)
-    (extends_at policy schemes b.text counts b.extends relation within)
+    (omega (arith, old, shorter))).some_key)
+    (extends_at policy schemes b.text counts b.extends relation old)
     (subst (λ n. IsUnder n (scheme_before (slice_index_or counts relation 0) (scheme_of schemes relation)))
     (sym (length-map policy.labels (λ l. l.value)))
-    (subst (IsUnder (length policy.labels)) (before_at counts schemes relation long within)
+    (subst (IsUnder (length policy.labels)) (before_at counts schemes relation fewer old)
     (scheme_each (IsUnder (length policy.labels)) (schemes_before counts schemes)
     (before_under (length policy.labels) counts schemes c.args.design.now.under) relation
-    (omega (arith, within, before_long counts schemes long)))))
+    (omega (arith, old, before_long counts schemes fewer)))))
     (subst (λ s. IsContent ls s (table_in tables relation)) at (f.sound.content relation))) in
     record {
       widened = (

@@ -1,28 +1,25 @@
 use Rattle.std.proofs.Common.{◌≡◌, ◌<◌, ◌≤◌, ◌+◌, ◌-◌, ◌∷◌, ◌++◌, map, length, slice_index_or, rules, arith, sym, ap, subst, ◌∙◌}
 use Rattle.mls_scheme.specs.Scheme.{scheme_of, no_scheme}
-use Rattle.mls_scheme.proofs.OlderLemmas.{counts_long, count_there}
+use Rattle.mls_scheme.specs.Extending.{AtMost}
+use Rattle.mls_scheme.proofs.OlderLemmas.{counts_few, count_there}
 use Rattle.mls_filterview.specs.Widen.{widened_entry}
 use Rattle.mls_fragments.specs.Migrating.{wide_tables}
 use Rattle.mls_fragments.proofs.MigratingLemmas.{table_wide}
 use Rattle.mls_fragments.proofs.migrating.widened_tables.Goals as goal
 
-pub bounds-counts-relation : goal.bounds-counts-relation
-bounds-counts-relation c =
-    let within : c.loop-table.relation < length c.args.schemes.now = search rules in
-    omega (
-      arith,
-      within,
-      counts_long (λ n s. n
-          ≤ length s.others) c.args.counts.now c.args.schemes.now c.requires.counts,
-    )
+pub scheme-scheme-requires : goal.scheme-scheme-requires
+scheme-scheme-requires c =
+    let within : c.loop-table.relation < length c.args.counts.now = search rules in
+    let few = counts_few AtMost c.args.counts.now c.args.schemes.now c.requires.counts in
+    subst (λ n. n < length c.args.schemes.now) (sym c.new.ensures) (omega (arith, within, few))
 
 pub overflow_sub-len : goal.overflow_sub-len
 overflow_sub-len c =
-    let within : c.loop-table.relation < length c.args.schemes.now = search rules in
+    let within : c.loop-table.relation < length c.args.counts.now = search rules in
     subst (λ n. slice_index_or c.args.counts.now c.loop-table.relation 0 ≤ n)
     (sym (c.len.ensures ∙ ap length (c.others.ensures.others ∙ ap (λ s. s.others) (c.scheme-scheme.ensures.row
     ∙ ap (scheme_of c.args.schemes.now) c.new.ensures))))
-    (count_there (λ n s. n ≤ length s.others) c.args.counts.now c.args.schemes.now c.loop-table.relation 0 no_scheme c.requires.counts within)
+    (count_there AtMost c.args.counts.now c.args.schemes.now c.loop-table.relation 0 no_scheme c.requires.counts within)
 
 pub loop-table-preserved : goal.loop-table-preserved
 loop-table-preserved c =

@@ -14,6 +14,7 @@ returns-in_default-clause-none c =
     ∙ ap (λ (x : Scheme). x ∷ drop (i + 1) all) (sym c.scheme-item.is) in
     let before = subst (λ (xs : List Scheme). Before c.args.policy.now all c.args.text.now c.loop-scheme.counts.items xs rest) here c.loop-scheme.invariant in
     λ e. before-none c.args.policy.now all c.args.text.now c.loop-scheme.counts.items s (drop (i + 1) all) rest before
+    (full_of rest (sym c.is_empty.ensures ∙ c.if-is_empty.false))
     (λ m other past begins. none_has _ _ c.in_default.is (c.in_ok-count.ensures.only m other past begins))
 
 pub loop-scheme-preserved : goal.loop-scheme-preserved
@@ -36,16 +37,23 @@ pub returns-then-is_empty-clause-found : goal.returns-then-is_empty-clause-found
 returns-then-is_empty-clause-found c =
     let all = c.args.relations.now in
     let rest = c.loop-scheme.rest.now in
-    let over = drop_all c.loop-scheme.scheme-index all c.loop-scheme-test.false in
-    let before = subst (λ (xs : List Scheme). Before c.args.policy.now all c.args.text.now c.loop-scheme.counts.items xs rest) over c.loop-scheme.invariant in
-    before-all c.args.policy.now all c.args.text.now c.loop-scheme.counts.items rest before
-    (empty_of rest (sym c.is_empty.ensures ∙ c.if-is_empty.true))
+    before-all c.args.policy.now all c.args.text.now c.loop-scheme.counts.items
+    (drop c.loop-scheme.scheme-index all) rest c.loop-scheme.invariant (empty_of rest (sym c.is_empty.ensures
+    ∙ c.if-is_empty.true))
 
-pub returns-else-is_empty-clause-none : goal.returns-else-is_empty-clause-none
-returns-else-is_empty-clause-none c =
+pub returns-then-is_empty-2-clause-found : goal.returns-then-is_empty-2-clause-found
+returns-then-is_empty-2-clause-found c =
+    let all = c.args.relations.now in
+    let rest = c.loop-scheme.rest.now in
+    before-all c.args.policy.now all c.args.text.now c.loop-scheme.counts.items
+    (drop c.loop-scheme.scheme-index all) rest c.loop-scheme.invariant (empty_of rest (sym c.is_empty-2.ensures
+    ∙ c.if-is_empty-2.true))
+
+pub returns-else-is_empty-2-clause-none : goal.returns-else-is_empty-2-clause-none
+returns-else-is_empty-2-clause-none c =
     let all = c.args.relations.now in
     let rest = c.loop-scheme.rest.now in
     let over = drop_all c.loop-scheme.scheme-index all c.loop-scheme-test.false in
     let before = subst (λ (xs : List Scheme). Before c.args.policy.now all c.args.text.now c.loop-scheme.counts.items xs rest) over c.loop-scheme.invariant in
     λ e. before-left c.args.policy.now all c.args.text.now c.loop-scheme.counts.items rest before
-    (full_of rest (sym c.is_empty.ensures ∙ c.if-is_empty.false))
+    (full_of rest (sym c.is_empty-2.ensures ∙ c.if-is_empty-2.false))

@@ -2,12 +2,9 @@
 use Rattle.std.specs.Prelude.{ℕ, List, filter}
 use Rattle.mls_lattice.specs.Labels.{Labels, below}
 use Rattle.mls_audit.specs.declared.entry.Entry.{Entry}
-use Rattle.mls_audit.specs.declared.entry.Entry.TheVariants.{Called, Denied, Released}
 
 abbrev pub label_of : Entry → ℕ
-label_of (Called label user session transaction) = label
-label_of (Denied label user session code) = label
-label_of (Released label user session value) = label
+label_of e = e.label
 
 -- the entries whose labels c dominates, in order
 abbrev pub visible : Labels → ℕ → List Entry → List Entry

@@ -6,30 +6,26 @@ use mls_lattice::{LabelNo, Str};
 use mls_scheme::Value;
 use std::alloc::AllocError;
 
+/// What an entry tells.
+#[derive(Clone, PartialEq, Eq, Drop)]
+pub enum Deed {
+    /// The transaction of a name was called.
+    Called(Str),
+    /// A command was denied, by the number of the denial.
+    Denied(u8),
+    /// A value, or null, was released.
+    Released(Option<Value>),
+}
+
 /// An entry of the audit list. The label is the session's level, and that of a release the one to which it was made.
 #[derive(Clone, PartialEq, Eq, Drop)]
-pub enum Entry {
-    /// A transaction was called.
-    Called {
-        label: LabelNo,
-        user: Str,
-        session: Str,
-        transaction: Str,
-    },
-    /// A command was denied, by the number of the denial.
-    Denied {
-        label: LabelNo,
-        user: Str,
-        session: Str,
-        code: u8,
-    },
-    /// A value, or null, was released.
-    Released {
-        label: LabelNo,
-        user: Str,
-        session: Str,
-        value: Option<Value>,
-    },
+pub struct Entry {
+    pub label: LabelNo,
+    /// When its command was given, if the command's line told it.
+    pub time: Option<Str>,
+    pub user: Str,
+    pub session: Str,
+    pub deed: Deed,
 }
 
 impl Entry {
@@ -37,11 +33,7 @@ impl Entry {
     pub fn label(&self) -> LabelNo
         ensures { result ≡ label_of self.now }
     {
-        match self {
-            Entry::Called { label, .. } => *label,
-            Entry::Denied { label, .. } => *label,
-            Entry::Released { label, .. } => *label,
-        }
+        self.label
     }
 
     /// An equal entry.

@@ -8,7 +8,7 @@ mod reading;
 mod viewing;
 mod writing;
 
-pub use entry::Entry;
+pub use entry::{Deed, Entry};
 // The fault of a value is that of its entry.
 pub use mls_scheme::KeyFault as EntryFault;
 pub use reading::entry_of;

@@ -3,18 +3,27 @@ ghost use Rattle.std.specs.Prelude.{◌≡◌, IfOk, Ok};
 ghost use Rattle.mls_scheme.specs.KeyReading.{GivesKey, utf8_at, value_at};
 ghost use Rattle.mls_audit.specs.declared.entry.Entry.{Entry as SpecEntry};
 ghost use Rattle.mls_audit.specs.Spelling.{entry_spelling, HasSpelling};
-ghost use Rattle.mls_audit.specs.Reading.{byte_at, name_at, head_at, nullable_at, called_at, denied_at, released_at};
-ghost use Rattle.mls_audit.specs.Reading.{front_at, entry_at};
+ghost use Rattle.mls_audit.specs.Reading.{byte_at, name_at, time_at, head_at, nullable_at, deed_at, tag_at, front_at};
+ghost use Rattle.mls_audit.specs.Reading.{entry_at};
 
-use crate::entry::Entry;
-use mls_lattice::{LabelNo, Str};
+use crate::entry::{Deed, Entry};
+use mls_lattice::{LabelNo, Str, TIME_BYTES, is_time};
 use mls_scheme::{KeyFault as EntryFault, Value, value_of};
 use std::alloc::Global;
+
+/// What kinds of entries there are.
+#[derive(Clone, Copy)]
+enum Kind {
+    Called,
+    Denied,
+    Released,
+}
 
 /// What every entry has.
 #[derive(Drop)]
 struct Head {
     label: LabelNo,
+    time: Option<Str>,
     user: Str,
     session: Str,
 }
@@ -51,15 +60,35 @@ fn name_of(alloc: Global, bytes: &[u8]) -> Result<(Str, &[u8]), EntryFault>
     Ok((Str::copy_of(alloc, utf8_of(name)?)?, rest))
 }
 
+/// A time, where there is one.
+fn time_of(alloc: Global, timed: bool, bytes: &[u8]) -> Result<(Option<Str>, &[u8]), EntryFault>
+    ensures { GivesKey (λ x. (x.0, x.1.now)) result (time_at timed bytes.now) }
+{
+    if !timed {
+        return Ok((None, bytes));
+    }
+    if bytes.len() < TIME_BYTES {
+        return Err(EntryFault::Short);
+    }
+    let (time, rest) = bytes.split_at(TIME_BYTES);
+    let time = utf8_of(time)?;
+    if !is_time(time.as_bytes()) {
+        return Err(EntryFault::BadText);
+    }
+    Ok((Some(Str::copy_of(alloc, time)?), rest))
+}
+
 #[tactic(auto, unfolding(crate::specs::Reading::head_at))]
-fn head_of(alloc: Global, bytes: &[u8]) -> Result<(Head, &[u8]), EntryFault>
-    ensures { GivesKey (λ x. (x.0, x.1.now)) result (head_at bytes.now) }
+fn head_of(alloc: Global, timed: bool, bytes: &[u8]) -> Result<(Head, &[u8]), EntryFault>
+    ensures { GivesKey (λ x. (x.0, x.1.now)) result (head_at timed bytes.now) }
 {
     let (label, rest) = byte_of(bytes)?;
+    let (time, rest) = time_of(alloc, timed, rest)?;
     let (user, rest) = name_of(alloc, rest)?;
     let (session, rest) = name_of(alloc, rest)?;
     let head = Head {
         label: LabelNo::new(label),
+        time,
         user,
         session,
     };
@@ -87,62 +116,56 @@ fn nullable_of(alloc: Global, bytes: &[u8]) -> Result<(Option<Value>, &[u8]), En
     }
 }
 
-#[tactic(auto, unfolding(crate::specs::Reading::called_at))]
-fn called_of(alloc: Global, bytes: &[u8]) -> Result<(Entry, &[u8]), EntryFault>
-    ensures { GivesKey (λ x. (x.0, x.1.now)) result (called_at bytes.now) }
+fn deed_of(alloc: Global, kind: Kind, bytes: &[u8]) -> Result<(Deed, &[u8]), EntryFault>
+    ensures { GivesKey (λ x. (x.0, x.1.now)) result (deed_at kind bytes.now) }
 {
-    let (head, rest) = head_of(alloc, bytes)?;
-    let (transaction, rest) = name_of(alloc, rest)?;
-    let entry = Entry::Called {
-        label: head.label,
-        user: head.user,
-        session: head.session,
-        transaction,
-    };
-    Ok((entry, rest))
+    match kind {
+        Kind::Called => {
+            let (transaction, rest) = name_of(alloc, bytes)?;
+            Ok((Deed::Called(transaction), rest))
+        }
+        Kind::Denied => {
+            let (code, rest) = byte_of(bytes)?;
+            Ok((Deed::Denied(code), rest))
+        }
+        Kind::Released => {
+            let (value, rest) = nullable_of(alloc, bytes)?;
+            Ok((Deed::Released(value), rest))
+        }
+    }
 }
 
-#[tactic(auto, unfolding(crate::specs::Reading::denied_at))]
-fn denied_of(alloc: Global, bytes: &[u8]) -> Result<(Entry, &[u8]), EntryFault>
-    ensures { GivesKey (λ x. (x.0, x.1.now)) result (denied_at bytes.now) }
+/// Whether an entry of a tag has a time, and what it tells.
+fn tag_of(tag: u8) -> Result<(bool, Kind), EntryFault>
+    ensures { GivesKey (λ k. (k.0, k.1)) result (tag_at tag) }
 {
-    let (head, rest) = head_of(alloc, bytes)?;
-    let (code, rest) = byte_of(rest)?;
-    let entry = Entry::Denied {
-        label: head.label,
-        user: head.user,
-        session: head.session,
-        code,
-    };
-    Ok((entry, rest))
-}
-
-#[tactic(auto, unfolding(crate::specs::Reading::released_at))]
-fn released_of(alloc: Global, bytes: &[u8]) -> Result<(Entry, &[u8]), EntryFault>
-    ensures { GivesKey (λ x. (x.0, x.1.now)) result (released_at bytes.now) }
-{
-    let (head, rest) = head_of(alloc, bytes)?;
-    let (value, rest) = nullable_of(alloc, rest)?;
-    let entry = Entry::Released {
-        label: head.label,
-        user: head.user,
-        session: head.session,
-        value,
-    };
-    Ok((entry, rest))
+    match tag {
+        1 => Ok((false, Kind::Called)),
+        2 => Ok((false, Kind::Denied)),
+        3 => Ok((false, Kind::Released)),
+        4 => Ok((true, Kind::Called)),
+        5 => Ok((true, Kind::Denied)),
+        6 => Ok((true, Kind::Released)),
+        _ => Err(EntryFault::BadTag),
+    }
 }
 
 #[tactic(auto, unfolding(crate::specs::Reading::front_at))]
 fn front_of(alloc: Global, bytes: &[u8]) -> Result<(Entry, &[u8]), EntryFault>
     ensures { GivesKey (λ x. (x.0, x.1.now)) result (front_at bytes.now) }
 {
-    match bytes {
-        [] => Err(EntryFault::Short),
-        [1, rest @ ..] => called_of(alloc, rest),
-        [2, rest @ ..] => denied_of(alloc, rest),
-        [3, rest @ ..] => released_of(alloc, rest),
-        [_, ..] => Err(EntryFault::BadTag),
-    }
+    let (tag, rest) = byte_of(bytes)?;
+    let (timed, kind) = tag_of(tag)?;
+    let (head, rest) = head_of(alloc, timed, rest)?;
+    let (deed, rest) = deed_of(alloc, kind, rest)?;
+    let entry = Entry {
+        label: head.label,
+        time: head.time,
+        user: head.user,
+        session: head.session,
+        deed,
+    };
+    Ok((entry, rest))
 }
 
 #[tactic(auto, unfolding(crate::specs::Reading::entry_at))]

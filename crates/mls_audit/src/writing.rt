@@ -1,11 +1,12 @@
-//! An entry is a tag, what every entry has, and what it tells: a name, a code or a value.
+//! An entry is a tag, a label, a time if there is one, two names, and what it tells: a name, a code or a value.
 ghost use Rattle.std.specs.Prelude.{◌≡◌, ◌++◌, OnOk, IfOk, IsUtf8, IfSome};
 ghost use Rattle.mls_scheme.specs.Spelling.{IsValue, IsShort as IsShortValue};
-ghost use Rattle.mls_audit.specs.Spelling.{name_spelling, head_spelling, nullable_spelling, entry_spelling};
-ghost use Rattle.mls_audit.specs.Spelling.{IsShortName, IsHead, IsEntry, IsShort};
+ghost use Rattle.mls_audit.specs.Spelling.{name_spelling, time_spelling, nullable_spelling, deed_spelling};
+ghost use Rattle.mls_audit.specs.Spelling.{deed_number, tag_of, head_spelling, entry_spelling};
+ghost use Rattle.mls_audit.specs.Spelling.{IsShortName, IsShortDeed, IsHead, IsDeed, IsEntry, IsShort};
 
-use crate::entry::Entry;
-use mls_lattice::{LabelNo, Str};
+use crate::entry::{Deed, Entry};
+use mls_lattice::Str;
 use mls_scheme::{Value, value_bytes};
 use std::alloc::{AllocError, Global};
 
@@ -20,22 +21,26 @@ fn put_name(out: &mut Vec<u8>, name: &Str) -> Result<(), AllocError>
     Ok(())
 }
 
-fn put_head(
-    out: &mut Vec<u8>,
-    tag: u8,
-    label: LabelNo,
-    user: &Str,
-    session: &Str,
-) -> Result<(), AllocError>
-    requires user { IsShortName user.now }
-    requires session { IsShortName session.now }
-    ensures writes { OnOk result (out.new.items ≡ out.old.items ++ head_spelling tag label user.now session.now) }
-    ensures whole { OnOk result (IsHead label user.now session.now) }
+fn put_time(out: &mut Vec<u8>, time: &Option<Str>) -> Result<(), AllocError>
+    ensures writes { OnOk result (out.new.items ≡ out.old.items ++ time_spelling time.now) }
+    ensures whole { OnOk result (IfSome time.now IsUtf8) }
 {
-    out.push(tag)?;
-    out.push(label.byte())?;
-    put_name(out, user)?;
-    put_name(out, session)?;
+    if let Some(time) = time {
+        out.extend_from_slice(time.as_str().as_bytes())?;
+    }
+    Ok(())
+}
+
+fn put_head(out: &mut Vec<u8>, entry: &Entry) -> Result<(), AllocError>
+    requires { IsShort entry.now }
+    ensures writes { OnOk result (out.new.items ≡ out.old.items
+        ++ head_spelling entry.now.label entry.now.time entry.now.user entry.now.session) }
+    ensures whole { OnOk result (IsHead entry.now.label entry.now.time entry.now.user entry.now.session) }
+{
+    out.push(entry.label.byte())?;
+    put_time(out, &entry.time)?;
+    put_name(out, &entry.user)?;
+    put_name(out, &entry.session)?;
     Ok(())
 }
 
@@ -51,6 +56,34 @@ fn put_nullable(alloc: Global, out: &mut Vec<u8>, value: &Option<Value>) -> Resu
     Ok(())
 }
 
+fn put_deed(alloc: Global, out: &mut Vec<u8>, deed: &Deed) -> Result<(), AllocError>
+    requires { IsShortDeed deed.now }
+    ensures writes { OnOk result (out.new.items ≡ out.old.items ++ deed_spelling deed.now) }
+    ensures whole { OnOk result (IsDeed deed.now) }
+{
+    match deed {
+        Deed::Called(transaction) => put_name(out, transaction)?,
+        Deed::Denied(code) => out.push(*code)?,
+        Deed::Released(value) => put_nullable(alloc, out, value)?,
+    }
+    Ok(())
+}
+
+/// The tag of an entry: 1 to 3 without a time, 4 to 6 with one.
+fn tag_of(entry: &Entry) -> u8
+    ensures { result ≡ tag_of entry.now.time (deed_number entry.now.deed) }
+{
+    let number = match &entry.deed {
+        Deed::Called(_) => 1,
+        Deed::Denied(_) => 2,
+        Deed::Released(_) => 3,
+    };
+    match &entry.time {
+        Some(_) => 3 + number,
+        None => number,
+    }
+}
+
 /// The bytes of an entry.
 pub fn entry_bytes(alloc: Global, entry: &Entry) -> Result<Vec<u8>, AllocError>
     requires { IsShort entry.now }
@@ -58,34 +91,8 @@ pub fn entry_bytes(alloc: Global, entry: &Entry) -> Result<Vec<u8>, AllocError>
     ensures whole { OnOk result (IsEntry entry.now) }
 {
     let mut out = Vec::new(alloc);
-    match entry {
-        Entry::Called {
-            label,
-            user,
-            session,
-            transaction,
-        } => {
-            put_head(&mut out, 1, *label, user, session)?;
-            put_name(&mut out, transaction)?;
-        }
-        Entry::Denied {
-            label,
-            user,
-            session,
-            code,
-        } => {
-            put_head(&mut out, 2, *label, user, session)?;
-            out.push(*code)?;
-        }
-        Entry::Released {
-            label,
-            user,
-            session,
-            value,
-        } => {
-            put_head(&mut out, 3, *label, user, session)?;
-            put_nullable(alloc, &mut out, value)?;
-        }
-    }
+    out.push(tag_of(entry))?;
+    put_head(&mut out, entry)?;
+    put_deed(alloc, &mut out, &entry.deed)?;
     Ok(out)
 }

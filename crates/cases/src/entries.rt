@@ -7,8 +7,9 @@ ghost use Rattle.mls_audit.specs.Spelling.{HasSpelling};
 use crate::show::{push_value, push_word, push_written};
 use crate::tuples::label_of;
 use case_tables::{Case, Told, inner};
-use mls_audit::{Entry, entry_bytes, entry_of, visible};
+use mls_audit::{Deed, Entry, entry_bytes, entry_of, visible};
 use mls_lattice::{LabelNo, Policy};
+use mls_scheme::Value;
 use std::alloc::{AllocError, Global};
 
 /// Adds what was done by whom.
@@ -18,41 +19,34 @@ fn push_done(word: &str, user: &str, session: &str, out: &mut Told) {
     push_word(session, out);
 }
 
+fn push_released(value: &Option<Value>, out: &mut Told) {
+    match value {
+        Some(value) => push_value(value, out),
+        None => out.push(" null"),
+    }
+}
+
 fn push_entry(entry: &Entry, out: &mut Told) {
     out.push("label ");
     out.push_count(entry.label().index());
-    match entry {
-        Entry::Called {
-            user,
-            session,
-            transaction,
-            ..
-        } => {
-            push_done("called", user.as_str(), session.as_str(), out);
+    let (user, session) = (entry.user.as_str(), entry.session.as_str());
+    match &entry.deed {
+        Deed::Called(transaction) => {
+            push_done("called", user, session, out);
             push_word(transaction.as_str(), out);
         }
-        Entry::Denied {
-            user,
-            session,
-            code,
-            ..
-        } => {
-            push_done("denied", user.as_str(), session.as_str(), out);
+        Deed::Denied(code) => {
+            push_done("denied", user, session, out);
             out.push(" ");
             out.push_count(*code as usize);
         }
-        Entry::Released {
-            user,
-            session,
-            value,
-            ..
-        } => {
-            push_done("released", user.as_str(), session.as_str(), out);
-            match value {
-                Some(value) => push_value(value, out),
-                None => out.push(" null"),
-            }
+        Deed::Released(value) => {
+            push_done("released", user, session, out);
+            push_released(value, out);
         }
+    }
+    if let Some(time) = &entry.time {
+        push_word(time.as_str(), out);
     }
 }
 
@@ -93,14 +87,9 @@ fn call_of(alloc: Global, count: u8) -> Result<Vec<u8>, AllocError> {
 
 /// Adds how long the names of a call are.
 fn push_lengths(entry: &Entry, out: &mut Told) {
-    match entry {
-        Entry::Called {
-            user,
-            session,
-            transaction,
-            ..
-        } => {
-            for name in [user, session, transaction] {
+    match &entry.deed {
+        Deed::Called(transaction) => {
+            for name in [&entry.user, &entry.session, transaction] {
                 out.push(" ");
                 out.push_count(name.as_str().len());
             }

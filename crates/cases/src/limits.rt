@@ -35,6 +35,15 @@ fn push_labels(count: u16, text: &mut Told) {
 
 const MODES: &str = "\"\nmodes = [\"read\"]\n";
 
+/// Adds an entry of the matrix for so many users and objects.
+fn push_pairs(users: u16, objects: u16, text: &mut Told) {
+    text.push("[[matrix]]\nusers = [");
+    push_each("\"U", users, "\", ", text);
+    text.push("]\nobjects = [");
+    push_each("\"T", objects, "\", ", text);
+    text.push("]\nmodes = [\"read\"]\n");
+}
+
 /// The parts of a policy in their order: levels, categories, labels, users and entries of the matrix.
 fn push_policy(words: &[&str], text: &mut Told) {
     text.push("levels = [");
@@ -49,12 +58,16 @@ fn push_policy(words: &[&str], text: &mut Told) {
         "\"\nclearance = \"A1\"\n",
         text,
     );
-    push_each(
-        "[[matrix]]\nuser = \"U1\"\nobject = \"T",
-        count_at(words, 10),
-        MODES,
-        text,
-    );
+    if words.get(9).is_some_and(|word| *word == "pairs") {
+        push_pairs(count_at(words, 8), count_at(words, 10), text);
+    } else {
+        push_each(
+            "[[matrix]]\nuser = \"U1\"\nobject = \"T",
+            count_at(words, 10),
+            MODES,
+            text,
+        );
+    }
 }
 
 const ATTRIBUTE: &str = "\"\nkind = \"int\"\nlow = \"U\"\nhigh = \"H\"\n";

@@ -23,7 +23,7 @@ static LINES: [(u8, &str); 23] = lines! {
     24 "A value of another kind is wanted here, or a list of another length."
     25 "This name is given twice. Take another."
     26 "This stands inside 16 others, or is a 17th test. Nest fewer, or assign a part to a variable first."
-    27 "A text has more than 1,024 bytes, or there are too many things of a kind. Leave some out."
+    27 "A text has more than 8,192 bytes, or there are too many things of a kind. Leave some out."
     28 "The upper label of the transaction does not dominate this one. Raise it, or lower the other."
     30 "The last line has no line feed. End it with one."
     51 "This is no line that a certificate has here. Make the file again with `mldb certify`."

@@ -5,7 +5,7 @@ use crate::habits::{QUOTES, habit_at};
 use crate::listing::{COMPARED, OF_KEY, kind_in, kind_to, listed_to, operands_of};
 use crate::names::Names;
 use crate::slip::{Around, Slip};
-use crate::words::{is, is_in};
+use crate::words::{behind_time, is, is_in};
 use mls_lattice::is_name_byte;
 use mls_scheme::Scheme;
 use std::alloc::AllocError;
@@ -13,6 +13,8 @@ use std::alloc::AllocError;
 const ROWS: &str = "  Wanted: a number of rows, 0 or more.\n";
 
 const END: &str = "  The end of the line ends a command. Take the `;` out.\n";
+
+const TIME: &str = "  Wanted: a time, as `\"2026-11-30T20:01:02Z\"`.\n";
 
 const TEST: &str = "  Wanted: a test, as in `A = 1`.\n";
 
@@ -144,6 +146,9 @@ impl<'n, 'a> Line<'n, 'a> {
 
     /// Appends which kind is wanted where another one stands, or how many values.
     fn kind_to(&self, text: &mut String) -> Told {
+        if self.around.before.is_empty() {
+            return text.push_str(TIME);
+        }
         if is_in(self.around.back(1), &["first", "expect"]) {
             return text.push_str(ROWS);
         }
@@ -179,7 +184,7 @@ impl<'n, 'a> Line<'n, 'a> {
 /// What is told of a line of a script that is refused, behind its excerpt and the form of its command: what could
 /// stand at the place, and what to do.
 pub fn command_advice(names: Names<'_>, slip: Slip<'_>) -> Result<String, AllocError> {
-    let around = Around::of(names.alloc, slip.line_before(), slip.rest())?;
+    let around = Around::of(names.alloc, behind_time(slip.line_before()), slip.rest())?;
     let mut text = String::new(names.alloc);
     let verb_at = verb_place(&around);
     let line = Line {

@@ -13,7 +13,7 @@ use std::alloc::{AllocError, Global};
 const FIRST_OTHER: &str = "  no relation has these names, so they are transactions: ";
 
 /// No policy has more users.
-const MOST_USERS: u8 = 64;
+const MOST_USERS: u16 = 1024;
 
 /// What is drawn.
 #[derive(Clone, Copy)]

@@ -1,6 +1,6 @@
 //! What could stand at a place: the form of a command, the modes and the kinds.
 use crate::excerpts::{behind, first, first_line, from_line};
-use crate::words::{is, is_blank};
+use crate::words::{behind_time, is, is_blank};
 use mls_lattice::is_name_byte;
 
 /// Verbs, and the lines that tell the forms of their commands.
@@ -92,7 +92,8 @@ pub(crate) fn beginning_form(word: &[u8], is_inside: bool) -> &'static str {
 /// a line that
 /// names them all. Lines count from 1.
 pub fn form_at(line: usize, bytes: &[u8]) -> &'static str {
-    let text = behind_word(behind_word(behind_blanks(first_line(from_line(bytes, line)))));
+    let told = behind_time(first_line(from_line(bytes, line)));
+    let text = behind_word(behind_word(behind_blanks(told)));
     let verb = first(text, word_len(text));
     match FORMS.iter().find(|form| form.0.as_bytes() == verb) {
         Some(form) => form.1,

@@ -32,13 +32,13 @@ macro_rules! known {
 }
 
 /// The keys of a policy.
-pub(crate) static POLICY: [Known; 17] = [
+pub(crate) static POLICY: [Known; 19] = [
     known!("" "version" Other "the number 1 or 2"),
     known!("" "levels" Other "1 to 16 names, none twice, the lowest first"),
     known!("" "categories" Other "up to 32 names, none twice"),
     known!("" "label" Other "1 to 64 tables, each below a line `[[label]]`"),
-    known!("" "user" Other "up to 64 tables, each below a line `[[user]]`"),
-    known!("" "matrix" Other "up to 1,024 tables, each below a line `[[matrix]]`"),
+    known!("" "user" Other "up to 1,024 tables, each below a line `[[user]]`"),
+    known!("" "matrix" Other "up to 16,384 tables, each below a line `[[matrix]]`"),
     known!("label" "" Other "a level with categories that no other label has"),
     known!("label" "name" Other "a name that no other label has"),
     known!("label" "level" Level "one of the levels"),
@@ -48,14 +48,16 @@ pub(crate) static POLICY: [Known; 17] = [
     known!("user" "trusted" Label "two labels, of which the second dominates the first"),
     known!("matrix" "" Other "a user with an object that no other entry has"),
     known!("matrix" "user" User "a user"),
+    known!("matrix" "users" User "one user or more, none twice, and no user beside them"),
     known!("matrix" "object" Other "the name of a relation or of a transaction"),
+    known!("matrix" "objects" Other "one name or more, none twice, and no object beside them"),
     known!("matrix" "modes" Mode "some of execute, read, append, write, none twice"),
 ];
 
 /// The keys of schemes.
 pub(crate) static SCHEMES: [Known; 14] = [
     known!("" "version" Other "the number 1 or 2"),
-    known!("" "relation" Other "1 to 16 tables, each below a line `[[relation]]`"),
+    known!("" "relation" Other "1 to 64 tables, each below a line `[[relation]]`"),
     known!("relation" "name" Other "a name that no other relation has"),
     known!("relation" "key" Other "1 to 4 tables, each below a line `[[relation.key]]`"),
     known!("relation" "attribute" Other "up to 15 tables, each below a line `[[relation.attribute]]`"),

@@ -70,6 +70,16 @@ pub(crate) fn word_at(bytes: &[u8]) -> &[u8] {
     }
 }
 
+/// A line of a script behind its time, if it has one.
+pub(crate) fn behind_time(line: &[u8]) -> &[u8] {
+    let blanks = line.iter().take_while(|byte| is_blank(**byte)).count();
+    let text = behind(line, blanks);
+    match text {
+        [b'"', ..] => behind(text, word_at(text).len()),
+        _ => text,
+    }
+}
+
 /// The words of a text, in order.
 pub(crate) fn words_of<'a>(alloc: Global, bytes: &'a [u8]) -> Result<Vec<&'a [u8]>, AllocError> {
     let mut words = Vec::new(alloc);

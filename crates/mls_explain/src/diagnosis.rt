@@ -20,7 +20,7 @@ const DAMAGED: &str =
     "  The file is no database, or a damaged one.\n  Name another, or take the last copy of the store that was sound.\n";
 
 const OF_OTHERS: &str =
-    "  The store is of another policy or of other schemes.\n  Name its own, or files of version 2 that only add labels, or attributes, behind those of the store.\n  Any other change needs a new store: `dump` what this one has, and load that where no file is (docs/running.md, A store moved).\n";
+    "  The store is of another policy or of other schemes.\n  Name its own, or files of version 2 that only add labels, relations or attributes, behind those of the store.\n  Any other change needs a new store: `dump` what this one has, and load that where no file is (docs/running.md, A store moved).\n";
 
 const CHANGED: &str =
     "  Something other than mldb has changed the store.\n  Take the last copy of it that was sound.\n";

@@ -21,7 +21,7 @@ use std::alloc::{AllocError, Global};
 const ABOUT: &str =
     "A relational database in which each session sees what its label may see, proved";
 
-const VERSION: &str = "2.1.0 (stores of versions 1 and 2)";
+const VERSION: &str = "2.1.0 (stores of versions 1 and 2, entries with times)";
 
 const EXAMPLE: &str = "\
 Without any words mldb runs the script on standard input under a sample policy and schemes.

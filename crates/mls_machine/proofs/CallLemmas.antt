@@ -52,7 +52,7 @@ SplitOrAlike tells site c e x s t =
 
 -- an event with another command
 abbrev pub twin : Event → Command → Event
-twin e command = record { level = e.level; session = e.session; command = command }
+twin e command = record { level = e.level; session = e.session; time = e.time; command = command }
 
 module _ (tells : Test) (site : Site) (distinct : AreDistinct (site_labels site)) (c : ℕ) (v w : World)
     (sv : AreStored site v.db) (sw : AreStored site w.db) (h : LowAgree (site_labels site) c v w) (e : Event)
@@ -285,8 +285,8 @@ module _ (tells : Test) (site : Site) (distinct : AreDistinct (site_labels site)
       let is_x : twin e x.command ≡ x = λ i. record {
         level = (g i).level;
         session = (g i).session;
-        command =
-            x.command;
+        time = (g i).time;
+        command = x.command;
       } in
       subst (λ y. SplitOrAlike tells site c e y (step site v e) (step site w y)) is_x
       (pair e.command x.command safe judged

@@ -45,7 +45,7 @@ pass = record {
 }
 
 abbrev event : Command → Event
-event command = record { level = 0; session = codes "t"; command = command }
+event command = record { level = 0; session = codes "t"; time = None; command = command }
 
 module _ (u s : Pair) (rights : List Right) (k : Certified) (is : k.tx ≡ pass) (other : Tx) where
   abbrev ls : Labels

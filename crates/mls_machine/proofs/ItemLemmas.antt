@@ -4,17 +4,16 @@ use Rattle.std.proofs.lemmas.List.Elements.{filter-append}
 use Rattle.mls_lattice.specs.Labels.{Labels, below}
 use Rattle.mls_lattice.specs.Policy.{Name, Policy}
 use Rattle.mls_audit.specs.declared.entry.Entry.{Entry}
-use Rattle.mls_audit.specs.declared.entry.Entry.TheVariants as entries
+use Rattle.mls_audit.specs.declared.entry.Deed.TheVariants as deeds
 use Rattle.mls_audit.specs.Entry.{label_of, visible}
 use Rattle.mls_certcheck.specs.Meaning.{Item}
 use Rattle.mls_certcheck.specs.Secure.{seen_items}
 use Rattle.mls_translang.specs.declared.event.Event.{Event}
 use Rattle.mls_machine.specs.declared.reply.Reply.TheVariants.{Ran}
 use Rattle.mls_certcheck.specs.Site.{Site}
-use Rattle.mls_machine.specs.Machine.{release_entry, call_entries}
+use Rattle.mls_machine.specs.Machine.{entry_of, release_entry, call_entries}
 use Rattle.mls_machine.specs.Output.{Line, item_line, item_lines}
 use Rattle.mls_machine.specs.Observation.{out}
-use Rattle.mls_lattice.specs.Canon.{user_name}
 
 -- a filter of a map
 pub filter-map : {A B : Type 0} (p : B → Bool) (f : A → B) (xs : List A) → filter p (map f xs)
@@ -35,8 +34,8 @@ lines_of p e emitted released = map (item_line p e (codes "emit ")) emitted
 -- the entry of a call where its level is seen, and those of releases
 abbrev pub entries_of : Site → Event → ℕ → Name → Bool → List Item → List Entry
 entries_of site e user name b released =
-    cond b (entries.Called e.level (user_name site.policy.users user) e.session name
-    ∷ map (release_entry site e user) released) (map (release_entry site e user) released)
+    cond b (entry_of site e e.level user (deeds.Called name) ∷ map (release_entry site e user) released)
+    (map (release_entry site e user) released)
 
 module _ (ls : Labels) (c : ℕ) where
   pub lines_seen : (p : Policy) (e : Event) (emitted released : List Item)
@@ -52,5 +51,5 @@ module _ (ls : Labels) (c : ℕ) where
       → visible ls c (call_entries site e user name released) ≡ entries_of site e user name (below ls e.level c)
       (seen_items ls c released)
   entries_seen site e user name released =
-      ap (λ xs. cond (below ls e.level c) (entries.Called e.level (user_name site.policy.users user) e.session name
-      ∷ xs) xs) (filter-map (λ x. below ls (label_of x) c) (release_entry site e user) released)
+      ap (λ xs. cond (below ls e.level c) (entry_of site e e.level user (deeds.Called name) ∷ xs) xs)
+      (filter-map (λ x. below ls (label_of x) c) (release_entry site e user) released)

@@ -15,10 +15,11 @@ use Rattle.mls_scheme.specs.Tuple.{tuple_class}
 use Rattle.mls_scheme.specs.Scheme.{Scheme, Schemes, scheme_of}
 use Rattle.mls_translang.specs.declared.query.Query.{Query}
 use Rattle.mls_audit.specs.declared.entry.Entry.{Entry}
-use Rattle.mls_audit.specs.declared.entry.Entry.TheVariants as entries
+use Rattle.mls_audit.specs.declared.entry.Deed.{Deed}
+use Rattle.mls_audit.specs.declared.entry.Deed.TheVariants as deeds
 use Rattle.mls_machine.specs.Parting.{IsOneLine, HasPlainNames}
 use Rattle.mls_translang.specs.Writing.{value_text, cell_text}
-use Rattle.mls_machine.specs.Output.{name_of, cell_entry, row_text, word_if, query_words, asked, heading, count_text, table_cell, tuple_cells, name_cells, table_row, table_of, entry_front, entry_text}
+use Rattle.mls_machine.specs.Output.{name_of, cell_entry, row_text, word_if, query_words, asked, heading, count_text, table_cell, tuple_cells, name_cells, table_row, table_of, entry_front, deed_word, deed_text, time_text, entry_text}
 use Rattle.mls_machine.proofs.OneLineLemmas.{one_line-append, one_line-flat_map, one_line-at, one_line-printable, one_line-quoted, one_line-decimal, one_line-signed, one_line-escaped, one_line-padded, one_line-ruled}
 
 -- ---- values
@@ -167,13 +168,22 @@ module _ (p : Policy) (labels : AllByRecursion (λ l. IsOneLine l.name) p.labels
     one_line-printable session,
   )
 
+  deed_word_line : (d : Deed) → IsOneLine (deed_word d)
+  deed_word_line (deeds.Called transaction) = refl
+  deed_word_line (deeds.Denied code) = refl
+  deed_word_line (deeds.Released value) = refl
+
+  deed_line : (d : Deed) → IsOneLine (deed_text d)
+  deed_line (deeds.Called transaction) = one_line-printable transaction
+  deed_line (deeds.Denied code) = one_line-decimal code
+  deed_line (deeds.Released value) = cell_line value
+
+  time_line : (time : Option (List ℕ)) → IsOneLine (time_text time)
+  time_line None = refl
+  time_line (Some time) = one_line-append (codes " ") (printable time) refl (one_line-printable time)
+
   pub entry_line : (e : Entry) → IsOneLine (entry_text p e)
-  entry_line (entries.Called label user session transaction) =
-      one_line-append (entry_front p label (codes " called ") user session) (printable transaction)
-      (front_line label (codes " called ") user session refl) (one_line-printable transaction)
-  entry_line (entries.Denied label user session code) =
-      one_line-append (entry_front p label (codes " denied ") user session) (decimal code)
-      (front_line label (codes " denied ") user session refl) (one_line-decimal code)
-  entry_line (entries.Released label user session value) =
-      one_line-append (entry_front p label (codes " released ") user session) (cell_text value)
-      (front_line label (codes " released ") user session refl) (cell_line value)
+  entry_line e =
+      one_line-append (entry_front p e.label (deed_word e.deed) e.user e.session) (deed_text e.deed ++ time_text e.time)
+      (front_line e.label (deed_word e.deed) e.user e.session (deed_word_line e.deed))
+      (one_line-append (deed_text e.deed) (time_text e.time) (deed_line e.deed) (time_line e.time))

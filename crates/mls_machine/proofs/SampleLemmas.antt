@@ -27,7 +27,7 @@ abbrev no_query : Query
 no_query = record { highest = false; class = None; test = None; first = None }
 
 abbrev event : ℕ → Name → Command → Event
-event level session command = record { level = level; session = session; command = command }
+event level session command = record { level = level; session = session; time = None; command = command }
 
 abbrev sod : Scheme
 sod = record { name = codes "SOD"; keys = []; others = [] }

@@ -1,5 +1,5 @@
 -- The commands that make tuples again.
-use Rattle.std.specs.Prelude.{ℕ, suc, not, ◌&&◌, if◌then◌else◌, nat_eq, nat_lt, List, [], ◌∷◌, map, length, Some}
+use Rattle.std.specs.Prelude.{ℕ, suc, not, ◌&&◌, if◌then◌else◌, nat_eq, nat_lt, List, [], ◌∷◌, map, length, Some, None}
 use Rattle.std.specs.Prelude.{filter}
 use Rattle.mls_lattice.specs.Labels.{Labels}
 use Rattle.mls_lattice.specs.Policy.{Name}
@@ -36,5 +36,6 @@ module _ (site : Site) where
   dump_event session relation t = record {
     level = class_number (site_labels site) t;
     session = session;
+    time = None;
     command = dump_command relation (class_number (site_labels site) t) t;
   }

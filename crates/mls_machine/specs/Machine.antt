@@ -14,7 +14,8 @@ use Rattle.mls_updates.specs.declared.outcome.Outcome.{Outcome}
 use Rattle.mls_updates.specs.declared.outcome.Outcome.TheVariants.{Done, Unexpected}
 use Rattle.mls_updates.specs.Outcome.{is_done}
 use Rattle.mls_audit.specs.declared.entry.Entry.{Entry}
-use Rattle.mls_audit.specs.declared.entry.Entry.TheVariants as entries
+use Rattle.mls_audit.specs.declared.entry.Deed.{Deed}
+use Rattle.mls_audit.specs.declared.entry.Deed.TheVariants as deeds
 use Rattle.mls_audit.specs.Entry.{visible}
 use Rattle.mls_translang.specs.Tx.{Tx}
 use Rattle.mls_certcheck.specs.Meaning.{Item, run_tx}
@@ -99,9 +100,19 @@ unless_refused (Some o) number more = Err (number, o)
 module _ (site : Site) where
   -- ---- denials in an open session
 
+  -- an entry of an event, which has its time
+  abbrev pub entry_of : Event → ℕ → ℕ → Deed → Entry
+  entry_of event label user deed =
+      record {
+        label = label;
+        time = event.time;
+        user = user_name site.policy.users user;
+        session = event.session;
+        deed = deed;
+      }
+
   abbrev pub denial_entry : Event → ℕ → Denial → Entry
-  denial_entry event user denial =
-      entries.Denied event.level (user_name site.policy.users user) event.session (code_of denial)
+  denial_entry event user denial = entry_of event event.level user (deeds.Denied (code_of denial))
 
   -- the denial is entered in the audit list
   abbrev pub denied : World → Event → ℕ → Denial → Step
@@ -173,12 +184,12 @@ module _ (site : Site) where
 
   -- what is released is entered at the label that may see it
   abbrev pub release_entry : Event → ℕ → Item → Entry
-  release_entry event user item = entries.Released item.0 (user_name site.policy.users user) event.session item.1
+  release_entry event user item = entry_of event item.0 user (deeds.Released item.1)
 
   -- the call at the level of the session, and then the releases in order
   abbrev pub call_entries : Event → ℕ → Name → List Item → List Entry
   call_entries event user name released =
-      entries.Called event.level (user_name site.policy.users user) event.session name
+      entry_of event event.level user (deeds.Called name)
       ∷ map (release_entry event user) released
 
   -- the transaction of the name is run

@@ -1,23 +1,21 @@
 -- The printed output: the lines of the replies, in order, with a line feed after each.
-use Rattle.std.specs.Prelude.{◌≡◌, ℕ, Bool, true, if◌then◌else◌, is_some, List, [], ◌∷◌, ◌++◌, map, Option, Some, codes}
-use Rattle.std.specs.Prelude.{length, ◌<◌, ⊤, flat_map, decimal, zip}
-use Rattle.std.specs.List.{AllByRecursion}
+use Rattle.std.specs.Prelude.{ℕ, Bool, true, if◌then◌else◌, is_some, List, [], ◌∷◌, ◌++◌, map, Option, Some, None, codes}
+use Rattle.std.specs.Prelude.{length, flat_map, decimal, zip}
 use Rattle.mls_tokens.specs.Writing.{printable}
 use Rattle.mls_tokens.specs.Screen.{escaped}
 use Rattle.mls_tokens.specs.Table.{wider, padded, ruled}
 use Rattle.mls_lattice.specs.Lattice.{Pair, same_pair}
-use Rattle.mls_lattice.specs.Name.{is_name}
 use Rattle.mls_lattice.specs.Policy.{Name, Named, Policy, labels_of}
 use Rattle.mls_lattice.specs.Canon.{label_name, user_name}
 use Rattle.mls_scheme.specs.declared.value.Value.{Value}
 use Rattle.mls_scheme.specs.declared.tuple.Tuple.{Tuple}
-use Rattle.mls_scheme.specs.Tuple.{tuple_class, HasClassesBelow}
+use Rattle.mls_scheme.specs.Tuple.{tuple_class}
 use Rattle.mls_scheme.specs.Scheme.{Scheme, scheme_of}
 use Rattle.mls_updates.specs.declared.outcome.Outcome.{Outcome}
 use Rattle.mls_updates.specs.Outcome.{is_done, code_of as outcome_code, word_of as outcome_word}
 use Rattle.mls_audit.specs.declared.entry.Entry.{Entry}
-use Rattle.mls_audit.specs.declared.entry.Entry.TheVariants as entries
-use Rattle.mls_audit.specs.Entry.{label_of}
+use Rattle.mls_audit.specs.declared.entry.Deed.{Deed}
+use Rattle.mls_audit.specs.declared.entry.Deed.TheVariants as deeds
 use Rattle.mls_certcheck.specs.Meaning.{Item}
 use Rattle.mls_translang.specs.declared.query.Query.{Query}
 use Rattle.mls_translang.specs.declared.event.Event.{Event}
@@ -165,13 +163,23 @@ abbrev pub entry_front : Policy → ℕ → List ℕ → Name → Name → List 
 entry_front p label deed user session =
     codes "entry " ++ label_name p.labels label ++ deed ++ printable user ++ codes " " ++ printable session ++ codes " "
 
+abbrev pub deed_word : Deed → List ℕ
+deed_word (deeds.Called transaction) = codes " called "
+deed_word (deeds.Denied code) = codes " denied "
+deed_word (deeds.Released value) = codes " released "
+
+abbrev pub deed_text : Deed → List ℕ
+deed_text (deeds.Called transaction) = printable transaction
+deed_text (deeds.Denied code) = decimal code
+deed_text (deeds.Released value) = cell_text value
+
+-- any time, at the end of a line
+abbrev pub time_text : Option (List ℕ) → List ℕ
+time_text None = []
+time_text (Some time) = codes " " ++ printable time
+
 abbrev pub entry_text : Policy → Entry → List ℕ
-entry_text p (entries.Called label user session transaction) =
-    entry_front p label (codes " called ") user session ++ printable transaction
-entry_text p (entries.Denied label user session code) =
-    entry_front p label (codes " denied ") user session ++ decimal code
-entry_text p (entries.Released label user session value) =
-    entry_front p label (codes " released ") user session ++ cell_text value
+entry_text p e = entry_front p e.label (deed_word e.deed) e.user e.session ++ (deed_text e.deed ++ time_text e.time)
 
 -- ---- replies
 
@@ -285,49 +293,3 @@ run_lines form site w (e ∷ es) =
 -- the bytes of lines, each with its end
 abbrev pub printed : List Line → List ℕ
 printed = flat_map (λ l. l.text ++ codes "\n")
-
--- ---- the numbers in a reply are those of the policy and the schemes
-
-abbrev pub IsKnownLook : Site → ℕ → ℕ → Type 0
-IsKnownLook site relation label = (relation < length site.schemes) × (label < length site.policy.labels)
-
-abbrev pub OneIsKnown : Site → One → Type 0
-OneIsKnown site (ones.View relation label query counts) = IsKnownLook site relation label
-OneIsKnown site (ones.Expect rows relation label query) = IsKnownLook site relation label
-OneIsKnown site (ones.Write relation wr) = ⊤
-
-abbrev pub CommandIsKnown : Site → Command → Type 0
-CommandIsKnown site (commands.View relation label query counts) = IsKnownLook site relation label
-CommandIsKnown site (commands.Dump relation) = relation < length site.schemes
-CommandIsKnown site (commands.All batch) = AllByRecursion (OneIsKnown site) batch
-CommandIsKnown site command = ⊤
-
--- the labels of entries are declared
-abbrev pub EntriesAreKnown : Policy → List Entry → Type 0
-EntriesAreKnown p = AllByRecursion (λ e. label_of e < length p.labels)
-
--- the labels of items are declared
-abbrev pub ItemsAreKnown : Policy → List Item → Type 0
-ItemsAreKnown p = AllByRecursion (λ i. i.0 < length p.labels)
-
-abbrev pub AnswerIsKnown : Policy → Answer → Type 0
-AnswerIsKnown p (answers.Rows tuples) = AllByRecursion (HasClassesBelow (length p.labels)) tuples
-AnswerIsKnown p (answers.Became o) = ⊤
-
-abbrev pub ReplyIsKnown : Policy → Reply → Type 0
-ReplyIsKnown p (Opened user) = user < length p.users
-ReplyIsKnown p Closed = ⊤
-ReplyIsKnown p (Rows tuples) = AllByRecursion (HasClassesBelow (length p.labels)) tuples
-ReplyIsKnown p (Dumped tuples) = AllByRecursion (HasClassesBelow (length p.labels)) tuples
-ReplyIsKnown p (Wrote o) = ⊤
-ReplyIsKnown p (Ran run) = ItemsAreKnown p run.emitted × ItemsAreKnown p run.released
-ReplyIsKnown p (Entries es) = EntriesAreKnown p es
-ReplyIsKnown p (Did given) = AllByRecursion (AnswerIsKnown p) given
-ReplyIsKnown p (Undone number o) = ⊤
-ReplyIsKnown p (Denied d) = ⊤
-
-pub record CanBePrinted (site : Site) (e : Event) (r : Reply) : Type 0 where
-  pub level : e.level < length site.policy.labels
-  pub session : is_name e.session ≡ true
-  pub command : CommandIsKnown site e.command
-  pub reply : ReplyIsKnown site.policy r

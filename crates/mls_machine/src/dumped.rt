@@ -119,6 +119,7 @@ pub(crate) fn dump_event(
     Ok(Event {
         level,
         session: Str::copy_of(alloc, session)?,
+        time: None,
         command: dump_command(alloc, policy, schemes, relation, level, tuple)?,
     })
 }

@@ -1,11 +1,11 @@
 //! Names and values, as replies print them, and what each line begins with.
 ghost use Rattle.std.specs.Prelude.{◌≡◌, ◌<◌, ◌++◌, length, OnOk, decimal};
 ghost use Rattle.mls_audit.specs.Entry.{label_of};
-ghost use Rattle.mls_machine.specs.Output.{front, entry_front, entry_text};
+ghost use Rattle.mls_machine.specs.Output.{front, entry_front, deed_word, deed_text, time_text, entry_text};
 
 use crate::answered::Answered;
-use mls_audit::Entry;
-use mls_lattice::{LabelNo, Policy};
+use mls_audit::{Deed, Entry};
+use mls_lattice::{LabelNo, Policy, Str};
 use mls_tokens::{push_printable, push_str};
 use mls_translang::push_cell;
 use std::alloc::{AllocError, Global};
@@ -61,6 +61,38 @@ fn push_entry_front(
     push_str(text, " ")
 }
 
+/// The word of what an entry tells, between blanks.
+fn deed_word(deed: &Deed) -> &'static str
+    ensures { result.now ≡ deed_word deed.now }
+{
+    match deed {
+        Deed::Called(_) => " called ",
+        Deed::Denied(_) => " denied ",
+        Deed::Released(_) => " released ",
+    }
+}
+
+fn push_deed(alloc: Global, text: &mut Vec<u8>, deed: &Deed) -> Result<(), AllocError>
+    ensures { OnOk result (text.new.items ≡ text.old.items ++ deed_text deed.now) }
+{
+    match deed {
+        Deed::Called(transaction) => push_printable(text, transaction),
+        Deed::Denied(code) => push_number(alloc, text, usize::from(*code)),
+        Deed::Released(value) => push_cell(alloc, text, value),
+    }
+}
+
+/// Appends a time after a blank, where there is one.
+fn push_time(text: &mut Vec<u8>, time: &Option<Str>) -> Result<(), AllocError>
+    ensures { OnOk result (text.new.items ≡ text.old.items ++ time_text time.now) }
+{
+    if let Some(time) = time {
+        push_str(text, " ")?;
+        push_printable(text, time)?;
+    }
+    Ok(())
+}
+
 /// Appends the text of an entry.
 pub(crate) fn push_entry(
     alloc: Global,
@@ -71,33 +103,8 @@ pub(crate) fn push_entry(
     requires { label_of entry.now < length policy.now.labels }
     ensures { OnOk result (text.new.items ≡ text.old.items ++ entry_text policy.now entry.now) }
 {
-    match entry {
-        Entry::Called {
-            label,
-            user,
-            session,
-            transaction,
-        } => {
-            push_entry_front(text, policy, *label, " called ", user, session)?;
-            push_printable(text, transaction)
-        }
-        Entry::Denied {
-            label,
-            user,
-            session,
-            code,
-        } => {
-            push_entry_front(text, policy, *label, " denied ", user, session)?;
-            push_number(alloc, text, usize::from(*code))
-        }
-        Entry::Released {
-            label,
-            user,
-            session,
-            value,
-        } => {
-            push_entry_front(text, policy, *label, " released ", user, session)?;
-            push_cell(alloc, text, value)
-        }
-    }
+    let word = deed_word(&entry.deed);
+    push_entry_front(text, policy, entry.label, word, &entry.user, &entry.session)?;
+    push_deed(alloc, text, &entry.deed)?;
+    push_time(text, &entry.time)
 }

@@ -35,7 +35,7 @@ use Rattle.mls_runs.proofs.RunningLemmas.{run_at, end_weaker}
 
 pub opening_fits : (site : Site) (session : ShellSession) → session.level < length site.policy.labels
     → is_name session.user ≡ true → EventsFit site (opening session ∷ [])
-opening_fits site session level name = (record { level = level; session = name; command = name }, tt)
+opening_fits site session level name = (record { level = level; session = name; timed = tt; command = name }, tt)
 
 -- a conversation over a content that it leaves as another
 pub shell_at : (x : Explaining) (echo : List ℕ → List ℕ) (site : Site) (session : ShellSession) (sessions : Sessions)

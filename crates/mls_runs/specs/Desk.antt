@@ -5,6 +5,7 @@ use Rattle.std.specs.List.{list_any}
 use Rattle.std.specs.Io.KnownBytes.{Appends, IsAtEnd}
 use Rattle.mls_lattice.specs.Policy.{Policy}
 use Rattle.mls_tokens.specs.declared.token.Placed.{Placed}
+use Rattle.mls_tokens.specs.Passing.{is_text}
 use Rattle.mls_tokens.specs.Scanning.{tokens_at}
 use Rattle.mls_scheme.specs.Scheme.{Schemes}
 use Rattle.mls_filterview.specs.Content.{Content}
@@ -46,8 +47,13 @@ abbrev pub fourth_of : List Placed → ℕ
 fourth_of (label ∷ session ∷ verb ∷ name ∷ rest) = name.at
 fourth_of tokens = 1
 
+-- the tokens behind any time
+abbrev pub untimed : List Placed → List Placed
+untimed [] = []
+untimed (first ∷ rest) = if is_text first.token then rest else first ∷ rest
+
 abbrev pub name_column : List ℕ → ℕ
-name_column line = fourth_of (tokens_at line).placed
+name_column line = fourth_of (untimed (tokens_at line).placed)
 
 abbrev pub other_name : List ℕ → ScriptFault
 other_name line = record { line = 1; column = name_column line; cause = Expected }

@@ -18,7 +18,8 @@ use Rattle.mls_script.specs.Script.{ReadsScript}
 use Rattle.mls_machine.specs.declared.form.Audience.{Audience}
 use Rattle.mls_certcheck.specs.Site.{Site}
 use Rattle.mls_machine.specs.Machine.{World, end_of}
-use Rattle.mls_machine.specs.Observation.{EventsFit, run_shows, reader_of}
+use Rattle.mls_machine.specs.Observation.{EventsFit, run_shows}
+use Rattle.mls_machine.specs.Showing.{reader_of}
 use Rattle.mls_translang.specs.declared.run_fault.RunCause.TheVariants.{Store}
 use Rattle.mls_translang.specs.declared.run_fault.RunFault.{RunFault}
 use Rattle.mls_sessions.specs.Engine.{MayServe}
@@ -53,7 +54,8 @@ abbrev pub audience_at : ShellSession → Audience
 audience_at session = reader_of session.level (form_of session.has_prompt)
 
 abbrev pub opening : ShellSession → Event
-opening session = record { level = session.level; session = session.user; command = Open session.user }
+opening session =
+    record { level = session.level; session = session.user; time = None; command = Open session.user }
 
 abbrev pub is_open : ShellSession → World → Bool
 is_open session w = is_some (w.sessions session.level session.user)

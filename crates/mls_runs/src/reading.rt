@@ -1,12 +1,12 @@
 //! What becomes of a line of a desk.
 //! That a line opens a session under another name is asked after the reading of the line, so a fault of the line comes
-//! first. The column is that of the fourth token, which a line that tells an opening has.
+//! first. The column is that of the fourth token behind any time, which a line that tells an opening has.
 ghost use Rattle.std.specs.Prelude.{◌≡◌, IfOk};
 ghost use Rattle.std.specs.List.{AllByRecursion, list_any};
 ghost use Rattle.mls_translang.specs.Event.{EventFits};
 ghost use Rattle.mls_runs.specs.Typed.{Becomes};
 ghost use Rattle.mls_runs.specs.Shell.{FateFits, IsLineRead};
-ghost use Rattle.mls_runs.specs.Desk.{opens_other, name_column, IsDeskFate};
+ghost use Rattle.mls_runs.specs.Desk.{opens_other, untimed, name_column, IsDeskFate};
 ghost use Rattle.mls_runs.specs.Reading.{fate_of_events, fate_of};
 
 use crate::shell_session::Fate;
@@ -40,11 +40,21 @@ fn open_others(events: &[Event]) -> bool
     false
 }
 
-/// The column of the fourth token of a line: of the user that an opening names.
+/// Passes any time.
+fn pass_time(tokens: &mut Tokens)
+    ensures { tokens.new.placed ≡ untimed tokens.old.placed }
+{
+    if tokens.starts_with_text() {
+        let _time = tokens.pop();
+    }
+}
+
+/// The column of the fourth token of a line, behind any time: of the user that an opening names.
 fn name_column(alloc: Global, line: &[u8]) -> Result<usize, TokenFault>
     ensures { IfOk result (λ n. n ≡ name_column line.now) }
 {
     let mut tokens = Tokens::new(alloc, line)?;
+    pass_time(&mut tokens);
     let _label = tokens.pop();
     let _session = tokens.pop();
     let _verb = tokens.pop();

@@ -26,6 +26,7 @@ pub(crate) fn opening(alloc: Global, session: &ShellSession) -> Result<Vec<Event
     events.push(Event {
         level: session.level,
         session: Str::copy_of(alloc, session.user.as_str())?,
+        time: None,
         command: Command::Open(Str::copy_of(alloc, session.user.as_str())?),
     })?;
     Ok(events)

@@ -1,8 +1,9 @@
 -- What is read is what stands there: commands, and events.
-use Rattle.std.proofs.Common.{◌≡◌, ℕ, true, false, List, [], ◌∷◌, ◌++◌, Option, Some, None, Ok, inl, inr, refl, sym, ap, ◌∙◌, subst, bytes_eq, append-nil}
+use Rattle.std.proofs.Common.{◌≡◌, ℕ, ◌<◌, true, false, List, [], ◌∷◌, ◌++◌, length, Option, Some, None, Ok, inl, inr, refl, sym, ap, ◌∙◌, subst, bytes_eq, append-nil, option_map, IfSome}
 use Rattle.std.proofs.lemmas.Bool.{cases_Bool}
 use Rattle.std.proofs.lemmas.Slice.Eq.{bytes_eq-Decides}
 use Rattle.mls_lattice.specs.Name.{is_name}
+use Rattle.mls_lattice.specs.Time.{is_time}
 use Rattle.mls_lattice.specs.Policy.{Name, Policy}
 use Rattle.mls_lattice.specs.Reading.{◌>>=◌}
 use Rattle.mls_lattice.proofs.ReadingLemmas.{ok_is}
@@ -10,14 +11,18 @@ use Rattle.mls_scheme.specs.declared.value.Value.{Value}
 use Rattle.mls_scheme.specs.declared.write.Write.TheVariants.{Insert, Update, Delete}
 use Rattle.mls_scheme.specs.Scheme.{Schemes}
 use Rattle.mls_tokens.specs.declared.token.Token.{Token}
-use Rattle.mls_tokens.specs.declared.token.Token.TheVariants.{Word}
-use Rattle.mls_tokens.specs.Passing.{PlacedName}
+use Rattle.mls_tokens.specs.declared.token.Token.TheVariants.{Word, Int, Text, Sign as Sign_token}
+use Rattle.mls_tokens.specs.declared.token.Placed.{Placed}
+use Rattle.mls_tokens.specs.declared.fault.TokenFault.{TokenFault}
+use Rattle.mls_tokens.specs.Passing.{left, PlacedName, PlacedText, text_first, pass_text_of, pass_text}
 use Rattle.mls_translang.specs.Tokens.{Context}
 use Rattle.mls_parser.specs.declared.fault.PlacedFault.{PlacedFault}
-use Rattle.mls_parser.specs.Noted.{State, Read, token, name_at, label_at, relation_at}
+use Rattle.mls_parser.specs.declared.fault.TextCause.TheVariants.{Kind}
+use Rattle.mls_parser.specs.Noted.{State, Read, in_state, token, name_at, label_at, relation_at}
 use Rattle.mls_parser.specs.ReadCondition.{written_place}
 use Rattle.mls_parser.specs.Words.{pass_known}
-use Rattle.mls_parser.proofs.FoundSteps.{Found, found_none, found_next, found_made, name_read, known_read}
+use Rattle.mls_parser.proofs.FaultLemmas.{holds}
+use Rattle.mls_parser.proofs.FoundSteps.{Found, found_none, found_next, found_noted, found_made, name_read, known_read}
 use Rattle.mls_parser.proofs.StmtFound.{relation_read}
 use Rattle.mls_translang.specs.declared.event.Event.{Event}
 use Rattle.mls_translang.specs.declared.event.Command.{Command}
@@ -32,8 +37,8 @@ use Rattle.mls_script.specs.BatchTokens.{TellsTail}
 use Rattle.mls_script.specs.ReadList.{list_at}
 use Rattle.mls_script.specs.ReadBatch.{batch_at}
 use Rattle.mls_script.specs.ReadParts.{Written, look_at, insert_at, update_at, delete_at}
-use Rattle.mls_script.specs.Reading.{verb_of_token, call_at, written, command_at, event_at}
-use Rattle.mls_script.specs.Tokens.{command_tokens, event_tokens}
+use Rattle.mls_script.specs.Reading.{verb_of_token, call_at, written, command_at, event_at, untimed, time_at, timed_at}
+use Rattle.mls_script.specs.Tokens.{command_tokens, event_tokens, time_tokens}
 use Rattle.mls_script.proofs.BatchFound.{batch_read}
 use Rattle.mls_script.proofs.ListFound.{list_read, IsList}
 use Rattle.mls_script.proofs.PartsFound.{look_read, IsWritten, insert_read, update_read, delete_read}
@@ -141,53 +146,146 @@ module _ (policy : Policy) (schemes : Schemes) where
 
   -- ---- events
 
-  pub record IsEvent (ts : List Token) (e : Event) : Type 0 where
+  -- an event behind this time
+  record IsEvent (time : Option (List ℕ)) (ts : List Token) (e : Event) : Type 0 where
+    tail : List Token
+    tokens : ts ≡ event_tokens policy schemes e ++ tail
+    tells : TellsTail policy schemes e.command tail
+    given : e.time ≡ time
+    level : e.level < length policy.labels
+    session : is_name e.session ≡ true
+    command : CommandFits policy schemes e.command
+
+  module _ (time : Option (List ℕ)) where
+    abbrev event : ℕ → Name → Command → Event
+    event level session c = record { level = level; session = session; time = time; command = c }
+
+    -- behind the verb, the session and the level
+    abbrev IsDone : ℕ → Name → Verb → List Token → Event → Type 0
+    IsDone level session v ts e = (c : Command) × (e ≡ event level session c) × IsCommand v ts c
+
+    abbrev IsBegun : ℕ → Name → List Token → Event → Type 0
+    IsBegun level session ts e = (v : Verb) × (us : List Token) × (ts ≡ Word (verb_word v) ∷ us)
+        × IsDone level session v us e
+
+    abbrev IsLevelled : ℕ → List Token → Event → Type 0
+    IsLevelled level ts e = (session : Name) × (us : List Token) × (ts ≡ Word session ∷ us) × (is_name session ≡ true)
+        × IsBegun level session us e
+
+    event_read : (s : State) (x : Event × State) → event_at policy schemes time s ≡ Ok x → Found (IsEvent time) s x
+    unfolding event_at
+    event_read s =
+        let verb_at : State → Read (Verb × ℕ) = λ r. token (pass_known verb_of_token) r in
+        found_next (IsEvent time) IsLevelled s (label_at policy s) (λ l. name_at l.1 >>= λ n. verb_at n.1 >>=
+        λ v. command_at policy schemes v.0.0 v.1 >>= λ c. Ok (event l.0 n.0.0 c.0, c.1))
+        (label_read policy schemes s)
+        (λ l. found_next (IsLevelled l.0) (λ n. IsBegun l.0 n.0) l.1 (name_at l.1) (λ n. verb_at n.1 >>=
+        λ v. command_at policy schemes v.0.0 v.1 >>= λ c. Ok (event l.0 n.0.0 c.0, c.1)) (name_read l.1)
+        (λ n. found_next (IsBegun l.0 n.0.0) (λ v. IsDone l.0 n.0.0 v.0) n.1 (verb_at n.1)
+        (λ v. command_at policy schemes v.0.0 v.1 >>= λ c. Ok (event l.0 n.0.0 c.0, c.1))
+        (known_read verb_of_token n.1)
+        (λ v. found_made (IsDone l.0 n.0.0 v.0.0) v.1 (command_at policy schemes v.0.0 v.1) (event l.0 n.0.0)
+        (command_read v.0.0 v.1) (λ c ts h. (c, refl, h)))
+        (λ v e ts us known h. (
+          v.0,
+          us,
+          ap (λ (zs : List Token). zs ++ us) (known.2 ∙ ap (λ t. t ∷ [])
+              (verb_is known.0 v.0 known.1)),
+          h,
+        )))
+        (λ n e ts us named h. (n.0, us, ap (λ (zs : List Token). zs ++ us) named.0, named.1, h)))
+        (λ level e ts us labelled (session, vs, named, is, (v, ws, word, (c, same, h))).
+        subst (IsEvent time (ts ++ us)) (sym same) (record {
+          tail = h.tail;
+          tokens = λ i. labelled.tokens i ++ (named
+              ∙ (λ j. Word session ∷ (word ∙ (λ k. Word (verb_word (sym h.verb k)) ∷ h.tokens k)) j)) i;
+          tells = h.tells;
+          given = refl;
+          level = labelled.within;
+          session = is;
+          command = h.fits;
+        }))
+
+  -- ---- times
+
+  abbrev IsTextFirst : List Token → Option PlacedText → Type 0
+  IsTextFirst ts o = ts ≡ time_tokens (option_map (λ t. t.0) o)
+
+  text_first_read : (fs : List PlacedFault) (at : ℕ) (t : Token) (ps : List Placed) (stop : TokenFault)
+      → Found IsTextFirst (fs, left (record { token = t; at = at } ∷ ps) stop) (
+        (text_first at t ps stop).0,
+        (fs, (text_first at t ps stop).1),
+      )
+  text_first_read fs at (Text x) ps stop = record {
+    tokens = Text x ∷ [];
+    passed = record {
+      tokens = refl;
+      stop =
+          refl;
+    };
+    right = λ none a. (none, refl);
+  }
+  text_first_read fs at (Word w) ps stop = found_none IsTextFirst None (
+    fs,
+    left (record { token = Word w; at = at }
+        ∷ ps) stop,
+  ) refl
+  text_first_read fs at (Int n) ps stop = found_none IsTextFirst None (
+    fs,
+    left (record { token = Int n; at = at }
+        ∷ ps) stop,
+  ) refl
+  text_first_read fs at (Sign_token m) ps stop = found_none IsTextFirst None (
+    fs,
+    left (record { token = Sign_token m; at = at } ∷ ps) stop,
+  ) refl
+
+  text_of : (fs : List PlacedFault) (ps : List Placed) (stop : TokenFault) (x : Option PlacedText × State)
+      → in_state fs (pass_text_of ps stop) ≡ Ok x → Found IsTextFirst (fs, left ps stop) x
+  text_of fs [] stop x e = absurd cc
+  text_of fs (p ∷ ps) stop x e =
+      subst (Found IsTextFirst (fs, left (p ∷ ps) stop)) (ok_is {E = PlacedFault} (
+        (text_first p.at p.token ps stop).0,
+        (fs, (text_first p.at p.token ps stop).1),
+      ) x e) (text_first_read fs p.at p.token ps stop)
+
+  record IsTimed (ts : List Token) (time : Option (List ℕ)) : Type 0 where
+    tokens : ts ≡ time_tokens time
+    form : IfSome time (λ t. is_time t ≡ true)
+
+  time_read : (s : State) (x : Option (List ℕ) × State) → time_at s ≡ Ok x → Found IsTimed s x
+  unfolding time_at
+  time_read s = found_noted IsTimed s (token pass_text s) (option_map (λ t. t.0)) untimed
+      (text_of s.0 s.1.placed s.1.stop) made
+    where
+      made : (o : Option PlacedText) (ts : List Token) → untimed o ≡ [] → IsTextFirst ts o
+          → IsTimed ts (option_map (λ t. t.0) o)
+      made None ts none is = record { tokens = is; form = tt }
+      made (Some t) ts none is = record { tokens = is; form = holds (is_time t.0) t.1 Kind none }
+
+  -- ---- a whole line
+
+  pub record IsWholeLine (ts : List Token) (e : Event) : Type 0 where
     pub tail : List Token
-    pub tokens : ts ≡ event_tokens policy schemes e ++ tail
+    pub tokens : ts ≡ time_tokens e.time ++ (event_tokens policy schemes e ++ tail)
     pub tells : TellsTail policy schemes e.command tail
     pub fits : EventFits policy schemes e
 
-  abbrev event : ℕ → Name → Command → Event
-  event level session c = record { level = level; session = session; command = c }
-
-  -- behind the verb, the session and the level
-  abbrev IsDone : ℕ → Name → Verb → List Token → Event → Type 0
-  IsDone level session v ts e = (c : Command) × (e ≡ event level session c) × IsCommand v ts c
-
-  abbrev IsBegun : ℕ → Name → List Token → Event → Type 0
-  IsBegun level session ts e = (v : Verb) × (us : List Token) × (ts ≡ Word (verb_word v) ∷ us)
-      × IsDone level session v us e
-
-  abbrev IsLevelled : ℕ → List Token → Event → Type 0
-  IsLevelled level ts e = (session : Name) × (us : List Token) × (ts ≡ Word session ∷ us) × (is_name session ≡ true)
-      × IsBegun level session us e
-
-  pub event_read : (s : State) (x : Event × State) → event_at policy schemes s ≡ Ok x → Found IsEvent s x
-  unfolding event_at
-  event_read s =
-      let verb_at : State → Read (Verb × ℕ) = λ r. token (pass_known verb_of_token) r in
-      found_next IsEvent IsLevelled s (label_at policy s) (λ l. name_at l.1 >>= λ n. verb_at n.1 >>=
-      λ v. command_at policy schemes v.0.0 v.1 >>= λ c. Ok (event l.0 n.0.0 c.0, c.1)) (label_read policy schemes s)
-      (λ l. found_next (IsLevelled l.0) (λ n. IsBegun l.0 n.0) l.1 (name_at l.1) (λ n. verb_at n.1 >>=
-      λ v. command_at policy schemes v.0.0 v.1 >>= λ c. Ok (event l.0 n.0.0 c.0, c.1)) (name_read l.1)
-      (λ n. found_next (IsBegun l.0 n.0.0) (λ v. IsDone l.0 n.0.0 v.0) n.1 (verb_at n.1)
-      (λ v. command_at policy schemes v.0.0 v.1 >>= λ c. Ok (event l.0 n.0.0 c.0, c.1))
-      (known_read verb_of_token n.1)
-      (λ v. found_made (IsDone l.0 n.0.0 v.0.0) v.1 (command_at policy schemes v.0.0 v.1) (event l.0 n.0.0)
-      (command_read v.0.0 v.1) (λ c ts h. (c, refl, h)))
-      (λ v e ts us known h. (
-        v.0,
-        us,
-        ap (λ (zs : List Token). zs ++ us) (known.2 ∙ ap (λ t. t ∷ [])
-            (verb_is known.0 v.0 known.1)),
-        h,
-      )))
-      (λ n e ts us named h. (n.0, us, ap (λ (zs : List Token). zs ++ us) named.0, named.1, h)))
-      (λ level e ts us labelled (session, vs, named, is, (v, ws, word, (c, same, h))).
-      subst (IsEvent (ts ++ us)) (sym same) (record {
+  pub timed_read : (s : State) (x : Event × State) → timed_at policy schemes s ≡ Ok x → Found IsWholeLine s x
+  unfolding timed_at
+  timed_read s =
+      found_next IsWholeLine IsEvent s (time_at s) (λ t. event_at policy schemes t.0 t.1) (time_read s)
+      (λ t. event_read t.0 t.1)
+      (λ time e ts us timed h. record {
         tail = h.tail;
-        tokens = λ i. labelled.tokens i ++ (named
-            ∙ (λ j. Word session ∷ (word ∙ (λ k. Word (verb_word (sym h.verb k)) ∷ h.tokens k)) j)) i;
+        tokens = (λ i. timed.tokens i ++ h.tokens i) ∙ ap (λ t. time_tokens t ++ (event_tokens policy schemes e
+            ++ h.tail)) (sym h.given);
         tells = h.tells;
-        fits = record { level = labelled.within; session = is; command = h.fits };
-      }))
+        fits = record {
+          level = h.level;
+          session = h.session;
+          timed = subst (λ t. IfSome t (λ x. is_time x ≡ true))
+              (sym h.given) timed.form;
+          command = h.command;
+        };
+      })

@@ -25,9 +25,9 @@ use Rattle.mls_script.specs.declared.fault.ScriptCause.TheVariants.{Unterminated
 use Rattle.mls_script.specs.declared.fault.LineFault.{LineFault}
 use Rattle.mls_script.specs.declared.fault.ScriptFault.{ScriptFault}
 use Rattle.mls_translang.specs.Event.{EventFits}
-use Rattle.mls_script.specs.Reading.{end_at, event_at, told_at, placed_on, line_at, in_script, lines_at, split_lines, script_at, IsJudged, LinesAreJudged, GivesScript}
+use Rattle.mls_script.specs.Reading.{end_at, timed_at, told_at, placed_on, line_at, in_script, lines_at, split_lines, script_at, IsJudged, LinesAreJudged, GivesScript}
 use Rattle.mls_script.specs.Script.{Line, Tells, IsLineOf, ReadsScript}
-use Rattle.mls_script.proofs.CommandFound.{event_read}
+use Rattle.mls_script.proofs.CommandFound.{timed_read}
 
 -- ---- a line
 
@@ -52,10 +52,10 @@ at_end s x e =
 
 module _ (policy : Policy) (schemes : Schemes) where
   -- a line that was read with no fault
-  told_event : (line : List ℕ) (e : Event) (r : State) → event_at policy schemes ([], tokens_at line) ≡ Ok (e, r)
+  told_event : (line : List ℕ) (e : Event) (r : State) → timed_at policy schemes ([], tokens_at line) ≡ Ok (e, r)
       → has_ended r.1 ≡ true → r.0 ≡ [] → Tells policy schemes line (Some e)
   told_event line e r read over none =
-      let found = event_read policy schemes ([], tokens_at line) (e, r) read in
+      let found = timed_read policy schemes ([], tokens_at line) (e, r) read in
       let end = over_is r.1.placed r.1.stop over in
       let passed = found.passed.tokens ∙ ap (λ ts. found.tokens ++ ts) end.0 ∙ append-nil found.tokens in
       let tokens = (tokens_exact line found.tokens).0 (
@@ -86,7 +86,7 @@ module _ (policy : Policy) (schemes : Schemes) where
               end.1,
             ))
         | inr more ↦
-            let event = bind_ok (event_at policy schemes ([], tokens_at line)) (λ e. end_at e.1 >>= λ end. Ok (
+            let event = bind_ok (timed_at policy schemes ([], tokens_at line)) (λ e. end_at e.1 >>= λ end. Ok (
               Some e.0,
               end.1,
             )) x (rw more at e) in

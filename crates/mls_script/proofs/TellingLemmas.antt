@@ -1,7 +1,9 @@
 -- Lines and scripts that tell events are read as these.
-use Rattle.std.proofs.Common.{◌≡◌, ℕ, ◌+◌, Bool, true, false, List, [], ◌∷◌, ◌++◌, Option, Some, None, Result, Ok, Err, refl, sym, ap, ◌∙◌, subst, append_assoc, option_to_list, IfErr, flat_map, filter_map, append-nil}
+use Rattle.std.proofs.Common.{◌≡◌, ℕ, ◌+◌, Bool, true, false, List, [], ◌∷◌, ◌++◌, Option, Some, None, Result, Ok, Err, refl, sym, ap, ◌∙◌, subst, append_assoc, option_to_list, IfErr, flat_map, filter_map, append-nil, option_map, IfSome}
 use Rattle.std.specs.List.{AllByRecursion}
 use Rattle.std.proofs.lemmas.List.Elements.{filter_map-append}
+use Rattle.mls_lattice.specs.Canon.{label_name}
+use Rattle.mls_lattice.specs.Time.{is_time}
 use Rattle.mls_lattice.specs.Policy.{Policy, IsPolicy}
 use Rattle.mls_lattice.specs.Reading.{◌>>=◌}
 use Rattle.mls_scheme.specs.declared.value.Value.{Value}
@@ -11,18 +13,21 @@ use Rattle.mls_scheme.specs.Scheme.{Schemes, AreSchemes}
 use Rattle.mls_tokens.specs.declared.fault.TokenCause.TheVariants as causes
 use Rattle.mls_tokens.specs.declared.fault.TokenFault.{TokenFault}
 use Rattle.mls_tokens.specs.declared.token.Token.{Token}
-use Rattle.mls_tokens.specs.declared.token.Token.TheVariants.{Word}
+use Rattle.mls_tokens.specs.declared.token.Token.TheVariants.{Word, Text}
+use Rattle.mls_tokens.specs.declared.token.Placed.{Placed}
 use Rattle.mls_tokens.specs.declared.sign.Sign.TheVariants.{Comma}
 use Rattle.mls_tokens.specs.Scanning.{without_places, tokens_at}
-use Rattle.mls_tokens.specs.Passing.{is_sign, has_ended}
+use Rattle.mls_tokens.specs.Passing.{left, is_sign, text_first, pass_text_of, has_ended}
 use Rattle.mls_tokens.proofs.TokensLemmas.{tokens_exact}
-use Rattle.mls_tokens.proofs.NextLemmas.{NotNext, over_again, not_over}
+use Rattle.mls_tokens.proofs.NextLemmas.{next_is, NotNext, over_again, not_over}
 use Rattle.mls_translang.specs.declared.query.Query.{Query}
-use Rattle.mls_parser.specs.Fault.{least, least_from}
-use Rattle.mls_parser.specs.Noted.{State, Read, token, name_at}
+use Rattle.mls_parser.specs.declared.fault.PlacedFault.{PlacedFault}
+use Rattle.mls_parser.specs.declared.fault.TextCause.TheVariants.{Kind}
+use Rattle.mls_parser.specs.Fault.{unless, least, least_from}
+use Rattle.mls_parser.specs.Noted.{State, Read, note, in_state, token, name_at}
 use Rattle.mls_parser.specs.Parsing.{answer}
 use Rattle.mls_parser.specs.Words.{pass_known}
-use Rattle.mls_parser.proofs.NextLemmas.{Gets, Same, gets_then, placed_then, gets_done, name_gets, known_gets}
+use Rattle.mls_parser.proofs.NextLemmas.{Gets, Same, gets_more, gets_then, placed_then, gets_noted, gets_done, name_gets, known_gets}
 use Rattle.mls_parser.proofs.StmtAgain.{relation_gets}
 use Rattle.mls_translang.specs.declared.event.Event.{Event}
 use Rattle.mls_translang.specs.declared.event.Command.{Command}
@@ -38,9 +43,9 @@ use Rattle.mls_script.specs.BatchTokens.{TellsTail}
 use Rattle.mls_script.specs.QueryTokens.{TellsQuery}
 use Rattle.mls_script.specs.ReadList.{list_at}
 use Rattle.mls_script.specs.ReadParts.{Written, insert_at, update_at, delete_at}
-use Rattle.mls_script.specs.Reading.{verb_of_token, end_at, call_at, viewed_at, written, command_at, event_at, told_at, placed_on, line_at, in_script, lines_at, split_lines, script_at, GivesScript}
+use Rattle.mls_script.specs.Reading.{verb_of_token, end_at, call_at, viewed_at, written, command_at, event_at, told_at, placed_on, line_at, in_script, lines_at, split_lines, script_at, GivesScript, untimed, time_at, timed_at}
 use Rattle.mls_script.specs.Script.{Line, Tells, IsLineOf, ReadsScript, ScriptsAreOnce}
-use Rattle.mls_script.specs.Tokens.{list_tokens, look_tokens, command_tokens, event_tokens}
+use Rattle.mls_script.specs.Tokens.{list_tokens, look_tokens, command_tokens, event_tokens, label_token, time_tokens}
 use Rattle.mls_script.proofs.LawLemmas.{listed}
 use Rattle.mls_script.proofs.BatchAgain.{batch_gets}
 use Rattle.mls_script.proofs.ListAgain.{list_gets}
@@ -140,7 +145,7 @@ module _ (policy : Policy) (schemes : Schemes) (is_policy : IsPolicy policy) (ar
 
   event_gets : (e : Event) (ts : List Token) (s : State) → EventFits policy schemes e
       → TellsTail policy schemes e.command ts → without_places s.1.placed ≡ event_tokens policy schemes e ++ ts
-      → Gets (event_at policy schemes s) s (Same e) []
+      → Gets (event_at policy schemes e.time s) s (Same e) []
   unfolding event_at
   event_gets e ts s fits tells k =
       let v = verb_of e.command in
@@ -148,8 +153,9 @@ module _ (policy : Policy) (schemes : Schemes) (is_policy : IsPolicy policy) (ar
       let event : ℕ → List ℕ → Command → Event = λ level session c. record {
         level = level;
         session = session;
-        command =
-            c;
+        time =
+            e.time;
+        command = c;
       } in
       gets_then (λ l. name_at l.1 >>= λ n. token (pass_known verb_of_token) n.1 >>=
       λ v. command_at policy schemes v.0.0 v.1 >>= λ c. Ok (event l.0 n.0.0 c.0, c.1))
@@ -166,6 +172,72 @@ module _ (policy : Policy) (schemes : Schemes) (is_policy : IsPolicy policy) (ar
         m3,
       ) fits.command tells t3) (λ m4 t4. gets_done e s.0 m4 (Same e) [] refl t4))))
 
+  -- ---- times
+
+  none_first : (w : List ℕ) (us : List Token) (fs : List PlacedFault) (ps : List Placed) (stop : TokenFault)
+      → without_places ps ≡ Word w ∷ us
+      → Gets (in_state fs (pass_text_of ps stop)) (fs, left ps stop) (Same None) (Word w ∷ us)
+  none_first w us fs [] stop e = absurd cc
+  none_first w us fs (p ∷ ps) stop e =
+      let h = next_is p ps (Word w) us e in
+      record {
+        value = None;
+        rest = left (record { token = Word w; at = p.at } ∷ ps) stop;
+        is = ap (λ t. in_state fs (Ok (text_first p.at t ps stop))) h.0;
+        holds = refl;
+        tokens =
+            ap (λ ts. Word w ∷ ts) h.1;
+        stop = refl;
+      }
+
+  some_first : (time : List ℕ) (us : List Token) (fs : List PlacedFault) (ps : List Placed) (stop : TokenFault)
+      → without_places ps ≡ Text time ∷ us
+      → Gets (in_state fs (pass_text_of ps stop)) (fs, left ps stop) (λ o. (at : ℕ) × (o ≡ Some (time, at))) us
+  some_first time us fs [] stop e = absurd cc
+  some_first time us fs (p ∷ ps) stop e =
+      let h = next_is p ps (Text time) us e in
+      record {
+        value = Some (time, p.at);
+        rest = left ps stop;
+        is = ap (λ t. in_state fs (Ok (text_first p.at t ps stop))) h.0;
+        holds = (p.at, refl);
+        tokens = h.1;
+        stop =
+            refl;
+      }
+
+  time_gets : (time : Option (List ℕ)) (w : List ℕ) (us : List Token) (s : State) → IfSome time (λ t. is_time t ≡ true)
+      → without_places s.1.placed ≡ time_tokens time ++ Word w ∷ us
+      → Gets (time_at s) s (Same time) (Word w ∷ us)
+  unfolding time_at
+  time_gets None w us s form k =
+      gets_more (λ t. Ok (option_map (λ x. x.0) t.0, note (untimed t.0) t.1))
+      (none_first w us s.0 s.1.placed s.1.stop k)
+      (λ o m is t. gets_noted (option_map (λ x. x.0) o) (untimed o) s.0 m (Same None) (Word w ∷ us) (ap untimed is)
+      (ap (option_map (λ x. x.0)) is) t)
+  time_gets (Some time) w us s form k =
+      gets_more (λ t. Ok (option_map (λ x. x.0) t.0, note (untimed t.0) t.1))
+      (some_first time (Word w ∷ us) s.0 s.1.placed s.1.stop k)
+      (λ o m is t. gets_noted (option_map (λ x. x.0) o) (untimed o) s.0 m (Same (Some time)) (Word w ∷ us)
+      (ap untimed is.1 ∙ ap (λ b. unless b is.0 Kind) form) (ap (option_map (λ x. x.0)) is.1) t)
+
+  timed_gets : (e : Event) (ts : List Token) (s : State) → EventFits policy schemes e
+      → TellsTail policy schemes e.command ts → without_places s.1.placed ≡ time_tokens e.time
+      ++ (event_tokens policy schemes e ++ ts)
+      → Gets (timed_at policy schemes s) s (Same e) []
+  unfolding timed_at
+  timed_gets e ts s fits tells k =
+      gets_then (λ t. event_at policy schemes t.0 t.1)
+      (time_gets e.time (label_name policy.labels e.level) (Word e.session ∷ Word (verb_word (verb_of e.command))
+      ∷ (command_tokens policy schemes e.command ++ ts)) s fits.timed k)
+      (λ m t. event_gets e ts (s.0, m) fits tells t)
+
+  -- a line begins with its time, or with its label
+  front_of : (time : Option (List ℕ)) (t : Token) (us : List Token) → (f : Token) × (rest : List Token)
+      × (time_tokens time ++ t ∷ us ≡ f ∷ rest)
+  front_of None t us = (t, us, refl)
+  front_of (Some time) t us = (Text time, t ∷ us, refl)
+
   line_again : (line : List ℕ) (o : Option Event) → Tells policy schemes line o → line_at policy schemes line true
       ≡ Ok o
   unfolding line_at told_at least_from
@@ -175,12 +247,15 @@ module _ (policy : Policy) (schemes : Schemes) (is_policy : IsPolicy policy) (ar
       rw over refl
   line_again line (Some e) h =
       let start : State = ([], tokens_at line) in
-      let t = (tokens_exact line (event_tokens policy schemes e ++ h.tail)).1 h.tokens in
-      let more : has_ended (tokens_at line) ≡ false = not_over (tokens_at line).placed (tokens_at line).stop _ _ t.0 in
-      let g = event_gets e h.tail start h.fits h.query t.0 in
+      let t = (tokens_exact line (time_tokens e.time ++ (event_tokens policy schemes e ++ h.tail))).1 h.tokens in
+      let front = front_of e.time (label_token policy schemes e.level) (Word e.session
+      ∷ Word (verb_word (verb_of e.command)) ∷ (command_tokens policy schemes e.command ++ h.tail)) in
+      let more : has_ended (tokens_at line) ≡ false = not_over (tokens_at line).placed
+      (tokens_at line).stop front.0 front.1 (t.0 ∙ front.2) in
+      let g = timed_gets e h.tail start h.fits h.query t.0 in
       let over : has_ended g.rest ≡ true = over_again g.rest.placed g.rest.stop g.tokens
       (ap (λ (s : TokenFault). s.cause) g.stop ∙ t.1) in
-      let read : event_at policy schemes start ≡ Ok (e, ([], g.rest)) =
+      let read : timed_at policy schemes start ≡ Ok (e, ([], g.rest)) =
       g.is ∙ ap (λ (x : Event). Ok (x, ([], g.rest))) g.holds in
       let end : end_at ([], g.rest) ≡ Ok (tt, ([], g.rest)) = rw over refl in
       let answered : Read (Option Event) → Result (Option Event) LineFault = λ r. placed_on r >>=

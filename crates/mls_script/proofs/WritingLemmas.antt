@@ -1,10 +1,10 @@
 -- Lines of events are read back.
-use Rattle.std.proofs.Common.{◌≡◌, ◌≢◌, ℕ, ◌<◌, Bool, true, false, nat_le, List, [], ◌∷◌, ◌++◌, length, map, codes, slice_index, Option, Some, None, ℤ, refl, sym, ap, ◌∙◌, subst, append_assoc, append-nil, inl, inr, arith, FitsSigned, not, w64, flat_map, filter_map, leb-true}
+use Rattle.std.proofs.Common.{◌≡◌, ◌≢◌, ℕ, ◌+◌, ◌<◌, ◌/◌, ◌%◌, Bool, true, false, cond, nat_lt, List, [], ◌∷◌, ◌++◌, length, map, codes, slice_index, Option, Some, None, ℤ, refl, sym, ap, ◌∙◌, subst, append_assoc, append-nil, inl, inr, arith, FitsSigned, not, w64, flat_map, filter_map, leb-true, is_none}
 use Rattle.std.specs.List.{list_all, AllByRecursion}
 use Rattle.std.specs.Char.{is_ascii_digit}
 use Rattle.std.specs.Fmt.{signed_decimal}
 use Rattle.std.specs.Str.{all_ascii_digits}
-use Rattle.std.proofs.lemmas.Bool.{and_parts, not-true, cases_Bool}
+use Rattle.std.proofs.lemmas.Bool.{and_parts, cases_Bool}
 use Rattle.mls_lattice.specs.Name.{is_name, is_name_byte}
 use Rattle.mls_lattice.specs.Policy.{Name, Policy, IsPolicy}
 use Rattle.mls_lattice.specs.Canon.{label_name}
@@ -22,8 +22,8 @@ use Rattle.mls_tokens.specs.declared.token.Token.TheVariants.{Word, Int, Text, S
 use Rattle.mls_tokens.specs.declared.sign.Sign.{Sign}
 use Rattle.mls_tokens.specs.declared.sign.Sign.TheVariants as sign
 use Rattle.mls_tokens.specs.Sign.{sign_text, sign_goes_on}
-use Rattle.mls_tokens.specs.Writing.{is_control, is_escaped, quoted_byte, quoted}
-use Rattle.mls_tokens.specs.Text.{IsText, Spells, goes_on, IsGap, AreTokens, comma_tokens, separated}
+use Rattle.mls_tokens.specs.Writing.{is_control, is_escaped, hex_digit, quoted_byte, quoted, IsText}
+use Rattle.mls_tokens.specs.Text.{Spells, goes_on, IsGap, AreTokens, comma_tokens, separated}
 use Rattle.mls_translang.specs.ReadsBack.{IsSpelled}
 use Rattle.mls_translang.proofs.NumberLemmas.{int_spelled}
 use Rattle.mls_translang.proofs.SpelledLemmas.{named, word_spelled}
@@ -31,7 +31,7 @@ use Rattle.mls_translang.specs.declared.event.Event.{Event}
 use Rattle.mls_translang.specs.declared.event.Command.{Command}
 use Rattle.mls_translang.specs.declared.event.Command.TheVariants.{View, Write, All}
 use Rattle.mls_translang.specs.Event.{Sets, SetsFit, HasSomeKind, CommandFits, EventFits}
-use Rattle.mls_script.specs.Tokens.{value_token, list_tokens, set_tokens, event_tokens}
+use Rattle.mls_script.specs.Tokens.{value_token, list_tokens, set_tokens, time_tokens, event_tokens}
 use Rattle.mls_translang.specs.Writing.{relation_name}
 use Rattle.mls_script.specs.BatchTokens.{TellsTail}
 use Rattle.mls_script.specs.Script.{Line, IsLineOf, ReadsScript}
@@ -178,24 +178,44 @@ int_written n fits =
           (signed_decimal n) us rest h q.1 k;
     }
 
-byte_one : (b : ℕ) → is_control b ≡ false → NoFeed (quoted_byte b)
-byte_one b plain =
-    let other : b ≢ 10 = λ e. absurd (let k : is_control 10 ≡ false = subst (λ x. is_control x ≡ false) e plain in cc)
-    in
-    elim (cases_Bool (is_escaped b)) [
-      | inl on ↦ rw on (λ e. absurd (omega (arith, e)), (other, tt))
-      | inr off ↦ rw (off, plain) (other, tt)
+hex_no_feed : (n : ℕ) → hex_digit n ≢ 10
+hex_no_feed n e =
+    elim (cases_Bool (nat_lt n 10)) [
+      | inl low ↦ omega (arith, sym (ap (λ c. cond c (48 + n) (87 + n)) low) ∙ e)
+      | inr high ↦ omega (arith, sym (ap (λ c. cond c (48 + n) (87 + n)) high) ∙ e)
     ]
 
-bytes_one : (s : List ℕ) → AllByRecursion (λ b. is_control b ≡ false) s → NoFeed (flat_map quoted_byte s)
-bytes_one [] h = tt
-bytes_one (b ∷ bs) h = feeds_none (quoted_byte b) (flat_map quoted_byte bs) (byte_one b h.0) (bytes_one bs h.1)
+byte_one : (b : ℕ) → NoFeed (quoted_byte b)
+byte_one b = go (is_escaped b) (is_control b) refl refl
+  where
+    go : (p q : Bool) → is_escaped b ≡ p → is_control b ≡ q → NoFeed (quoted_byte b)
+    go true q on control = rw on (
+      λ e. absurd (omega (arith, e)),
+      (
+        λ e. absurd (let k : is_escaped 10 ≡ true =
+            subst (λ x. is_escaped x ≡ true) e on in cc),
+        tt,
+      ),
+    )
+    go false true off control = rw (off, control) (
+      λ e. absurd (omega (arith, e)),
+      (λ e. absurd (omega (arith, e)), (hex_no_feed (b / 16), (hex_no_feed (b % 16), tt))),
+    )
+    go false false off control = rw (off, control) (
+      λ e. absurd (let k : is_control 10 ≡ false =
+          subst (λ x. is_control x ≡ false) e control in cc),
+      tt,
+    )
+
+bytes_one : (s : List ℕ) → NoFeed (flat_map quoted_byte s)
+bytes_one [] = tt
+bytes_one (b ∷ bs) = feeds_none (quoted_byte b) (flat_map quoted_byte bs) (byte_one b) (bytes_one bs)
 
 text_written : (s : List ℕ) → IsText s → IsWritten (Text s ∷ []) (quoted s)
 text_written s h = record {
   one = (
     λ e. absurd (omega (arith, e)),
-    feeds_none (flat_map quoted_byte s) (34 ∷ []) (bytes_one s h.no_control)
+    feeds_none (flat_map quoted_byte s) (34 ∷ []) (bytes_one s)
         (λ e. absurd (omega (arith, e)), tt),
   );
   told = λ us rest q k. first_told (Text s) (quoted s) us rest (refl, h) refl k;
@@ -214,22 +234,15 @@ sign_written s ts a one ends h = record {
 
 -- ---- values
 
-plain_of : (s : List ℕ) → list_all (λ b. not (is_control b)) s ≡ true → AllByRecursion (λ b. is_control b ≡ false) s
-plain_of [] h = tt
-plain_of (b ∷ bs) h = let p = and_parts (not (is_control b)) (list_all (λ b. not (is_control b)) bs) h
-    in (not-true (is_control b) p.0, plain_of bs p.1)
-
 value_written : (v : Option Value) → HasSomeKind v → is_writable_value v ≡ true → IsWritten (value_token v ∷ [])
     (cell_text v)
 value_written None kind h = word_written (codes "null") (word_spelled (codes "null") refl refl refl)
 value_written (Some (values.Int n)) kind h = int_written n (kind-spelled (values.Int n) kind.0 kind.1).0
 value_written (Some (values.Text s)) kind h =
-    let p = and_parts (nat_le (length s) 1024) (list_all (λ b. not (is_control b)) s) h in
     text_written s (record {
       utf8 = (kind-spelled (values.Text s) kind.0 kind.1).0;
-      no_control = plain_of s p.1;
       short =
-          leb-true (length s) 1024 p.0;
+          leb-true (length s) 8192 h;
     })
 
 -- ---- lists
@@ -387,7 +400,7 @@ module _ (policy : Policy) (schemes : Schemes) (is_policy : IsPolicy policy) (ar
       (next (Word session ∷ []) us session b (name_written session is) h))
 
   abbrev event : ℕ → Name → Command → Event
-  event level session c = record { level = level; session = session; command = c }
+  event level session c = record { level = level; session = session; time = None; command = c }
 
   module _ (level : ℕ) (session : Name) (within : level < length policy.labels) (is : is_name session ≡ true) where
     line_written : (c : Command) → CommandFits policy schemes c → is_writable_command c ≡ true
@@ -435,6 +448,10 @@ module _ (policy : Policy) (schemes : Schemes) (is_policy : IsPolicy policy) (ar
   none_behind (All batch) h = absurd cc
   none_behind _ h = refl
 
+  none_is : {X : Type 0} (o : Option X) → is_none o ≡ true → o ≡ None
+  none_is None h = refl
+  none_is (Some x) h = absurd cc
+
   -- ---- all lines
 
   abbrev line_of : Event → Line
@@ -445,17 +462,20 @@ module _ (policy : Policy) (schemes : Schemes) (is_policy : IsPolicy policy) (ar
 
   line_told : (e : Event) → EventFits policy schemes e → is_writable e ≡ true → IsLineOf policy schemes (line_of e)
   line_told e fits h =
-      let written = line_written e.level e.session fits.level fits.session e.command fits.command h in
+      let p = and_parts (is_none e.time) (is_writable_command e.command) h in
+      let written = line_written e.level e.session fits.level fits.session e.command fits.command p.1 in
       let tokens = subst (AreTokens (event_tokens policy schemes e ++ [])) (append-nil (line_text policy schemes e))
       (written.told [] [] (refl, refl) over) in
+      let timed = subst (λ t. AreTokens (time_tokens t ++ (event_tokens policy schemes e ++ []))
+      (line_text policy schemes e)) (sym (none_is e.time p.0)) tokens in
       record {
         one = written.one;
         tells = record {
           fits = fits;
           tail = [];
-          tokens = tokens;
+          tokens = timed;
           query =
-              none_behind e.command h;
+              none_behind e.command p.1;
         };
       }
 

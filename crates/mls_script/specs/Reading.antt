@@ -1,17 +1,19 @@
 -- What a script says, or its fault: line by line, on a line first its form, then the least fault of its names and
 -- kinds.
 use Rattle.std.specs.Prelude.{◌≡◌, ℕ, ◌+◌, Bool, true, false, ◌==◌, if◌then◌else◌, List, [], ◌∷◌, ◌++◌, length}
-use Rattle.std.specs.Prelude.{Option, Some, None, option_to_list, Result, Ok, Err}
+use Rattle.std.specs.Prelude.{Option, Some, None, option_map, option_to_list, Result, Ok, Err}
 use Rattle.mls_lattice.specs.Policy.{Policy}
 use Rattle.mls_lattice.specs.Reading.{◌>>=◌, GivesUnless}
+use Rattle.mls_lattice.specs.Time.{is_time}
 use Rattle.mls_scheme.specs.Scheme.{Schemes}
 use Rattle.mls_tokens.specs.declared.token.Token.{Token}
 use Rattle.mls_tokens.specs.declared.token.Token.TheVariants.{Word, Int, Text, Sign}
 use Rattle.mls_tokens.specs.Scanning.{tokens_at}
-use Rattle.mls_tokens.specs.Passing.{has_ended, pass_end}
+use Rattle.mls_tokens.specs.Passing.{PlacedText, pass_text, has_ended, pass_end}
 use Rattle.mls_parser.specs.declared.fault.PlacedFault.{PlacedFault}
-use Rattle.mls_parser.specs.Fault.{least, IsLeast}
-use Rattle.mls_parser.specs.Noted.{State, Read, token, name_at, label_at, relation_at}
+use Rattle.mls_parser.specs.declared.fault.TextCause.TheVariants.{Kind}
+use Rattle.mls_parser.specs.Fault.{unless, least, IsLeast}
+use Rattle.mls_parser.specs.Noted.{State, Read, note, token, name_at, label_at, relation_at}
 use Rattle.mls_parser.specs.Parsing.{answer}
 use Rattle.mls_parser.specs.Words.{pass_known}
 use Rattle.mls_translang.specs.declared.event.Event.{Event}
@@ -36,6 +38,17 @@ verb_of_token (Sign s) = None
 
 abbrev pub end_at : State → Read (Unit {0})
 end_at s = token (λ l. pass_end l >>= λ u. Ok (u, l)) s
+
+-- ---- times
+
+-- a text at the front has to be a time
+abbrev pub untimed : Option PlacedText → List PlacedFault
+untimed None = []
+untimed (Some t) = unless (is_time t.0) t.1 Kind
+
+-- the time at the front of a line, where one is
+unfoldable pub time_at : State → Read (Option (List ℕ))
+time_at s = token pass_text s >>= λ t. Ok (option_map (λ x. x.0) t.0, note (untimed t.0) t.1)
 
 -- ---- faults in their places
 
@@ -79,18 +92,24 @@ module _ (policy : Policy) (schemes : Schemes) where
 
   -- ---- a line
 
-  -- a level, a session and a command
-  unfoldable pub event_at : State → Read Event
-  event_at s = do
+  -- a level, a session and a command, behind any time
+  unfoldable pub event_at : Option (List ℕ) → State → Read Event
+  event_at time s = do
     level ← label_at policy s
     session ← name_at level.1
     v ← token (pass_known verb_of_token) session.1
     c ← command_at v.0.0 v.1
-    Ok (record { level = level.0; session = session.0.0; command = c.0 }, c.1)
+    Ok (record { level = level.0; session = session.0.0; time = time; command = c.0 }, c.1)
+
+  -- a time and an event
+  unfoldable pub timed_at : State → Read Event
+  timed_at s = time_at s >>= λ t. event_at t.0 t.1
 
   -- what a line tells, with the faults of names and kinds that are noted; or the fault of its form
   unfoldable pub told_at : State → Read (Option Event)
-  told_at s = if has_ended s.1 then Ok (None, s) else (event_at s >>= λ e. end_at e.1 >>= λ end. Ok (Some e.0, end.1))
+  told_at s =
+      if has_ended s.1 then Ok (None, s) else
+      (timed_at s >>= λ e. end_at e.1 >>= λ end. Ok (Some e.0, end.1))
 
   -- first the form, then whether the line has its end, then the least fault of names and kinds
   unfoldable pub line_at : List ℕ → Bool → Result (Option Event) LineFault

@@ -7,7 +7,7 @@ use Rattle.mls_tokens.specs.declared.token.Token.{Token}
 use Rattle.mls_tokens.specs.Text.{AreTokens}
 use Rattle.mls_translang.specs.declared.event.Event.{Event}
 use Rattle.mls_translang.specs.Event.{EventFits}
-use Rattle.mls_script.specs.Tokens.{event_tokens}
+use Rattle.mls_script.specs.Tokens.{time_tokens, event_tokens}
 use Rattle.mls_script.specs.BatchTokens.{TellsTail}
 
 -- a line without its LF, and the event that it tells, if it is not blank
@@ -15,11 +15,11 @@ pub record Line : Type 0 where
   pub text : List ℕ
   pub event : Option Event
 
--- the tokens of the line are those of its event, and behind them those of its query
+-- the tokens of the line are those of its time and of its event, and behind them those of its query
 pub record TellsEvent (policy : Policy) (schemes : Schemes) (text : List ℕ) (e : Event) : Type 0 where
   pub fits : EventFits policy schemes e
   pub tail : List Token
-  pub tokens : AreTokens (event_tokens policy schemes e ++ tail) text
+  pub tokens : AreTokens (time_tokens e.time ++ (event_tokens policy schemes e ++ tail)) text
   pub query : TellsTail policy schemes e.command tail
 
 -- the text tells this event, or none: a relation, since an expression can be written with other parentheses

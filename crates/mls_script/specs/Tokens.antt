@@ -35,6 +35,11 @@ set_tokens scheme s = Word (other_of scheme s.0).0 ∷ Sign Equals ∷ value_tok
 
 -- ---- a line
 
+-- the text of a time, where there is one
+abbrev pub time_tokens : Option (List ℕ) → List Token
+time_tokens None = []
+time_tokens (Some time) = Text time ∷ []
+
 module _ (policy : Policy) (schemes : Schemes) where
   abbrev pub label_token : ℕ → Token
   label_token label = Word (label_name policy.labels label)
@@ -78,7 +83,7 @@ module _ (policy : Policy) (schemes : Schemes) where
   command_tokens (commands.Call tx args) = Word tx ∷ list_tokens args
   command_tokens (commands.All batch) = Sign LeftBrace ∷ []
 
-  -- the level, the session, the verb and what follows it
+  -- the level, the session, the verb and what follows it, behind any time
   abbrev pub event_tokens : Event → List Token
   event_tokens e =
       label_token e.level ∷ Word e.session ∷ Word (verb_word (verb_of e.command)) ∷ command_tokens e.command

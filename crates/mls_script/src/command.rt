@@ -1,15 +1,16 @@
-//! A line: a level, a session and a command.
+//! A line: any time, a level, a session and a command.
 ghost use Rattle.std.specs.Prelude.{◌≡◌};
 ghost use Rattle.mls_parser.specs.Noted.{GivesPlaced, token};
 ghost use Rattle.mls_parser.specs.Words.{pass_known};
 ghost use Rattle.mls_translang.specs.declared.event.Command.TheVariants as commands;
-ghost use Rattle.mls_script.specs.Reading.{verb_of_token, viewed_at, call_at, command_at, event_at, told_at};
+ghost use Rattle.mls_script.specs.Reading.{verb_of_token, viewed_at, call_at, command_at, time_at, event_at, timed_at};
+ghost use Rattle.mls_script.specs.Reading.{told_at};
 
 use crate::batch::batch;
 use crate::grammar::{VERBS, Verb, verb_among};
 use crate::lists::list;
 use crate::parts::{Look, Written, delete, insert, looking, update};
-use mls_lattice::Policy;
+use mls_lattice::{Items, Policy, Str, is_time};
 use mls_parser::{PlacedFault, Reader, TextCause, ill_formed};
 use mls_scheme::Schemes;
 use mls_tokens::Token;
@@ -103,14 +104,29 @@ fn command(
 
 // ---- lines
 
+/// The time at the front of a line, where one is: a text that has to be a time.
+#[tactic(auto, unfolding(crate::specs::Reading::time_at))]
+fn time(reader: &mut Reader) -> Result<Option<Str>, PlacedFault>
+    ensures { GivesPlaced (λ t. (t, reader.new)) result (time_at reader.old) }
+{
+    match reader.tokens.takes_text()? {
+        Some((text, at)) => {
+            reader.note(is_time(text.as_str().as_bytes()), at, TextCause::Kind)?;
+            Ok(Some(text))
+        }
+        None => Ok(None),
+    }
+}
+
 #[tactic(auto, unfolding(crate::specs::Reading::event_at))]
 fn event(
     alloc: Global,
     policy: &Policy,
     schemes: &Schemes,
+    time: Option<Str>,
     reader: &mut Reader,
 ) -> Result<Event, PlacedFault>
-    ensures { GivesPlaced (λ e. (e, reader.new)) result (event_at policy.now schemes.now reader.old) }
+    ensures { GivesPlaced (λ e. (e, reader.new)) result (event_at policy.now schemes.now time reader.old) }
 {
     let level = reader.label(policy)?;
     let (session, _) = reader.name()?;
@@ -119,8 +135,23 @@ fn event(
     Ok(Event {
         level,
         session,
+        time,
         command,
     })
+}
+
+/// A time, where one is, and an event.
+#[tactic(auto, unfolding(crate::specs::Reading::timed_at))]
+fn timed(
+    alloc: Global,
+    policy: &Policy,
+    schemes: &Schemes,
+    reader: &mut Reader,
+) -> Result<Event, PlacedFault>
+    ensures { GivesPlaced (λ e. (e, reader.new)) result (timed_at policy.now schemes.now reader.old) }
+{
+    let time = time(reader)?;
+    event(alloc, policy, schemes, time, reader)
 }
 
 /// The event that a line tells, if it is not blank.
@@ -136,7 +167,7 @@ pub(crate) fn told(
     if reader.has_ended() {
         return Ok(None);
     }
-    let event = event(alloc, policy, schemes, reader)?;
+    let event = timed(alloc, policy, schemes, reader)?;
     reader.tokens.end()?;
     Ok(Some(event))
 }

@@ -8,7 +8,7 @@ use Rattle.mls_scheme.specs.Scheme.{Schemes}
 use Rattle.mls_filterview.specs.declared.base.BaseFault.{BaseFault}
 use Rattle.mls_filterview.specs.Content.{Seen, State}
 use Rattle.mls_audit.specs.declared.entry.Entry.{Entry}
-use Rattle.mls_audit.specs.Spelling.{HasSpelling, entry_spelling}
+use Rattle.mls_audit.specs.Spelling.{IsTimed, HasSpelling, entry_spelling}
 use Rattle.mls_translang.specs.Tx.{Tx}
 use Rattle.mls_translang.specs.Fits.{IsReadUnder}
 use Rattle.mls_certcheck.specs.declared.run.Run.{Run}
@@ -22,11 +22,12 @@ abbrev pub with_entries : State → List Entry → State
 with_entries s es = record s { now = record { db = s.now.db; audit = s.now.audit ++ map entry_spelling es } }
 
 module _ {Self : Type 0} (seen : Self → Seen) where
-  -- a change is begun, and an entry can spell the user and the session of an event
+  -- a change is begun, and an entry can spell the time, the user and the session of an event
   pub record MayEnter (policy : Policy) (event : Event) (user : ℕ) (base : Self) : Type 0 where
     pub begun : (seen base).state.begun ≡ true
     pub declared : user < length policy.users
     pub named : is_name event.session ≡ true
+    pub timed : IsTimed event.time
 
   -- entries are at the end of the audit list, each as it is spelled
   pub record HasEntered (entries : List Entry) (old new : Self) {A : Type 0}

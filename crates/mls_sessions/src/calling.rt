@@ -3,10 +3,10 @@ ghost use Rattle.std.specs.Prelude.{◌≡◌, ◌<◌, ◌∷◌, [], true, len
 ghost use Rattle.std.specs.List.{AllByRecursion};
 ghost use Rattle.mls_lattice.specs.Name.{is_name};
 ghost use Rattle.mls_lattice.specs.Canon.{user_name};
-ghost use Rattle.mls_audit.specs.declared.entry.Entry.TheVariants.{Called};
-ghost use Rattle.mls_audit.specs.Spelling.{HasSpelling, entry_spelling};
+ghost use Rattle.mls_audit.specs.declared.entry.Deed.TheVariants.{Called};
+ghost use Rattle.mls_audit.specs.Spelling.{IsTimed, IsShortDeed, HasSpelling, entry_spelling};
 ghost use Rattle.mls_certcheck.specs.MeaningLaws.{IsItem};
-ghost use Rattle.mls_machine.specs.Machine.{release_entry, call_entries};
+ghost use Rattle.mls_machine.specs.Machine.{entry_of, release_entry, call_entries};
 ghost use Rattle.mls_lattice.specs.Policy.{labels_of};
 ghost use Rattle.mls_filterview.specs.Calls.{NoAccess, NoWriteDown};
 ghost use Rattle.mls_certcheck.specs.declared.cert.Certificate.{Certificate};
@@ -21,7 +21,7 @@ use crate::arguments::fitted;
 use crate::change::Effect;
 use crate::finding::certified_named;
 use crate::site::Site;
-use mls_audit::{Entry, entry_bytes};
+use mls_audit::{Deed, Entry, entry_bytes};
 use mls_certcheck::{Certified, Run};
 use mls_filterview::{Base, BaseFault, settle};
 use mls_lattice::{LabelNo, Str, UserNo};
@@ -31,28 +31,59 @@ use mls_scheme::Value;
 use mls_translang::{Command, Event};
 use mls_trusted::evaluate_in;
 use mls_updates::copy_value;
-use std::alloc::AllocError;
+use std::alloc::{AllocError, Global};
+
+fn copy_time(alloc: Global, time: &Option<Str>) -> Result<Option<Str>, AllocError>
+    ensures { IfOk result (λ t. t ≡ time.now) }
+{
+    match time {
+        Some(time) => Ok(Some(Str::copy_of(alloc, time)?)),
+        None => Ok(None),
+    }
+}
+
+/// The bytes of an entry of an event, at a label, with the event's time.
+pub(crate) fn bytes_of(
+    site: &Site,
+    event: &Event,
+    label: LabelNo,
+    user: UserNo,
+    deed: Deed,
+) -> Result<Vec<u8>, AllocError>
+    requires user { user < length site.now.policy.now.users }
+    requires session { is_name event.now.session ≡ true }
+    requires timed { IsTimed event.now.time }
+    requires short { IsShortDeed deed }
+    ensures bytes { IfOk result (λ v. v.items ≡ entry_spelling
+        (entry_of (site_of_run site.now) event.now label user deed)) }
+    ensures spelled { OnOk result (HasSpelling (entry_of (site_of_run site.now) event.now label user deed)) }
+{
+    let time = copy_time(site.alloc, &event.time)?;
+    let user = Str::copy_of(site.alloc, site.policy.user_name(user))?;
+    let session = Str::copy_of(site.alloc, &event.session)?;
+    let entry = Entry {
+        label,
+        time,
+        user,
+        session,
+        deed,
+    };
+    entry_bytes(site.alloc, &entry)
+}
 
 /// The bytes of the entry of a call.
 fn called_bytes(site: &Site, event: &Event, user: UserNo, name: &str) -> Result<Vec<u8>, AllocError>
     requires user { user < length site.now.policy.now.users }
     requires session { is_name event.now.session ≡ true }
+    requires timed { IsTimed event.now.time }
     requires name { is_name name.now ≡ true }
     ensures bytes { IfOk result (λ v. v.items ≡ entry_spelling
-        (Called event.now.level (user_name site.now.policy.now.users user) event.now.session name.now)) }
-    ensures spelled { OnOk result (HasSpelling (Called event.now.level
-        (user_name site.now.policy.now.users user) event.now.session name.now)) }
+        (entry_of (site_of_run site.now) event.now event.now.level user (Called name.now))) }
+    ensures spelled { OnOk result (HasSpelling
+        (entry_of (site_of_run site.now) event.now event.now.level user (Called name.now))) }
 {
-    let user = Str::copy_of(site.alloc, site.policy.user_name(user))?;
-    let session = Str::copy_of(site.alloc, &event.session)?;
     let transaction = Str::copy_of(site.alloc, name)?;
-    let entry = Entry::Called {
-        label: event.level,
-        user,
-        session,
-        transaction,
-    };
-    entry_bytes(site.alloc, &entry)
+    bytes_of(site, event, event.level, user, Deed::Called(transaction))
 }
 
 /// The bytes of the entry of a release.
@@ -64,21 +95,14 @@ fn released_bytes(
 ) -> Result<Vec<u8>, AllocError>
     requires user { user < length site.now.policy.now.users }
     requires session { is_name event.now.session ≡ true }
+    requires timed { IsTimed event.now.time }
     requires item { IsItem site.now.policy.now item.now }
     ensures bytes { IfOk result (λ v. v.items ≡ entry_spelling
         (release_entry (site_of_run site.now) event.now user item.now)) }
     ensures spelled { OnOk result (HasSpelling (release_entry (site_of_run site.now) event.now user item.now)) }
 {
-    let user = Str::copy_of(site.alloc, site.policy.user_name(user))?;
-    let session = Str::copy_of(site.alloc, &event.session)?;
     let value = copy_value(&item.1)?;
-    let entry = Entry::Released {
-        label: item.0,
-        user,
-        session,
-        value,
-    };
-    entry_bytes(site.alloc, &entry)
+    bytes_of(site, event, item.0, user, Deed::Released(value))
 }
 
 /// Enters a call in the audit list, inside a change.
@@ -93,8 +117,8 @@ fn enter_call<B: Base>(
     requires name { is_name name.now ≡ true }
     ensures step { Steps B.seen base.old base.new result }
     ensures access { NoAccess B.seen base.old base.new }
-    ensures entered { HasEntered B.seen (Called event.now.level
-        (user_name site.now.policy.now.users user) event.now.session name.now ∷ []) base.old base.new result }
+    ensures entered { HasEntered B.seen (entry_of (site_of_run site.now) event.now event.now.level user
+        (Called name.now) ∷ []) base.old base.new result }
 {
     let bytes = settle(base, called_bytes(site, event, user, name))?;
     base.audit_add(&bytes)

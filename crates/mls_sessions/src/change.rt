@@ -10,9 +10,9 @@ ghost use Rattle.mls_sessions.specs.Sessions.{site_of_run};
 ghost use Rattle.mls_sessions.specs.Turns.{MayDo, Steps, EndsChange, IsOpen, HasDone};
 ghost use Rattle.mls_queries.specs.Views.{AreViews};
 
-use crate::calling::call;
+use crate::calling::{bytes_of, call};
 use crate::site::Site;
-use mls_audit::{Entry, entry_bytes};
+use mls_audit::Deed;
 use mls_filterview::{Base, BaseFault, settle};
 use mls_lattice::{Str, UserNo};
 use mls_machine::{Denial, Reply};
@@ -44,15 +44,7 @@ fn denial_bytes(
         (denial_entry (site_of_run site.now) event.now user denial)) }
     ensures spelled { OnOk result (HasSpelling (denial_entry (site_of_run site.now) event.now user denial)) }
 {
-    let user = Str::copy_of(site.alloc, site.policy.user_name(user))?;
-    let session = Str::copy_of(site.alloc, &event.session)?;
-    let entry = Entry::Denied {
-        label: event.level,
-        user,
-        session,
-        code: denial.code(),
-    };
-    entry_bytes(site.alloc, &entry)
+    bytes_of(site, event, event.level, user, Deed::Denied(denial.code()))
 }
 
 /// Enters a denial in the audit list, inside a change.

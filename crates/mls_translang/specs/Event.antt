@@ -3,6 +3,7 @@ use Rattle.std.specs.Prelude.{◌≡◌, ℕ, ◌<◌, ◌≤◌, Bool, true, na
 use Rattle.std.specs.List.{AllByRecursion, IsDistinct}
 use Rattle.mls_lattice.specs.Name.{is_name}
 use Rattle.mls_lattice.specs.Policy.{Policy}
+use Rattle.mls_lattice.specs.Time.{is_time}
 use Rattle.mls_scheme.specs.declared.value.Kind.{Kind}
 use Rattle.mls_scheme.specs.declared.value.Value.{Value}
 use Rattle.mls_scheme.specs.Value.{fits_kind}
@@ -85,4 +86,5 @@ CommandFits policy schemes (All batch) = BatchFits policy schemes batch
 pub record EventFits (policy : Policy) (schemes : Schemes) (e : Event) : Type 0 where
   pub level : e.level < length policy.labels
   pub session : is_name e.session ≡ true
+  pub timed : IfSome e.time (λ t. is_time t ≡ true)
   pub command : CommandFits policy schemes e.command

@@ -1,6 +1,6 @@
 -- The lines of events, as a person would write them.
-use Rattle.std.specs.Prelude.{ℕ, ◌<◌, nat_le, Bool, true, false, not, ◌&&◌, List, [], ◌∷◌, ◌++◌, length, codes}
-use Rattle.std.specs.Prelude.{Option, None, Some, ⊤, flat_map}
+use Rattle.std.specs.Prelude.{ℕ, ◌<◌, nat_le, Bool, true, false, ◌&&◌, List, [], ◌∷◌, ◌++◌, length, codes}
+use Rattle.std.specs.Prelude.{Option, None, Some, ⊤, flat_map, is_none}
 use Rattle.std.specs.List.{list_all, AllByRecursion}
 use Rattle.std.specs.Fmt.{signed_decimal}
 use Rattle.mls_lattice.specs.Canon.{label_name}
@@ -9,7 +9,7 @@ use Rattle.mls_scheme.specs.declared.value.Value.{Value}
 use Rattle.mls_scheme.specs.declared.value.Value.TheVariants as values
 use Rattle.mls_scheme.specs.declared.write.Write.TheVariants.{Insert, Update}
 use Rattle.mls_scheme.specs.Scheme.{Scheme, Schemes, scheme_of, other_of}
-use Rattle.mls_tokens.specs.Writing.{is_control, quoted}
+use Rattle.mls_tokens.specs.Writing.{quoted}
 use Rattle.mls_translang.specs.declared.event.Event.{Event}
 use Rattle.mls_translang.specs.declared.event.Command.{Command}
 use Rattle.mls_translang.specs.declared.event.Command.TheVariants.{Write}
@@ -84,9 +84,9 @@ module _ (policy : Policy) (schemes : Schemes) where
 
 -- ---- what a script can hold
 
--- a text between quotes has no control character, and at most 1,024 bytes
+-- a text between quotes has at most 8,192 bytes
 abbrev pub is_writable_text : List ℕ → Bool
-is_writable_text s = nat_le (length s) 1024 && list_all (λ b. not (is_control b)) s
+is_writable_text s = nat_le (length s) 8192
 
 abbrev pub is_writable_value : Option Value → Bool
 is_writable_value (Some (values.Text s)) = is_writable_text s
@@ -101,5 +101,6 @@ is_writable_command (Write relation (Update key key_class from sets)) =
     are_writable key && list_all (λ s. is_writable_value s.1) sets
 is_writable_command command = false
 
+-- lines that are written have no time
 abbrev pub is_writable : Event → Bool
-is_writable e = is_writable_command e.command
+is_writable e = is_none e.time && is_writable_command e.command

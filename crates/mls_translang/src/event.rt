@@ -8,6 +8,8 @@ use mls_scheme::{RelNo, Value, Write};
 pub struct Event {
     pub level: LabelNo,
     pub session: Str,
+    /// When it was given, if its line tells it.
+    pub time: Option<Str>,
     pub command: Command,
 }
 

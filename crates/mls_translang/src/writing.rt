@@ -1,10 +1,9 @@
 //! Events, as lines of scripts.
-ghost use Rattle.std.specs.Prelude.{◌≡◌, ◌<◌, ◌++◌, length, not, OnOk, flat_map};
+ghost use Rattle.std.specs.Prelude.{◌≡◌, ◌<◌, ◌++◌, length, OnOk, flat_map};
 ghost use Rattle.std.specs.List.{list_all, AllByRecursion};
-ghost use Rattle.mls_tokens.specs.Writing.{is_control};
 ghost use Rattle.mls_translang.specs.Writing.{value_text, cell_text, behind_comma, listed, list_text, set_text, keyed};
 ghost use Rattle.mls_translang.specs.Writing.{command_text, line_text, HasKnownNumbers, IsKnown, is_writable_text};
-ghost use Rattle.mls_translang.specs.Writing.{is_writable_value, are_writable, is_writable};
+ghost use Rattle.mls_translang.specs.Writing.{is_writable_value, are_writable, is_writable_command, is_writable};
 
 use crate::event::{Command, Event};
 use mls_lattice::{LabelNo, Policy};
@@ -13,7 +12,7 @@ use mls_tokens::{push_int, push_quoted, push_str};
 use std::alloc::{AllocError, Global};
 
 /// The most bytes of a text between quotes.
-const MAX_TEXT: usize = 1024;
+const MAX_TEXT: usize = 8192;
 
 // ---- values
 
@@ -212,22 +211,10 @@ pub fn push_event(
 
 // ---- what a script can hold
 
-fn is_control(byte: u8) -> bool
-    ensures { result ≡ is_control byte }
-{
-    byte < 32 || byte == 127
-}
-
-fn has_no_control(text: &[u8]) -> bool
-    ensures { result ≡ list_all (λ b. not (is_control b)) text.now }
-{
-    text.iter().all(|byte| !is_control(*byte))
-}
-
 fn is_writable_text(text: &str) -> bool
     ensures { result ≡ is_writable_text text.now }
 {
-    text.len() <= MAX_TEXT && has_no_control(text.as_bytes())
+    text.len() <= MAX_TEXT
 }
 
 fn is_writable_value(value: &Option<Value>) -> bool
@@ -251,13 +238,11 @@ fn are_writable_sets(sets: &[(usize, Option<Value>)]) -> bool
     sets.iter().all(|set| is_writable_value(&set.1))
 }
 
-/// Whether a script can hold an event that fits: it is an insert or an update, and no text has a control character or
-/// more
-/// than 1,024 bytes.
-pub fn is_writable(event: &Event) -> bool
-    ensures { result ≡ is_writable event.now }
+/// Whether it is an insert or an update, and no text has more than 8,192 bytes.
+fn is_writable_command(command: &Command) -> bool
+    ensures { result ≡ is_writable_command command.now }
 {
-    match &event.command {
+    match command {
         Command::Write {
             write: Write::Insert { key, values },
             ..
@@ -268,4 +253,12 @@ pub fn is_writable(event: &Event) -> bool
         } => are_writable(key) && are_writable_sets(sets),
         _ => false,
     }
+}
+
+/// Whether a script can hold an event that fits, as it is written: it is an insert or an update without a time, and no
+/// text has more than 8,192 bytes.
+pub fn is_writable(event: &Event) -> bool
+    ensures { result ≡ is_writable event.now }
+{
+    event.time.is_none() && is_writable_command(&event.command)
 }

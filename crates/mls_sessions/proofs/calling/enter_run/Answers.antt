@@ -1,8 +1,7 @@
 use Rattle.std.proofs.Common.{ap, ◌∙◌, map}
 use Rattle.std.proofs.lemmas.Result.{on_ok_weaker}
-use Rattle.mls_audit.specs.declared.entry.Entry.TheVariants.{Called}
-use Rattle.mls_lattice.specs.Canon.{user_name}
-use Rattle.mls_machine.specs.Machine.{release_entry}
+use Rattle.mls_audit.specs.declared.entry.Deed.TheVariants.{Called}
+use Rattle.mls_machine.specs.Machine.{entry_of, release_entry}
 use Rattle.mls_sessions.specs.Sessions.{site_of_run}
 use Rattle.mls_sessions.specs.Calling.{with_entries}
 use Rattle.mls_sessions.proofs.EnteringLemmas.{first_entered}
@@ -12,7 +11,8 @@ use Rattle.mls_sessions.proofs.calling.enter_run.Goals as goal
 pub returns-clause-entered : goal.returns-clause-entered
 returns-clause-entered g c =
     let es = map (release_entry (site_of_run c.args.site.now) c.args.event.now c.args.user) c.args.released.now in
-    let call = Called c.args.event.now.level (user_name c.args.site.now.policy.now.users c.args.user) c.args.event.now.session c.args.name.now in
+    let call = entry_of (site_of_run c.args.site.now) c.args.event.now c.args.event.now.level c.args.user
+    (Called c.args.name.now) in
     record {
       done = λ clean. on_ok_weaker c.enter_releases.result (λ h. h ∙ ap (λ s. with_entries s es)
           (c.in_ok-enter_call.ensures.entered.done (c.enter_releases.ensures.step.call.clean clean)) ∙ first_entered

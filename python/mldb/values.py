@@ -8,7 +8,7 @@ from collections.abc import Mapping, Sequence
 
 from mldb.errors import DataError, ProgrammingError
 
-TEXT_BYTES = 1024
+TEXT_BYTES = 8192
 LEAST, MOST = -(1 << 63), (1 << 63) - 1
 CONTROL = re.compile(r"[\x00-\x1f\x7f]")
 ESCAPE = re.compile(r'\\(["\\]|x[0-9a-f]{2})')
@@ -23,12 +23,14 @@ def _number(value: int) -> str:
 
 
 def _text(value: str) -> str:
-    if CONTROL.search(value):
-        raise DataError(f"{value!r}: a line break, tab or other control character: no text can hold it")
     size = len(value) if value.isascii() else encoded_size(value)
     if size > TEXT_BYTES:
         raise DataError(f"{value[:20]!r}..: {size} bytes: a text has at most {TEXT_BYTES}")
-    return '"' + value.replace("\\", "\\\\").replace('"', '\\"') + '"'
+    return '"' + CONTROL.sub(_escape, value.replace("\\", "\\\\").replace('"', '\\"')) + '"'
+
+
+def _escape(found: re.Match[str]) -> str:
+    return f"\\x{ord(found[0]):02x}"
 
 
 def encoded_size(value: str) -> int:

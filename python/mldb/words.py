@@ -123,8 +123,8 @@ SCRIPTS = _table(
     ),
     (
         24, "Kind", "",
-        "a value of the wrong kind, a negative number of rows, or a list of the wrong length: explain says "
-        "what is wanted; write not (A = 1)",
+        "a value of the wrong kind, a negative number of rows, a time of another form, or a list of the wrong"
+        " length: explain says what is wanted; write not (A = 1)",
     ),
     (25, "Repeated", "", "a name is given twice"),
     (
@@ -134,7 +134,7 @@ SCRIPTS = _table(
     ),
     (
         27, "TooLong", "",
-        "a text of more than 1,024 bytes; in transactions and all also too many things. See the limits",
+        "a text of more than 8,192 bytes; in transactions and all also too many things. See the limits",
     ),
     (
         28, "LabelOrder", "",
@@ -169,7 +169,7 @@ STORES = _table(
     (
         2, "OtherPolicy", "",
         "its labels or relations are not those of policy and schemes, and these do not extend them in version"
-        " 2: use the files that it was made with, or files that extend them. For a new relation move it",
+        " 2: use the files that it was made with, or files that extend them",
     ),
     (
         3, "BadRows", "",

@@ -7,16 +7,16 @@ import decimal
 import mldb
 import tried
 
-LONG = "x" * 1025
-REFUSED = ["a\nb", "a\r", "a\tb", "\x00", "\x7f", "\x1b[2J", "\ud800", LONG, "\u00e9" * 513, 1.5, 5.0, float("nan"),
+LONG = "x" * 8193
+REFUSED = ["\ud800", LONG, "\u00e9" * 4097, "\n" * 8193, 1.5, 5.0, float("nan"),
            float("inf"), b"a", bytearray(b"a"),
            1 << 63, -(1 << 63) - 1, decimal.Decimal("1.5"), object(), ("a",)]
 BAD_SQL = [
-    "INSERT INTO SOD (Starship) SELECT 'good' UNION ALL SELECT 'a' || char(10)",
+    "INSERT INTO SOD (Starship) SELECT 'good' UNION ALL SELECT printf('%8193d', 1)",
     "INSERT INTO SOD (Starship) VALUES ('a'), (x'00')", "INSERT INTO CREW (Id) VALUES (1), (1.5)",
     "INSERT INTO CREW (Id) VALUES (1), ('one')", "INSERT INTO CREW (Id) VALUES (9223372036854775808)",
     "INSERT INTO SOD (Starship) VALUES ('\ud800')", f"INSERT INTO SOD (Starship) VALUES ('{LONG}')",
-    "INSERT INTO SOD (Starship) VALUES ('a\nb')", "SELECT '\ud800'",
+    "SELECT '\ud800'",
 ]
 BAD_LINES = ["view SOD at U\nclose", "view SOD at U\n", 'insert SOD key ("\ud800") values (null, null)',
              "# " + "x" * (1 << 20), 5]

@@ -90,7 +90,7 @@ def marks(program, low):
              (24, "Kind", "insert SOD key (5) values (null, null)", 17),
              (25, "Repeated", 'update SOD key ("a") class U from U set Objective = "a", Objective = "b"', 58),
              (26, "Depth", f"view CREW at U where {'(' * 17}Id{' + 1)' * 17} = 1", None),
-             (27, "TooLong", f'insert SOD key ("{"x" * 1025}") values (null, null)', 17)]
+             (27, "TooLong", f'insert SOD key ("{"x" * 8193}") values (null, null)', 17)]
     for code, name, line, column in cases:
         with tried.raises(f"{code}", mldb.ProgrammingError, code, name) as found:
             low.ask(line)

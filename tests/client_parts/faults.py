@@ -4,9 +4,9 @@ it."""
 FAULTS = [
     ("a quote is not escaped", "values.py", """.replace('"', '\\\\"')""", "", ["cells"]),
     ("a backslash is not escaped", "values.py", r""".replace("\\", "\\\\")""", "", ["cells"]),
-    ("a control character is sent", "values.py", r"[\x00-\x1f\x7f]", r"[\x00-\x08\x0a-\x1f\x7f]", ["cells"]),
+    ("a control character is sent", "values.py", r"[\x00-\x1f\x7f]", r"[\x00-\x09\x0b-\x1f\x7f]", ["cells"]),
     ("a line of two lines is sent", "session.py", ' or "\\n" in command', "", ["cells"]),
-    ("a long text is sent", "values.py", "TEXT_BYTES = 1024", "TEXT_BYTES = 1025", ["cells"]),
+    ("a long text is sent", "values.py", "TEXT_BYTES = 8192", "TEXT_BYTES = 8193", ["cells"]),
     ("no number is null", "values.py", "and math.isfinite(value)", "", ["cells"]),
     ("what is assigned is looked at late", "cursor.py",
      "            for one in given:\n                plan.check(one)\n", "", ["cells"]),

@@ -45,7 +45,7 @@ CASES = [
     ("SELECT * FROM CREW WHERE NOT Id = 1 AND Id = 1 + 1 AND Post = Post", (), [ALL]),
     ("SELECT * FROM CREW WHERE Id <> 1 AND Id IS NOT NULL AND Post = NULL AND Post = ?", (None,), [ALL]),
     ("SELECT * FROM CREW WHERE Id = 1 COLLATE NOCASE AND Post = 5 AND Id = '5' AND Id = 1.0 AND Id < ?", (2.5,), [ALL]),
-    ("SELECT * FROM CREW WHERE Post = ? AND Post < ?", ("a\nb", "x" * 1025), [ALL]),
+    ("SELECT * FROM CREW WHERE Post = ? AND Post < ?", ("y" * 8193, "x" * 8193), [ALL]),
     ("SELECT * FROM CREW WHERE Id = 1 UNION SELECT * FROM CREW", (), [ALL]),
     ("SELECT * FROM CREW WHERE Id = 1 AND Post IN (SELECT Starship FROM SOD)", (), ["view SOD at U", ALL]),
     ("SELECT * FROM CREW WHERE Id = 1 AND (Id + 1, Post, class) IN CREW", (), [ALL]),

@@ -18,7 +18,7 @@ AWKWARD = [
     "null", "NULL", "close", 'x") values (null, null)', 'insert SOD key ("y") values (null, null)', "U U/ann done",
     "row", " | ", '" U | "', "(",
     "=1+1", "Z\u00fcrich", "\u65e5\u672c\u8a9e", "\U0001f680", "\u2028", "\u0085", "\ufeff", "e\u0301", "\u202e",
-    "x" * 1024, "\u00e9" * 512, "\\x0a",
+    "x" * 8192, "\u00e9" * 4096, "\\x0a", "a\nb", "a\r", "a\tb", "\x7f", "\x1b[2J", "\n",
     "'", "''", "5", "", "it's", "?", "%", "=", "= 22 Expected at 1",
 ]
 

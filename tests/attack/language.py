@@ -46,9 +46,14 @@ def written(one, forms=None):
         "other": f" else {blocks[1]}" if one.blocks[1:] and one.blocks[1] else ""}) + "\n"
 
 
+def stamp(event):
+    """The time before a line, if it has one."""
+    return f"{spelled(event.time)} " if event.time else ""
+
+
 def line(event):
-    """A line of a script."""
-    return f"{event.label} {event.session} {written(event, COMMANDS)}"
+    """A line of a script, behind its time if it has one."""
+    return f"{stamp(event)}{event.label} {event.session} {written(event, COMMANDS)}"
 
 
 def transaction_text(tx):

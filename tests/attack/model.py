@@ -12,6 +12,7 @@ ARITHMETIC = {"+": operator.add, "-": operator.sub, "*": operator.mul}
 ORDERS = {"<": operator.lt, "<=": operator.le, ">": operator.gt, ">=": operator.ge}
 MODES = ["execute", "read", "append", "write"]
 SERVES = {"insert": {"append", "write"}, "update": {"write"}, "delete": {"write"}, "call": {"execute"}}
+TIME = re.compile("[0-9]{4}-([0-9]{2})-([0-9]{2})T([0-9]{2}):([0-9]{2}):([0-9]{2})Z")
 CONTROLS, HIGH_CONTROLS = re.compile("[\x00-\x1f\x7f]"), re.compile("[\x80-\x9f]")
 
 
@@ -89,6 +90,13 @@ class Relation(namedtuple("Relation", "name key others")):
     def fields(self, row, front=""):
         names = [front + one.name for one in self.attributes()]
         return dict(zip(names, row.key + tuple(value for value, _ in row.elements)))
+
+
+def is_time(text):
+    """Whether it has the form of a time, with no word on calendars."""
+    parts = TIME.fullmatch(text)
+    bounds = [(1, 12), (1, 31), (0, 23), (0, 59), (0, 59)]
+    return bool(parts) and all(low <= int(part) <= high for part, (low, high) in zip(parts.groups(), bounds))
 
 
 def subsumes(t, s):
@@ -247,7 +255,7 @@ class Site(namedtuple("Site", "policy schemes stored table")):
         at = event.label, event.session
         code, user = next(self.denials(world, event), 0), world.sessions.get(at)
         if code:
-            entries = ((event.label, "denied", user, event.session, code),) if user else ()
+            entries = ((event.label, "denied", user, event.session, code, event.time),) if user else ()
             return world._replace(audit=world.audit + entries), [(event.label, f"denied {code} {DENIALS[code]}")]
         if event.verb == "call":
             return self.call(world, event, user)
@@ -288,8 +296,8 @@ class Site(namedtuple("Site", "policy schemes stored table")):
         tx, told = self.stored[event.target][0], {"emit": [], "release": []}
         given = {name: one if is_of_kind(one, kind) else None for one, (name, kind, _) in zip(event.values, tx.params)}
         relations = self.perform(tx.body, world.relations, given | {name: None for name, _ in tx.vars}, told)
-        entries = [(event.label, "called", user, event.session, tx.name)]
-        entries += [(label, "released", user, event.session, one) for label, one in told["release"]]
+        entries = [(event.label, "called", user, event.session, tx.name, event.time)]
+        entries += [(label, "released", user, event.session, one, event.time) for label, one in told["release"]]
         lines = [(label, f"{word} {spelled(one)}") for word in ("emit", "release") for label, one in told[word]]
         world = world._replace(relations=relations, audit=world.audit + tuple(entries))
         return world, [(event.label, f"called {tx.name}")] + lines
@@ -343,15 +351,16 @@ class Site(namedtuple("Site", "policy schemes stored table")):
                 sets = ", ".join(f"{other} = {spelled(one)}" for other, one in own)
                 command = f"update {front} class {t.key_class} from {under} set {sets}"
             texts = [one for one in t.key + tuple(one for _, one in own) if isinstance(one, str)]
-            is_read = not any(CONTROLS.search(one) or len(one.encode()) > 1024 for one in texts)
+            is_read = not any(len(one.encode()) > 8192 for one in texts)
             lines.append(f"{'line' if is_read else 'unread'} {name} {event.session} {command}")
         return lines
 
 
 def entry_line(entry):
-    label, word, user, session, what = entry
+    label, word, user, session, what, time = entry
     names = [without_controls(str(one)) for one in (user, session, what)]
-    return " ".join(["entry", label, word, *names[:2], spelled(what) if word == "released" else names[2]])
+    told = ["entry", label, word, *names[:2], spelled(what) if word == "released" else names[2]]
+    return " ".join(told + ([time] if time else []))
 
 
 def without_controls(text, controls=CONTROLS):

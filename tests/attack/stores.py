@@ -3,7 +3,7 @@
 import sqlite3
 from collections import namedtuple
 
-from model import Row, World, is_stored
+from model import Row, World, is_stored, is_time
 
 TABLES = {"node": "rel, ent, kclass, label, pattern", "cell": "rel, ent, kclass, attr, label, value",
           "audit": "number, bytes", "meta": "version, lattice, schemes"}
@@ -43,15 +43,21 @@ class Store(namedtuple("Store", "policy schemes")):
     """A store under a policy and relations."""
 
     def entry_bytes(self, entry):
-        label, word, user, session, what = entry
+        label, word, user, session, what, time = entry
         tail = value_bytes(what) if word == "released" else short(what) if word == "called" else bytes([what])
-        return bytes([WORDS.index(word) + 1, self.policy.number(label)]) + short(user) + short(session) + tail
+        tag, stamp = WORDS.index(word) + 1 + 3 * bool(time), (time or "").encode()
+        return bytes([tag, self.policy.number(label)]) + stamp + short(user) + short(session) + tail
 
     def entry_of(self, data):
+        kind, time = {tag: WORDS[(tag - 1) % 3] for tag in range(1, 7)}[data[0]], None
+        if data[0] > 3:
+            time, data = data[2:22].decode(), data[:2] + data[22:]
+            if not is_time(time):
+                raise ValueError(time)
         user, rest, head = data[3:3 + data[2]].decode(), data[3 + data[2]:], data[:2]
         session, tail = rest[1:1 + rest[0]].decode(), rest[1 + rest[0]:]
-        what = tail[1:].decode() if head[0] == 1 else tail[0] if head[0] == 2 else values_of(tail)[0]
-        return list(self.policy.labels)[head[1]], WORDS[head[0] - 1], user, session, what
+        what = tail[1:].decode() if kind == "called" else tail[0] if kind == "denied" else values_of(tail)[0]
+        return list(self.policy.labels)[head[1]], kind, user, session, what, time
 
     def meta(self, version):
         return version, self.policy.lattice(), self.policy.schemes(self.schemes)

@@ -8,7 +8,7 @@ from model import BOTTOM, Attribute, Label, Policy, Relation
 COMPARISONS, RELATIONS = ["=", "<>", "<", "<=", ">", ">="], ["REL", "ODD", "where"]
 STORED, KINDS = ["Tx0", "Tx1", "Tx2", "Tx3"], ["int", "text"]
 POOLS = {"int": [0, 1, 2, -1, 7, 10, 2**63 - 1, -2**63],
-         "text": ["", "a", "b", "Vega", 'q"\\', "é #", "x\u0085", "Talos"]}
+         "text": ["", "a", "b", "Vega", 'q"\\', "é #", "x\u0085", "Talos", "a\nb", "\r\n\0\x7f\\x0a", "y" * 1500]}
 INSIDE = ["view", "count", "insert", "update", "delete"]  # what may stand in a batch, and what is expected
 COMMANDS = ["insert", "view", "call"] * 3 + ["update"] * 4 + ["count", "delete", "dump", "audit", "close"]
 STATEMENTS = "assign assign release release emit insert update delete if for if for".split()
@@ -17,7 +17,7 @@ STATEMENTS = "assign assign release release emit insert update delete if for if 
 def record(verb, **fields):
     """A command or a statement; what it has not is none or empty."""
     lacking = ("label", "target", "relation", "at", "test", "first", "where", "joint", "key_class", "start", "expr",
-               "expected")
+               "expected", "time")
     blank = dict.fromkeys(lacking) | {"key": (), "values": (), "sets": {}, "blocks": [], "ones": (), "highest": False}
     return SimpleNamespace(**blank | {"verb": verb} | fields)
 
@@ -50,12 +50,23 @@ class Maker:
         self.rng.shuffle(values)
         labels = dict(zip(self.some(["U", "M", "S", "H", "count", "highest", "L_1"], 7, 7), values))
         self.policy = policy = Policy(self.rng.randint(1, 2), levels, categories, labels, {}, {})
-        rights = [["write"]] * 20 + [["read"], ["append"], ["append", "read"]]
-        for user in ["ann", "bob", "hal", "tom"]:
+        rights, self.grants = [["write"]] * 20 + [["read"], ["append"], ["append", "read"]], []
+        users = ["ann", "bob", "hal", "tom"]
+        for user in users:
             policy.users[user] = self.wide(1, 9)[1], self.wide(0, 9) or []
-            for target in RELATIONS + STORED:
-                modes = self.pick(rights if target in RELATIONS else [["execute"]])
-                policy.matrix[user, target] = modes if self.chance(0.95) else []
+        while users:
+            count = self.pick([1, 1, 1, 2, 4])
+            some, users = users[:count], users[count:]
+            for targets in self.parts(RELATIONS) + self.parts(STORED):
+                modes = self.pick(rights if targets[0] in RELATIONS else [["execute"]])
+                self.grants.append((some, targets, modes if self.chance(0.95) else []))
+        for some, targets, modes in self.grants:
+            policy.matrix.update({(user, target): modes for user in some for target in targets})
+
+    def parts(self, items):
+        """A list in parts, one after another."""
+        cut = self.rng.randint(1, len(items))
+        return [items[:cut]] + ([[one] for one in items[cut:]] if self.chance(0.7) else [items[cut:]] if items[cut:] else [])
 
     def above(self, low):
         return [label for label in self.policy.labels if self.policy.below(low, label)]
@@ -81,9 +92,17 @@ class Maker:
         return tuple(self.value(one.kind) for one in attributes)
 
     def event(self, world, may=lambda label: True):
-        """An event of a session whose level may speak: of one command, or of several as one."""
+        """An event of a session whose level may speak: of one command, or of several as one; perhaps with its time."""
         one = self.single(world, may)
-        return self.batch(world, one) if one.verb in INSIDE and self.chance(0.15) else one
+        whole = self.batch(world, one) if one.verb in INSIDE and self.chance(0.15) else one
+        whole.time = self.time() if self.chance(0.3) else None
+        return whole
+
+    def time(self):
+        def number(low, high, width=2):
+            return f"{self.rng.randint(low, high):0{width}}"
+        day = f"{number(0, 9999, 4)}-{number(1, 12)}-{number(1, 31)}"
+        return f"{day}T{number(0, 23)}:{number(0, 59)}:{number(0, 59)}Z"
 
     def batch(self, world, first):
         """A batch of this command and of others at its level."""
@@ -197,6 +216,10 @@ class Maker:
             one.expr, one.target = self.expression(kind, names), self.pick(targets[kind]) if verb != "emit" else None
         return one
 
+    def named(self, field, names):
+        """One name, or a list."""
+        return {field + "s": names} if len(names) > 1 or self.chance(0.2) else {field: names[0]}
+
     def documents(self):
         """The policy and the relations as TOML."""
         def tables(name, listed):
@@ -207,7 +230,8 @@ class Maker:
                  for name, (one, trusted) in p.users.items()]
         labels = [{"name": name, "level": p.levels[one.rank], "categories": [bits[bit] for bit in one.categories]}
                   for name, one in p.labels.items()]
-        rights = [{"user": pair[0], "object": pair[1], "modes": modes} for pair, modes in p.matrix.items()]
+        rights = [self.named("user", some) | self.named("object", targets) | {"modes": modes}
+                  for some, targets, modes in self.grants]
         schemes = policy = f"version = {p.version}\n"
         for one in self.schemes.values():
             key, others = ([attribute._asdict() for attribute in part] for part in (one.key, one.others))

@@ -2,8 +2,8 @@
 """Measures the built program over large stores, and prints a table: processor time, its growth, and the most memory.
 
 The stores are loaded by `serve`, which takes any number of lines. What is measured is `run` over them: an opening,
-updates that are each followed by a view, and views at the top of a chain of labels. Nothing is built: the program is
-crates/mldb/out/mldb, or the one that --program names.
+updates that are each followed by a view, and views at the top of a chain of labels; and how long it takes to read a
+policy of many rights. Nothing is built: the program is crates/mldb/out/mldb, or the one that --program names.
 """
 import argparse
 import math
@@ -34,6 +34,20 @@ def chain_policy():
 def chain_schemes():
     key = f'[[relation]]\nname = "R"\n\n[[relation.key]]\nname = "Name"\n{TEXT}'
     return f'version = 1\n\n{key}\n[[relation.attribute]]\nname = "First"\n{TEXT}'
+
+
+def rights_policy(users, objects, has_lists):
+    """Each of these users may read each of these objects: by lists, or by an entry for each pair."""
+    people, things = [f"u{i}" for i in range(users)], [f"O{i}" for i in range(objects)]
+    quoted = lambda names: ", ".join(f'"{name}"' for name in names)
+    declared = ", ".join(f'{{ name = "{user}", clearance = "L" }}' for user in people)
+    if has_lists:
+        matrix = f'{{ users = [{quoted(people)}], objects = [{quoted(things)}], modes = ["read"] }}'
+    else:
+        pairs = [(user, thing) for user in people for thing in things]
+        matrix = ", ".join(f'{{ user = "{user}", object = "{thing}", modes = ["read"] }}' for user, thing in pairs)
+    front = 'version = 1\nlevels = ["L"]\nlabel = [{ name = "L", level = "L" }]\n'
+    return f"{front}user = [{declared}]\nmatrix = [{matrix}]\n"
 
 
 def inserts(n):
@@ -92,8 +106,17 @@ class Large:
     def timed(self, documents, script):
         """Seconds of the processor and megabytes of a run."""
         self.write("script", script)
+        return self.used(self.words("run", documents) + [self.at("script")])
+
+    def shown(self, policy):
+        """The same of reading and showing a policy."""
+        self.write("rights.policy", policy)
+        self.write("rights.schemes", chain_schemes().replace("L0", "L").replace("L19", "L"))
+        return self.used([self.program, "show-policy", self.at("rights.policy"), self.at("rights.schemes")])
+
+    def used(self, words):
         with open(os.devnull, "wb") as file:
-            child = subprocess.Popen(self.words("run", documents) + [self.at("script")], stdout=file)
+            child = subprocess.Popen(words, stdout=file)
             _, status, used = os.wait4(child.pid, 0)
         child.returncode = os.waitstatus_to_exitcode(status)
         if child.returncode != 0:
@@ -140,6 +163,8 @@ def main():
         large = Large(args.program, folder)
         print("| Work | n | processor | growth | memory |")
         print("|---|---|---|---|---|")
+        row("a policy of n rights, in one entry of lists", 16_384, large.shown(rights_policy(1024, 16, True)))
+        row("the same, in an entry for each", 16_384, large.shown(rights_policy(1024, 16, False)))
         openings(large, [n for n in (33_600, 100_000, 1_000_000) if n <= args.most])
         large.load(SAMPLES, inserts(50_000))
         opening = large.timed(SAMPLES, OPEN)

@@ -215,7 +215,8 @@ class Dots:
         user = self.shell.connection.user
         if self.policy:
             entries = self.policy.get("matrix", [])
-            mine = [one["modes"] for one in entries if (one.get("user"), one.get("object")) == (user, name)]
+            of_user = [one for one in entries if user in one.get("users", [one.get("user")])]
+            mine = [one["modes"] for one in of_user if name in one.get("objects", [one.get("object")])]
             modes = [mode for some in mine for mode in some]
             return f"{user} may {', '.join(modes)}" if modes else f"{user} has no right"
         told = [f"{mode} {self.shell.heard[name, mode]}" for mode in ALL_MODES if (name, mode) in self.shell.heard]

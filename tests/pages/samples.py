@@ -110,7 +110,7 @@ def awkward(work: Path) -> list[Page]:
         f'S b update SOD key ("{SCRIPT}") class U from U set Destination = "</td></table>"\n'
         f'U t call Known ()\nS b view SOD at H\nU a view SOD at U # {SCRIPT}\n'
         'U a all { insert SOD key ("; }") values (null, "}"); view SOD at U ; expect 2 count SOD at U; } # } ;\n'
-        'U a all{delete SOD key ("; }") class U;expect 0 count SOD at U}\n'
+        '"2026-11-30T20:01:02Z"U a all{delete SOD key ("; }") class U;expect 0 count SOD at U}\n'
         'U t all { view SOD at U; delete SOD key ("; }") class H }\nU a count SOD at U\n', encoding="utf-8",
     )
     (folder / "audit.txt").write_text(

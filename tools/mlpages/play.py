@@ -10,6 +10,9 @@ from .declared import Declared, access, declared
 from .program import MOST_BYTES, Program, Refused, read_text
 from .replies import Row, by_event, line_of, rows_of
 
+# The time at the front of a line, where one is.
+TIME = re.compile(r'\A"[^"]*"[ \t\r]*')
+
 
 @dataclass
 class Sight:
@@ -52,7 +55,7 @@ def events_of(text: str) -> tuple[list[str], list[Event]]:
         if plain.startswith("#"):
             said.append(plain.lstrip("#").strip())
         elif plain:
-            level, session, *command = plain.split(None, 2)
+            level, session, *command = TIME.sub("", plain).split(None, 2)
             events.append(Event(len(events) + 1, said, level, session, command[0] if command else ""))
             lines.append(plain)
             said = []

@@ -11,8 +11,8 @@ ROW = re.compile(rf"((?:{VALUE} {NAME} \| )+)({NAME})")
 # The lines that go on with the reply of the line above them.
 FURTHER = {"row", "line", "unread", "emit", "release", "entry"}
 UNDONE = {"denied", "refused"}
-# A batch, in which nothing is quoted.
-BATCH = re.compile(r"\s*[^\s#]+\s+[^\s#]+\s+all\s*\{([^}#]*)\}")
+# A batch behind any time, with a digit for each text.
+BATCH = re.compile(r"\s*(?:0\s*)?[^\s#]+\s+[^\s#]+\s+all\s*\{([^}#]*)\}")
 QUOTED = re.compile(TEXT)
 
 

@@ -1,8 +1,9 @@
 -- Readers of lines of scripts read no further than the next token.
-use Rattle.std.proofs.Common.{ℕ, zero, suc, ◌≤◌, ℤ, Bool, true, false, if◌then◌else◌, List, [], ◌∷◌, ◌++◌, codes, bytes_eq, Option, Some, None, Ok, Err, refl, inl, inr}
+use Rattle.std.proofs.Common.{ℕ, zero, suc, ◌≤◌, ℤ, Bool, true, false, if◌then◌else◌, List, [], ◌∷◌, ◌++◌, codes, bytes_eq, Option, Some, None, option_map, Ok, Err, refl, arith, inl, inr}
 use Rattle.std.specs.List.{AllByRecursion}
 use Rattle.mls_lattice.specs.Policy.{Policy}
 use Rattle.mls_lattice.specs.Reading.{◌>>=◌}
+use Rattle.mls_lattice.specs.Time.{is_time}
 use Rattle.mls_scheme.specs.Scheme.{Attribute, Scheme, Schemes, scheme_of}
 use Rattle.mls_scheme.specs.declared.value.Value.{Value}
 use Rattle.mls_scheme.specs.declared.write.Write.TheVariants.{Insert, Update, Delete}
@@ -11,7 +12,7 @@ use Rattle.mls_tokens.specs.declared.token.Token.{Token}
 use Rattle.mls_tokens.specs.declared.token.Token.TheVariants.{Word, Int, Text, Sign}
 use Rattle.mls_tokens.specs.declared.token.Placed.{Placed}
 use Rattle.mls_tokens.specs.declared.sign.Sign.TheVariants as signs
-use Rattle.mls_tokens.specs.Passing.{left, refuse, PlacedName, is_expected}
+use Rattle.mls_tokens.specs.Passing.{left, refuse, PlacedName, PlacedText, text_first, pass_text, is_expected}
 use Rattle.mls_translang.specs.Event.{Sets, most_ones}
 use Rattle.mls_translang.specs.Tree.{Expr}
 use Rattle.mls_translang.specs.declared.event.Command.{Command}
@@ -33,7 +34,7 @@ use Rattle.mls_script.specs.ReadBatch.{one_of_token, behind_semicolon, ends_behi
 use Rattle.mls_script.specs.ReadList.{value_of_token, value_at, fits_attribute, attribute_at, are_as_many, item_at, list_at, set_at, sets_at}
 use Rattle.mls_script.specs.ReadParts.{Written, keyed_at, insert_at, look_at, update_at, delete_at}
 use Rattle.mls_script.specs.ReadQuery.{highest_behind, comparison_of, class_behind, class_at, number_of, is_count, count_of, rows_at, first_behind, first_at, where_behind, where_at, query_at}
-use Rattle.mls_script.specs.Reading.{verb_of_token, end_at, call_at, written, viewed_at, command_at, event_at, told_at}
+use Rattle.mls_script.specs.Reading.{verb_of_token, end_at, untimed, time_at, call_at, written, viewed_at, command_at, event_at, timed_at, told_at}
 use Rattle.mls_faults.proofs.ReadsLemmas.{EndsFrom, AreOfNames, NotesNames, Two, one, two, Agree, ReadsFrom, Reads, reads_behind, reads_then}
 use Rattle.mls_faults.proofs.StepLemmas.{of_unless, reads_noted, reads_done, reads_fault, stop_later, reads_token, AllSome, all_if, known_then, is_any, reads_sign, reads_word, reads_name, reads_known, reads_if_sign, reads_if_word, reads_either, reads_unless_over}
 use Rattle.mls_faults.proofs.ExprReads.{reads_label, reads_label_behind, reads_relation, reads_items, reads_list, reads_item, reads_set}
@@ -315,49 +316,135 @@ module _ (k : Two) (policy : Policy) (schemes : Schemes) where
   reads_all = reads_then k (reads_batch k policy schemes) (λ b. Ok (commands.All b.0, b.1))
       (λ b. reads_done k (commands.All b))
 
-  -- a line behind its level and its session
-  abbrev made : ℕ → PlacedName → Command × State → Read Event
-  made level session c = Ok (record { level = level; session = session.0; command = c.0 }, c.1)
+  module _ (time : Option (List ℕ)) where
+    -- a line behind its time, its level and its session
+    abbrev made : ℕ → PlacedName → Command × State → Read Event
+    made level session c = Ok (record { level = level; session = session.0; time = time; command = c.0 }, c.1)
 
-  module _ (level : ℕ) (session : PlacedName) where
-    as_event : (at : ℕ) {r : State → Read Command} → Reads k r → ReadsFrom k at (λ s. r s >>= made level session)
-    as_event at {r = r} h = reads_behind k at (λ s. r s >>= made level session) (reads_then k h (made level session)
-        (λ c. reads_done k (record { level = level; session = session.0; command = c })))
+    module _ (level : ℕ) (session : PlacedName) where
+      as_event : (at : ℕ) {r : State → Read Command} → Reads k r → ReadsFrom k at (λ s. r s >>= made level session)
+      as_event at {r = r} h = reads_behind k at (λ s. r s >>= made level session) (reads_then k h (made level session)
+          (λ c. reads_done k (record { level = level; session = session.0; time = time; command = c })))
 
-    from_word : (w : List ℕ) (at : ℕ) → AllSome (λ v. ReadsFrom k at (λ s. command_at policy schemes v s
-        >>= made level session)) (verb_of_token (Word w))
-    from_word w at =
-        all_if (λ v. ReadsFrom k at (λ s. command_at policy schemes v s >>= made level session))
-        (bytes_eq w (codes "open")) _ _ (as_event at reads_open)
-        (all_if _ (bytes_eq w (codes "close")) _ _ (as_event at (reads_done k commands.Close))
-        (all_if _ (bytes_eq w (codes "audit")) _ _ (as_event at (reads_done k commands.Audit))
-        (all_if _ (bytes_eq w (codes "view")) _ _ (as_event at (reads_viewed false))
-        (all_if _ (bytes_eq w (codes "count")) _ _ (as_event at (reads_viewed true))
-        (all_if _ (bytes_eq w (codes "dump")) _ _ (as_event at reads_dump)
-        (all_if _ (bytes_eq w (codes "insert")) _ _ (as_event at (as_command (reads_insert k schemes)))
-        (all_if _ (bytes_eq w (codes "update")) _ _ (as_event at (as_command (reads_update k policy schemes)))
-        (all_if _ (bytes_eq w (codes "delete")) _ _ (as_event at (as_command (reads_delete k policy schemes)))
-        (all_if _ (bytes_eq w (codes "call")) _ _ (as_event at (reads_call k))
-        (all_if _ (bytes_eq w (codes "all")) _ _ (as_event at reads_all) tt))))))))))
+      from_word : (w : List ℕ) (at : ℕ) → AllSome (λ v. ReadsFrom k at (λ s. command_at policy schemes v s
+          >>= made level session)) (verb_of_token (Word w))
+      from_word w at =
+          all_if (λ v. ReadsFrom k at (λ s. command_at policy schemes v s >>= made level session))
+          (bytes_eq w (codes "open")) _ _ (as_event at reads_open)
+          (all_if _ (bytes_eq w (codes "close")) _ _ (as_event at (reads_done k commands.Close))
+          (all_if _ (bytes_eq w (codes "audit")) _ _ (as_event at (reads_done k commands.Audit))
+          (all_if _ (bytes_eq w (codes "view")) _ _ (as_event at (reads_viewed false))
+          (all_if _ (bytes_eq w (codes "count")) _ _ (as_event at (reads_viewed true))
+          (all_if _ (bytes_eq w (codes "dump")) _ _ (as_event at reads_dump)
+          (all_if _ (bytes_eq w (codes "insert")) _ _ (as_event at (as_command (reads_insert k schemes)))
+          (all_if _ (bytes_eq w (codes "update")) _ _ (as_event at (as_command (reads_update k policy schemes)))
+          (all_if _ (bytes_eq w (codes "delete")) _ _ (as_event at (as_command (reads_delete k policy schemes)))
+          (all_if _ (bytes_eq w (codes "call")) _ _ (as_event at (reads_call k))
+          (all_if _ (bytes_eq w (codes "all")) _ _ (as_event at reads_all) tt))))))))))
 
-    from_verb : (t : Token) (at : ℕ) → AllSome (λ v. ReadsFrom k at (λ s. command_at policy schemes v s
-        >>= made level session)) (verb_of_token t)
-    from_verb (Word w) at = from_word w at
-    from_verb (Int n) at = tt
-    from_verb (Text s) at = tt
-    from_verb (Sign m) at = tt
+      from_verb : (t : Token) (at : ℕ) → AllSome (λ v. ReadsFrom k at (λ s. command_at policy schemes v s
+          >>= made level session)) (verb_of_token t)
+      from_verb (Word w) at = from_word w at
+      from_verb (Int n) at = tt
+      from_verb (Text s) at = tt
+      from_verb (Sign m) at = tt
 
-  -- ---- a line
+    -- ---- a line
 
-  reads_event : Reads k (event_at policy schemes)
-  unfolding event_at
-  reads_event = reads_then k (reads_label_at k policy) (λ level. name_at level.1 >>=
-      λ session. token (pass_known verb_of_token) session.1 >>=
-      λ v. command_at policy schemes v.0.0 v.1 >>= made level.0 session.0)
-      (λ level. reads_then k (reads_name k) (λ session. token (pass_known verb_of_token) session.1 >>=
-      λ v. command_at policy schemes v.0.0 v.1 >>= made level session.0)
-      (λ session. known_then k verb_of_token (λ v. command_at policy schemes v.0.0 v.1 >>= made level session)
-      (from_verb level session)))
+    reads_event : Reads k (event_at policy schemes time)
+    unfolding event_at
+    reads_event = reads_then k (reads_label_at k policy) (λ level. name_at level.1 >>=
+        λ session. token (pass_known verb_of_token) session.1 >>=
+        λ v. command_at policy schemes v.0.0 v.1 >>= made level.0 session.0)
+        (λ level. reads_then k (reads_name k) (λ session. token (pass_known verb_of_token) session.1 >>=
+        λ v. command_at policy schemes v.0.0 v.1 >>= made level session.0)
+        (λ session. known_then k verb_of_token (λ v. command_at policy schemes v.0.0 v.1 >>= made level session)
+        (from_verb level session)))
+
+-- ---- times
+
+time_names : (o : Option PlacedText) → AreOfNames (untimed o)
+time_names None = tt
+time_names (Some t) = of_unless (is_time t.0) t.1 cause.Kind refl
+
+module _ (k : Two) where
+  -- a text that may be left out
+  text_later : (fs : List PlacedFault) (at : ℕ) (t : Token) (ps : List Placed) (stop : TokenFault) → k.bound ≤ at
+      → AllByRecursion (λ p. k.bound ≤ p.at) ps → k.bound ≤ stop.at
+      → EndsFrom k.bound (in_state fs (Ok (text_first at t ps stop)))
+  text_later fs at (Text s) ps stop here late last = record { placed = late; stop = last }
+  text_later fs at (Word w) ps stop here late last = record { placed = (here, late); stop = last }
+  text_later fs at (Int n) ps stop here late last = record { placed = (here, late); stop = last }
+  text_later fs at (Sign m) ps stop here late last = record { placed = (here, late); stop = last }
+
+  texts_later : (fs : List PlacedFault) (ps : List Placed) (stop : TokenFault)
+      → AllByRecursion (λ p. k.bound ≤ p.at) ps
+      → k.bound ≤ stop.at → EndsFrom k.bound (token pass_text (fs, left ps stop))
+  texts_later fs [] stop late last = last
+  texts_later fs (p ∷ ps) stop late last = text_later fs p.at p.token ps stop late.0 late.1 last
+
+  texts_names : (fs : List PlacedFault) (ps : List Placed) (stop : TokenFault) → AreOfNames fs
+      → NotesNames (token pass_text (fs, left ps stop))
+  texts_names fs [] stop n = tt
+  texts_names fs (p ∷ ps) stop n = n
+
+  text_local : (fs : List PlacedFault) (p : Placed) (at : ℕ) (t : Token) (us : List Placed)
+      → Agree k (p ∷ us) (in_state fs (Ok (text_first at t (us ++ k.first) k.stop)))
+      (in_state fs (Ok (text_first at t (us ++ k.second) k.other)))
+  text_local fs p at (Text s) us = inr (inl (record {
+    value = Some (s, at);
+    faults = fs;
+    rest = us;
+    fewer = omega arith;
+    first = refl;
+    second = refl;
+  }))
+  text_local fs p at (Word w) us = inr (inl (record {
+    value = None;
+    faults = fs;
+    rest = record { token = Word w; at = at } ∷ us;
+    fewer = omega arith;
+    first = refl;
+    second = refl;
+  }))
+  text_local fs p at (Int n) us = inr (inl (record {
+    value = None;
+    faults = fs;
+    rest = record { token = Int n; at = at } ∷ us;
+    fewer = omega arith;
+    first = refl;
+    second = refl;
+  }))
+  text_local fs p at (Sign m) us = inr (inl (record {
+    value = None;
+    faults = fs;
+    rest = record { token = Sign m; at = at } ∷ us;
+    fewer = omega arith;
+    first = refl;
+    second = refl;
+  }))
+
+  texts_local : (fs : List PlacedFault) (us : List Placed) → Agree k us (token pass_text (one k fs us))
+      (token pass_text (two k fs us))
+  texts_local fs [] = inr (inr (texts_later fs k.first k.stop k.from.placed k.from.stop))
+  texts_local fs (p ∷ us) = text_local fs p p.at p.token us
+
+  reads_text : Reads k (token pass_text)
+  reads_text = record {
+    later = λ s l. texts_later s.0 s.1.placed s.1.stop l.placed l.stop;
+    local = texts_local;
+    names = λ s n. texts_names s.0 s.1.placed s.1.stop n;
+  }
+
+  reads_time : Reads k time_at
+  unfolding time_at
+  reads_time = reads_then k reads_text (λ t. Ok (option_map (λ x. x.0) t.0, note (untimed t.0) t.1))
+      (λ o. reads_noted k (option_map (λ x. x.0) o) (untimed o) (time_names o))
+
+  reads_timed : (policy : Policy) (schemes : Schemes) → Reads k (timed_at policy schemes)
+  unfolding timed_at
+  reads_timed policy schemes = reads_then k reads_time (λ t. event_at policy schemes t.0 t.1)
+      (λ time. reads_event k policy schemes time)
 
 -- ---- the end of a line
 
@@ -399,5 +486,5 @@ pub reads_told : (k : Two) (policy : Policy) (schemes : Schemes) → Reads k (to
 unfolding told_at
 reads_told k policy schemes =
     let rest : Event × State → Read (Option Event) = λ e. end_at e.1 >>= λ end. Ok (Some e.0, end.1) in
-    reads_unless_over k None (λ s. event_at policy schemes s >>= rest) (reads_then k (reads_event k policy schemes) rest
+    reads_unless_over k None (λ s. timed_at policy schemes s >>= rest) (reads_then k (reads_timed k policy schemes) rest
     (λ e. reads_then k (reads_end_of_line k) (λ end. Ok (Some e, end.1)) (λ end. reads_done k (Some e))))

@@ -5,7 +5,7 @@ use Rattle.mls_scheme.specs.declared.value.Value.{Value}
 use Rattle.mls_scheme.specs.declared.value.Value.TheVariants as values
 use Rattle.mls_scheme.specs.Value.{is_text}
 use Rattle.mls_scheme.proofs.KindLemmas.{signed-from, text-from}
-use Rattle.mls_tokens.specs.Text.{IsText}
+use Rattle.mls_tokens.specs.Writing.{IsText}
 use Rattle.mls_parser.proofs.PassedLemmas.{IsSpelled}
 use Rattle.mls_translang.specs.Event.{HasSomeKind}
 use Rattle.mls_script.specs.Tokens.{value_token}

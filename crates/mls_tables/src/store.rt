@@ -190,6 +190,7 @@ impl<S: Alter> TableStore<S> {
     pub fn into_connection(self) -> Connection<S>
         requires begun { self.begun ≡ false }
         ensures clean { HasCleanDisk (state S.Store result) → IsClean self }
+        ensures is_open { (state S.Store result).is_open ≡ self.is_open }
         ensures mode { HasCleanDisk (state S.Store result) → IsTrue (state S.Store result).is_open
             → (state S.Store result).in_transaction ≡ false }
         ensures rows { HasCleanDisk (state S.Store result) → IsTrue (state S.Store result).is_open

@@ -27,7 +27,7 @@ use Rattle.mls_translang.specs.Tx.{Tx}
 use Rattle.mls_translang.specs.Expressions.{is_true, same, value_in, holds_in}
 use Rattle.mls_certcheck.specs.Meaning.{Item, Variables, Progress, set_var, set_outcome, write_in, do_write, environment, perform, for_each, run_block}
 use Rattle.mls_certcheck.specs.Secure.{AreStored, seen_items, Split}
-use Rattle.mls_certcheck.specs.Sharp.{TellsAt}
+use Rattle.mls_certcheck.specs.CanTell.{TellsAt}
 use Rattle.std.specs.List.{AllByRecursion}
 use Rattle.mls_certcheck.proofs.KeepingLemmas.{Extends, cond_kept, for_each_kept, perform_stored, block_stored, block_extends}
 use Rattle.mls_certcheck.specs.declared.cert.Certificate.{Certificate}

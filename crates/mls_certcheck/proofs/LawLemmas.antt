@@ -10,7 +10,8 @@ use Rattle.mls_filterview.proofs.LevelLemmas.{low_from_views, views_from_low}
 use Rattle.mls_translang.specs.Tx.{Tx, scope_of}
 use Rattle.mls_certcheck.specs.Meaning.{start}
 use Rattle.mls_certcheck.specs.Secure.{SameArgs, param_labels}
-use Rattle.mls_certcheck.specs.Sharp.{Tells, TellsAt, CanTell, RulesMakeSharp, CeilingsTellNothing}
+use Rattle.mls_certcheck.specs.Sharp.{RulesMakeSharp, CeilingsTellNothing}
+use Rattle.mls_certcheck.specs.CanTell.{Tells, TellsAt, CanTell}
 use Rattle.mls_certcheck.specs.Points.{Shape, Plain, Point}
 use Rattle.mls_certcheck.specs.Lines.{names, all_points}
 use Rattle.mls_certcheck.specs.declared.flow.Source.{Source}

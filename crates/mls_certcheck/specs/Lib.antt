@@ -16,6 +16,7 @@ pub mod Meaning
 pub mod Throughout
 pub mod Kinds
 pub mod Secure
+pub mod CanTell
 pub mod Sharp
 pub mod MeaningLaws
 pub mod Fault

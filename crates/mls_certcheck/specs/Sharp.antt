@@ -1,33 +1,17 @@
 -- What releases can tell a level that it may not read, under a certificate.
-use Rattle.std.specs.Prelude.{◌≡◌, ℕ, true, List, Option, ◌⊎◌, Contains}
-use Rattle.mls_lattice.specs.Labels.{label_of, below, AreDistinct}
+use Rattle.std.specs.Prelude.{◌≡◌, ℕ, true, List, Option, ◌⊎◌}
+use Rattle.mls_lattice.specs.Labels.{below, AreDistinct}
 use Rattle.mls_lattice.specs.Policy.{Policy, labels_of}
 use Rattle.mls_scheme.specs.declared.value.Value.{Value}
 use Rattle.mls_scheme.specs.Table.{Database}
 use Rattle.mls_scheme.specs.Scheme.{Schemes}
-use Rattle.mls_translang.specs.Tree.{Release}
 use Rattle.mls_translang.specs.Tx.{Tx}
 use Rattle.mls_translang.specs.Fits.{IsReadUnder}
 use Rattle.mls_certcheck.specs.Meaning.{run_tx}
 use Rattle.mls_certcheck.specs.Secure.{AreStored, SameViews, SameArgs, param_labels, seen_items, Split, Alike}
 use Rattle.mls_certcheck.specs.declared.cert.Certificate.{Certificate}
-use Rattle.mls_certcheck.specs.Points.{Shape, Plain, Point}
-use Rattle.mls_certcheck.specs.Lines.{names, all_points}
-use Rattle.mls_certcheck.specs.Rules.{Claim, Rules, claim, IsAbove}
-
-module _ (k : Claim) (c : ℕ) where
-  -- a value is released to a label that c dominates, and c does not dominate the label of each name in its expression
-  abbrev pub Tells : ℕ → List ℕ → Shape → Type 0
-  Tells b rows (Plain (Release e to into)) =
-      (below k.labels to c ≡ true) × (IsAbove k (label_of k.labels c) (names b rows e) → ⊥)
-  Tells b rows shape = ⊥
-
-  abbrev pub TellsAt : Point → Type 0
-  TellsAt p = Tells p.before p.rows p.shape
-
-  -- some statement of the transaction does so
-  abbrev pub CanTell : Type 0
-  CanTell = (p : Point) × Contains (all_points k.tx) p × TellsAt p
+use Rattle.mls_certcheck.specs.CanTell.{CanTell}
+use Rattle.mls_certcheck.specs.Rules.{Rules, claim}
 
 -- to any level two runs look alike that began alike, but for values that are released to it and that are made of what
 -- it may not read; what else the transaction reads plays no part

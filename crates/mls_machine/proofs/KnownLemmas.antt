@@ -9,7 +9,7 @@ use Rattle.mls_scheme.specs.Tuple.{HasClassesBelow}
 use Rattle.mls_machine.specs.declared.reply.Answer.{Answer}
 use Rattle.mls_machine.specs.declared.reply.Answer.TheVariants as answers
 use Rattle.mls_machine.specs.Known.{elements_known, tuples_known, answer_known, answers_known}
-use Rattle.mls_machine.specs.Output.{AnswerIsKnown}
+use Rattle.mls_machine.specs.Printable.{AnswerIsKnown}
 
 elements-true : (n : ℕ) (es : List Element) → elements_known n es ≡ true → AllByRecursion (λ e. e.class < n) es
 elements-true n [] h = tt

@@ -10,7 +10,8 @@ use Rattle.mls_machine.specs.declared.form.Audience.{Audience}
 use Rattle.mls_certcheck.specs.Site.{Site, site_labels}
 use Rattle.mls_machine.specs.Machine.{World, step, end_of}
 use Rattle.mls_machine.specs.Output.{Line, reply_lines_in, run_lines, printed}
-use Rattle.mls_machine.specs.Observation.{heard, reply_shows, run_shows}
+use Rattle.mls_machine.specs.Observation.{heard, run_shows}
+use Rattle.mls_machine.specs.Showing.{reply_shows}
 
 -- what a reader hears of some lines and then of others
 heard-append : (ls : Labels) (reader : Option ℕ) (xs ys : List Line) → heard ls reader (xs ++ ys) ≡ heard ls reader xs

@@ -20,8 +20,10 @@ use Rattle.mls_machine.specs.declared.reply.Reply.TheVariants.{Ran}
 use Rattle.mls_certcheck.specs.Site.{Site, site_labels, AreRead}
 use Rattle.mls_machine.specs.Machine.{World, step}
 use Rattle.mls_translang.specs.Writing.{cell_text}
-use Rattle.mls_machine.specs.Output.{Line, reply_texts, front, line, item_line, item_lines, reply_lines, run_lines, EntriesAreKnown, ItemsAreKnown, ReplyIsKnown}
-use Rattle.mls_machine.specs.Observation.{AreStored, EventsFit, everyone, out}
+use Rattle.mls_machine.specs.Output.{Line, reply_texts, front, line, item_line, item_lines, reply_lines, run_lines}
+use Rattle.mls_machine.specs.Printable.{EntriesAreKnown, ItemsAreKnown, ReplyIsKnown}
+use Rattle.mls_machine.specs.Observation.{AreStored, EventsFit, out}
+use Rattle.mls_machine.specs.Showing.{everyone}
 use Rattle.mls_machine.specs.Parting.{is_space, label_told, may_see, LinesArePicked}
 use Rattle.mls_machine.proofs.PartingLemmas.{policies_plain, runs_part}
 use Rattle.mls_machine.proofs.CalledLemmas.{all_read}

@@ -45,7 +45,7 @@ use Rattle.mls_certcheck.specs.declared.stored.Stored.TheVariants.{Certified, Pl
 use Rattle.mls_certcheck.specs.Site.{Site, site_labels, site_scheme, AreRead}
 use Rattle.mls_machine.specs.Denying.{first_denial, exceed, clearance_of, cleared, user_named, stored_named, fitted, call_denials}
 use Rattle.mls_machine.specs.Machine.{World, Step, BatchEnd, refusal_of, unless_refused, unless, denial_entry, release_entry, call_entries, viewed, dumped, wrote, did_one, did_all, ended, did, called, call_step, step_inside, open_step, step_outside, step_at, step}
-use Rattle.mls_machine.specs.Output.{EntriesAreKnown, ItemsAreKnown, AnswerIsKnown, ReplyIsKnown}
+use Rattle.mls_machine.specs.Printable.{EntriesAreKnown, ItemsAreKnown, AnswerIsKnown, ReplyIsKnown}
 use Rattle.mls_machine.specs.Observation.{AreStored}
 use Rattle.mls_machine.proofs.DenyingLemmas.{user_below}
 use Rattle.mls_machine.proofs.CalledLemmas.{certified_of, all_read}

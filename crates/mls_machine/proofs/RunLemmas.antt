@@ -23,7 +23,8 @@ use Rattle.mls_certcheck.specs.Site.{Site, site_labels, AreRead, AreCertified}
 use Rattle.mls_machine.specs.Denying.{stored_named}
 use Rattle.mls_machine.specs.Machine.{World, step, end_of}
 use Rattle.mls_machine.specs.Output.{Line, reply_lines_in, run_lines, printed}
-use Rattle.mls_machine.specs.Observation.{AreStored, EventsFit, AreSecure, IsNoCall, HaveNoCall, SeesNoCall, IsCallSecure, AreCallsSecure, shown, glimpse, seen, is_called, AgreeAt, EndAlike, out, released_in, run_released, released_to, told_to, ReleaseTheSame, reply_shown, replies_shown, PassesDownBy, PassesOnlyReleasesDown, ShowsOnlyReleases}
+use Rattle.mls_machine.specs.Observation.{AreStored, EventsFit, AreSecure, IsNoCall, HaveNoCall, SeesNoCall, IsCallSecure, AreCallsSecure, shown, glimpse, seen, is_called, AgreeAt, EndAlike, out, released_in, run_released, released_to, told_to, ReleaseTheSame, reply_shown, replies_shown, PassesDownBy, PassesOnlyReleasesDown}
+use Rattle.mls_machine.specs.Showing.{ShowsOnlyReleases}
 use Rattle.mls_machine.specs.Telling.{Test, by_ceiling, by_releases}
 use Rattle.mls_machine.specs.Laws.{LowRunsAreAlike, SecureRunsAreAlike, AcceptedRunsAreAlike}
 use Rattle.mls_machine.proofs.CalledLemmas.{WhereCalled, CallsRead, IsSafe, IsJudged, WhereJudged, all_safe, all_judged, secure_call, some_weaker, weaker}

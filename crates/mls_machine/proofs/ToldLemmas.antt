@@ -12,7 +12,7 @@ use Rattle.mls_translang.specs.declared.event.Command.{Command}
 use Rattle.mls_translang.specs.declared.event.Command.TheVariants as commands
 use Rattle.mls_certcheck.specs.Meaning.{Item}
 use Rattle.mls_certcheck.specs.Secure.{seen_items}
-use Rattle.mls_certcheck.specs.Sharp.{Tells, TellsAt, CanTell}
+use Rattle.mls_certcheck.specs.CanTell.{Tells, TellsAt, CanTell}
 use Rattle.mls_certcheck.specs.Points.{Shape, Plain, Point}
 use Rattle.mls_certcheck.specs.Lines.{names, all_points}
 use Rattle.mls_certcheck.specs.Rules.{Claim, claim, source_label, IsAbove}

@@ -14,7 +14,8 @@ use Rattle.mls_machine.specs.Machine.{World, no_sessions, end_of}
 use Rattle.mls_machine.specs.Output.{Line, run_lines, printed}
 use Rattle.mls_machine.specs.Telling.{Test, by_ceiling, by_releases}
 use Rattle.mls_machine.specs.Observation.{EventsFit, AreSecure, HaveNoCall, AgreeAt, seen, ReleaseTheSame}
-use Rattle.mls_machine.specs.Observation.{out, heard, reader_of, replies_shown, PassesOnlyReleasesDown}
+use Rattle.mls_machine.specs.Observation.{out, heard, replies_shown, PassesOnlyReleasesDown}
+use Rattle.mls_machine.specs.Showing.{reader_of}
 use Rattle.mls_machine.specs.Turning.{turn_lines, turned}
 use Rattle.mls_machine.specs.Laws.{KeepsIntegrity}
 

@@ -9,7 +9,7 @@ use Rattle.mls_machine.specs.declared.reply.Answer.TheVariants as answers
 use Rattle.mls_machine.specs.declared.reply.Reply.{Reply}
 use Rattle.mls_machine.specs.declared.reply.Reply.TheVariants.{Opened, Closed, Rows, Dumped, Wrote, Ran, Entries}
 use Rattle.mls_machine.specs.declared.reply.Reply.TheVariants.{Did, Undone, Denied}
-use Rattle.mls_machine.specs.Output.{EntriesAreKnown, ItemsAreKnown}
+use Rattle.mls_machine.specs.Printable.{EntriesAreKnown, ItemsAreKnown}
 
 -- ---- classes, as a test
 

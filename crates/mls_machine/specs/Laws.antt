@@ -10,7 +10,7 @@ use Rattle.mls_updates.specs.Outcome.{is_done}
 use Rattle.mls_audit.specs.declared.entry.Entry.{Entry}
 use Rattle.mls_certcheck.specs.Throughout.{Throughout}
 use Rattle.mls_certcheck.specs.Rules.{Claim}
-use Rattle.mls_certcheck.specs.Sharp.{CanTell}
+use Rattle.mls_certcheck.specs.CanTell.{CanTell}
 use Rattle.mls_translang.specs.declared.event.Event.{Event}
 use Rattle.mls_translang.specs.declared.event.Command.{Command}
 use Rattle.mls_translang.specs.declared.event.Command.TheVariants.{Call}

@@ -5,8 +5,10 @@ pub mod Denying
 pub mod Machine
 pub mod Dumping
 pub mod Output
+pub mod Printable
 pub mod Telling
 pub mod Observation
+pub mod Showing
 pub mod Serving
 pub mod Turning
 pub mod Parting

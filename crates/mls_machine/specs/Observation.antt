@@ -19,7 +19,6 @@ use Rattle.mls_translang.specs.declared.event.Command.{Command}
 use Rattle.mls_translang.specs.declared.event.Command.TheVariants.{Call}
 use Rattle.mls_translang.specs.Event.{EventFits}
 use Rattle.mls_machine.specs.declared.form.Form.{Form}
-use Rattle.mls_machine.specs.declared.form.Form.TheVariants.{Lines}
 use Rattle.mls_machine.specs.declared.form.Audience.{Audience}
 use Rattle.mls_machine.specs.declared.reply.Reply.{Reply}
 use Rattle.mls_machine.specs.declared.reply.Reply.TheVariants.{Ran}
@@ -28,7 +27,7 @@ use Rattle.mls_certcheck.specs.Stored.{tx_of, WhereCertified}
 use Rattle.mls_certcheck.specs.Site.{Site, site_labels, site_scheme}
 use Rattle.mls_machine.specs.Denying.{stored_named}
 use Rattle.mls_machine.specs.Machine.{World, step, end_of}
-use Rattle.mls_machine.specs.Output.{Line, reply_lines_in, run_lines, printed}
+use Rattle.mls_machine.specs.Output.{Line, run_lines, printed}
 use Rattle.mls_machine.specs.Telling.{Test, by_releases}
 
 -- ---- what a run begins with
@@ -113,20 +112,9 @@ abbrev pub heard : Labels → Option ℕ → List Line → List Line
 heard ls None lines = lines
 heard ls (Some c) lines = out ls c lines
 
--- the bytes that an audience is shown of a reply, and of a run
-abbrev pub reply_shows : Site → Audience → Event → Reply → List ℕ
-reply_shows site a e r = printed (heard (site_labels site) a.reader (reply_lines_in a.form site e r))
-
+-- the bytes that an audience is shown of a run
 abbrev pub run_shows : Site → Audience → World → List Event → List ℕ
 run_shows site a w es = printed (heard (site_labels site) a.reader (run_lines a.form site w es))
-
--- all lines, for no one reader
-abbrev pub everyone : Audience
-everyone = record { reader = None; form = Lines }
-
--- a reader of this label
-abbrev pub reader_of : ℕ → Form → Audience
-reader_of c form = record { reader = Some c; form = form }
 
 abbrev pub released_in : Reply → List Item
 released_in (Ran run) = run.released
@@ -212,12 +200,3 @@ PassesDownBy tells site v es =
 -- calls that release to c nothing made of what c may not read tell it nothing
 abbrev pub PassesOnlyReleasesDown : Site → World → List Event → Type 0
 PassesOnlyReleasesDown = PassesDownBy by_releases
-
--- what a run prints for c, in either form, passes nothing down but what is released: its bytes are the same for any
--- other such run
-abbrev pub ShowsOnlyReleases : Site → ℕ → World → List Event → Type 0
-ShowsOnlyReleases site c v es =
-    (form : Form) (w : World) (fs : List Event) → AreStored site w.db → EventsFit site fs
-    → AgreeAt (site_labels site) c v w → seen site c es ≡ seen site c fs
-    → ReleaseTheSame by_releases c site v es site w fs
-    → run_shows site (reader_of c form) v es ≡ run_shows site (reader_of c form) w fs

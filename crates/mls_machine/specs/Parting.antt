@@ -14,8 +14,10 @@ use Rattle.mls_machine.specs.declared.reply.Reply.{Reply}
 use Rattle.mls_certcheck.specs.Site.{Site, site_labels, AreRead}
 use Rattle.mls_machine.specs.Machine.{World}
 use Rattle.mls_machine.specs.declared.form.Form.TheVariants.{Lines}
-use Rattle.mls_machine.specs.Output.{reply_lines_in, run_lines, EntriesAreKnown}
-use Rattle.mls_machine.specs.Observation.{AreStored, EventsFit, everyone, out, heard, run_shows}
+use Rattle.mls_machine.specs.Output.{reply_lines_in, run_lines}
+use Rattle.mls_machine.specs.Printable.{EntriesAreKnown}
+use Rattle.mls_machine.specs.Observation.{AreStored, EventsFit, out, heard, run_shows}
+use Rattle.mls_machine.specs.Showing.{everyone}
 use Rattle.mls_machine.specs.Turning.{turn_lines}
 
 abbrev pub is_line_feed : ℕ → Bool

@@ -7,7 +7,8 @@ use Rattle.mls_certcheck.specs.Site.{Site, site_labels}
 use Rattle.mls_machine.specs.Machine.{World, step}
 use Rattle.mls_machine.specs.Telling.{by_releases}
 use Rattle.mls_machine.specs.Observation.{AreStored, EventsFit, AgreeAt, seen, ReleaseTheSame}
-use Rattle.mls_machine.specs.Observation.{reply_shows, reader_of, PassesOnlyReleasesDown}
+use Rattle.mls_machine.specs.Observation.{PassesOnlyReleasesDown}
+use Rattle.mls_machine.specs.Showing.{reply_shows, reader_of}
 
 module _ (site : Site) where
   -- what is answered to an event: the lines of its reply that the level of its session may see

@@ -5,7 +5,8 @@ ghost use Rattle.mls_scheme.specs.Scheme.{scheme_of};
 ghost use Rattle.mls_scheme.specs.Tuple.{HasClassesBelow};
 ghost use Rattle.mls_translang.specs.Writing.{IsKnown};
 ghost use Rattle.mls_machine.specs.Dumping.{dump_event};
-ghost use Rattle.mls_machine.specs.Output.{on_line, dump_heading, script_text, dump_texts, CommandIsKnown};
+ghost use Rattle.mls_machine.specs.Output.{on_line, dump_heading, script_text, dump_texts};
+ghost use Rattle.mls_machine.specs.Printable.{CommandIsKnown};
 ghost use Rattle.mls_machine.specs.Under.{site_under};
 
 use crate::answered::Answered;

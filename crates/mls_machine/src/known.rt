@@ -1,6 +1,6 @@
 //! Whether what a store gave can be printed.
 ghost use Rattle.std.specs.Prelude.{◌≡◌, IsTrue};
-ghost use Rattle.mls_machine.specs.Output.{ReplyIsKnown};
+ghost use Rattle.mls_machine.specs.Printable.{ReplyIsKnown};
 ghost use Rattle.mls_machine.specs.Known.{elements_known, tuple_known, tuples_known, answer_known, answers_known};
 ghost use Rattle.mls_machine.specs.Known.{HasKnownNumbers};
 

@@ -4,7 +4,7 @@ ghost use Rattle.std.specs.List.{AllByRecursion};
 ghost use Rattle.mls_machine.specs.declared.reply.Answer.TheVariants as answers;
 ghost use Rattle.mls_machine.specs.Under.{site_under};
 ghost use Rattle.mls_machine.specs.Output.{on_line, outcome_text, answer_texts, answers_texts, batch_texts};
-ghost use Rattle.mls_machine.specs.Output.{OneIsKnown, AnswerIsKnown, CommandIsKnown};
+ghost use Rattle.mls_machine.specs.Printable.{OneIsKnown, AnswerIsKnown, CommandIsKnown};
 
 use crate::answered::Answered;
 use crate::printing::push_front;

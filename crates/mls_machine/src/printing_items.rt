@@ -2,7 +2,8 @@
 ghost use Rattle.std.specs.Prelude.{◌≡◌, ◌<◌, ◌++◌, length, codes, OnOk, IfOk, flat_map};
 ghost use Rattle.mls_tokens.specs.Writing.{printable};
 ghost use Rattle.mls_translang.specs.Writing.{cell_text};
-ghost use Rattle.mls_machine.specs.Output.{front, on_line, call_texts, ItemsAreKnown};
+ghost use Rattle.mls_machine.specs.Output.{front, on_line, call_texts};
+ghost use Rattle.mls_machine.specs.Printable.{ItemsAreKnown};
 
 use crate::answered::Answered;
 use crate::printing::push_front;

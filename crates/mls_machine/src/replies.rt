@@ -7,8 +7,9 @@ ghost use Rattle.mls_updates.specs.Outcome.{is_done};
 ghost use Rattle.mls_machine.specs.Under.{site_under};
 ghost use Rattle.mls_translang.specs.declared.event.Command.TheVariants as commands;
 ghost use Rattle.mls_machine.specs.Output.{on_line, heading, count_text, outcome_text, undone_text, denial_text};
-ghost use Rattle.mls_machine.specs.Output.{row_text, entry_text, rows_texts, reply_lines, printed, IsKnownLook};
-ghost use Rattle.mls_machine.specs.Output.{CommandIsKnown, EntriesAreKnown, CanBePrinted};
+ghost use Rattle.mls_machine.specs.Output.{row_text, entry_text, rows_texts, reply_lines, printed};
+ghost use Rattle.mls_machine.specs.Printable.{IsKnownLook};
+ghost use Rattle.mls_machine.specs.Printable.{CommandIsKnown, EntriesAreKnown, CanBePrinted};
 
 use crate::answered::Answered;
 use crate::asked::{Asked, push_asked};

@@ -6,9 +6,11 @@ ghost use Rattle.mls_scheme.specs.Tuple.{HasClassesBelow};
 ghost use Rattle.mls_machine.specs.Under.{site_under};
 ghost use Rattle.mls_machine.specs.Seen.{hears};
 ghost use Rattle.mls_machine.specs.Output.{line, lines_with, table_texts, batch_texts, texts_in_table, reply_lines};
-ghost use Rattle.mls_machine.specs.Output.{printed, AnswerIsKnown, CommandIsKnown, CanBePrinted};
+ghost use Rattle.mls_machine.specs.Output.{printed};
+ghost use Rattle.mls_machine.specs.Printable.{AnswerIsKnown, CommandIsKnown, CanBePrinted};
 ghost use Rattle.mls_machine.specs.declared.form.Form.TheVariants.{Table};
-ghost use Rattle.mls_machine.specs.Observation.{heard, reply_shows};
+ghost use Rattle.mls_machine.specs.Observation.{heard};
+ghost use Rattle.mls_machine.specs.Showing.{reply_shows};
 
 use crate::answered::Answered;
 use crate::printing_batch::batch_bytes;

@@ -3,7 +3,8 @@ ghost use Rattle.std.specs.Prelude.{◌≡◌, ◌<◌, ◌++◌, map, length, c
 ghost use Rattle.mls_lattice.specs.Policy.{labels_of};
 ghost use Rattle.mls_machine.specs.Under.{site_under};
 ghost use Rattle.mls_machine.specs.Seen.{seen_item};
-ghost use Rattle.mls_machine.specs.Output.{line, call_texts, reply_lines, printed, ItemsAreKnown, CanBePrinted};
+ghost use Rattle.mls_machine.specs.Output.{line, call_texts, reply_lines, printed};
+ghost use Rattle.mls_machine.specs.Printable.{ItemsAreKnown, CanBePrinted};
 ghost use Rattle.mls_machine.specs.Observation.{out};
 
 use crate::Reply;

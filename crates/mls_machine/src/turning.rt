@@ -1,7 +1,8 @@
 //! The lines of an audit list that is turned.
 ghost use Rattle.std.specs.Prelude.{◌≡◌, ◌++◌, ◌<◌, length, codes, OnOk, IfOk, flat_map};
 ghost use Rattle.mls_audit.specs.Entry.{label_of};
-ghost use Rattle.mls_machine.specs.Output.{printed, EntriesAreKnown};
+ghost use Rattle.mls_machine.specs.Output.{printed};
+ghost use Rattle.mls_machine.specs.Printable.{EntriesAreKnown};
 ghost use Rattle.mls_machine.specs.Turning.{turn_line, turn_lines};
 
 use crate::printing::push_entry;

@@ -1,6 +1,6 @@
 -- Two runs for one reader write the same.
 use Rattle.std.proofs.Common.{ℕ, List, Option, length, Some, IfSome, sym, subst, arith, take, take_all}
-use Rattle.mls_machine.specs.Observation.{ShowsOnlyReleases}
+use Rattle.mls_machine.specs.Showing.{ShowsOnlyReleases}
 use Rattle.mls_host.specs.Hosting.{Hosted}
 use Rattle.mls_host.specs.declared.job.Setting.{Setting}
 use Rattle.mls_runs.specs.Running.{first_world, form_of, output}

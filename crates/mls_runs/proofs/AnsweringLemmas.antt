@@ -7,7 +7,8 @@ use Rattle.mls_machine.specs.declared.form.Form.TheVariants.{Lines}
 use Rattle.mls_certcheck.specs.Site.{Site, site_labels}
 use Rattle.mls_machine.specs.Machine.{World, step, end_of}
 use Rattle.mls_machine.specs.Output.{Line, reply_lines_in, run_lines, printed}
-use Rattle.mls_machine.specs.Observation.{heard, run_shows, reader_of}
+use Rattle.mls_machine.specs.Observation.{heard, run_shows}
+use Rattle.mls_machine.specs.Showing.{reader_of}
 use Rattle.mls_machine.specs.Serving.{answer_to, answers_to}
 use Rattle.mls_translang.specs.declared.run_fault.RunCause.{RunCause}
 use Rattle.mls_translang.specs.declared.run_fault.RunCause.TheVariants.{Memory, Store, Write}

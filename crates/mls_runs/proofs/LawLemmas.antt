@@ -5,7 +5,8 @@ use Rattle.mls_translang.specs.declared.event.Event.{Event}
 use Rattle.mls_machine.specs.declared.form.Form.TheVariants.{Lines}
 use Rattle.mls_certcheck.specs.Site.{Site}
 use Rattle.mls_machine.specs.Machine.{World, step, end_of}
-use Rattle.mls_machine.specs.Observation.{run_shows, reader_of}
+use Rattle.mls_machine.specs.Observation.{run_shows}
+use Rattle.mls_machine.specs.Showing.{reader_of}
 use Rattle.mls_machine.specs.Serving.{answer_to, answers_to}
 use Rattle.mls_runs.specs.Running.{form_of}
 use Rattle.mls_runs.specs.declared.shell_session.ShellSession.{ShellSession}

@@ -14,7 +14,8 @@ use Rattle.mls_certcheck.specs.Reading.{Block}
 use Rattle.mls_certcheck.specs.Site.{Site, site_of}
 use Rattle.mls_certcheck.specs.declared.stored.Stored.{Stored}
 use Rattle.mls_machine.specs.Machine.{World, Sessions}
-use Rattle.mls_machine.specs.Observation.{PassesOnlyReleasesDown, ShowsOnlyReleases}
+use Rattle.mls_machine.specs.Observation.{PassesOnlyReleasesDown}
+use Rattle.mls_machine.specs.Showing.{ShowsOnlyReleases}
 use Rattle.mls_machine.specs.Laws.{KeepsIntegrity}
 use Rattle.mls_machine.proofs.RunLemmas.{shows_only_releases}
 use Rattle.mls_translang.specs.declared.run_fault.RunFault.{RunFault}

@@ -10,7 +10,8 @@ use Rattle.mls_certcheck.specs.Site.{Site, site_labels}
 use Rattle.mls_machine.specs.declared.reply.Reply.{Reply}
 use Rattle.mls_machine.specs.declared.reply.Reply.TheVariants as replies
 use Rattle.mls_machine.specs.Machine.{World, step, end_of}
-use Rattle.mls_machine.specs.Observation.{seen, reply_shown, replies_shown, run_shows, EndAlike, ReleaseTheSame, PassesOnlyReleasesDown, ShowsOnlyReleases}
+use Rattle.mls_machine.specs.Observation.{seen, reply_shown, replies_shown, run_shows, EndAlike, ReleaseTheSame, PassesOnlyReleasesDown}
+use Rattle.mls_machine.specs.Showing.{ShowsOnlyReleases}
 use Rattle.mls_machine.specs.Telling.{by_releases}
 use Rattle.mls_machine.proofs.RunLemmas.{none_seen}
 use Rattle.mls_machine.proofs.ToldLemmas.{none_untold, untold_same}

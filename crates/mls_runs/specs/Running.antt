@@ -8,7 +8,8 @@ use Rattle.mls_machine.specs.declared.form.Form.TheVariants.{Lines, Table}
 use Rattle.mls_machine.specs.declared.form.Audience.{Audience}
 use Rattle.mls_certcheck.specs.Site.{Site}
 use Rattle.mls_machine.specs.Machine.{World, Sessions, no_sessions, end_of}
-use Rattle.mls_machine.specs.Observation.{run_shows, PassesOnlyReleasesDown, ShowsOnlyReleases}
+use Rattle.mls_machine.specs.Observation.{run_shows, PassesOnlyReleasesDown}
+use Rattle.mls_machine.specs.Showing.{ShowsOnlyReleases}
 use Rattle.mls_machine.specs.Laws.{KeepsIntegrity}
 use Rattle.mls_translang.specs.declared.run_fault.RunCause.TheVariants.{Write}
 use Rattle.mls_translang.specs.declared.run_fault.RunFault.{RunFault}

@@ -16,8 +16,10 @@ use Rattle.mls_machine.specs.declared.reply.Reply.{Reply}
 use Rattle.mls_machine.specs.declared.reply.Reply.TheVariants.{Denied, Wrote, Undone}
 use Rattle.mls_certcheck.specs.Site.{Site, site_labels}
 use Rattle.mls_machine.specs.Machine.{World, step, end_of}
-use Rattle.mls_machine.specs.Output.{run_lines, ReplyIsKnown}
-use Rattle.mls_machine.specs.Observation.{AreStored, reply_shows}
+use Rattle.mls_machine.specs.Output.{run_lines}
+use Rattle.mls_machine.specs.Printable.{ReplyIsKnown}
+use Rattle.mls_machine.specs.Observation.{AreStored}
+use Rattle.mls_machine.specs.Showing.{reply_shows}
 use Rattle.mls_machine.proofs.LineLemmas.{nothing_heard, end_more, printed_more}
 use Rattle.mls_machine.proofs.ReplyLemmas.{step_known}
 use Rattle.mls_translang.specs.declared.run_fault.RunCause.{RunCause}

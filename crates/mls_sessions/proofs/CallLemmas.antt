@@ -27,7 +27,7 @@ use Rattle.mls_certcheck.specs.declared.stored.Stored.TheVariants.{Certified, Pl
 use Rattle.mls_certcheck.specs.Site.{Site, site_labels}
 use Rattle.mls_machine.specs.Denying.{first_denial, stored_named, fitted, call_denials, call_denial}
 use Rattle.mls_machine.specs.Machine.{unless, release_entry, call_entries, called, call_step, step_inside}
-use Rattle.mls_machine.specs.Output.{ItemsAreKnown}
+use Rattle.mls_machine.specs.Printable.{ItemsAreKnown}
 use Rattle.mls_machine.proofs.DenyingLemmas.{may_run}
 use Rattle.mls_trusted.specs.Runs.{with_database, IsEvaluated}
 use Rattle.mls_sessions.specs.Denying.{denial_in}

@@ -22,7 +22,7 @@ use Rattle.mls_machine.specs.Denying.{stored_named, call_denial}
 use Rattle.mls_machine.specs.declared.reply.Reply.{Reply}
 use Rattle.mls_machine.specs.declared.reply.Reply.TheVariants.{Closed, Rows, Dumped, Did}
 use Rattle.mls_machine.specs.Known.{HasKnownNumbers}
-use Rattle.mls_machine.specs.Output.{ReplyIsKnown}
+use Rattle.mls_machine.specs.Printable.{ReplyIsKnown}
 use Rattle.mls_certcheck.specs.Site.{Site, site_labels}
 use Rattle.mls_machine.specs.Machine.{World, Step, with_session, closed, denied, unless, viewed, dumped, wrote, listed, did, called, call_step, step_inside, step_outside, step_at, step}
 use Rattle.mls_machine.proofs.KeepingLemmas.{step_content}

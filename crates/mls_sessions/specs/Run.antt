@@ -9,7 +9,8 @@ use Rattle.mls_machine.specs.declared.reply.Reply.{Reply}
 use Rattle.mls_machine.specs.declared.reply.Reply.TheVariants.{Denied, Wrote, Undone}
 use Rattle.mls_certcheck.specs.Site.{Site}
 use Rattle.mls_machine.specs.Machine.{World, step, end_of}
-use Rattle.mls_machine.specs.Observation.{reply_shows, run_shows}
+use Rattle.mls_machine.specs.Observation.{run_shows}
+use Rattle.mls_machine.specs.Showing.{reply_shows}
 use Rattle.mls_translang.specs.declared.run_fault.RunCause.{RunCause}
 use Rattle.mls_translang.specs.declared.run_fault.RunCause.TheVariants.{Write}
 use Rattle.mls_translang.specs.declared.run_fault.RunFault.{RunFault}

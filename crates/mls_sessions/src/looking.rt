@@ -6,7 +6,7 @@ ghost use Rattle.mls_audit.specs.Entry.{visible};
 ghost use Rattle.mls_audit.specs.Reading.{entry_at};
 ghost use Rattle.mls_audit.specs.Sound.{IsSoundContent};
 ghost use Rattle.mls_machine.specs.Machine.{viewed, dumped, listed};
-ghost use Rattle.mls_machine.specs.Output.{EntriesAreKnown};
+ghost use Rattle.mls_machine.specs.Printable.{EntriesAreKnown};
 ghost use Rattle.mls_sessions.specs.Sessions.{site_of_run};
 ghost use Rattle.mls_sessions.specs.World.{declared, entries_in};
 ghost use Rattle.mls_sessions.specs.Turns.{IsOpen, HasAnswered};

@@ -3,8 +3,9 @@ ghost use Rattle.std.specs.Prelude.{◌≡◌, ◌≢◌, ℕ, ◌<◌, true, le
 ghost use Rattle.std.specs.Prelude.{IfSome};
 ghost use Rattle.mls_translang.specs.Event.{EventFits};
 ghost use Rattle.mls_machine.specs.Machine.{step};
-ghost use Rattle.mls_machine.specs.Output.{ReplyIsKnown};
-ghost use Rattle.mls_machine.specs.Observation.{EventsFit, PassesOnlyReleasesDown, reply_shows, everyone};
+ghost use Rattle.mls_machine.specs.Printable.{ReplyIsKnown};
+ghost use Rattle.mls_machine.specs.Observation.{EventsFit, PassesOnlyReleasesDown};
+ghost use Rattle.mls_machine.specs.Showing.{reply_shows, everyone};
 ghost use Rattle.mls_machine.specs.Laws.{KeepsIntegrity};
 ghost use Rattle.mls_sessions.specs.Sessions.{site_of_run};
 ghost use Rattle.mls_machine.specs.Known.{HasKnownNumbers};

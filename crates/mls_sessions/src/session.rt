@@ -2,7 +2,7 @@
 ghost use Rattle.std.specs.Prelude.{◌≡◌, ◌<◌, None, length, IfOk, IfErr, IfSome, OnErr};
 ghost use Rattle.mls_machine.specs.Denying.{user_named};
 ghost use Rattle.mls_machine.specs.Machine.{with_session, step_outside};
-ghost use Rattle.mls_machine.specs.Output.{ReplyIsKnown};
+ghost use Rattle.mls_machine.specs.Printable.{ReplyIsKnown};
 ghost use Rattle.mls_sessions.specs.Sessions.{site_of_run, sessions_of, AreForUsers, IsSessionStep};
 
 use crate::denying::clearance;

@@ -9,7 +9,8 @@ use Rattle.mls_certcheck.specs.Site.{Site, site_labels}
 use Rattle.mls_machine.specs.declared.form.Form.{Form}
 use Rattle.mls_machine.specs.Machine.{World, step}
 use Rattle.mls_machine.specs.Output.{reply_lines_in, run_lines, printed}
-use Rattle.mls_machine.specs.Observation.{glimpse, seen, ReleaseTheSame, out, run_shows, reader_of, EndAlike}
+use Rattle.mls_machine.specs.Observation.{glimpse, seen, ReleaseTheSame, out, run_shows, EndAlike}
+use Rattle.mls_machine.specs.Showing.{reader_of}
 use Rattle.mls_machine.specs.Telling.{by_releases}
 use Rattle.mls_machine.specs.Parting.{is_line_feed}
 use Rattle.mls_machine.proofs.KeepingLemmas.{first_fit}

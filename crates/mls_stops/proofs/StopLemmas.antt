@@ -7,7 +7,8 @@ use Rattle.mls_translang.specs.declared.run_fault.RunFault.{RunFault}
 use Rattle.mls_certcheck.specs.Site.{Site}
 use Rattle.mls_machine.specs.declared.form.Form.{Form}
 use Rattle.mls_machine.specs.declared.form.Audience.{Audience}
-use Rattle.mls_machine.specs.Observation.{reader_of, PassesOnlyReleasesDown}
+use Rattle.mls_machine.specs.Observation.{PassesOnlyReleasesDown}
+use Rattle.mls_machine.specs.Showing.{reader_of}
 use Rattle.mls_host.specs.Hosting.{Hosted}
 use Rattle.mls_host.specs.declared.job.Setting.{Setting}
 use Rattle.mls_runs.specs.Explaining.{Explaining}

@@ -9,7 +9,8 @@ use Rattle.mls_machine.specs.declared.form.Form.{Form}
 use Rattle.mls_machine.specs.Machine.{World}
 use Rattle.mls_machine.specs.Telling.{by_releases}
 use Rattle.mls_machine.specs.Observation.{AreStored, EventsFit, AgreeAt, seen, ReleaseTheSame, run_shows}
-use Rattle.mls_machine.specs.Observation.{reader_of, PassesOnlyReleasesDown}
+use Rattle.mls_machine.specs.Observation.{PassesOnlyReleasesDown}
+use Rattle.mls_machine.specs.Showing.{reader_of}
 use Rattle.mls_machine.specs.Parting.{is_line_feed}
 
 -- a list is a first part of another

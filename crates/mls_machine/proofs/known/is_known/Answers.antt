@@ -1,7 +1,7 @@
 use Rattle.std.proofs.Common.{ap, sym, subst, ◌∙◌}
 use Rattle.mls_machine.specs.declared.reply.Reply.TheVariants.{Did}
 use Rattle.mls_machine.specs.Known.{answers_known}
-use Rattle.mls_machine.specs.Output.{ReplyIsKnown}
+use Rattle.mls_machine.specs.Printable.{ReplyIsKnown}
 use Rattle.mls_machine.proofs.KnownLemmas.{answers-true, answers-again}
 use Rattle.mls_machine.proofs.known.is_known.Goals as goal
 

@@ -1,6 +1,7 @@
 use Rattle.std.proofs.Common.{◌≡◌, ◌++◌, OnOk, flat_map, sym, ap, ◌∙◌, subst}
 use Rattle.mls_translang.specs.declared.event.Command.TheVariants.{All}
-use Rattle.mls_machine.specs.Output.{on_line, batch_texts, CommandIsKnown}
+use Rattle.mls_machine.specs.Output.{on_line, batch_texts}
+use Rattle.mls_machine.specs.Printable.{CommandIsKnown}
 use Rattle.mls_machine.specs.Under.{site_under}
 use Rattle.mls_machine.proofs.printing_batch.push_batch.Goals as goal
 

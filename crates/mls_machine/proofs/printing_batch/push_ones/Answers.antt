@@ -1,6 +1,6 @@
 use Rattle.std.proofs.Common.{sym, subst, inl, inr}
 use Rattle.mls_lattice.proofs.EachLemmas.{all_at}
-use Rattle.mls_machine.specs.Output.{OneIsKnown, AnswerIsKnown}
+use Rattle.mls_machine.specs.Printable.{OneIsKnown, AnswerIsKnown}
 use Rattle.mls_machine.specs.Under.{site_under}
 use Rattle.mls_machine.proofs.PrintingSteps.{answers_all, answers_more}
 use Rattle.mls_machine.proofs.printing_batch.push_ones.Goals as goal

@@ -41,7 +41,7 @@ fn relation_beside<'a>(text: &'a str, other: &str) -> Option<&'a str> {
 pub fn relations_to(text: &mut String, kept: &str, present: &str) -> Told {
     if let Some(relation) = relation_beside(present, kept) {
         write!(text, "  The store has no {relation}")?;
-        text.push_str(", and no store gets one later.\n")?;
+        text.push_str(". Schemes of version 2 may add one behind its own.\n")?;
     }
     if let Some(relation) = relation_beside(kept, present) {
         write!(text, "  The files have no {relation}")?;

@@ -83,9 +83,10 @@ pub(crate) fn token_of(bytes: &[u8]) -> &[u8] {
 
 // ---- a text between quotes that goes wrong
 
-const BACKSLASH: &str = "  In a text a `\\` stands before `\"` or another `\\` alone.\n";
+const BACKSLASH: &str =
+    "  In a text a `\\` stands before `\"` or another `\\`, or begins a control character, as in `\\x0a`.\n";
 
-const CONTROL: &str = "  A text has no tab, and no other control character.\n";
+const CONTROL: &str = "  A text has no control character as it is: a tab is `\\x09` there.\n";
 
 const NO_UTF8: &str = "  A text has no bytes that are no UTF-8.\n";
 
@@ -99,16 +100,32 @@ fn valid_len(line: &[u8]) -> usize {
     }
 }
 
+/// Whether a byte is a digit of an escape.
+fn is_digit(byte: u8) -> bool {
+    byte.is_ascii_digit() || byte >= b'a' && byte <= b'f'
+}
+
+/// How many bytes of an escape stand behind its backslash, if it is one.
+fn escape_len(bytes: &[u8]) -> Option<usize> {
+    match bytes {
+        [] => Some(1),
+        [b'"' | b'\\', ..] => Some(1),
+        [b'x', b'0' | b'1', low, ..] if is_digit(*low) => Some(3),
+        [b'x', b'7', b'f', ..] => Some(3),
+        _ => None,
+    }
+}
+
 /// Where a line goes wrong behind the quote of a text, counted from that, and why.
 fn wrong_inside(inside: &[u8]) -> Option<(usize, &'static str)> {
     let valid = valid_len(inside);
-    let mut escaped = false;
+    let mut left = 0;
     for (place, byte) in inside.iter().enumerate() {
-        let is_mark = *byte == b'"' || *byte == b'\\';
-        if escaped && !is_mark {
-            return Some((place, BACKSLASH));
+        if left > 0 {
+            left -= 1;
+            continue;
         }
-        if !escaped && *byte == b'"' {
+        if *byte == b'"' {
             return None;
         }
         if *byte < 32 || *byte == 127 {
@@ -117,7 +134,12 @@ fn wrong_inside(inside: &[u8]) -> Option<(usize, &'static str)> {
         if place >= valid {
             return Some((place + 1, NO_UTF8));
         }
-        escaped = !escaped && *byte == b'\\';
+        if *byte == b'\\' {
+            match escape_len(behind(inside, place + 1)) {
+                Some(len) => left = len,
+                None => return Some((place + 1, BACKSLASH)),
+            }
+        }
     }
     Some((0, UNCLOSED))
 }

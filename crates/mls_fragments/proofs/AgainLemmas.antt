@@ -181,10 +181,12 @@ module _ {D : Type 0} {g : Ghosts D} (conn : Held (FileStore D g)) (h : Holdings
         λ image may. kept_alone image (copied.left image may);
   }
 
-  -- files that are not closed may recover to trees that have it
+  -- files that are not closed may recover to the trees of a database that has it
   pub unclosed_find : SeenMayStay g → IsTrue (file_state conn).is_open → (trees : Trees) → recovers conn.store trees
-      → HasHoldings (record (file_state conn).now { trees = trees }) h
-  unclosed_find stays on trees may =
-      let same : (file_state conn).now.trees ≡ trees = ap (λ (db : Database). db.trees) settled
-      ∙ sym (only_commit conn.store stays on trees may) in
-      subst (λ ts. HasHoldings (record (file_state conn).now { trees = ts }) h) same has
+      → (db : Database) × (db.trees ≡ trees) × IsDatabase db × HasHoldings db h
+  unclosed_find stays on trees may = (
+    (file_state conn).now,
+    ap (λ (db : Database). db.trees) settled ∙ sym (only_commit conn.store stays on trees may),
+    sound,
+    has,
+  )

@@ -1,5 +1,5 @@
 -- What files keep from one base to the next.
-use Rattle.std.specs.Prelude.{◌≡◌, [], IsTrue}
+use Rattle.std.specs.Prelude.{◌≡◌, Bool, [], IsTrue}
 use Rattle.sqlite_disk.specs.declared.Disk.{Ghosts}
 use Rattle.sqlite_disk.specs.declared.Files.{Files}
 use Rattle.sqlite_trees.specs.Tree.{Trees}
@@ -7,7 +7,7 @@ use Rattle.sqlite.specs.Closing.{files_left}
 use Rattle.sqlite.specs.Effect.{Database, IsDatabase}
 use Rattle.sqlite.specs.Files.{HoldsDatabase, IsClosed, LeavesFiles, image_of, file_state}
 use Rattle.sqlite.specs.FileStore.{files, recovers, view}
-use Rattle.sqlite.specs.Held.{Held}
+use Rattle.sqlite.specs.Held.{AreDatabases, Held}
 use Rattle.sqlite.specs.Recovery.{Image}
 use Rattle.sqlite.specs.WalFiles.{outcomes}
 use Rattle.sqlite.specs.WalReads.{AreClean}
@@ -95,17 +95,17 @@ pub data AreRefused {D : Type 0} (g : Ghosts D) (policy : Policy) (file : Scheme
   unadopted : (left : Held (FileStore D g)) → IsFoundUnadopted policy file (image_of g start) e left
       → (AreClean g now.log now.db → AreLetGo left now) → AreRefused g policy file start e now
 
--- files of a connection that was not closed: where they are clean and it was open, the trees that they may recover to
--- have this
-pub record MayKeep {D : Type 0} (g : Ghosts D) (now : Files D) (h : Holdings) : Type 0 where
-  pub conn : Held (FileStore D g)
+-- Files of a connection that was not closed, which was open or shut. Where they are clean, the trees that they may
+-- recover to are a database, which has this where it was open.
+pub record MayKeep {D : Type 0} (g : Ghosts D) (is_open : Bool) (now : Files D) (h : Holdings) : Type 0 where
   pub last : FileStore D g
   pub files_are : (now.log, now.db) ≡ files last
-  pub closed : IsClosed conn last
-  pub finds : AreClean g now.log now.db → IsTrue (file_state conn).is_open → (trees : Trees) → recovers last trees
-      → HasHoldings (record (file_state conn).now { trees = trees }) h
+  pub sound : AreClean g now.log now.db → AreDatabases (recovers last)
+  pub finds : AreClean g now.log now.db → IsTrue is_open → (trees : Trees) → recovers last trees
+      → (db : Database) × (db.trees ≡ trees) × IsDatabase db × HasHoldings db h
 
--- they may keep what the base's tables have
+-- they keep what the base's tables have, where its connection was open
 pub record AreUnclosed {D : Type 0} (g : Ghosts D) (b : BaseState) (now : Files D) : Type 0 where
   pub clean : AreClean g now.log now.db → IsClean b.tables
-  pub may : IsClean b.tables → (row : MetaRow) × HasRow b row × MayKeep g now (holdings_of row (state_of b).now)
+  pub may : IsClean b.tables
+      → (row : MetaRow) × HasRow b row × MayKeep g b.tables.is_open now (holdings_of row (state_of b).now)

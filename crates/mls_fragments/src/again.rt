@@ -43,6 +43,7 @@ fn is_settled<S: Alter>(conn: &Connection<S>) -> bool
 fn settled_connection<S: Alter>(base: SqlBase<S>) -> Connection<S>
     requires begun { (state_of base).begun ≡ false }
     ensures clean { HasCleanDisk (state S.Store result) → IsClean base.tables }
+    ensures is_open { (state S.Store result).is_open ≡ base.tables.is_open }
     ensures row { IsClean base.tables → (row : MetaRow) × HasRow base row }
     ensures held { HasCleanDisk (state S.Store result) → IsTrue (state S.Store result).is_open
         → (row : MetaRow) → HasRow base row
@@ -62,6 +63,7 @@ fn settled_connection<S: Alter>(base: SqlBase<S>) -> Connection<S>
 fn settled_files<D: Disk + Drop>(base: SqlBase<FileStore<D>>) -> Connection<FileStore<D>>
     requires begun { (state_of base).begun ≡ false }
     ensures clean { HasCleanDisk (file_state result) → IsClean base.tables }
+    ensures is_open { (file_state result).is_open ≡ base.tables.is_open }
     ensures row { IsClean base.tables → (row : MetaRow) × HasRow base row }
     ensures held { HasCleanDisk (file_state result) → IsTrue (file_state result).is_open
         → (row : MetaRow) → HasRow base row

@@ -100,6 +100,7 @@ impl<S: Alter> SqlBase<S> {
     pub fn into_connection(self) -> Connection<S>
         requires begun { (state_of self).begun ≡ false }
         ensures clean { HasCleanDisk (state S.Store result) → IsClean self.tables }
+        ensures is_open { (state S.Store result).is_open ≡ self.tables.is_open }
         ensures mode { HasCleanDisk (state S.Store result) → IsTrue (state S.Store result).is_open
             → (state S.Store result).in_transaction ≡ false }
         ensures rows { HasCleanDisk (state S.Store result) → IsTrue (state S.Store result).is_open

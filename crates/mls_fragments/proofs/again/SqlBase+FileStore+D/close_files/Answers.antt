@@ -1,6 +1,7 @@
+use Rattle.std.proofs.Common.{IsTrue, subst, sym}
 use Rattle.mls_fragments.specs.Based.{state_of}
 use Rattle.mls_fragments.specs.Holdings.{holdings_of}
-use Rattle.mls_fragments.proofs.AgainLemmas.{closed_keep, unclosed_find}
+use Rattle.mls_fragments.proofs.AgainLemmas.{clean_store, closed_keep, unclosed_find}
 use Rattle.mls_fragments.proofs.again.SqlBase+FileStore+D.close_files.Goals as goal
 
 pub returns-in-Ok-clause-clean : goal.returns-in-Ok-clause-clean
@@ -31,11 +32,11 @@ returns-in-Err-clause-unclosed g c =
             row.0,
             row.1,
             record {
-              conn = conn;
               last = shut.0;
               files_are = shut.1;
-              closed = shut.2;
-              finds = λ closed on trees may.
+              sound = λ closed. shut.2.sound (clean_store shut.0 c.in-Err.refused.1 shut.1 closed);
+              finds = λ closed was_open trees may.
+                  let on = subst IsTrue (sym c.settled_files.ensures.is_open) was_open in
                   let disk = c.in-Err.ensures.was_clean closed in
                   let held = c.settled_files.ensures.held disk on row.0 row.1 in
                   let settled = c.settled_files.ensures.settled disk on in

@@ -273,7 +273,7 @@ def try_wide():
             [line] = asked.taken()
             tried.expect("each attribute is asked for, once", [line.count(f"({name} = ") for name in NAMES], [1] * 19)
             tried.expect("and it is so", look.execute("SELECT X14 FROM WIDE").fetchone(), ("mine",))
-        for text in ("a\nb", "z" * 70_000):
+        for text in ("z" * 8193, "z" * 70_000):
             try_unread(files, text)
 
 

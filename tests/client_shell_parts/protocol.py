@@ -152,7 +152,7 @@ STATES = [
     ("insert into SOD (Starship) values ('a')", "23505"), ("insert into SOD (Starship) values (null)", "23502"),
     ("select * form SOD", "42601"),
     ("select 1 from NOPE", "42P01"), ("select nope(1)", "42883"),
-    ("insert into SOD (Starship) values ('a\tb')", "22000"), ("create table x (a int)", "0A000"),
+    (f"insert into SOD (Starship) values ('{'x' * 8193}')", "22000"), ("create table x (a int)", "0A000"),
     ("select 'x", "42601"), ("savepoint a", "0A000"), ("call Nope()", "42883"), ("copy NOPE to stdout", "42P01"),
     ("execute nope", "26000"),
     ("call Known()", "42501"), ("set client_encoding to latin1", "0A000"), ("show nope", "42704"),

@@ -1,16 +1,16 @@
 -- What events read and change is what they may.
-use Rattle.std.proofs.Common.{◌≡◌, ℕ, ◌<◌, true, false, List, length, get_or, Option, Some, None, refl, sym, ap, ◌∙◌, subst, inl, inr, true≢false, IfSome}
-use Rattle.std.proofs.lemmas.Bool.{cases_Bool}
+use Rattle.std.proofs.Common.{◌≡◌, ℕ, ◌<◌, Bool, true, false, ◌&&◌, List, length, get_or, Option, Some, None, refl, sym, ap, ◌∙◌, subst, inl, inr, true≢false, IfSome}
+use Rattle.std.proofs.lemmas.Bool.{cases_Bool, false_from_ne_true}
 use Rattle.mls_lattice.specs.Labels.{Labels, below}
 use Rattle.mls_lattice.specs.Policy.{Name}
-use Rattle.mls_lattice.proofs.LatticeLemmas.{below-refl}
+use Rattle.mls_lattice.proofs.LatticeLemmas.{below-trans}
 use Rattle.mls_scheme.specs.declared.value.Value.{Value}
 use Rattle.mls_filterview.specs.Content.{Seen}
-use Rattle.mls_filterview.specs.Calls.{NoReadUp, NoWriteDown}
+use Rattle.mls_filterview.specs.Calls.{Avoids, NoReadUp, NoWriteDown}
 use Rattle.mls_filterview.specs.View.{IsAmong}
 use Rattle.mls_filterview.proofs.AmongLemmas.{among_here}
-use Rattle.mls_filterview.proofs.AccessLemmas.{low_reads_no_down, no_down_wider}
 use Rattle.mls_certcheck.specs.declared.certified.Certified.{Certified as Checked}
+use Rattle.mls_certcheck.specs.declared.stored.Stored.{Stored}
 use Rattle.mls_certcheck.specs.declared.stored.Stored.TheVariants.{Certified}
 use Rattle.mls_certcheck.specs.Rules.{Rules, claim}
 use Rattle.mls_certcheck.specs.Site.{Site, site_labels, AreCertified}
@@ -18,9 +18,11 @@ use Rattle.mls_certcheck.specs.Stored.{IsCertifiedUnder}
 use Rattle.mls_translang.specs.declared.event.Event.{Event}
 use Rattle.mls_translang.specs.declared.event.Command.{Command}
 use Rattle.mls_translang.specs.declared.event.Command.TheVariants as commands
+use Rattle.mls_translang.specs.declared.event.One.{One}
+use Rattle.mls_translang.specs.declared.query.Query.{Query}
 use Rattle.mls_machine.specs.Denying.{first_denial, stored_named, call_denial, call_denials}
 use Rattle.mls_machine.proofs.DenyingLemmas.{may_run}
-use Rattle.mls_sessions.specs.Access.{upper_end, ceiling, IsPermitted, ArePermitted}
+use Rattle.mls_sessions.specs.Access.{run_may_read, run_may_change, may_read, may_change, IsPermitted, ArePermitted}
 use Rattle.mls_sessions.specs.Denying.{denial_in}
 use Rattle.mls_sessions.specs.Turns.{is_write}
 use Rattle.mls_sessions.proofs.CallLemmas.{call_allowed}
@@ -32,58 +34,81 @@ pub found_rules : (site : Site) (name : Name) (k : Checked) → AreCertified sit
 found_rules site name k certified is = subst (λ o. IfSome o (IsCertifiedUnder site.policy)) is
     (found_holds _ _ site.stored certified)
 
-pub ceiling_of_write : (site : Site) (level : ℕ) (command : Command) → is_write command ≡ true
-    → ceiling site level command ≡ level
-ceiling_of_write site level (commands.Call name args) h = absurd (true≢false (sym h))
-ceiling_of_write site level (commands.Open name) h = absurd (true≢false (sym h))
-ceiling_of_write site level commands.Close h = absurd (true≢false (sym h))
-ceiling_of_write site level commands.Audit h = absurd (true≢false (sym h))
-ceiling_of_write site level (commands.View relation label query counts) h = absurd (true≢false (sym h))
-ceiling_of_write site level (commands.Dump relation) h = absurd (true≢false (sym h))
-ceiling_of_write site level (commands.All batch) h = absurd (true≢false (sym h))
-ceiling_of_write site level (commands.Write relation wr) h = refl
+-- what is not both is not the one that makes the other
+one_false : (a b : Bool) → (a ≡ true → b ≡ true) → (a && b) ≡ false → a ≡ false
+one_false a b h none = false_from_ne_true a (λ t. true≢false (sym (λ i. t i && h t i) ∙ none))
 
-module _ {B : Type 0} (seen : B → Seen) (a b : B) (site : Site) where
-  -- at the level of its session
-  pub level_permitted : (event : Event) → ceiling site event.level event.command ≡ event.level
-      → NoWriteDown seen (site_labels site) event.level event.level a b → IsPermitted seen site event a b
-  level_permitted event top h = subst (λ t. NoWriteDown seen (site_labels site) t event.level a b) (sym top) h
+module _ {B : Type 0} (seen : B → Seen) (a b : B) (site : Site) (level : ℕ) where
+  abbrev labels : Labels
+  labels = site_labels site
 
-  pub read_permitted : (event : Event) → ceiling site event.level event.command ≡ event.level
-      → NoReadUp seen (site_labels site) event.level a b → IsPermitted seen site event a b
-  read_permitted event top h = level_permitted event top
-      (low_reads_no_down (site_labels site) event.level event.level h)
+  -- a command does
+  abbrev Permits : Command → Type 0
+  Permits command = Avoids seen (λ m. may_read site level command m ≡ false)
+      (λ m. may_change site level command m ≡ false) a b
 
-  -- a view, of a label below it
-  pub view_permitted : (event : Event) (label : ℕ) → ceiling site event.level event.command ≡ event.level
-      → below (site_labels site) label event.level ≡ true
-      → NoReadUp seen (site_labels site) label a b → IsPermitted seen site event a b
-  view_permitted event label top low h =
-      let ls = site_labels site in
-      level_permitted event top (no_down_wider ls label event.level event.level event.level low
-      (below-refl ls event.level) (low_reads_no_down ls label event.level h))
+  pub write_permitted : (command : Command) → is_write command ≡ true → NoWriteDown seen labels level level a b
+      → Permits command
+  write_permitted (commands.Call name args) h k = absurd (true≢false (sym h))
+  write_permitted (commands.Open name) h k = absurd (true≢false (sym h))
+  write_permitted commands.Close h k = absurd (true≢false (sym h))
+  write_permitted commands.Audit h k = absurd (true≢false (sym h))
+  write_permitted (commands.View relation label query counts) h k = absurd (true≢false (sym h))
+  write_permitted (commands.Dump relation) h k = absurd (true≢false (sym h))
+  write_permitted (commands.All batch) h k = absurd (true≢false (sym h))
+  write_permitted (commands.Write relation wr) h k = k
 
-  -- a call, between the ends of what it runs
-  pub call_permitted : (event : Event) (user : ℕ) (name : Name) (args : List (Option Value)) → event.command
-      ≡ commands.Call name args → denial_in site event.level user event.command ≡ None
+  pub batch_permitted : (command : Command) (batch : List One) → command ≡ commands.All batch
+      → NoWriteDown seen labels level level a b → Permits command
+  batch_permitted command batch is k = subst Permits (sym is) k
+
+  pub dump_permitted : (command : Command) (relation : ℕ) → command ≡ commands.Dump relation
+      → NoReadUp seen labels level a b → Permits command
+  dump_permitted command relation is k =
+      let h : Permits (commands.Dump relation) = record { reads = k.reads; changes = λ m u. k.changes m tt } in
+      subst Permits (sym is) h
+
+  -- of a label below the level
+  pub view_permitted : (command : Command) (relation label : ℕ) (query : Query) (counts : Bool)
+      → command ≡ commands.View relation label query counts → below labels label level ≡ true
+      → NoReadUp seen labels label a b → Permits command
+  view_permitted command relation label query counts is low k =
+      let h : Permits (commands.View relation label query counts) = record {
+        reads = λ m u. k.reads m (one_false _ _ (λ t. below-trans labels m label level t low) u);
+        changes = λ m u. k.changes m tt;
+      } in
+      subst Permits (sym is) h
+
+  -- between the ends of what is run
+  pub run_permitted : (k : Checked) (it : Option Stored) → it ≡ Some (Certified k) → k.tx.lo ≡ level
+      → NoWriteDown seen labels k.tx.hi k.tx.lo a b
+      → Avoids seen (λ m. run_may_read labels it m ≡ false) (λ m. run_may_change labels level it m ≡ false) a b
+  run_permitted k it is low h =
+      let r : Avoids seen (λ m. run_may_read labels (Some (Certified k)) m ≡ false)
+      (λ m. run_may_change labels level (Some (Certified k)) m ≡ false) a b
+      = record {
+        reads = h.reads;
+        changes = λ m u. h.changes m (one_false _ _ (subst (λ l. below labels l m ≡ true) low) u);
+      } in
+      subst (λ o. Avoids seen (λ m. run_may_read labels o m ≡ false) (λ m. run_may_change labels level o m ≡ false) a b)
+      (sym is) r
+
+  pub call_permitted : (event : Event) → event.level ≡ level → (user : ℕ) (name : Name) (args : List (Option Value))
+      → event.command ≡ commands.Call name args → denial_in site event.level user event.command ≡ None
       → (k : Checked) → stored_named site.stored name ≡ Some (Certified k)
-      → NoWriteDown seen (site_labels site) k.tx.hi k.tx.lo a b → IsPermitted seen site event a b
-  call_permitted event user name args is allowed k stored h =
-      let ls = site_labels site in
-      let top : ceiling site event.level event.command ≡ k.tx.hi = ap (ceiling site event.level) is
-      ∙ ap (upper_end event.level) stored in
+      → NoWriteDown seen labels k.tx.hi k.tx.lo a b → Permits event.command
+  call_permitted event at user name args is allowed k stored h =
       let none : first_denial (call_denials site event.level user k.tx args) ≡ None =
       sym (ap (call_denial site event.level user args) stored) ∙ call_allowed site event user name args is allowed
       in
-      subst (λ t. NoWriteDown seen ls t event.level a b) (sym top) (subst (λ l. NoWriteDown seen ls k.tx.hi l a b)
-      (may_run site event.level user k.tx args none).lo h)
+      let r : Permits (commands.Call name args)
+      = run_permitted k (stored_named site.stored name) stored
+      ((may_run site event.level user k.tx args none).lo ∙ at) h in
+      subst Permits (sym is) r
 
 -- ---- events one after another
 
 module _ {B : Type 0} (seen : B → Seen) (site : Site) (es : List Event) (a : B) where
-  abbrev ls : Labels
-  ls = site_labels site
-
   pub permitted_start : ArePermitted seen site es a a
   permitted_start = record { reads = λ m h. inl h; changes = λ m h. inl h }
 
@@ -91,11 +116,11 @@ module _ {B : Type 0} (seen : B → Seen) (site : Site) (es : List Event) (a : B
   pub permitted_more : (i : ℕ) (e : Event) → i < length es → get_or es i e ≡ e → (b c : B) → IsPermitted seen site e b c
       → ArePermitted seen site es a b → ArePermitted seen site es a c
   permitted_more i e within is b c one before = record {
-    reads = λ m h. elim (cases_Bool (below ls m (ceiling site e.level e.command))) [
+    reads = λ m h. elim (cases_Bool (may_read site e.level e.command m)) [
       | inl low ↦ inr (e, here, low)
       | inr high ↦ before.reads m (one.reads m high h)
     ];
-    changes = λ m h. elim (cases_Bool (below ls e.level m)) [
+    changes = λ m h. elim (cases_Bool (may_change site e.level e.command m)) [
       | inl high ↦ inr (e, here, high)
       | inr low ↦ before.changes m (one.changes m low h)
     ];

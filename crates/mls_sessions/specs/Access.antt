@@ -1,9 +1,9 @@
 -- Where events may read and change the base of an engine (after Bell and LaPadula 1976).
-use Rattle.std.specs.Prelude.{◌≡◌, ℕ, true, List, Option, Some, None, ◌⊎◌}
-use Rattle.mls_lattice.specs.Labels.{below}
+use Rattle.std.specs.Prelude.{◌≡◌, ℕ, Bool, true, false, ◌&&◌, List, Option, Some, None, ◌⊎◌}
+use Rattle.mls_lattice.specs.Labels.{Labels, below}
 use Rattle.mls_filterview.specs.Content.{Seen}
 use Rattle.mls_filterview.specs.View.{IsAmong}
-use Rattle.mls_filterview.specs.Calls.{NoWriteDown}
+use Rattle.mls_filterview.specs.Calls.{Avoids}
 use Rattle.mls_certcheck.specs.declared.stored.Stored.{Stored}
 use Rattle.mls_certcheck.specs.declared.stored.Stored.TheVariants.{Certified, Plain}
 use Rattle.mls_certcheck.specs.Site.{Site, site_labels}
@@ -12,33 +12,60 @@ use Rattle.mls_translang.specs.declared.event.Command.{Command}
 use Rattle.mls_translang.specs.declared.event.Command.TheVariants as commands
 use Rattle.mls_machine.specs.Denying.{stored_named}
 
--- how high a call in a session of a level may read: up to the upper end of what it runs, if it runs anything
-abbrev pub upper_end : ℕ → Option Stored → ℕ
-upper_end level None = level
-upper_end level (Some (Plain tx)) = level
-upper_end level (Some (Certified k)) = k.tx.hi
+-- ---- what is called: it reads below its upper end, and changes at labels that dominate its lower end, which is the
+-- level of the session
 
--- how high a command may: each but a call up to the level of its session
-abbrev pub ceiling : Site → ℕ → Command → ℕ
-ceiling site level (commands.Open name) = level
-ceiling site level commands.Close = level
-ceiling site level commands.Audit = level
-ceiling site level (commands.View relation label query counts) = level
-ceiling site level (commands.Dump relation) = level
-ceiling site level (commands.Write relation wr) = level
-ceiling site level (commands.Call name args) = upper_end level (stored_named site.stored name)
-ceiling site level (commands.All batch) = level
+abbrev pub run_may_read : Labels → Option Stored → ℕ → Bool
+run_may_read ls None m = false
+run_may_read ls (Some (Plain tx)) m = false
+run_may_read ls (Some (Certified k)) m = below ls m k.tx.hi
+
+abbrev pub run_may_change : Labels → ℕ → Option Stored → ℕ → Bool
+run_may_change ls level None m = false
+run_may_change ls level (Some (Plain tx)) m = false
+run_may_change ls level (Some (Certified k)) m = below ls k.tx.lo m && below ls level m
+
+-- ---- commands in a session of a level
+
+module _ (site : Site) (level : ℕ) where
+  -- A view reads below its label, which is below the level; a dump, a write and a batch below the level; a call where
+  -- what it runs may. To open or close a session, and to list the audit, reads nothing.
+  abbrev pub may_read : Command → ℕ → Bool
+  may_read (commands.Open name) m = false
+  may_read commands.Close m = false
+  may_read commands.Audit m = false
+  may_read (commands.View relation label query counts) m =
+      below (site_labels site) m label && below (site_labels site) m level
+  may_read (commands.Dump relation) m = below (site_labels site) m level
+  may_read (commands.Write relation wr) m = below (site_labels site) m level
+  may_read (commands.Call name args) m = run_may_read (site_labels site) (stored_named site.stored name) m
+  may_read (commands.All batch) m = below (site_labels site) m level
+
+  -- a write and a batch change at labels that dominate the level; a call where what it runs may; and no other anything
+  abbrev pub may_change : Command → ℕ → Bool
+  may_change (commands.Open name) m = false
+  may_change commands.Close m = false
+  may_change commands.Audit m = false
+  may_change (commands.View relation label query counts) m = false
+  may_change (commands.Dump relation) m = false
+  may_change (commands.Write relation wr) m = below (site_labels site) level m
+  may_change (commands.Call name args) m =
+      run_may_change (site_labels site) level (stored_named site.stored name) m
+  may_change (commands.All batch) m = below (site_labels site) level m
+
+-- ---- events
 
 module _ {B : Type 0} (seen : B → Seen) (site : Site) where
-  -- an event reads below its ceiling, and changes at labels that dominate its level
+  -- an event reads and changes nothing but where it may
   abbrev pub IsPermitted : Event → B → B → Type 0
-  IsPermitted event = NoWriteDown seen (site_labels site) (ceiling site event.level event.command) event.level
+  IsPermitted event = Avoids seen (λ m. may_read site event.level event.command m ≡ false)
+      (λ m. may_change site event.level event.command m ≡ false)
 
-  -- what events read lies below the ceiling of one of them, and what they change dominates the level of one of them
+  -- what events read and change, one of them may
   pub record ArePermitted (events : List Event) (old new : B) : Type 0 where
     pub reads : (m : ℕ) → (seen new).asked m
         → (seen old).asked m
-        ⊎ ((e : Event) × IsAmong e events × (below (site_labels site) m (ceiling site e.level e.command) ≡ true))
+        ⊎ ((e : Event) × IsAmong e events × (may_read site e.level e.command m ≡ true))
     pub changes : (m : ℕ) → (seen new).changed m
         → (seen old).changed m
-        ⊎ ((e : Event) × IsAmong e events × (below (site_labels site) e.level m ≡ true))
+        ⊎ ((e : Event) × IsAmong e events × (may_change site e.level e.command m ≡ true))

@@ -1,4 +1,4 @@
-use Rattle.std.proofs.Common.{List, Option, length, sym, ap, ◌∙◌, subst}
+use Rattle.std.proofs.Common.{List, Option, length, refl, sym, ap, ◌∙◌, subst}
 use Rattle.std.specs.List.{AllByRecursion}
 use Rattle.mls_audit.specs.Spelling.{HasSpelling}
 use Rattle.mls_scheme.specs.declared.value.Value.{Value}
@@ -79,7 +79,8 @@ returns-clause-access g c =
     let stored = sym (ap (λ xs. stored_named xs c.deref-2.result.now) c.deref.ensures
     ∙ ap (stored_named c.args.site.now.stored) c.deref-2.ensures) ∙ c.certified_named-certified.ensures in
     let rules = found_rules site c.in-Call.tx k c.args.site.now.certified stored in
-    call_permitted g.B.Base.seen c.args.base.now c.enter_run.new.base site e c.args.user c.in-Call.tx c.in-Call.args c.in-Call.is c.requires.may.asked.2 k stored
+    call_permitted g.B.Base.seen c.args.base.now c.enter_run.new.base site e.level e refl c.args.user
+    c.in-Call.tx c.in-Call.args c.in-Call.is c.requires.may.asked.2 k stored
     (avoids_then (c.in_ok-run.ensures.access k.cert rules) (avoids_some c.in_ok-enter_run.ensures.access))
 
 pub returns-in_err-enter_run-clause-access : goal.returns-in_err-enter_run-clause-access
@@ -90,7 +91,8 @@ returns-in_err-enter_run-clause-access g c =
     let stored = sym (ap (λ xs. stored_named xs c.deref-2.result.now) c.deref.ensures
     ∙ ap (stored_named c.args.site.now.stored) c.deref-2.ensures) ∙ c.certified_named-certified.ensures in
     let rules = found_rules site c.in-Call.tx k c.args.site.now.certified stored in
-    call_permitted g.B.Base.seen c.args.base.now c.enter_run.new.base site e c.args.user c.in-Call.tx c.in-Call.args c.in-Call.is c.requires.may.asked.2 k stored
+    call_permitted g.B.Base.seen c.args.base.now c.enter_run.new.base site e.level e refl c.args.user
+    c.in-Call.tx c.in-Call.args c.in-Call.is c.requires.may.asked.2 k stored
     (avoids_then (c.in_ok-run.ensures.access k.cert rules) (avoids_some c.in_err-enter_run.ensures.access))
 
 pub returns-in_err-run-clause-access : goal.returns-in_err-run-clause-access
@@ -101,5 +103,6 @@ returns-in_err-run-clause-access g c =
     let stored = sym (ap (λ xs. stored_named xs c.deref-2.result.now) c.deref.ensures
     ∙ ap (stored_named c.args.site.now.stored) c.deref-2.ensures) ∙ c.certified_named-certified.ensures in
     let rules = found_rules site c.in-Call.tx k c.args.site.now.certified stored in
-    call_permitted g.B.Base.seen c.args.base.now c.run_certified.new.base site e c.args.user c.in-Call.tx c.in-Call.args c.in-Call.is c.requires.may.asked.2 k stored
+    call_permitted g.B.Base.seen c.args.base.now c.run_certified.new.base site e.level e refl c.args.user
+    c.in-Call.tx c.in-Call.args c.in-Call.is c.requires.may.asked.2 k stored
     (c.in_err-run.ensures.access k.cert rules)

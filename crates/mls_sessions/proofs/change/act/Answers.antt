@@ -3,7 +3,7 @@ use Rattle.mls_sessions.proofs.KeptLemmas.{denied_views}
 use Rattle.std.proofs.Common.{subst}
 use Rattle.mls_filterview.proofs.AccessLemmas.{avoids_some}
 use Rattle.mls_sessions.specs.Turns.{IsEffectOf}
-use Rattle.mls_sessions.proofs.AccessLemmas.{ceiling_of_write, level_permitted}
+use Rattle.mls_sessions.proofs.AccessLemmas.{write_permitted}
 use Rattle.mls_sessions.proofs.change.act.Goals as goal
 
 pub returns-in-Deny-clause-views : goal.returns-in-Deny-clause-views
@@ -19,5 +19,4 @@ returns-in-Write-clause-access g c =
     let site = site_of_run c.args.site.now in
     let e = c.args.event.now in
     let asked = subst (IsEffectOf site e) c.in-Write.is c.requires.may.asked in
-    level_permitted g.B.Base.seen c.args.base.now c.write.new.base site e
-    (ceiling_of_write site e.level e.command asked) c.write.ensures.access
+    write_permitted g.B.Base.seen c.args.base.now c.write.new.base site e.level e.command asked c.write.ensures.access

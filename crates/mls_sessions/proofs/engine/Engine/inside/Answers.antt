@@ -11,8 +11,7 @@ use Rattle.mls_sessions.proofs.EngineLemmas.{none_from, denied_is, viewed_is, du
 use Rattle.mls_filterview.proofs.AccessLemmas.{avoids_some}
 use Rattle.mls_machine.proofs.DenyingLemmas.{view_below, batch_below}
 use Rattle.mls_sessions.specs.Denying.{denial_in}
-use Rattle.mls_sessions.specs.Access.{ceiling}
-use Rattle.mls_sessions.proofs.AccessLemmas.{level_permitted, read_permitted, view_permitted}
+use Rattle.mls_sessions.proofs.AccessLemmas.{batch_permitted, dump_permitted, view_permitted}
 use Rattle.mls_sessions.proofs.BatchLemmas.{may_do}
 use Rattle.mls_sessions.proofs.engine.Engine.inside.Goals as goal
 
@@ -87,14 +86,14 @@ returns-in-View-clause-access g c =
     let e = c.args.event.now in
     let none = sym (ap (denial_in at e.level c.args.user) c.in-View.is) ∙ sym c.denial_of.ensures
     ∙ none_from c.denial_of.result c.in_default.not-Some in
-    view_permitted g.B.Base.seen c.args.self.now.base c.look.new.base at e c.in-View.label
-    (ap (ceiling at e.level) c.in-View.is)
+    view_permitted g.B.Base.seen c.args.self.now.base c.look.new.base at e.level e.command c.in-View.relation
+    c.in-View.label c.in-View.query c.in-View.counts c.in-View.is
     (view_below at e.level c.args.user c.in-View.relation c.in-View.label none) c.look.ensures.access
 
 pub returns-in-Dump-clause-access : goal.returns-in-Dump-clause-access
 returns-in-Dump-clause-access g c =
-    read_permitted g.B.Base.seen c.args.self.now.base c.dump.new.base (site c.args.self.now) c.args.event.now
-    (ap (ceiling (site c.args.self.now) c.args.event.now.level) c.in-Dump.is) c.dump.ensures.access
+    dump_permitted g.B.Base.seen c.args.self.now.base c.dump.new.base (site c.args.self.now) c.args.event.now.level
+    c.args.event.now.command c.in-Dump.relation c.in-Dump.is c.dump.ensures.access
 
 pub returns-in-Audit-clause-access : goal.returns-in-Audit-clause-access
 returns-in-Audit-clause-access g c = avoids_some c.audit.ensures.access
@@ -127,5 +126,5 @@ pub returns-in-All-clause-access : goal.returns-in-All-clause-access
 returns-in-All-clause-access g c =
     let at = site c.args.self.now in
     let e = c.args.event.now in
-    level_permitted g.B.Base.seen c.args.self.now.base c.do_batch.new.base at e (ap (ceiling at e.level) c.in-All.is)
-    c.do_batch.ensures.access
+    batch_permitted g.B.Base.seen c.args.self.now.base c.do_batch.new.base at e.level e.command
+    c.deref-in-All.result.now (c.in-All.is ∙ ap All (sym c.deref-in-All.ensures)) c.do_batch.ensures.access

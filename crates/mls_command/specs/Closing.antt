@@ -6,7 +6,8 @@ use Rattle.sqlite.specs.WalReads.{AreClean}
 use Rattle.mls_fragments.specs.Again.{AreKept, MayKeep}
 use Rattle.mls_fragments.specs.Holdings.{Holdings}
 
--- the files of a store that was closed, where they are clean, keep this; those of one that was not may
-abbrev pub KeepIn : {D : Type 0} → Ghosts D → Bool → Files D → Holdings → Type 0
-KeepIn g true now h = AreClean g now.log now.db → AreKept g now h
-KeepIn g false now h = MayKeep g now h
+-- the files of a store that was closed, where they are clean, keep this; those of one that was not do if its connection
+-- was open
+abbrev pub KeepIn : {D : Type 0} → Ghosts D → (is_open is_closed : Bool) → Files D → Holdings → Type 0
+KeepIn g is_open true now h = AreClean g now.log now.db → AreKept g now h
+KeepIn g is_open false now h = MayKeep g is_open now h

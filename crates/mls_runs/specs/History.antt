@@ -1,5 +1,5 @@
 -- What a history of runs over the files of one store writes, what it begins with and what it leaves.
-use Rattle.std.specs.Prelude.{◌≡◌, ℕ, suc, List, [], ◌∷◌, ◌++◌, length, IfSome, Result, Ok, Err}
+use Rattle.std.specs.Prelude.{◌≡◌, ℕ, suc, Bool, List, [], ◌∷◌, ◌++◌, length, IfSome, Result, Ok, Err}
 use Rattle.std.specs.List.{concat}
 use Rattle.sqlite_disk.specs.declared.Disk.{Ghosts}
 use Rattle.sqlite_disk.specs.declared.Files.{Files}
@@ -85,9 +85,9 @@ pub record IsHistoryRun (policy : Policy) (schemes : Schemes) (audience : Audien
 abbrev pub KeepContent : {D : Type 0} → Ghosts D → Files D → Content → Type 0
 KeepContent g files left = (row : MetaRow) × AreKept g files (holdings_of row left)
 
--- or, where they were not closed, may keep it
+-- or, where they were not closed, keep it if the connection was open
 abbrev pub MayKeepContent : {D : Type 0} → Ghosts D → Files D → Content → Type 0
-MayKeepContent g files left = (row : MetaRow) × MayKeep g files (holdings_of row left)
+MayKeepContent g files left = (row : MetaRow) × (is_open : Bool) × MayKeep g is_open files (holdings_of row left)
 
 module _ {D : Type 0} (g : Ghosts D) (policy : Policy) (file : SchemesFile) where
   -- the files are clean, and the content is taken of what is found in them

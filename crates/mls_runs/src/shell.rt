@@ -244,7 +244,7 @@ pub(crate) fn shell_over_base<X: Explains, B: Base, L: TypedLines, W: Write, E: 
     requires may { MayTalk (site_of policy.now schemes.now stored) session.now first.now }
     requires rest { IsAtRest B.seen policy.now schemes.now base }
     ensures leaves { Leaves B.seen base result.1 result.0 }
-    // No line reads up, and none writes down.
+    // No line reads up, and none writes down. To open the session reads and changes nothing.
     ensures access { AreLinesPermitted B.seen (site_of policy.now schemes.now stored) L.echo
         (IsShellFate policy.now schemes.now session.now) (opening session.now ∷ []) (L.remaining lines.old)
         (L.remaining lines.new) base result.1 }

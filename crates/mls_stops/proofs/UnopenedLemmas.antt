@@ -1,5 +1,5 @@
 -- What a crash leaves of files that no connection was made to, and of files that could not be closed.
-use Rattle.std.proofs.Common.{◌≡◌, refl, subst, inl, inr}
+use Rattle.std.proofs.Common.{◌≡◌, refl, subst, sym, inl, inr}
 use Rattle.std.proofs.Math.Logic.{∥∥₁_map}
 use Rattle.sqlite_disk.specs.declared.Disk.{Ghosts}
 use Rattle.sqlite_disk.specs.declared.Files.{Files}
@@ -11,7 +11,8 @@ use Rattle.sqlite_store.specs.declared.store.FileStore.{FileStore}
 use Rattle.sqlite_store.specs.declared.store.open.Unopened.{Unopened}
 use Rattle.sqlite_trees.specs.Tree.{Trees}
 use Rattle.sqlite.specs.Closing.{files_left}
-use Rattle.sqlite.specs.Files.{HoldsDatabase, IsEmpty, LeavesFiles, image_of, file_state}
+use Rattle.sqlite.specs.Effect.{Database, IsDatabase}
+use Rattle.sqlite.specs.Files.{HoldsDatabase, IsEmpty, LeavesFiles, image_of}
 use Rattle.sqlite.specs.FileStore.{files, recovers}
 use Rattle.sqlite.specs.Recovery.{Image}
 use Rattle.sqlite.specs.WalFiles.{outcomes}
@@ -111,18 +112,24 @@ pub unclosed_files_keep : {D : Type 0} (g : Ghosts D) → UnclosedFilesKeep g
 unclosed_files_keep {D} g b now h clean =
     let found = h.may (h.clean clean) in
     let m = found.2 in
-    let holdings = holdings_of found.0 (state_of b).now in (
+    let holdings = holdings_of found.0 (state_of b).now in
+    let clean_last = subst (λ (f : D × D). AreClean g f.0 f.1) m.files_are clean in
+    let may_last : (image : Image) → outcomes g now.log now.db image
+    → outcomes g (files m.last).0 (files m.last).1 image
+    = λ image may. subst (λ (f : D × D). outcomes g f.0 f.1 image) m.files_are may in
+    let IsHeld : Trees → Type 0 = λ trees. (db : Database) × (db.trees ≡ trees) × IsDatabase db in
+    let Holds : Trees → Type 0 = λ trees. (db : Database) × (db.trees ≡ trees) × IsDatabase db × HasHoldings db holdings
+    in (
       found.0,
       found.1,
       record {
-        conn = m.conn;
-        last = m.last;
-        files_are = m.files_are;
-        closed = m.closed;
-        each = λ is_open image may. recovered m.last image
-            (λ db. HasHoldings (record (file_state m.conn).now { trees = db }) holdings)
-            (λ db back. m.finds clean is_open db back)
-            (subst (λ (f : D × D). AreClean g f.0 f.1) m.files_are clean)
-            (subst (λ (f : D × D). outcomes g f.0 f.1 image) m.files_are may);
+        each = λ image may. ∥∥₁_map (recovered m.last image IsHeld (λ trees back. let it = m.sound clean trees back in
+            let db : Database = record { schema = it.0; trees = trees } in (db, refl, it.1)) clean_last
+            (may_last image may)) (λ r. let of : (db : Database) × ReadsAs image db.trees × IsDatabase db =
+            (r.2.0, subst (ReadsAs image) (sym r.2.1) r.1, r.2.2) in of);
+        keeps = λ is_open image may. ∥∥₁_map (recovered m.last image Holds (λ trees back. m.finds clean is_open trees
+            back) clean_last (may_last image may))
+            (λ r. let of : (db : Database) × ReadsAs image db.trees × IsDatabase db × HasHoldings db holdings =
+            (r.2.0, subst (ReadsAs image) (sym r.2.1) r.1, r.2.2, r.2.3) in of);
       },
     )

@@ -98,5 +98,5 @@ returns-clause-broken g c clean =
       left,
       run_alone g.D.Disk policy file c.args.audience.now c.requires.distinct c.args.files c.in-Err-close_files.files c.args.run.stored c.args.run.events.items wrote first left
           (ready_run policy file.schemes c.args.run c.requires.prepared) c.in-Ok.ensures.sound outcome (begins, run),
-      (may.0, may.2),
+      (may.0, c.run_over_base-outcome.result.1.tables.is_open, may.2),
     )

@@ -1,5 +1,5 @@
 -- The life of a store: it is opened under files, and runs are made over it; then under later files, of version 2, which
--- may have more attributes, and so on. Labels stay.
+-- may have more attributes and relations, and so on. Labels stay.
 use Rattle.std.specs.Prelude.{◌≡◌, ℕ, List, [], ◌∷◌, Option, Some, None, ⊤}
 use Rattle.std.specs.List.{AllZip}
 use Rattle.mls_lattice.specs.Labels.{AreDistinct}

@@ -9,3 +9,4 @@ pub mod MadeLemmas
 pub mod QueryLemmas
 pub mod LoadLemmas
 pub mod OrderLemmas
+pub mod ShownLemmas

@@ -1,11 +1,11 @@
 -- Dumps load back: the events that a dump prints make again what it was of.
-use Rattle.std.specs.Prelude.{◌≡◌, ℕ, List, [], ◌∷◌, map, ◌↔◌}
+use Rattle.std.specs.Prelude.{◌≡◌, ℕ, true, List, [], ◌∷◌, map, ◌↔◌}
 use Rattle.std.specs.FinMap.{empty}
-use Rattle.mls_lattice.specs.Labels.{Labels, AreDistinct}
+use Rattle.mls_lattice.specs.Labels.{Labels, AreDistinct, below}
 use Rattle.mls_lattice.specs.Policy.{Name}
 use Rattle.mls_scheme.specs.declared.tuple.Tuple.{Tuple}
 use Rattle.mls_scheme.specs.Table.{Table, IsIn}
-use Rattle.mls_filterview.specs.View.{low, IsAmong}
+use Rattle.mls_filterview.specs.View.{View, low, IsAmong}
 use Rattle.mls_filterview.specs.Filtering.{EachOnce}
 use Rattle.mls_filterview.specs.Stored.{IsStored, IsContent}
 use Rattle.mls_filterview.specs.Reach.{low_tuples}
@@ -44,3 +44,9 @@ abbrev pub DumpsHaveEach : Type 0
 DumpsHaveEach =
     (ls : Labels) → AreDistinct ls → (n c : ℕ) (T : Table) → IsStored ls n T
     → EachOnce (low_tuples ls c T) × ((t : Tuple) → IsAmong t (low_tuples ls c T) ↔ IsIn (low ls c T) t)
+
+-- of the tuples of classes that c dominates each label that c dominates sees what it sees of all
+abbrev pub DumpsShowTheSame : Type 0
+DumpsShowTheSame =
+    (ls : Labels) (n c d : ℕ) (T : Table) → IsStored ls n T → below ls d c ≡ true
+    → (t : Tuple) → View ls (IsIn (low ls c T)) d t ↔ View ls (IsIn T) d t

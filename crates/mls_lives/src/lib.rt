@@ -4,7 +4,7 @@
 
 ghost use Rattle.mls_lives.specs.Histories.{HistoriesTellFew, HistoryCallsMultiply};
 ghost use Rattle.mls_lives.specs.Lives.{CallsMultiply, RunsTellFew};
-ghost use Rattle.mls_lives.specs.Loading.{DumpsHaveEach, DumpsLoadBack};
+ghost use Rattle.mls_lives.specs.Loading.{DumpsHaveEach, DumpsLoadBack, DumpsShowTheSame};
 ghost use Rattle.mls_lives.specs.Releasing.{ReleasesComeInOrder, ToldAreInOrder};
 ghost use Rattle.mls_lives.specs.Queries.{CountsAreLengths, FoundAreRowsInOrder, HighestKeepEachKey};
 ghost use Rattle.mls_lives.specs.Upward.{ClassNumbersAreGreatest, DumpsComeUpward};
@@ -28,11 +28,12 @@ pub fn releases_come_in_order()
 {}
 
 /// The events that a dump at a label prints, done over nothing, are each Done, and make all tuples of classes that the
-/// label dominates; it has each of these once, upward by class. The class number of a tuple is that of its greatest
-/// class.
+/// label dominates; it has each of these once, upward by class. Of these each label that it dominates sees what it sees
+/// of all. The class number of a tuple is that of its greatest class.
 pub fn dumps_load_back()
     ensures made { DumpsLoadBack }
     ensures each { DumpsHaveEach }
+    ensures shown { DumpsShowTheSame }
     ensures order { DumpsComeUpward }
     ensures classes { ClassNumbersAreGreatest }
 {}

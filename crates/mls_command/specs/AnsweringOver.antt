@@ -1,5 +1,5 @@
 -- The machine as a host, and what comes of words over it.
-use Rattle.std.specs.Prelude.{◌⊎◌, ◌<◌, ℕ, List, [], MatchOption, ⊤}
+use Rattle.std.specs.Prelude.{◌⊎◌, ◌<◌, ℕ, Bool, List, [], MatchOption, ⊤}
 use Rattle.sqlite.specs.Recovery.{Image}
 use Rattle.mls_filterview.specs.Content.{Seen}
 use Rattle.mls_lattice.specs.Policy.{Policy}
@@ -13,8 +13,8 @@ use Rattle.mls_runs.specs.Explaining.{any_text}
 use Rattle.mls_command.specs.Answering.{IsOutcomeOf}
 use Rattle.mls_command.specs.declared.machine.Machine.{Machine}
 
-module _ {B L R O : Type 0} (seen : B → Seen) (image : Image)
-    (bars : R → Image → Policy → SchemesFile → OpenFault → Type 0) (keeps : L → Holdings → Type 0)
+module _ {B L R O : Type 0} (seen : B → Seen) (was_open : B → Bool) (image : Image)
+    (bars : R → Image → Policy → SchemesFile → OpenFault → Type 0) (keeps : L → Bool → Holdings → Type 0)
     (is_open : L → Type 0) where
   -- Any bytes, and any cause: what a file has, and what is typed, is known to nobody before it is read. A store keeps
   -- what the files held, before anything of it was taken; and after a run, what is left of it keeps. Honest is a base
@@ -28,7 +28,8 @@ module _ {B L R O : Type 0} (seen : B → Seen) (image : Image)
     breaks = ⊤;
     is_terminal = m.is_terminal;
     is_watched = m.is_watched;
-    keeps = λ path h. MatchOption m.left (FindsHoldings image h) (λ l. keeps l.value h);
+    keeps = λ path h. MatchOption m.left (FindsHoldings image h)
+        (λ l. MatchOption m.base ⊥ (λ base. keeps l.value (was_open base.value) h));
     bars = λ path policy file e. IsStoreOrMemory e ⊎ MatchOption m.refused ⊥ (λ r. bars r.value image policy file e);
     shows = λ _ _ _. ⊤;
     hides = λ _ _. ⊤;

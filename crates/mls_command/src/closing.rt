@@ -1,5 +1,5 @@
 //! Stores that are closed, and what their files keep then; and what comes back of those that are not opened.
-ghost use Rattle.std.specs.Prelude.{◌≡◌, ◌↔◌, false, IsErr};
+ghost use Rattle.std.specs.Prelude.{◌≡◌, ◌↔◌, Bool, false, IsErr};
 ghost use Rattle.mls_tables.specs.Store.{IsClean};
 ghost use Rattle.mls_tables.specs.declared.rows.MetaRow.{MetaRow};
 ghost use Rattle.mls_fragments.specs.Based.{state_of};
@@ -35,8 +35,8 @@ impl<D: Disk + Drop> Refused for Connection<FileStore<D>> {
 
 /// What is left of a store.
 pub trait Left {
-    // What it keeps.
-    ghost keeps: { Self → Holdings → Type 0 };
+    // What it keeps, by whether the connection was open that was to be closed.
+    ghost keeps: { Self → Bool → Holdings → Type 0 };
 
     // The store was not closed.
     ghost is_open: { Self → Type 0 };
@@ -50,7 +50,7 @@ pub struct LeftFiles<D: Disk + Drop> {
 }
 
 impl<D: Disk + Drop> Left for LeftFiles<D> {
-    ghost keeps = { λ l h. KeepIn D.Disk l.is_closed l.files h };
+    ghost keeps = { λ l is_open h. KeepIn D.Disk is_open l.is_closed l.files h };
 
     ghost is_open = { λ l. l.is_closed ≡ false };
 }
@@ -59,7 +59,8 @@ impl<D: Disk + Drop> Left for LeftFiles<D> {
 pub fn close<D: Disk + Drop>(store: SqlBase<FileStore<D>>) -> (Result<(), CloseFault>, LeftFiles<D>)
     requires idle { (state_of store).begun ≡ false }
     ensures kept { IsClean store.tables → (row : MetaRow)
-        × KeepIn D.Disk result.1.is_closed result.1.files (holdings_of row (state_of store).now) }
+        × KeepIn D.Disk store.tables.is_open result.1.is_closed result.1.files
+        (holdings_of row (state_of store).now) }
     ensures closed { (result.1.is_closed ≡ false) ↔ IsErr result.0 }
 {
     match store.close_files() {

@@ -1,5 +1,5 @@
 //! Files, the standard input and stores, as the program has them.
-ghost use Rattle.std.specs.Prelude.{◌≡◌, ◌↔◌, false, length, None, option_map, IfOk, IfErr, IfSome, IsErr};
+ghost use Rattle.std.specs.Prelude.{◌≡◌, ◌↔◌, Bool, false, length, None, option_map, IfOk, IfErr, IfSome, IsErr};
 ghost use Rattle.mls_scheme.specs.Scheme.{AreUnder};
 ghost use Rattle.mls_audit.specs.Sound.{IsSoundContent};
 ghost use Rattle.mls_tables.specs.declared.rows.MetaRow.{MetaRow};
@@ -31,6 +31,9 @@ pub trait Opens<B: Base, L: Left, R: Refused> {
     // The bytes of the store's files before it is opened.
     ghost image: { Image };
 
+    // Whether the connection of a base is open.
+    ghost was_open: { B → Bool };
+
     /// The base over the store at a path, which is made where there is none. An `Err` hands over what is given back of
     /// it.
     fn open(
@@ -50,8 +53,8 @@ pub trait Opens<B: Base, L: Left, R: Refused> {
     /// Closes the store of a base, and gives what is left of it.
     fn close(&self, store: B) -> (Result<(), CloseFault>, L)
         requires idle { (B.seen store).state.begun ≡ false }
-        ensures kept { (B.seen store).is_clean → (row : MetaRow) × L.keeps result.1 (holdings_of row
-            (B.seen store).state.now) }
+        ensures kept { (B.seen store).is_clean → (row : MetaRow) × L.keeps result.1 (was_open store)
+            (holdings_of row (B.seen store).state.now) }
         ensures closed { L.is_open result.1 ↔ IsErr result.0 };
 }
 
@@ -70,6 +73,8 @@ impl<'a, F: Start> Opens<
     ghost use Rattle.sqlite.specs.WalFiles.{image_at};
 
     ghost image = { image_at F.Start };
+
+    ghost was_open = { λ b. b.tables.is_open };
 
     fn open(
         &mut self,
@@ -161,7 +166,7 @@ impl<'a, B: Base, L: Left + Drop, R: Refused, O: Opens<B, L, R>> Machine<'a, B, 
 impl<'a, B: Base, L: Left + Drop, R: Refused, O: Opens<B, L, R>> Host for Machine<'a, B, L, R, O> {
     ghost use Rattle.mls_command.specs.AnsweringOver.{hosting};
 
-    ghost hosting = { hosting B.seen O.image R.bars L.keeps L.is_open };
+    ghost hosting = { hosting B.seen O.was_open O.image R.bars L.keeps L.is_open };
 
     type Store = B;
 

@@ -22,8 +22,8 @@ fn answer<B: Base, L: Left + Drop, R: Refused, O: Opens<B, L, R> + Drop, W: Writ
     out: &mut W,
     err: &mut Errors<E>,
 ) -> u8
-    ensures { IsAnsweredOver B.seen O.image R.bars L.keeps L.is_open machine.old machine.new (texts_of words.now)
-        (IsAppended W.contents out.old out.new) (IsTold E.contents err.old err.new) result }
+    ensures { IsAnsweredOver B.seen O.was_open O.image R.bars L.keeps L.is_open machine.old machine.new
+        (texts_of words.now) (IsAppended W.contents out.old out.new) (IsTold E.contents err.old err.new) result }
 {
     act(alloc, words, machine, out, err)
 }

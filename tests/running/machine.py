@@ -24,6 +24,8 @@ PLACES = {
     "/var/lib/mldb": "home", "/usr/local/bin": "bin", "/etc/sudoers.d": "sudoers.d", "/var/backups": "backups",
     "/etc/systemd/system": "units", "/run/mldb": "socket",
 }
+# What the gateway writes before a line.
+TIME = re.compile(r'\A"\d{4}-\d\d-\d\dT\d\d:\d\d:\d\dZ" ')
 PEOPLE = {"ann": 41001, "bob": 41002, "hal": 41003, "zoe": 41004, "j-smith": 41005}
 MLDB_UID = 41000
 
@@ -274,6 +276,11 @@ def try_page(checks, machine, page, is_tried=lambda command: True):
         child = machine.start(user, command, stdin=subprocess.DEVNULL, stderr=subprocess.STDOUT)
         checks.expect(f"{user}: {command}", child.communicate()[0], wanted)
     print(f"{page}: {len(steps)} commands")
+
+
+def untimed(line):
+    """A line without the time that the gateway writes before it."""
+    return TIME.sub("", line)
 
 
 def batch(name, rows):

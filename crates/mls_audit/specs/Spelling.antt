@@ -1,5 +1,6 @@
 -- Entries as bytes: each has one spelling.
-use Rattle.std.specs.Prelude.{◌≡◌, ⊤, ℕ, suc, ◌<◌, true, List, [], ◌∷◌, ◌++◌, length, Option, None, Some, IsUtf8, IfSome}
+use Rattle.std.specs.Prelude.{◌≡◌, ⊤, ℕ, suc, ◌<◌, true, List, [], ◌∷◌, ◌++◌, length, Option, None, Some, IsUtf8}
+use Rattle.std.specs.Prelude.{IfSome}
 use Rattle.mls_lattice.specs.Time.{is_time}
 use Rattle.mls_scheme.specs.declared.value.Value.{Value}
 use Rattle.mls_scheme.specs.Spelling as values

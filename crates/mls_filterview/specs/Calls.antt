@@ -1,5 +1,6 @@
 -- What every call over a base promises.
-use Rattle.std.specs.Prelude.{◌≡◌, ◌≢◌, ◌↔◌, ℕ, ◌<◌, ◌≤◌, Bool, true, false, ⊤, List, length, Option, None, IfSome, IfErr}
+use Rattle.std.specs.Prelude.{◌≡◌, ◌≢◌, ◌↔◌, ℕ, ◌<◌, ◌≤◌, Bool, true, false, ⊤, List, length, Option, None, IfSome}
+use Rattle.std.specs.Prelude.{IfErr}
 use Rattle.std.specs.Prelude.{OnOk, IsErrOf, Result, Err}
 use Rattle.std.specs.List.{AllByRecursion}
 use Rattle.std.specs.FinMap.{get}

@@ -72,7 +72,8 @@ has_below ls m (e ∷ es) fs = (not (below ls e.class m) || has_element_at e fs)
 -- the first of the tuples that is of class m and of the entity of t, if there is one, agrees with t
 abbrev pub agrees_with_first : Labels → Tuple → ℕ → List Tuple → Bool
 agrees_with_first ls t m [] = true
-agrees_with_first ls t m (s ∷ ss) = if is_of_class ls t m s then has_below ls m t.elements s.elements else agrees_with_first ls t m ss
+agrees_with_first ls t m (s ∷ ss) =
+    if is_of_class ls t m s then has_below ls m t.elements s.elements else agrees_with_first ls t m ss
 
 abbrev pub is_determined : Labels → List Tuple → ℕ → Bool
 is_determined ls ts i = not (list_any (has_same_class ls (row_at ts i)) (take i ts)) && all_classes

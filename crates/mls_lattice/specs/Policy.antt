@@ -1,5 +1,6 @@
 -- What a policy is: its version, levels, categories, labels and users, and the matrix of rights.
-use Rattle.std.specs.Prelude.{◌≡◌, ℕ, ◌<◌, ◌≤◌, Bool, true, ◌&&◌, List, [], ◌∷◌, map, length, if◌then◌else◌, nat_eq, flat_map}
+use Rattle.std.specs.Prelude.{◌≡◌, ℕ, ◌<◌, ◌≤◌, Bool, true, ◌&&◌, List, [], ◌∷◌, map, length, if◌then◌else◌, nat_eq}
+use Rattle.std.specs.Prelude.{flat_map}
 use Rattle.std.specs.Prelude.{IfSome, bytes_eq}
 use Rattle.std.specs.List.{AllByRecursion, IsDistinct}
 use Rattle.mls_lattice.specs.Lattice.{Pair, pair_of}

@@ -1,4 +1,4 @@
-use Rattle.std.proofs.Common.{◌≡◌, ◌<◌, ◌≤◌, ◌++◌, [], ◌∷◌, ℕ, List, length, get_or, take, arith, sym, ap, ◌∙◌, subst, take_all}
+use Rattle.std.proofs.Common.{◌<◌, ◌≤◌, ◌++◌, [], ◌∷◌, ℕ, List, length, get_or, take, arith, sym, ap, ◌∙◌, subst, take_all}
 use Rattle.mls_scheme.specs.Scheme.{Scheme}
 use Rattle.mls_scheme.specs.Extending.{scheme_before, schemes_before, AtMost}
 use Rattle.mls_scheme.proofs.OlderLemmas.{counts_few, count_there, before_more}

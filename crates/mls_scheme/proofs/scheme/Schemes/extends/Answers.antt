@@ -1,4 +1,4 @@
-use Rattle.std.proofs.Common.{◌≡◌, List, rules, subst}
+use Rattle.std.proofs.Common.{◌≡◌, rules, subst}
 use Rattle.mls_scheme.specs.Scheme.{Schemes}
 use Rattle.mls_scheme.specs.Extending.{AreLines}
 use Rattle.mls_scheme.proofs.ExtendingLemmas.{none_extended, some_has}

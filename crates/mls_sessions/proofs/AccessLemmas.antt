@@ -1,5 +1,5 @@
 -- What events read and change is what they may.
-use Rattle.std.proofs.Common.{◌≡◌, ℕ, ◌<◌, Bool, true, false, ◌&&◌, List, length, get_or, Option, Some, None, refl, sym, ap, ◌∙◌, subst, inl, inr, true≢false, IfSome}
+use Rattle.std.proofs.Common.{◌≡◌, ℕ, ◌<◌, Bool, true, false, ◌&&◌, List, length, get_or, Option, Some, None, sym, ap, ◌∙◌, subst, inl, inr, true≢false, IfSome}
 use Rattle.std.proofs.lemmas.Bool.{cases_Bool, false_from_ne_true}
 use Rattle.mls_lattice.specs.Labels.{Labels, below}
 use Rattle.mls_lattice.specs.Policy.{Name}
@@ -8,7 +8,7 @@ use Rattle.mls_scheme.specs.declared.value.Value.{Value}
 use Rattle.mls_filterview.specs.Content.{Seen}
 use Rattle.mls_filterview.specs.Calls.{Avoids, NoReadUp, NoWriteDown}
 use Rattle.mls_filterview.specs.View.{IsAmong}
-use Rattle.mls_filterview.proofs.AmongLemmas.{among_here}
+use Rattle.mls_filterview.proofs.AmongLemmas.{among_here, none_of}
 use Rattle.mls_certcheck.specs.declared.certified.Certified.{Certified as Checked}
 use Rattle.mls_certcheck.specs.declared.stored.Stored.{Stored}
 use Rattle.mls_certcheck.specs.declared.stored.Stored.TheVariants.{Certified}
@@ -19,10 +19,11 @@ use Rattle.mls_translang.specs.declared.event.Event.{Event}
 use Rattle.mls_translang.specs.declared.event.Command.{Command}
 use Rattle.mls_translang.specs.declared.event.Command.TheVariants as commands
 use Rattle.mls_translang.specs.declared.event.One.{One}
+use Rattle.mls_translang.specs.declared.event.One.TheVariants as ones
 use Rattle.mls_translang.specs.declared.query.Query.{Query}
 use Rattle.mls_machine.specs.Denying.{first_denial, stored_named, call_denial, call_denials}
 use Rattle.mls_machine.proofs.DenyingLemmas.{may_run}
-use Rattle.mls_sessions.specs.Access.{run_may_read, run_may_change, may_read, may_change, IsPermitted, ArePermitted}
+use Rattle.mls_sessions.specs.Access.{run_may_read, run_may_change, one_may_read, one_may_change, may_read, may_change, IsOnePermitted, IsBatchPermitted, IsPermitted, ArePermitted}
 use Rattle.mls_sessions.specs.Denying.{denial_in}
 use Rattle.mls_sessions.specs.Turns.{is_write}
 use Rattle.mls_sessions.proofs.CallLemmas.{call_allowed}
@@ -37,6 +38,45 @@ found_rules site name k certified is = subst (λ o. IfSome o (IsCertifiedUnder s
 -- what is not both is not the one that makes the other
 one_false : (a b : Bool) → (a ≡ true → b ≡ true) → (a && b) ≡ false → a ≡ false
 one_false a b h none = false_from_ne_true a (λ t. true≢false (sym (λ i. t i && h t i) ∙ none))
+
+-- ---- the commands of a batch
+
+module _ {B : Type 0} (seen : B → Seen) (a b : B) (ls : Labels) (level : ℕ) (one : One) where
+  abbrev May : One → Type 0
+  May it = IsOnePermitted seen ls level it a b
+
+  pub view_in_permitted : (relation label : ℕ) (query : Query) (counts : Bool)
+      → one ≡ ones.View relation label query counts → below ls label level ≡ true → NoReadUp seen ls label a b
+      → May one
+  view_in_permitted relation label query counts is low k =
+      let h : May (ones.View relation label query counts) = record {
+        reads = λ m u. k.reads m (one_false _ _ (λ t. below-trans ls m label level t low) u);
+        changes = λ m u. k.changes m tt;
+      } in
+      subst May (sym is) h
+
+  pub expect_permitted : (expected relation label : ℕ) (query : Query)
+      → one ≡ ones.Expect expected relation label query → below ls label level ≡ true → NoReadUp seen ls label a b
+      → May one
+  expect_permitted expected relation label query is low k =
+      let h : May (ones.Expect expected relation label query) = record {
+        reads = λ m u. k.reads m (one_false _ _ (λ t. below-trans ls m label level t low) u);
+        changes = λ m u. k.changes m tt;
+      } in
+      subst May (sym is) h
+
+  -- as one of them may, all may
+  pub batch_has : (batch : List One) (i : ℕ) → i < length batch → one ≡ get_or batch i one → May one
+      → IsBatchPermitted seen ls level batch a b
+  batch_has batch i within is h = record {
+    reads = λ m out. h.reads m (none_of (λ x. one_may_read ls level x m) batch out one here);
+    changes = λ m out. h.changes m (none_of (λ x. one_may_change ls level x m) batch out one here);
+  }
+    where
+      here : IsAmong one batch
+      here = subst (λ x. IsAmong x batch) (sym is) (among_here batch i one within)
+
+-- ---- commands
 
 module _ {B : Type 0} (seen : B → Seen) (a b : B) (site : Site) (level : ℕ) where
   abbrev labels : Labels
@@ -59,7 +99,7 @@ module _ {B : Type 0} (seen : B → Seen) (a b : B) (site : Site) (level : ℕ) 
   write_permitted (commands.Write relation wr) h k = k
 
   pub batch_permitted : (command : Command) (batch : List One) → command ≡ commands.All batch
-      → NoWriteDown seen labels level level a b → Permits command
+      → IsBatchPermitted seen labels level batch a b → Permits command
   batch_permitted command batch is k = subst Permits (sym is) k
 
   pub dump_permitted : (command : Command) (relation : ℕ) → command ≡ commands.Dump relation

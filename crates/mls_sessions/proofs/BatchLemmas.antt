@@ -3,13 +3,10 @@ use Rattle.std.proofs.Common.{◌≡◌, ℕ, ◌+◌, ◌<◌, ◌≤◌, Bool,
 use Rattle.std.specs.List.{AllByRecursion}
 use Rattle.std.proofs.lemmas.List.{drop_more, drop_all}
 use Rattle.mls_lattice.specs.Labels.{below, AreDistinct}
-use Rattle.mls_lattice.proofs.LatticeLemmas.{below-refl}
 use Rattle.mls_scheme.specs.declared.tuple.Tuple.{Tuple}
 use Rattle.mls_scheme.specs.Table.{Database}
-use Rattle.mls_filterview.specs.Content.{Seen, Content, State, begun_change}
-use Rattle.mls_filterview.specs.Calls.{NoReadUp, NoWriteDown}
+use Rattle.mls_filterview.specs.Content.{Content, State, begun_change}
 use Rattle.mls_filterview.specs.View.{rows}
-use Rattle.mls_filterview.proofs.AccessLemmas.{low_reads_no_down, no_down_wider}
 use Rattle.mls_audit.specs.Sound.{IsSoundContent}
 use Rattle.mls_audit.specs.Spelling.{IsEntryOf}
 use Rattle.mls_updates.specs.declared.outcome.Outcome.{Outcome}
@@ -86,13 +83,6 @@ module _ (site : Site) (level : ℕ) (one : One) where
               (becomes ∙ ap (λ n. cond (nat_eq n expected) Done Unexpected) counted),
           same,
         )
-
-pub look_permitted : {B : Type 0} (seen : B → Seen) (site : Site) (level label : ℕ) (a b : B)
-    → below (site_labels site) label level ≡ true → NoReadUp seen (site_labels site) label a b
-    → NoWriteDown seen (site_labels site) level level a b
-look_permitted seen site level label a b low h =
-    let ls = site_labels site in
-    no_down_wider ls label level level level low (below-refl ls level) (low_reads_no_down ls label level h)
 
 -- ---- one command
 

@@ -11,6 +11,7 @@ ghost use Rattle.mls_queries.specs.Views.{AreViews};
 ghost use Rattle.mls_translang.specs.declared.event.One.TheVariants as ones;
 ghost use Rattle.mls_machine.specs.Known.{HasKnownNumbers};
 ghost use Rattle.mls_machine.specs.Machine.{refusal_of, did_one, did_all, did};
+ghost use Rattle.mls_sessions.specs.Access.{IsOnePermitted, IsBatchPermitted};
 ghost use Rattle.mls_sessions.specs.Sessions.{site_of_run};
 ghost use Rattle.mls_sessions.specs.Batches.{MayDoOne, MayDoAll, IsOneDone, HaveEnded, is_undone, IsOver};
 ghost use Rattle.mls_sessions.specs.Turns.{Steps, IsStepOver, EndsChange, IsOpen, HasAnswered};
@@ -115,7 +116,7 @@ fn do_one<B: Base>(
     requires found { IsOpen B.seen (site_of_run site.now) true base.old views.old }
     requires may { MayDoOne (site_of_run site.now) level one.now }
     ensures step { Steps B.seen base.old base.new result }
-    ensures access { NoWriteDown B.seen (labels_of site.now.policy.now) level level base.old base.new }
+    ensures access { IsOnePermitted B.seen (labels_of site.now.policy.now) level one.now base.old base.new }
     ensures done { (B.seen base.new).is_clean → IfOk result (IsOneDone
         (did_one (site_of_run site.now) level one.now (B.seen base.old).state.now.db)
         (B.seen base.old).state.now (B.seen base.new).state.now) }
@@ -167,7 +168,7 @@ fn do_all<B: Base>(
     requires found { IsOpen B.seen (site_of_run site.now) true base.old views.old }
     requires may { MayDoAll (site_of_run site.now) level batch.now }
     ensures step { Steps B.seen base.old base.new result }
-    ensures access { NoWriteDown B.seen (labels_of site.now.policy.now) level level base.old base.new }
+    ensures access { IsBatchPermitted B.seen (labels_of site.now.policy.now) level batch.now base.old base.new }
     ensures done { (B.seen base.new).is_clean → IfOk result (HaveEnded
         (did_all (site_of_run site.now) level [] batch.now (B.seen base.old).state.now.db)
         (B.seen base.old).state.now (B.seen base.new).state.now) }
@@ -219,7 +220,7 @@ fn carry_out<B: Base>(
     requires found { IsOpen B.seen (site_of_run site.now) false base.old views.old }
     requires may { MayDoAll (site_of_run site.now) level batch.now }
     ensures over { EndsChange B.seen base.old base.new result }
-    ensures access { NoWriteDown B.seen (labels_of site.now.policy.now) level level base.old base.new }
+    ensures access { IsBatchPermitted B.seen (labels_of site.now.policy.now) level batch.now base.old base.new }
     ensures done { (B.seen base.new).is_clean → IfOk result (IsStepOver (site_of_run site.now)
         (λ w. did (site_of_run site.now) w level batch.now) (B.seen base.old).state.now (B.seen base.new).state.now) }
     ensures known { IfOk result (HasKnownNumbers site.now.policy.now) }
@@ -245,7 +246,7 @@ pub(crate) fn do_batch<B: Base>(
     requires may { MayDoAll (site_of_run site.now) level batch.now }
     ensures answered { HasAnswered B.seen (site_of_run site.now)
         (λ w. did (site_of_run site.now) w level batch.now) base.old base.new result }
-    ensures access { NoWriteDown B.seen (labels_of site.now.policy.now) level level base.old base.new }
+    ensures access { IsBatchPermitted B.seen (labels_of site.now.policy.now) level batch.now base.old base.new }
     ensures views { AreViews site.now.policy.now B.seen base.new views.new }
 {
     let result = carry_out(site, base, views, level, batch);

@@ -3,6 +3,7 @@ use Rattle.std.proofs.lemmas.List.{length_push}
 use Rattle.mls_lattice.proofs.EachLemmas.{all_at}
 use Rattle.mls_filterview.specs.Content.{Content}
 use Rattle.mls_filterview.proofs.AccessLemmas.{avoids_then, avoids_some, avoids_same}
+use Rattle.mls_certcheck.specs.Site.{site_labels}
 use Rattle.mls_audit.specs.Sound.{IsSoundContent}
 use Rattle.mls_queries.specs.Views.{AreViews}
 use Rattle.mls_machine.specs.declared.reply.Answer.{Answer}
@@ -10,6 +11,7 @@ use Rattle.mls_machine.specs.declared.reply.Reply.TheVariants.{Did}
 use Rattle.mls_machine.specs.Machine.{did_all}
 use Rattle.mls_sessions.specs.Batches.{MayDoOne}
 use Rattle.mls_sessions.specs.Sessions.{site_of_run}
+use Rattle.mls_sessions.proofs.AccessLemmas.{batch_has}
 use Rattle.mls_sessions.proofs.BatchLemmas.{rest_more, undone_at, none_refused, all_done}
 use Rattle.mls_sessions.proofs.GoingLemmas.{goes_nowhere, goes_then, goes_well, goes_on_by, goes_out, goes_back, settled_goes}
 use Rattle.mls_sessions.proofs.batch.do_all.Goals as goal
@@ -55,7 +57,9 @@ loop-place-preserved g c =
     record {
       goes_on = goes_on_by seen a e _ (goes_then seen a d e _ c.requires.found.mode on
           (settled_goes seen d e _ on.mode kept.call kept.served kept.same));
-      access = avoids_then (avoids_then inv.access one.access) (avoids_some kept.access);
+      access = avoids_then (avoids_then inv.access (batch_has seen b d (site_labels site) c.args.level
+          c.index-batch-place.result c.args.batch.now c.loop-place.place c.loop-place-test.true c.index-batch-place.is
+          one.access)) (avoids_some kept.access);
       audit = λ h.
           let k = kept.call.clean h in
           ap (λ x. (seen x).state.now.audit) kept.same ∙ ap (λ (x : Content). x.audit) (one.done k).1
@@ -85,7 +89,9 @@ returns-in_err-answer-clause-step g c =
 
 pub returns-in_err-answer-clause-access : goal.returns-in_err-answer-clause-access
 returns-in_err-answer-clause-access g c =
-    avoids_then c.loop-place.invariant.access c.in_err-answer.ensures.access
+    avoids_then c.loop-place.invariant.access (batch_has g.B.Base.seen c.loop-place.base c.do_one.new.base
+    (site_labels (site_of_run c.args.site.now)) c.args.level c.index-batch-place.result c.args.batch.now
+    c.loop-place.place c.loop-place-test.true c.index-batch-place.is c.in_err-answer.ensures.access)
 
 pub returns-in-Some-clause-step : goal.returns-in-Some-clause-step
 returns-in-Some-clause-step g c =
@@ -96,7 +102,9 @@ returns-in-Some-clause-step g c =
     c.loop-place.invariant.goes_on c.in_ok-answer.ensures.step)
 
 pub returns-in-Some-clause-access : goal.returns-in-Some-clause-access
-returns-in-Some-clause-access g c = avoids_then c.loop-place.invariant.access c.in_ok-answer.ensures.access
+returns-in-Some-clause-access g c = avoids_then c.loop-place.invariant.access (batch_has g.B.Base.seen c.loop-place.base c.do_one.new.base
+    (site_labels (site_of_run c.args.site.now)) c.args.level c.index-batch-place.result c.args.batch.now
+    c.loop-place.place c.loop-place-test.true c.index-batch-place.is c.in_ok-answer.ensures.access)
 
 pub returns-in-Some-clause-done : goal.returns-in-Some-clause-done
 returns-in-Some-clause-done g c = λ h.
@@ -129,7 +137,9 @@ returns-in_err-settle-clause-step g c =
 
 pub returns-in_err-settle-clause-access : goal.returns-in_err-settle-clause-access
 returns-in_err-settle-clause-access g c =
-    avoids_then (avoids_then c.loop-place.invariant.access c.in_ok-answer.ensures.access)
+    avoids_then (avoids_then c.loop-place.invariant.access (batch_has g.B.Base.seen c.loop-place.base c.do_one.new.base
+    (site_labels (site_of_run c.args.site.now)) c.args.level c.index-batch-place.result c.args.batch.now
+    c.loop-place.place c.loop-place-test.true c.index-batch-place.is c.in_ok-answer.ensures.access))
     (avoids_some c.in_err-settle.ensures.access)
 
 pub returns-clause-step : goal.returns-clause-step

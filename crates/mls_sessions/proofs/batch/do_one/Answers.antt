@@ -1,10 +1,13 @@
 use Rattle.std.proofs.Common.{Ok, Err, IfOk, ap, sym, subst, rules}
 use Rattle.mls_filterview.specs.Content.{State}
 use Rattle.mls_audit.specs.Sound.{IsSoundContent}
+use Rattle.mls_certcheck.specs.Site.{site_labels}
 use Rattle.mls_machine.specs.Machine.{did_one}
+use Rattle.mls_sessions.specs.Access.{IsOnePermitted}
 use Rattle.mls_sessions.specs.Batches.{MayDoOne, IsOneDone}
 use Rattle.mls_sessions.specs.Sessions.{site_of_run}
-use Rattle.mls_sessions.proofs.BatchLemmas.{view_may, expect_may, view_done, expect_done, look_permitted}
+use Rattle.mls_sessions.proofs.AccessLemmas.{view_in_permitted, expect_permitted}
+use Rattle.mls_sessions.proofs.BatchLemmas.{view_may, expect_may, view_done, expect_done}
 use Rattle.mls_sessions.proofs.GoingLemmas.{goes_well, goes_back, read_goes}
 use Rattle.mls_sessions.proofs.batch.do_one.Goals as goal
 
@@ -27,7 +30,8 @@ pub returns-in_err-rows-in-View-clause-access : goal.returns-in_err-rows-in-View
 returns-in_err-rows-in-View-clause-access g c =
     let site = site_of_run c.args.site.now in
     let may = view_may site c.args.level c.args.one.now c.requires.may c.in-View.relation c.in-View.label c.in-View.query c.in-View.counts c.in-View.is in
-    look_permitted g.B.Base.seen site c.args.level c.in-View.label c.args.base.now c.found_by.new.base may.low c.in_err-rows-in-View.ensures.access
+    view_in_permitted g.B.Base.seen c.args.base.now c.found_by.new.base (site_labels site) c.args.level c.args.one.now c.in-View.relation c.in-View.label c.in-View.query c.in-View.counts c.in-View.is may.low
+    c.in_err-rows-in-View.ensures.access
 
 pub returns-in_ok-rows-in-View-clause-step : goal.returns-in_ok-rows-in-View-clause-step
 returns-in_ok-rows-in-View-clause-step g c =
@@ -39,7 +43,8 @@ pub returns-in_ok-rows-in-View-clause-access : goal.returns-in_ok-rows-in-View-c
 returns-in_ok-rows-in-View-clause-access g c =
     let site = site_of_run c.args.site.now in
     let may = view_may site c.args.level c.args.one.now c.requires.may c.in-View.relation c.in-View.label c.in-View.query c.in-View.counts c.in-View.is in
-    look_permitted g.B.Base.seen site c.args.level c.in-View.label c.args.base.now c.found_by.new.base may.low c.in_ok-rows-in-View.ensures.access
+    view_in_permitted g.B.Base.seen c.args.base.now c.found_by.new.base (site_labels site) c.args.level c.args.one.now c.in-View.relation c.in-View.label c.in-View.query c.in-View.counts c.in-View.is may.low
+    c.in_ok-rows-in-View.ensures.access
 
 pub returns-in_ok-rows-in-View-clause-done : goal.returns-in_ok-rows-in-View-clause-done
 returns-in_ok-rows-in-View-clause-done g c = λ clean.
@@ -74,7 +79,8 @@ pub returns-in_err-there-in-Expect-clause-access : goal.returns-in_err-there-in-
 returns-in_err-there-in-Expect-clause-access g c =
     let site = site_of_run c.args.site.now in
     let may = expect_may site c.args.level c.args.one.now c.requires.may c.in-Expect.rows c.in-Expect.relation c.in-Expect.label c.in-Expect.query c.in-Expect.is in
-    look_permitted g.B.Base.seen site c.args.level c.in-Expect.label c.args.base.now c.found_by-in-Expect.new.base may.low c.in_err-there-in-Expect.ensures.access
+    expect_permitted g.B.Base.seen c.args.base.now c.found_by-in-Expect.new.base (site_labels site) c.args.level c.args.one.now c.in-Expect.rows c.in-Expect.relation c.in-Expect.label c.in-Expect.query c.in-Expect.is may.low
+    c.in_err-there-in-Expect.ensures.access
 
 pub returns-in_ok-there-in-Expect-clause-step : goal.returns-in_ok-there-in-Expect-clause-step
 returns-in_ok-there-in-Expect-clause-step g c =
@@ -86,7 +92,8 @@ pub returns-in_ok-there-in-Expect-clause-access : goal.returns-in_ok-there-in-Ex
 returns-in_ok-there-in-Expect-clause-access g c =
     let site = site_of_run c.args.site.now in
     let may = expect_may site c.args.level c.args.one.now c.requires.may c.in-Expect.rows c.in-Expect.relation c.in-Expect.label c.in-Expect.query c.in-Expect.is in
-    look_permitted g.B.Base.seen site c.args.level c.in-Expect.label c.args.base.now c.found_by-in-Expect.new.base may.low c.in_ok-there-in-Expect.ensures.access
+    expect_permitted g.B.Base.seen c.args.base.now c.found_by-in-Expect.new.base (site_labels site) c.args.level c.args.one.now c.in-Expect.rows c.in-Expect.relation c.in-Expect.label c.in-Expect.query c.in-Expect.is may.low
+    c.in_ok-there-in-Expect.ensures.access
 
 pub returns-in_ok-there-in-Expect-clause-done : goal.returns-in_ok-there-in-Expect-clause-done
 returns-in_ok-there-in-Expect-clause-done g c = λ clean.
@@ -104,6 +111,12 @@ returns-in_ok-there-in-Expect-clause-sound g c = λ clean.
 
 pub write-requires-clause-may : goal.write-requires-clause-may
 write-requires-clause-may g c = subst (MayDoOne (site_of_run c.args.site.now) c.args.level) c.in-Write.is c.requires.may
+
+pub returns-in-Write-clause-access : goal.returns-in-Write-clause-access
+returns-in-Write-clause-access g c =
+    let ls = site_labels (site_of_run c.args.site.now) in
+    subst (λ one. IsOnePermitted g.B.Base.seen ls c.args.level one c.args.base.now c.write.new.base) (sym c.in-Write.is)
+    c.write.ensures.access
 
 pub returns-in-Write-clause-done : goal.returns-in-Write-clause-done
 returns-in-Write-clause-done g c = λ clean.

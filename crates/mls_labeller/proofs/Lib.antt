@@ -1,3 +1,4 @@
+pub mod BitsLemmas
 pub mod CountLemmas
 pub mod ValueLemmas
 pub mod WalkLemmas

@@ -5,3 +5,4 @@ pub mod Fault
 pub mod Rising
 pub mod Ranges
 pub mod Releases
+pub mod Bits

@@ -1,5 +1,6 @@
 -- What lists of items runs can release, where a range is told of each release, in the order of the text.
-use Rattle.std.specs.Prelude.{◌≡◌, ◌⊎◌, ℕ, zero, suc, ◌+◌, ◌*◌, ◌<◌, ◌≤◌, Bool, true, false, if◌then◌else◌, List, [], ◌∷◌, ◌++◌, length, Option}
+use Rattle.std.specs.Prelude.{◌≡◌, ◌⊎◌, ℕ, zero, suc, ◌+◌, ◌*◌, ◌<◌, ◌≤◌, Bool, true, false, if◌then◌else◌, List}
+use Rattle.std.specs.Prelude.{[], ◌∷◌, ◌++◌, length, Option}
 use Rattle.std.specs.Prelude.{Contains}
 use Rattle.mls_lattice.specs.Labels.{Labels}
 use Rattle.mls_lattice.specs.Policy.{Policy, labels_of}

@@ -1,4 +1,6 @@
 //! What is told to people of the releases of a transaction.
+ghost use Rattle.std.specs.Prelude.{◌≡◌, ◌<◌, option_map, string_bytes, IfOk};
+ghost use Rattle.mls_labeller.specs.Bits.{HasBits, bits_text, SaysBits, SaysRelease, SaysWhole};
 
 use crate::range::Range;
 use crate::told::{Releases, Told};
@@ -47,20 +49,34 @@ fn parts_of(alloc: Global, range: &Range, kind: Kind) -> Result<Vec<String>, All
     Ok(parts)
 }
 
-/// Adds how many bits so many values are, in words.
-fn bits_to(text: &mut String, count: u64) -> Result<(), AllocError> {
-    let bits = 64u32.saturating_sub(count.saturating_sub(1).leading_zeros());
+/// How many bits tell so many values apart.
+fn bits_of(count: u64) -> u32
+    ensures { HasBits count result }
+{
+    64u32.saturating_sub(count.saturating_sub(1).leading_zeros())
+}
+
+/// How many bits so many values are, in words.
+#[tactic(auto, unfolding(crate::specs::Bits::bits_text))]
+fn bits_words(alloc: Global, bits: u32) -> Result<String, AllocError>
+    ensures { IfOk result (λ s. string_bytes s ≡ bits_text bits) }
+{
     match bits {
-        0 => text.push_str("nothing"),
-        1 => text.push_str("one bit"),
-        _ => write!(text, "{bits} bits"),
+        0 => String::from_str(alloc, "nothing"),
+        1 => String::from_str(alloc, "one bit"),
+        _ => format!(in alloc; "{bits} bits"),
     }
 }
 
-/// What is told of a release into a variable of a kind: its values, and how much they tell by one call or, in a loop,
-/// each time. Of a
-/// range too large to be counted, that is left out.
-pub fn words(alloc: Global, told: &Told, kind: Kind) -> Result<String, AllocError> {
+/// The same of so many values.
+fn says(alloc: Global, count: u64) -> Result<String, AllocError>
+    ensures { IfOk result (λ s. SaysBits count (string_bytes s)) }
+{
+    bits_words(alloc, bits_of(count))
+}
+
+/// The values of a release into a variable of a kind, in words.
+fn values_of(alloc: Global, told: &Told, kind: Kind) -> Result<String, AllocError> {
     let mut text = String::new(alloc);
     let parts = parts_of(alloc, &told.range, kind)?;
     for (place, part) in parts.iter().enumerate() {
@@ -70,22 +86,32 @@ pub fn words(alloc: Global, told: &Told, kind: Kind) -> Result<String, AllocErro
         }
         text.push_str(part)?;
     }
+    Ok(text)
+}
+
+/// What is told of a release into a variable of a kind: its values, and how much they tell by one call or, in a loop,
+/// each time. Of a
+/// range too large to be counted, that is left out.
+pub fn words(alloc: Global, told: &Told, kind: Kind) -> Result<String, AllocError>
+    ensures { IfOk result (λ s. SaysRelease told.now (string_bytes s)) }
+{
+    let mut text = values_of(alloc, told, kind)?;
     let count = told.range.count();
     if count < u64::MAX {
-        text.push_str(" (")?;
-        bits_to(&mut text, count)?;
-        text.push_str(if told.looped { ")" } else { " a call)" })?;
+        let says = says(alloc, count)?;
+        let end = if told.looped { ")" } else { " a call)" };
+        write!(text, " ({says}{end}")?;
     }
     Ok(text)
 }
 
 /// How much a call of a transaction tells as a whole, where it has several releases and none in a loop.
-pub fn whole(alloc: Global, releases: &Releases) -> Result<Option<String>, AllocError> {
+pub fn whole(alloc: Global, releases: &Releases) -> Result<Option<String>, AllocError>
+    ensures { IfOk result (λ o. SaysWhole releases.now (option_map string_bytes o)) }
+{
     if releases.told.len() < 2 || releases.lists == u64::MAX {
         return Ok(None);
     }
-    let mut text = String::new(alloc);
-    bits_to(&mut text, releases.lists)?;
-    text.push_str(" a call at most")?;
-    Ok(Some(text))
+    let says = says(alloc, releases.lists)?;
+    Ok(Some(format!(in alloc; "{says} a call at most")?))
 }

@@ -1,6 +1,8 @@
 -- What is told of a transaction: lines with numbers, names of labels, and lines of things in order.
 use Rattle.std.proofs.Common.{◌≡◌, ℕ, ◌+◌, ◌-◌, ◌<◌, ◌≤◌, ◌^◌, Bool, true, false, List, [], ◌∷◌, ◌++◌, length, refl, sym, ap, subst, ◌∙◌, take, drop, get_or, map, arith, append-nil, append_assoc, drop-cons, add-one, Bor, Option, codes, if◌then◌else◌, flat_map, decimal}
 use Rattle.std.specs.List.{concat, enumerate_from, AllZip}
+use Rattle.std.specs.Prelude.{Contains}
+use Rattle.std.proofs.SliceLists.{all_by_recursion_push}
 use Rattle.std.specs.Fmt.{padded_integral, format_spec, styled_decimal}
 use Rattle.std.proofs.lemmas.List.{drop_all, map_more, take_more, flat_map_more, get_or-map}
 use Rattle.std.proofs.lemmas.List.Folds.{concat-append}
@@ -12,7 +14,8 @@ use Rattle.mls_lattice.specs.Labels.{label_of}
 use Rattle.mls_lattice.specs.Canon.{label_name}
 use Rattle.mls_lattice.specs.Policy.{Named, Policy, labels_of}
 use Rattle.mls_lattice.specs.declared.label.Label.{Label}
-use Rattle.mls_explain.specs.Telling.{is_named, four, shown, IsListing}
+use Rattle.mls_labeller.specs.declared.told.Told.{Told}
+use Rattle.mls_explain.specs.Telling.{is_named, four, shown, IsListing, TellsOne, TellsEach}
 
 pub four_written : {s : _} (n : ℕ) → s ≡ format_spec 32 3 0 4 (2 ^ 64 - 1) → styled_decimal s n ≡ four n
 unfolding four
@@ -36,6 +39,16 @@ listing_more lines i d n old new within h is =
           (sym (map_more (λ x. x.now) lines i d within)) all,
       is ∙ ap (λ t. t ++ part) h.2 ∙ sym (concat-append h.0 (part ∷ []) ∙ ap (λ t. concat h.0 ++ t) (append-nil part)),
     )
+
+-- one release more
+pub tells_more : (told : List Told) (release : Told) → Contains told release → (old line new : List ℕ)
+    → TellsEach told old → TellsOne release line → new ≡ old ++ line → TellsEach told new
+tells_more told release has old line new h one is = (
+  h.0 ++ line ∷ [],
+  all_by_recursion_push (λ l. (r : Told) × Contains told r × TellsOne r l) h.0 line h.1 (release, has, one),
+  is ∙ ap (λ t. t ++ line) h.2
+      ∙ sym (concat-append h.0 (line ∷ []) ∙ ap (λ t. concat h.0 ++ t) (append-nil line)),
+)
 
 -- what is added twice
 pub joined : (start a b : List ℕ) {mid end : List ℕ} → mid ≡ start ++ a → end ≡ mid ++ b → end ≡ start ++ (a ++ b)

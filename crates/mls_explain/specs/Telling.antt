@@ -2,8 +2,8 @@
 -- any advice.
 use Rattle.std.specs.Prelude.{◌≡◌, ℕ, ◌+◌, ◌-◌, Bool, true, false, if◌then◌else◌, List, [], ◌∷◌, ◌++◌, length}
 use Rattle.std.specs.Prelude.{replicate, codes, slice_get, string_bytes, Option, None, Some, option_map, unwrap_or}
-use Rattle.std.specs.Prelude.{flat_map, decimal}
-use Rattle.std.specs.List.{concat, enumerate_from, AllZip}
+use Rattle.std.specs.Prelude.{flat_map, decimal, Contains, ⊤}
+use Rattle.std.specs.List.{concat, enumerate_from, AllZip, AllByRecursion}
 use Rattle.std.specs.Str.Lossy.{utf8_lossy}
 use Rattle.std.specs.Str.Lines.{lines}
 use Rattle.mls_lattice.specs.Lattice.{Pair, ◌⊑◌, same_pair, pair_of}
@@ -17,6 +17,9 @@ use Rattle.mls_certcheck.specs.declared.cert.Certificate.{Certificate}
 use Rattle.mls_certcheck.specs.declared.cert.Certificate.TheVariants.{One, Two}
 use Rattle.mls_certcheck.specs.declared.refusal.Rule.{Rule}
 use Rattle.mls_certcheck.specs.Refusal.{text_of}
+use Rattle.mls_labeller.specs.declared.told.Told.{Told}
+use Rattle.mls_labeller.specs.declared.told.Releases.{Releases}
+use Rattle.mls_labeller.specs.Bits.{SaysRelease, SaysWhole, AreReleases}
 use Rattle.mls_explain.specs.declared.labelling.Labelling.{Labelling}
 use Rattle.mls_explain.specs.declared.labelling.Labelling.TheVariants.{Labelled, Refused}
 use Rattle.mls_explain.specs.declared.explaining.Explained.{Explained}
@@ -95,12 +98,58 @@ IsListing ls text =
     (parts : List (List ℕ)) × AllZip (λ line part. (n : Option ℕ) × (part ≡ shown n line)) ls parts
     × (text ≡ concat parts)
 
+-- ---- what is released
+
+-- of a release, to a label, in these words, and in which loops
+abbrev pub release_line : ℕ → List ℕ → List ℕ → List ℕ → List ℕ
+release_line number label words loops =
+    four number ++ (codes "  releases to " ++ label ++ codes ": " ++ words ++ loops ++ codes "\n")
+
+-- the words say how many bits it tells
+pub record TellsOne (release : Told) (line : List ℕ) : Type 0 where
+  pub number : ℕ
+  pub label : List ℕ
+  pub words : List ℕ
+  pub loops : List ℕ
+  pub line_is : line ≡ release_line number label words loops
+  pub says : SaysRelease release words
+
+-- lines that each tell one of these
+abbrev pub AreLinesOf : List Told → List (List ℕ) → Type 0
+AreLinesOf told = AllByRecursion (λ line. (release : Told) × Contains told release × TellsOne release line)
+
+abbrev pub TellsEach : List Told → List ℕ → Type 0
+TellsEach told text = (each : List (List ℕ)) × AreLinesOf told each × (text ≡ concat each)
+
+abbrev pub whole_line : List ℕ → List ℕ
+whole_line words = codes "      all releases: " ++ words ++ codes "\n"
+
+-- each of them, and then, where there are several, how much a call tells
+pub record TellsReleases (releases : Releases) (text : List ℕ) : Type 0 where
+  pub each : List ℕ
+  pub tells : TellsEach releases.told each
+  pub whole : Option (List ℕ)
+  pub says : SaysWhole releases whole
+  pub text_is : text ≡ each ++ unwrap_or (option_map whole_line whole) []
+
+-- what is told of what a labelled transaction releases
+abbrev pub TellsTx : Tx → List ℕ → Type 0
+TellsTx tx text = (releases : Releases) × AreReleases tx releases × TellsReleases releases text
+
+-- of a refused one it is any advice
+abbrev pub Advises : Tx → Labelling → List ℕ → Type 0
+Advises tx (Labelled cert) text = TellsTx tx text
+Advises tx (Refused stmt rule chain) text = ⊤
+
+-- ---- the text
+
 pub record TellsLabelling (p : Policy) (schemes : Schemes) (tx : Tx) (labelling : Labelling)
     (text : List ℕ) : Type 0 where
   pub listing : List ℕ
   pub lists : IsListing (lines (utf8_lossy (printed p schemes tx))) listing
   pub advice : List ℕ
   pub text_is : text ≡ listing ++ head p tx labelling ++ advice
+  pub advises : Advises tx labelling advice
 
 -- what came of a transaction, and a text that tells it
 abbrev pub IsExplanation : Policy → Schemes → Tx → Explained → Type 0

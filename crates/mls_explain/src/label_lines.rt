@@ -1,7 +1,8 @@
 //! The lines of least labels, of a refusal, and of what is released.
-ghost use Rattle.std.specs.Prelude.{◌≡◌, ◌++◌, ◌+◌, ◌<◌, ◌^◌, [], slice_get, string_bytes, OnOk, unwrap_or};
+ghost use Rattle.std.specs.Prelude.{◌≡◌, ◌++◌, ◌+◌, ◌<◌, ◌^◌, [], slice_get, string_bytes, IfOk, OnOk, unwrap_or};
 ghost use Rattle.mls_explain.specs.Telling.{variable_line, variable_lines, at_line, statement_lines, label_lines};
-ghost use Rattle.mls_explain.specs.Telling.{refused_front, refused_line, head};
+ghost use Rattle.mls_explain.specs.Telling.{refused_front, refused_line, head, release_line};
+ghost use Rattle.mls_explain.specs.Telling.{TellsOne, TellsEach, TellsTx};
 
 use crate::labelling::Labelling;
 use crate::naming::words_of;
@@ -11,6 +12,7 @@ use mls_certcheck::{Certificate, Rule};
 use mls_labeller::{Told as Release, ranges_of, whole, words};
 use mls_lattice::{Items, Label};
 use mls_translang::Stmt;
+use std::alloc::AllocError;
 
 /// The labels of the variables after a statement, where there are rows of them.
 fn row_after(rows: &[Items<Label>], place: usize) -> &[Label]
@@ -36,6 +38,15 @@ fn refused_to(text: &mut String, name: &str, stmt: usize, rule: Rule) -> Told
     refused_front_to(text, name)?;
     let rule = rule.text();
     writeln!(text, "{stmt} {rule}")
+}
+
+/// Adds the line of a release to a label.
+fn release_to(text: &mut String, number: usize, label: &str, words: &str, loops: &str) -> Told
+    ensures { OnOk result (string_bytes text.new ≡ string_bytes text.old
+        ++ release_line number label.now words.now loops.now) }
+{
+    four_to(text, number)?;
+    writeln!(text, "  releases to {label}: {words}{loops}")
 }
 
 impl Teller<'_> {
@@ -124,32 +135,54 @@ impl Teller<'_> {
         Ok(())
     }
 
-    /// Adds what a release tells to which label, how much, and how often.
-    fn release_to(&self, text: &mut String, number: usize, release: &Release) -> Told {
-        four_to(text, number)?;
-        let label = self.label(release.to);
-        let words = words(self.alloc, release, self.kind(usize::from(release.into)))?;
-        write!(text, "  releases to {label}: {words}")?;
+    /// Over which rows the loops around a statement go.
+    fn loops_of(&self, number: usize) -> Result<String, AllocError> {
+        let mut text = String::new(self.alloc);
         for around in &self.all_around(number)? {
-            self.loop_to(text, *around)?;
+            self.loop_to(&mut text, *around)?;
         }
-        text.push_str("\n")
+        Ok(text)
     }
 
-    /// What each release tells, and all together.
-    pub(crate) fn releases_to(&self, text: &mut String) -> Told {
-        let releases = ranges_of(self.alloc, self.tx)?;
-        let mut told = releases.told.iter();
+    /// What a release tells to which label, how much, and how often.
+    fn release_of(&self, number: usize, release: &Release) -> Result<String, AllocError>
+        ensures { IfOk result (λ s. TellsOne release.now (string_bytes s)) }
+    {
+        let kind = self.kind(usize::from(release.into));
+        let words = words(self.alloc, release, kind)?;
+        let loops = self.loops_of(number)?;
+        let mut text = String::new(self.alloc);
+        release_to(&mut text, number, self.label(release.to), &words, &loops)?;
+        Ok(text)
+    }
+
+    /// What each release tells.
+    fn each_of(&self, told: &[Release]) -> Result<String, AllocError>
+        ensures { IfOk result (λ s. TellsEach told.now (string_bytes s)) }
+    {
+        let mut text = String::new(self.alloc);
+        let mut next = 0;
         for (place, statement) in self.statements.iter().enumerate() {
             if let Stmt::Release { .. } = statement.stmt {
-                if let Some(release) = told.next() {
-                    self.release_to(text, place + 1, release)?;
+                if let Some(release) = told.get(next) {
+                    let line = self.release_of(place + 1, release)?;
+                    text.push_str(&line)?;
+                    next += 1;
                 }
             }
         }
-        match whole(self.alloc, &releases)? {
-            Some(words) => writeln!(text, "      all releases: {words}"),
-            None => Ok(()),
+        Ok(text)
+    }
+
+    /// What each release tells, and all together.
+    pub(crate) fn releases_of(&self) -> Result<String, AllocError>
+        ensures { IfOk result (λ s. TellsTx self.now.tx.now (string_bytes s)) }
+    {
+        let releases = ranges_of(self.alloc, self.tx)?;
+        let mut text = self.each_of(&releases.told)?;
+        if let Some(words) = whole(self.alloc, &releases)? {
+            writeln!(text, "      all releases: {words}")?;
         }
+        Ok(text)
     }
 }

@@ -1,4 +1,6 @@
 //! Why a transaction is refused, in sentences.
+ghost use Rattle.std.specs.Prelude.{string_bytes, IfOk};
+ghost use Rattle.mls_explain.specs.Telling.{Advises};
 
 use crate::chain::Chain;
 use crate::labelling::Labelling;
@@ -257,16 +259,18 @@ impl Teller<'_> {
 
     /// What each release tells to which label; or why a rule is broken, with the line of the statement, and how that is
     /// mended.
-    pub(crate) fn advice_of(&self, labelling: &Labelling) -> Result<String, AllocError> {
-        let mut text = String::new(self.alloc);
+    pub(crate) fn advice_of(&self, labelling: &Labelling) -> Result<String, AllocError>
+        ensures { IfOk result (λ s. Advises self.now.tx.now labelling.now (string_bytes s)) }
+    {
         match labelling {
-            Labelling::Labelled(_) => self.releases_to(&mut text)?,
+            Labelling::Labelled(_) => self.releases_of(),
             Labelling::Refused { stmt, rule, chain } => {
+                let mut text = String::new(self.alloc);
                 self.line_to(&mut text, *stmt)?;
                 text.push_str("\n")?;
                 self.why_to(&mut text, *stmt, *rule, chain)?;
+                Ok(text)
             }
         }
-        Ok(text)
     }
 }

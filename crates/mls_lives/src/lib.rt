@@ -7,7 +7,10 @@ ghost use Rattle.mls_lives.specs.Lives.{CallsMultiply, RunsTellFew};
 ghost use Rattle.mls_lives.specs.Loading.{DumpsHaveEach, DumpsLoadBack, DumpsShowTheSame};
 ghost use Rattle.mls_lives.specs.Releasing.{ReleasesComeInOrder, ToldAreInOrder};
 ghost use Rattle.mls_lives.specs.Queries.{CountsAreLengths, FoundAreRowsInOrder, HighestKeepEachKey};
+ghost use Rattle.mls_lives.specs.Told.{BitsBoundCalls};
 ghost use Rattle.mls_lives.specs.Upward.{ClassNumbersAreGreatest, DumpsComeUpward};
+
+use mls_labeller::calls_tell_few;
 
 /// In a life a level tells apart at most as many classes of worlds, and of what is done unseen, as there are lists of
 /// items that can be released to it; and at most the product of the numbers of lists that the calls can release to it
@@ -18,6 +21,14 @@ pub fn lives_tell_few()
     ensures histories { HistoriesTellFew }
     ensures history_calls { HistoryCallsMultiply }
 {}
+
+/// By one call a level tells apart at most as many classes of worlds as the bits do that `explain` prints of all
+/// releases together.
+pub fn told_bits_bound_calls()
+    ensures { BitsBoundCalls }
+{
+    calls_tell_few();
+}
 
 /// What is told of a transaction are the releases of its text, in its order. Each item that a run releases comes from
 /// one of them, with its label and a value of its range; and of two items, unless both come from loops, the first comes

@@ -34,6 +34,7 @@ use Rattle.mls_runs.specs.Running.{IsRun}
 use Rattle.mls_runs.specs.declared.history.Run.{Run}
 use Rattle.mls_runs.specs.declared.history.HistoryCause.{HistoryCause}
 use Rattle.mls_runs.specs.declared.history.HistoryCause.TheVariants.{Unopened, Stopped, NotClosed}
+use Rattle.mls_fragments.specs.Based.{BaseState, state_of}
 use Rattle.mls_runs.specs.History.{run_to, IsHistory, run_of, cause_of, IsPrepared, world_of, IsHistoryRun, KeepContent, BeginsIn, AreRunsKept, AreRunsOver, IsRunAfter, IsBrokenOff, IsHistoryFault}
 
 -- ---- runs behind others
@@ -286,13 +287,14 @@ module _ {D : Type 0} (g : Ghosts D) (policy : Policy) (file : SchemesFile) (aud
   closed_whole (Err fault) r is k = subst (λ x. OnOk x (AreRunsOver g policy file audience start (One ∷ []) Wrote now))
       (sym is) tt
 
-  pub closed_broken : (outcome : Result (Unit {0}) RunFault) (r : Result (Unit {0}) HistoryCause) → r ≡ cause_of outcome
+  pub closed_broken : (unclosed : Option BaseState) (outcome : Result (Unit {0}) RunFault)
+      (r : Result (Unit {0}) HistoryCause) → r ≡ cause_of outcome
       → (AreClean g now.log now.db → Ran outcome × KeepContent g now left)
-      → IfErr r (IsBrokenOff g policy file audience start [] One Wrote now)
-  closed_broken (Ok u) r is k = subst (λ x. IfErr x (IsBrokenOff g policy file audience start [] One Wrote now))
-      (sym is) tt
-  closed_broken (Err fault) r is k = subst (λ x. IfErr x (IsBrokenOff g policy file audience start [] One Wrote now))
-      (sym is) (λ clean. let so = k clean in (left, run_alone (Err fault) so.0, so.1))
+      → IfErr r (IsBrokenOff g policy file audience start [] One Wrote now unclosed)
+  closed_broken unclosed (Ok u) r is k =
+      subst (λ x. IfErr x (IsBrokenOff g policy file audience start [] One Wrote now unclosed)) (sym is) tt
+  closed_broken unclosed (Err fault) r is k =
+      subst (λ x. IfErr x (IsBrokenOff g policy file audience start [] One Wrote now unclosed)) (sym is) (λ clean. let so = k clean in (left, run_alone (Err fault) so.0, so.1))
 
 -- ---- behind others
 
@@ -390,15 +392,20 @@ module _ {D : Type 0} (g : Ghosts D) (policy : Policy) (file : SchemesFile) (aud
         }
 
     -- or one that breaks the history off
-    pub broken_more : (cause : HistoryCause) → IsBrokenOff g policy file audience mid [] Next (Appends b c) now cause
-        → IsBrokenOff g policy file audience start rs Next (Appends a c) now cause
-    broken_more (Unopened fault) h = record {
+    pub broken_more : (unclosed : Option BaseState) (cause : HistoryCause)
+        → IsBrokenOff g policy file audience mid [] Next (Appends b c) now unclosed cause
+        → IsBrokenOff g policy file audience start rs Next (Appends a c) now unclosed cause
+    broken_more unclosed (Unopened fault) h = record {
       was = mid;
       runs = over_nothing rs a b c mid h.runs.0 over;
       refused = subst (λ (f : Files D). AreRefused g policy file f fault now) h.runs.1 h.refused;
     }
-    broken_more (Stopped fault) h = λ clean. let k = h clean in (k.0, run_more (Err fault) k.0 k.1, k.2)
-    broken_more NotClosed h = λ clean. let k = h clean in (k.0, k.1, run_more k.0 k.1 k.2, k.3)
+    broken_more unclosed (Stopped fault) h = λ clean. let k = h clean in (k.0, run_more (Err fault) k.0 k.1, k.2)
+    broken_more None NotClosed h = absurd h
+    broken_more (Some base) NotClosed h = record {
+      run = λ clean. let k = h.run clean in (k.0, run_more k.0 (state_of base).now k.1);
+      files = h.files;
+    }
 
 -- ---- runs in order
 
@@ -446,16 +453,16 @@ module _ {D : Type 0} (g : Ghosts D) (policy : Policy) (file : SchemesFile) (aud
           (runs_at policy file.schemes done) run.stored run.events.items before after last mid now ready.0 ready.1 h.over one);
     }
 
-    pub goes_broken : (cause : HistoryCause) → IsBrokenOff g policy file audience mid []
-        (run_of policy file.schemes run) (Appends after last) now cause
+    pub goes_broken : (unclosed : Option BaseState) (cause : HistoryCause) → IsBrokenOff g policy file audience mid []
+        (run_of policy file.schemes run) (Appends after last) now unclosed cause
         → IsHistoryFault g policy file audience start (runs_at policy file.schemes runs) (Appends before last) now
-        (record { run = number + 1; cause = cause })
-    goes_broken cause broken = record {
+        unclosed (record { run = number + 1; cause = cause })
+    goes_broken unclosed cause broken = record {
       before = runs_at policy file.schemes done;
       run = run_of policy file.schemes run;
       after = runs_at policy file.schemes rest;
       all = ap (runs_at policy file.schemes) (sym h.all) ∙ map-append (run_of policy file.schemes) done (run ∷ rest);
       number = omega (arith, h.count, length-map done (run_of policy file.schemes));
       broken = broken_more g policy file audience distinct start
-          (runs_at policy file.schemes done) run.stored run.events.items before after last mid now ready.0 ready.1 h.over cause broken;
+          (runs_at policy file.schemes done) run.stored run.events.items before after last mid now ready.0 ready.1 h.over unclosed cause broken;
     }

@@ -1,5 +1,5 @@
 -- What a history of runs over the files of one store writes, what it begins with and what it leaves.
-use Rattle.std.specs.Prelude.{◌≡◌, ℕ, suc, Bool, List, [], ◌∷◌, ◌++◌, length, IfSome, Result, Ok, Err}
+use Rattle.std.specs.Prelude.{◌≡◌, ℕ, suc, List, [], ◌∷◌, ◌++◌, length, IfSome, Option, MatchOption, Result, Ok, Err}
 use Rattle.std.specs.List.{concat}
 use Rattle.sqlite_disk.specs.declared.Disk.{Ghosts}
 use Rattle.sqlite_disk.specs.declared.Files.{Files}
@@ -11,7 +11,8 @@ use Rattle.mls_scheme.specs.declared.file.SchemesFile.{SchemesFile}
 use Rattle.mls_filterview.specs.Content.{Content}
 use Rattle.mls_audit.specs.Sound.{IsSoundContent}
 use Rattle.mls_tables.specs.declared.rows.MetaRow.{MetaRow}
-use Rattle.mls_fragments.specs.Again.{AreKept, AreRefused, FindsHoldings, MayKeep}
+use Rattle.mls_fragments.specs.Again.{AreKept, AreRefused, AreUnclosed, FindsHoldings}
+use Rattle.mls_fragments.specs.Based.{BaseState, state_of}
 use Rattle.mls_fragments.specs.Holdings.{holdings_of, IsTakenOf}
 use Rattle.mls_fragments.specs.declared.open_fault.OpenFault.{OpenFault}
 use Rattle.mls_machine.specs.declared.form.Audience.{Audience}
@@ -85,10 +86,6 @@ pub record IsHistoryRun (policy : Policy) (schemes : Schemes) (audience : Audien
 abbrev pub KeepContent : {D : Type 0} → Ghosts D → Files D → Content → Type 0
 KeepContent g files left = (row : MetaRow) × AreKept g files (holdings_of row left)
 
--- or, where they were not closed, keep it if the connection was open
-abbrev pub MayKeepContent : {D : Type 0} → Ghosts D → Files D → Content → Type 0
-MayKeepContent g files left = (row : MetaRow) × (is_open : Bool) × MayKeep g is_open files (holdings_of row left)
-
 module _ {D : Type 0} (g : Ghosts D) (policy : Policy) (file : SchemesFile) where
   -- the files are clean, and the content is taken of what is found in them
   abbrev pub BeginsIn : Files D → Content → Type 0
@@ -131,22 +128,28 @@ module _ {D : Type 0} (g : Ghosts D) (policy : Policy) (file : SchemesFile) wher
       pub runs : AreRunsOver rs Wrote was
       pub refused : AreRefused g policy file was fault now
 
-    -- a run after others for which the store was not opened; or that stopped, and the files keep what it left; or that
-    -- ended or stopped, and they may keep it
-    abbrev pub IsBrokenOff : List RunAt → RunAt → (List ℕ → Type 0) → Files D → HistoryCause → Type 0
-    IsBrokenOff rs r Wrote now (Unopened fault) = IsUnopenedAfter rs Wrote now fault
-    IsBrokenOff rs r Wrote now (Stopped fault) =
+    -- whole runs, and then one that ended or stopped and left a base that was not closed, and its files
+    pub record IsUnclosedAfter (rs : List RunAt) (r : RunAt) (Wrote : List ℕ → Type 0) (now : Files D)
+        (base : BaseState) : Type 0 where
+      pub run : AreClean g now.log now.db
+          → (end : Result (Unit {0}) RunFault) × IsRunAfter rs r Wrote end (state_of base).now
+      -- they keep what it had where its connection was open
+      pub files : AreUnclosed g base now
+
+    -- a run after others for which the store was not opened; or that stopped, and the files keep what it left; or whose
+    -- base was not closed
+    abbrev pub IsBrokenOff : List RunAt → RunAt → (List ℕ → Type 0) → Files D → Option BaseState → HistoryCause → Type 0
+    IsBrokenOff rs r Wrote now unclosed (Unopened fault) = IsUnopenedAfter rs Wrote now fault
+    IsBrokenOff rs r Wrote now unclosed (Stopped fault) =
         AreClean g now.log now.db → (left : Content) × IsRunAfter rs r Wrote (Err fault) left × KeepContent g now left
-    IsBrokenOff rs r Wrote now NotClosed =
-        AreClean g now.log now.db → (end : Result (Unit {0}) RunFault) × (left : Content)
-        × IsRunAfter rs r Wrote end left × MayKeepContent g now left
+    IsBrokenOff rs r Wrote now unclosed NotClosed = MatchOption unclosed ⊥ (IsUnclosedAfter rs r Wrote now)
 
     -- it is one of the runs, by its number from 1
     pub record IsHistoryFault (rs : List RunAt) (Wrote : List ℕ → Type 0) (now : Files D)
-        (fault : HistoryFault) : Type 0 where
+        (unclosed : Option BaseState) (fault : HistoryFault) : Type 0 where
       pub before : List RunAt
       pub run : RunAt
       pub after : List RunAt
       pub all : rs ≡ before ++ run ∷ after
       pub number : fault.run ≡ suc (length before)
-      pub broken : IsBrokenOff before run Wrote now fault.cause
+      pub broken : IsBrokenOff before run Wrote now unclosed fault.cause

@@ -1,5 +1,5 @@
 //! Histories: runs one after another over the files of one store, which are closed and opened between.
-ghost use Rattle.std.specs.Prelude.{◌≡◌, ◌<◌, [], ◌∷◌, length, map, IfErr, OnOk, IfSome};
+ghost use Rattle.std.specs.Prelude.{◌≡◌, ◌<◌, [], ◌∷◌, length, map, option_map, IfErr, OnOk, IfSome};
 ghost use Rattle.std.specs.List.{AllByRecursion};
 ghost use Rattle.mls_lattice.specs.Labels.{AreDistinct};
 ghost use Rattle.mls_lattice.specs.Policy.{labels_of};
@@ -18,6 +18,7 @@ use sqlite::{FileStore, Files, Options};
 use sqlite_disk::Disk;
 use std::alloc::Global;
 use std::io::Write;
+use std::snapshot::Snapshot;
 
 /// A run of a history: what it stores, and its events.
 #[derive(Drop)]
@@ -61,7 +62,8 @@ fn same_audience(audience: &Audience) -> Audience
     *audience
 }
 
-/// Answers the events of a run over the store in files, which is opened and closed for it.
+/// Answers the events of a run over the store in files, which is opened and closed for it. For contracts alone comes
+/// the base that was to be closed, where it was not.
 fn run_over_files<D: Disk + Drop, W: Write>(
     alloc: Global,
     policy: &Policy,
@@ -71,7 +73,11 @@ fn run_over_files<D: Disk + Drop, W: Write>(
     options: Options,
     audience: &Audience,
     out: &mut W,
-) -> (Result<(), HistoryCause>, Files<D>)
+) -> (
+    Result<(), HistoryCause>,
+    Files<D>,
+    Option<Snapshot<SqlBase<FileStore<D>>>>,
+)
     requires under { AreUnder (length policy.now.labels) file.now.schemes }
     requires distinct { AreDistinct (labels_of policy.now) }
     requires prepared { IsPrepared policy.now file.now.schemes run }
@@ -79,11 +85,12 @@ fn run_over_files<D: Disk + Drop, W: Write>(
     ensures whole { OnOk result.0 (AreRunsOver D.Disk policy.now file.now audience.now files
         (run_of policy.now file.now.schemes run ∷ []) (IsAppended W.contents out.old out.new) result.1) }
     ensures broken { IfErr result.0 (IsBrokenOff D.Disk policy.now file.now audience.now files []
-        (run_of policy.now file.now.schemes run) (IsAppended W.contents out.old out.new) result.1) }
+        (run_of policy.now file.now.schemes run) (IsAppended W.contents out.old out.new) result.1
+        (option_map (λ s. s.value) result.2)) }
 {
     let base = match SqlBase::open_files(alloc, files, options, policy, file) {
         Ok(base) => base,
-        Err((fault, files)) => return (Err(HistoryCause::Unopened(fault)), files),
+        Err((fault, files)) => return (Err(HistoryCause::Unopened(fault)), files, None),
     };
     let Run { stored, events } = run;
     let schemes = &file.schemes;
@@ -91,16 +98,18 @@ fn run_over_files<D: Disk + Drop, W: Write>(
     let (outcome, left) = run_over_base(
         alloc, policy, schemes, stored, base, &events, audience, out,
     );
+    let unclosed = Snapshot::of(&left);
     match left.close_files() {
-        Ok(files) => (ended(outcome), files),
-        Err((_, files)) => (Err(HistoryCause::NotClosed), files),
+        Ok(files) => (ended(outcome), files, None),
+        Err((_, files)) => (Err(HistoryCause::NotClosed), files, Some(unclosed)),
     }
 }
 
 /// Answers a history of runs over the store in files, which is opened and closed for each run, for an audience. A
 /// fault breaks the history off. The files come back as they are then.
 /// One policy and schemes serve all runs. Where a run stopped and its store was not closed either, the fault is
-/// `NotClosed`: of the files it is known only what they may recover to.
+/// `NotClosed`: of the files it is known only what they may recover to. For contracts alone comes the base that was to
+/// be closed then.
 pub fn run_history<D: Disk + Drop, W: Write>(
     alloc: Global,
     policy: &Policy,
@@ -110,27 +119,32 @@ pub fn run_history<D: Disk + Drop, W: Write>(
     options: Options,
     audience: Audience,
     out: &mut W,
-) -> (Result<(), HistoryFault>, Files<D>)
+) -> (
+    Result<(), HistoryFault>,
+    Files<D>,
+    Option<Snapshot<SqlBase<FileStore<D>>>>,
+)
     requires under { AreUnder (length policy.now.labels) file.now.schemes }
     requires prepared { AllByRecursion (IsPrepared policy.now file.now.schemes) runs.items }
     requires declared { IfSome audience.reader (λ c. c < length policy.now.labels) }
     ensures whole { OnOk result.0 (AreRunsOver D.Disk policy.now file.now audience files
         (map (run_of policy.now file.now.schemes) runs.items) (IsAppended W.contents out.old out.new) result.1) }
     ensures broken { IfErr result.0 (IsHistoryFault D.Disk policy.now file.now audience files
-        (map (run_of policy.now file.now.schemes) runs.items) (IsAppended W.contents out.old out.new) result.1) }
+        (map (run_of policy.now file.now.schemes) runs.items) (IsAppended W.contents out.old out.new) result.1
+        (option_map (λ s. s.value) result.2)) }
 {
     policy.use_invariant();
     let mut left = files;
     let mut number = 0;
     for run in runs {
         number += 1;
-        let (outcome, files) = run_over_files(
+        let (outcome, files, unclosed) = run_over_files(
             alloc, policy, file, run, left, options, &audience, out,
         );
         left = files;
         if let Err(cause) = outcome {
-            return (Err(HistoryFault { run: number, cause }), left);
+            return (Err(HistoryFault { run: number, cause }), left, unclosed);
         }
     }
-    (Ok(()), left)
+    (Ok(()), left, None)
 }

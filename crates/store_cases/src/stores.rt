@@ -264,7 +264,7 @@ fn history_on<D: Medium>(
         form: Form::Lines,
     };
     let (policy, file) = (&site.policy, &site.file);
-    let (outcome, _) = run_history(
+    let (outcome, _, _) = run_history(
         alloc,
         policy,
         file,

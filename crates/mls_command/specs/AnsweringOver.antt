@@ -37,6 +37,8 @@ module _ {B L R O : Type 0} (seen : B → Seen) (was_open : B → Bool) (image :
     is_honest = MatchOption m.base ⊤ (λ base. (seen base.value).is_clean);
     has_failed = MatchOption m.base ⊥ (λ base. 0 < (seen base.value).failures);
     is_unclosed = MatchOption m.left ⊥ (λ l. is_open l.value);
+    asked = λ label. MatchOption m.base ⊥ (λ base. (seen base.value).asked label);
+    changed = λ label. MatchOption m.base ⊥ (λ base. (seen base.value).changed label);
   }
 
   -- what comes of words over it, from how it was to how it is; a shell at a terminal may explain by any text

@@ -6,6 +6,7 @@ ghost use Rattle.mls_tables.specs.declared.rows.MetaRow.{MetaRow};
 ghost use Rattle.mls_fragments.specs.Again.{FindsHoldings};
 ghost use Rattle.mls_fragments.specs.Holdings.{holdings_of, IsTakenOf};
 ghost use Rattle.mls_fragments.specs.Opening.{IsStoreOrMemory};
+ghost use Rattle.mls_host.specs.Hosting.{AreNowhere};
 ghost use Rattle.sqlite.specs.Recovery.{Image};
 
 use crate::closing::{Left, LeftFiles, Refused, close};
@@ -44,6 +45,7 @@ pub trait Opens<B: Base, L: Left, R: Refused> {
     ) -> Result<B, (OpenFault, Option<R>)>
         requires under { AreUnder (length policy.now.labels) file.now.schemes }
         ensures idle { IfOk result (λ b. (B.seen b).state.begun ≡ false) }
+        ensures fresh { IfOk result (λ b. AreNowhere (B.seen b).asked (B.seen b).changed) }
         ensures sound { IfOk result (λ b. IsSoundContent policy.now file.now.schemes (B.seen b).state.now) }
         ensures held { IfOk result (λ b. (B.seen b).is_clean
             → IsTakenOf (FindsHoldings image) policy.now file.now (B.seen b).state.now) }

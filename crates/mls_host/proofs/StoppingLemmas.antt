@@ -13,7 +13,11 @@ use Rattle.mls_host.specs.Words.{named}
 
 -- a host that is not touched
 pub untouched : (h : Hosting) → KeepSame h h
-untouched h path c = (λ k. k, λ k. k)
+untouched h = record {
+  kept = λ path c. (λ k. k, λ k. k);
+  asked = λ m. (λ k. k, λ k. k);
+  changed = λ m. (λ k. k, λ k. k);
+}
 
 -- a run without a store, which is closed
 pub ended_in_memory : {A : Type 0} (outcome : Result A RunFault) → IfErr outcome (λ f. f.cause ≡ Store → 0 < 0)

@@ -43,6 +43,14 @@ pub record Hosting : Type 1 where
   pub has_failed : Type 0
   -- that store was not closed
   pub is_unclosed : Type 0
+  -- the labels at which that store was read, and changed, since it was opened
+  pub asked : ℕ → Type 0
+  pub changed : ℕ → Type 0
+
+-- nothing was read, and nothing changed
+pub record AreNowhere (asked changed : ℕ → Type 0) : Type 0 where
+  pub unread : (m : ℕ) → asked m → ⊥
+  pub unchanged : (m : ℕ) → changed m → ⊥
 
 -- a host before and after a command, and what it shows of a line that is typed
 pub record Hosted : Type 1 where
@@ -56,10 +64,12 @@ module _ {Host : Type 0} (hosting : Host → Hosting) (echo : List ℕ → List 
 
 -- ---- stores
 
--- each store keeps what it kept
+-- each store keeps what it kept, and none is read or changed
 -- (of what each path keeps, both ways: an equation between hosts, whose fields are predicates, fits no clause)
-abbrev pub KeepSame : Hosting → Hosting → Type 0
-KeepSame old new = (path : List ℕ) (h : Holdings) → new.keeps path h ↔ old.keeps path h
+pub record KeepSame (old new : Hosting) : Type 0 where
+  pub kept : (path : List ℕ) (h : Holdings) → new.keeps path h ↔ old.keeps path h
+  pub asked : (m : ℕ) → new.asked m ↔ old.asked m
+  pub changed : (m : ℕ) → new.changed m ↔ old.changed m
 
 module _ (h : Hosted) where
   abbrev pub KeepsStores : Type 0

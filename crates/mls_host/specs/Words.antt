@@ -85,7 +85,8 @@ abbrev pub command_line : App
 command_line =
     with_subcommand (with_subcommand (with_subcommand
     (with_subcommand (with_subcommand (with_subcommand (with_subcommand
-    (with_subcommand program run.top) shell.top) serve.top) turn.top) show_policy.top) certify.top) check.top) explain.top
+    (with_subcommand program run.top) shell.top) serve.top) turn.top) show_policy.top) certify.top) check.top)
+    explain.top
 
 -- ---- jobs
 

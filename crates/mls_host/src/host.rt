@@ -1,10 +1,10 @@
 //! What a command asks of the machine that it runs on.
-ghost use Rattle.std.specs.Prelude.{◌≡◌, ◌<◌, ◌≤◌, ◌↔◌, false, Some, None, length, IfOk, IfErr, OnErr, IsErr, IfSome};
+ghost use Rattle.std.specs.Prelude.{◌≡◌, ℕ, ◌<◌, ◌≤◌, ◌↔◌, false, Some, None, length, IfOk, IfErr, OnErr, IsErr, IfSome};
 ghost use Rattle.mls_scheme.specs.Scheme.{AreUnder};
 ghost use Rattle.mls_audit.specs.Sound.{IsSoundContent};
 ghost use Rattle.mls_fragments.specs.Holdings.{holdings_of, IsTakenOf};
 ghost use Rattle.mls_tables.specs.declared.rows.MetaRow.{MetaRow};
-ghost use Rattle.mls_host.specs.Hosting.{Hosting, KeepSame};
+ghost use Rattle.mls_host.specs.Hosting.{Hosting, AreNowhere, KeepSame};
 
 use mls_filterview::Base;
 use mls_fragments::OpenFault;
@@ -59,7 +59,8 @@ pub enum StoreCause {
 /// store at a path
 /// keeps, and why it was not opened; which bytes its files are shown to have, and why they are not shown; and of the
 /// store which it took back last, whether it was
-/// clean, whether a call of it failed, and whether it was closed.
+/// clean, whether a call of it failed, whether it was closed, and the labels at which it was read, and changed, since
+/// it was opened.
 /// Why a store was not opened is asked of the host that has tried to: only what was found then tells it.
 /// Whether a call of the store failed is asked of the store that it took back last, and not how many; the failed calls
 /// of an opening count too. Whether there is a terminal is asked when the host is made, and kept: a contract can name a
@@ -108,6 +109,7 @@ pub trait Host {
     ) -> Result<Self::Store, OpenFault>
         requires under { AreUnder (length policy.now.labels) file.now.schemes }
         ensures idle { IfOk result (λ b. (Self.Store.Base.seen b).state.begun ≡ false) }
+        ensures fresh { IfOk result (λ b. AreNowhere (Self.Store.Base.seen b).asked (Self.Store.Base.seen b).changed) }
         ensures sound { IfOk result (λ b. IsSoundContent policy.now file.now.schemes
             (Self.Store.Base.seen b).state.now) }
         ensures kept { IfOk result (λ b. (Self.Store.Base.seen b).is_clean
@@ -127,7 +129,9 @@ pub trait Host {
         ensures kept { (hosting self.new).is_honest → (row : MetaRow) × (hosting self.new).keeps path.now
             (holdings_of row (Self.Store.Base.seen store).state.now) }
         ensures failed { (hosting self.new).has_failed ↔ (0 < (Self.Store.Base.seen store).failures) }
-        ensures closed { (hosting self.new).is_unclosed ↔ IsErr result };
+        ensures closed { (hosting self.new).is_unclosed ↔ IsErr result }
+        ensures asked { (m : ℕ) → (hosting self.new).asked m ↔ (Self.Store.Base.seen store).asked m }
+        ensures changed { (m : ℕ) → (hosting self.new).changed m ↔ (Self.Store.Base.seen store).changed m };
 }
 
 /// All bytes of a reader, where they are at most `MOST_BYTES`. `TooLong` where there are more; a reader that fails

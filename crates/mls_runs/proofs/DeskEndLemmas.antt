@@ -26,7 +26,8 @@ use Rattle.mls_host.specs.Stop.{IsEnd}
 use Rattle.mls_runs.specs.Running.{first_world}
 use Rattle.mls_runs.proofs.RunningLemmas.{end_weaker}
 use Rattle.mls_runs.specs.Shell.{events_in}
-use Rattle.mls_runs.specs.Desk.{IsService, IsDesk}
+use Rattle.mls_runs.specs.Access.{AreEventsOf, IsAccessedAs}
+use Rattle.mls_runs.specs.Desk.{IsService, IsDesk, IsDeskFate}
 use Rattle.mls_runs.specs.DeskRun.{IsDeskRun}
 use Rattle.mls_runs.specs.Work.{IsOverStore}
 
@@ -95,7 +96,9 @@ module _ (h : Hosted) (inputs : Inputs) (store : Option (List ℕ)) (Wrote : Lis
     at = site_of inputs.setting.policy inputs.setting.file.schemes stored
 
     abbrev Desks : Result Ending RunFault → Type 0
-    Desks = IsOverStore h inputs.setting.policy inputs.setting.file store (IsDesk h.echo at before after Broken Wrote)
+    Desks end = IsOverStore h inputs.setting.policy inputs.setting.file store
+        (IsDesk h.echo at before after Broken Wrote) end
+        × IsAccessedAs h.after at (AreEventsOf h.echo (IsDeskFate at.policy at.schemes) before after) store
 
     desk_run : (end : Result Ending RunFault) → Desks end → IsDeskRun h inputs store Wrote end
     desk_run end k = record {
@@ -104,13 +107,14 @@ module _ (h : Hosted) (inputs : Inputs) (store : Option (List ℕ)) (Wrote : Lis
       after = after;
       stored_are = stored_are;
       typed = typed;
-      desk = λ clean. let o = k clean in record {
+      desk = λ clean. let o = k.0 clean in record {
         first = o.first;
         left = o.left;
         begins = o.begins;
         kept = o.kept;
         leads = read_only_so h.echo at before after Broken h.before.breaks Wrote end o.first o.left broken o.leads;
       };
+      access = k.1;
     }
 
     -- its store was barred, and all is still as it was

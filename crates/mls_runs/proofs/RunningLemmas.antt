@@ -33,6 +33,7 @@ use Rattle.mls_host.specs.Hosting.{Hosted}
 use Rattle.mls_host.specs.Stop.{ended, IsEnd}
 use Rattle.mls_host.specs.Words.{named}
 use Rattle.mls_runs.specs.Running.{first_world, IsRun}
+use Rattle.mls_runs.specs.Access.{IsAccessedAs}
 use Rattle.mls_runs.specs.Work.{IsOverStore}
 
 -- what an engine's run comes to: its lines, its last world, and what is proved of it
@@ -118,9 +119,9 @@ module _ {A : Type 0} (Ends : Result A RunFault → Type 0) (Nothing : Reason �
 -- ---- where they begin
 
 module _ {A : Type 0} (h : Hosted) (file : SchemesFile) (policy : Policy) (Leads : Result A RunFault → Content → Content
-    → Type 0) where
+    → Type 0) (site : Site) (Answered : List Event → Type 0) where
   abbrev From : Option (List ℕ) → Result A RunFault → Type 0
-  From store = IsOverStore h policy file store Leads
+  From store end = IsOverStore h policy file store Leads end × IsAccessedAs h.after site Answered store
 
   abbrev Fresh : Result A RunFault → Type 0
   Fresh end = (left : Content) × Leads end no_content left
@@ -130,7 +131,10 @@ module _ {A : Type 0} (h : Hosted) (file : SchemesFile) (policy : Policy) (Leads
     pub from_memory : store ≡ None → IsEnd Fresh (Nothing None) r → IsEnd (From (named store)) (Nothing (named store)) r
     from_memory none run =
         let f : (end : Result A RunFault) → Fresh end → From None end
-        = λ end k. λ clean. record { first = no_content; left = k.0; begins = refl; kept = tt; leads = k.1 } in
+        = λ end k. (
+          (λ clean. record { first = no_content; left = k.0; begins = refl; kept = tt; leads = k.1 }),
+          tt,
+        ) in
         subst (λ (s : Option (Bor (List ℕ))). IsEnd (From (named s)) (Nothing (named s)) r) (sym none)
         (end_weaker Fresh (Nothing None) (From None) (Nothing None) f (λ _ k. k) r run)
 

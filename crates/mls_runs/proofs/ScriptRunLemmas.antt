@@ -16,6 +16,7 @@ use Rattle.mls_host.specs.Stop.{IsEnd}
 use Rattle.mls_runs.proofs.RunningLemmas.{end_weaker}
 use Rattle.mls_runs.specs.ScriptRun.{site_of_setting, IsScriptRun}
 use Rattle.mls_runs.specs.Running.{IsRun, form_of}
+use Rattle.mls_runs.specs.Access.{IsAccessedAs}
 use Rattle.mls_runs.specs.Work.{IsOverStore}
 
 -- ---- the events of a script
@@ -30,12 +31,13 @@ module _ (h : Hosted) (inputs : Inputs) (store : Option (List ℕ)) (is_table : 
 
   module _ (stored : List Stored) (stored_are : AreStoredWith inputs.setting.policy inputs.certificates inputs.transactions stored) (Still : Type 0) (still : Still → Wrote []) where
     abbrev Runs : Form → List Event → Result (Unit {0}) RunFault → Type 0
-    Runs form events = IsOverStore h inputs.setting.policy inputs.setting.file store
+    Runs form events end = IsOverStore h inputs.setting.policy inputs.setting.file store
         (IsRun (site_of_setting inputs.setting stored) (record {
           reader = inputs.setting.reader;
           form =
               form;
-        }) events Wrote)
+        }) events Wrote) end
+        × IsAccessedAs h.after (site_of_setting inputs.setting stored) (λ es. es ≡ events) store
 
     -- the events of a script, over what is stored; where none is answered, all is still as it was
     pub script_run : (form : Form) (events : List Event) → form ≡ form_of is_table → events ≡ inputs.events
@@ -45,11 +47,9 @@ module _ (h : Hosted) (inputs : Inputs) (store : Option (List ℕ)) (is_table : 
     script_run form events is are r run =
         let f : (end : Result (Unit {0}) RunFault) → Runs form events end
         → IsScriptRun h inputs store is_table Wrote end
-        = λ end k. record {
-          stored = stored;
-          stored_are = stored_are;
-          run = subst (λ es. Runs (form_of is_table) es end) are (subst (λ (x : Form). Runs x events end) is k);
-        } in
+        = λ end k.
+        let o = subst (λ es. Runs (form_of is_table) es end) are (subst (λ (x : Form). Runs x events end) is k) in
+        record { stored = stored; stored_are = stored_are; run = o.0; access = o.1 } in
         let g : (reason : Reason) → (IsBarred h.after inputs.setting.policy inputs.setting.file store reason × Still)
         → NotBegun reason
         = λ reason k. (no_store k.0, still k.1) in

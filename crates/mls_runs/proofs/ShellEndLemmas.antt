@@ -28,7 +28,8 @@ use Rattle.mls_host.specs.Causes.{IsBarred, no_memory, no_store}
 use Rattle.mls_host.specs.Stop.{IsEnd}
 use Rattle.mls_runs.specs.Running.{first_world}
 use Rattle.mls_runs.specs.Explaining.{Explaining}
-use Rattle.mls_runs.specs.Shell.{audience_at, opening, events_in, IsConversation, IsShell}
+use Rattle.mls_runs.specs.Access.{AreEventsOf, IsAccessedAs}
+use Rattle.mls_runs.specs.Shell.{audience_at, opening, events_in, IsConversation, IsShell, IsShellFate}
 use Rattle.mls_runs.specs.ShellRun.{shell_session_of, IsShellRun, IsShellRefused, not_begun}
 use Rattle.mls_runs.specs.Work.{IsOverStore}
 use Rattle.mls_runs.proofs.RunningLemmas.{run_at, end_weaker}
@@ -122,8 +123,9 @@ module _ (x : Explaining) (h : Hosted) (inputs : Inputs) (store : Option (List �
     session = shell_session_of label user level h.before.is_terminal h.before.is_watched
 
     abbrev Shells : ShellSession → Result Ending RunFault → Type 0
-    Shells who = IsOverStore h inputs.setting.policy inputs.setting.file store
-        (IsShell x h.echo at who before after Broken Wrote Told)
+    Shells who end = IsOverStore h inputs.setting.policy inputs.setting.file store
+        (IsShell x h.echo at who before after Broken Wrote Told) end
+        × IsAccessedAs h.after at (AreEventsOf h.echo (IsShellFate at.policy at.schemes who) before after) store
 
     shell_run : (end : Result Ending RunFault) → Shells session end
         → IsShellRun x h inputs store label user Wrote Told end
@@ -135,13 +137,14 @@ module _ (x : Explaining) (h : Hosted) (inputs : Inputs) (store : Option (List �
       stored_are = stored_are;
       level_is = level_is;
       typed = typed;
-      shell = λ clean. let o = k clean in record {
+      shell = λ clean. let o = k.0 clean in record {
         first = o.first;
         left = o.left;
         begins = o.begins;
         kept = o.kept;
         leads = read_only_so x h.echo at session before after Broken h.before.breaks Wrote Told end o.first o.left broken o.leads;
       };
+      access = k.1;
     }
 
     -- its store was barred, and all is still as it was
@@ -171,6 +174,7 @@ shell_told_more x h inputs store label user Wrote Told More f end r = record {
   stored_are = r.stored_are;
   level_is = r.level_is;
   typed = r.typed;
+  access = r.access;
   shell = λ clean. let o = r.shell clean in let k = o.leads.talk in record {
     first = o.first;
     left = o.left;

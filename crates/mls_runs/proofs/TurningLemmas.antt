@@ -82,6 +82,7 @@ module _ (setting : Setting) (Wrote : List ℕ → Type 0) where
                 tt;
             leads = turning no_content no_content (Ok tt) (written, refl) sound;
           };
+          access = tt;
         })
 
     pub at_store : (store : Option (Bor (List ℕ))) (path : Bor (List ℕ)) → store ≡ Some path

@@ -7,7 +7,8 @@ use Rattle.mls_host.specs.declared.ending.Ending.{Ending}
 use Rattle.mls_host.specs.declared.job.Inputs.{Inputs}
 use Rattle.mls_host.specs.Hosting.{Hosted}
 use Rattle.mls_host.specs.Storing.{AreStoredWith}
-use Rattle.mls_runs.specs.Desk.{IsDesk}
+use Rattle.mls_runs.specs.Access.{AreEventsOf, IsAccessedAs}
+use Rattle.mls_runs.specs.Desk.{IsDesk, IsDeskFate}
 use Rattle.mls_runs.specs.Work.{IsOverStore}
 
 -- what the host says is typed is answered, over what is stored of the transactions with the certificates
@@ -21,3 +22,6 @@ pub record IsDeskRun (h : Hosted) (inputs : Inputs) (store : Option (List ℕ)) 
   pub desk : IsOverStore h inputs.setting.policy inputs.setting.file store
       (IsDesk h.echo (site_of inputs.setting.policy inputs.setting.file.schemes stored) before after h.before.breaks
       Wrote) end
+  -- the store is read nowhere up and changed nowhere down, however the desk ends
+  pub access : IsAccessedAs h.after (site_of inputs.setting.policy inputs.setting.file.schemes stored)
+      (AreEventsOf h.echo (IsDeskFate inputs.setting.policy inputs.setting.file.schemes) before after) store

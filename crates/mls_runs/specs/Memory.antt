@@ -7,6 +7,7 @@ use Rattle.sqlite.specs.Held.{Held, state}
 use Rattle.sqlite.specs.Steps.{over_memory}
 use Rattle.mls_lattice.specs.Policy.{Policy}
 use Rattle.mls_scheme.specs.declared.file.SchemesFile.{SchemesFile}
+use Rattle.mls_filterview.specs.Content.{nowhere}
 use Rattle.mls_fragments.specs.Holdings.{Holdings, HasHoldings}
 use Rattle.mls_fragments.specs.Opening.{IsOfOthers, IsBad}
 use Rattle.mls_fragments.specs.declared.open_fault.OpenFault.{OpenFault}
@@ -87,6 +88,7 @@ hides h path cause = (fault : HostFault) × lacks h (Some path) fault × (cause 
 abbrev pub has_failed : MemoryHost → Type 0
 has_failed h = MatchOption h.left ⊥ (λ l. 0 < l.value.tables.failures)
 
+-- a base of SQL keeps no note of where it is read or changed
 abbrev pub hosting : MemoryHost → Hosting
 hosting h = record {
   gives = gives h;
@@ -103,4 +105,6 @@ hosting h = record {
   is_honest = ⊤;
   has_failed = has_failed h;
   is_unclosed = ⊥;
+  asked = nowhere;
+  changed = nowhere;
 }

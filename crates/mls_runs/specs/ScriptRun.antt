@@ -1,5 +1,5 @@
 -- A script that is run, over a store or over nothing.
-use Rattle.std.specs.Prelude.{◌<◌, ℕ, Bool, List, length, Option, IfSome, Result}
+use Rattle.std.specs.Prelude.{◌≡◌, ◌<◌, ℕ, Bool, List, length, Option, IfSome, Result}
 use Rattle.mls_translang.specs.declared.event.Event.{Event}
 use Rattle.mls_certcheck.specs.declared.stored.Stored.{Stored}
 use Rattle.mls_machine.specs.declared.form.Audience.{Audience}
@@ -12,6 +12,7 @@ use Rattle.mls_host.specs.declared.job.Setting.{Setting}
 use Rattle.mls_host.specs.declared.job.Inputs.{Inputs}
 use Rattle.mls_host.specs.Storing.{AreStoredWith}
 use Rattle.mls_runs.specs.Running.{IsRun, form_of}
+use Rattle.mls_runs.specs.Access.{IsAccessedAs}
 use Rattle.mls_runs.specs.Work.{IsOverStore}
 
 -- events may be run for an audience: they fit, and the reader, if there is one, is a label
@@ -36,3 +37,5 @@ pub record IsScriptRun (h : Hosted) (inputs : Inputs) (store : Option (List ℕ)
   pub stored_are : AreStoredWith inputs.setting.policy inputs.certificates inputs.transactions stored
   pub run : IsOverStore h inputs.setting.policy inputs.setting.file store
       (IsRun (site_of_setting inputs.setting stored) (audience_of inputs.setting is_table) inputs.events Wrote) end
+  -- the store is read nowhere up and changed nowhere down, however the run ends
+  pub access : IsAccessedAs h.after (site_of_setting inputs.setting stored) (λ events. events ≡ inputs.events) store

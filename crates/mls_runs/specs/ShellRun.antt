@@ -13,7 +13,8 @@ use Rattle.mls_host.specs.Causes.{IsNotBegun}
 use Rattle.mls_host.specs.Hosting.{Hosting, Hosted}
 use Rattle.mls_host.specs.Storing.{AreStoredWith}
 use Rattle.mls_runs.specs.Explaining.{Explaining}
-use Rattle.mls_runs.specs.Shell.{IsShell}
+use Rattle.mls_runs.specs.Access.{AreEventsOf, IsAccessedAs}
+use Rattle.mls_runs.specs.Shell.{IsShell, IsShellFate}
 use Rattle.mls_runs.specs.Work.{IsOverStore}
 
 -- who sits at a shell, by its words
@@ -41,6 +42,10 @@ pub record IsShellRun (x : Explaining) (h : Hosted) (inputs : Inputs) (store : O
       (IsShell x h.echo (site_of inputs.setting.policy inputs.setting.file.schemes stored)
       (shell_session_of label user level h.before.is_terminal h.before.is_watched)
       before after h.before.breaks Wrote Told) end
+  -- the store is read nowhere up and changed nowhere down, however the shell ends
+  pub access : IsAccessedAs h.after (site_of inputs.setting.policy inputs.setting.file.schemes stored)
+      (AreEventsOf h.echo (IsShellFate inputs.setting.policy inputs.setting.file.schemes
+      (shell_session_of label user level h.before.is_terminal h.before.is_watched)) before after) store
 
 -- a shell is not begun: it has no level; or there is no memory; or its store is barred
 pub data IsShellRefused (h : Hosting) (s : Setting) (store : Option (List ℕ)) (reason : Reason) : Type 0 where

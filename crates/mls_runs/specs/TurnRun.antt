@@ -1,5 +1,5 @@
 -- The audit list of a store, turned.
-use Rattle.std.specs.Prelude.{◌≡◌, ◌≢◌, ℕ, List, [], ◌++◌, Option, Some, None, Result, ⊤, ◌⊎◌}
+use Rattle.std.specs.Prelude.{◌≡◌, ◌≢◌, ℕ, List, [], ◌++◌, Option, Some, None, IfSome, Result, ⊤, ◌⊎◌}
 use Rattle.mls_lattice.specs.Policy.{Policy, labels_of}
 use Rattle.mls_filterview.specs.Content.{Content}
 use Rattle.mls_audit.specs.Sound.{IsSoundContent}
@@ -14,7 +14,7 @@ use Rattle.mls_host.specs.declared.host.StoreCause.{StoreCause}
 use Rattle.mls_host.specs.declared.reason.Reason.{Reason}
 use Rattle.mls_host.specs.declared.reason.Reason.TheVariants.{Store}
 use Rattle.mls_host.specs.Causes.{IsBarred}
-use Rattle.mls_host.specs.Hosting.{Hosting, Hosted, IsClean, LeadsOverStore}
+use Rattle.mls_host.specs.Hosting.{Hosting, Hosted, AreNowhere, IsClean, LeadsOverStore}
 use Rattle.mls_runs.specs.History.{world_of}
 
 -- a turning passes nothing down: of any other world that looks alike to a level it shows that the same entries, and
@@ -45,6 +45,8 @@ module _ (setting : Setting) (Wrote : List ℕ → Type 0) (end : Result (Unit {
   pub record IsTurnRun (h : Hosted) (store : Option (List ℕ)) : Type 0 where
     pub there : IsThere h.before store
     pub turned : IsClean h store → LeadsOverStore h setting.policy setting.file store IsTurning
+    -- no tuple of it is read or changed, however it ends
+    pub access : IfSome store (λ path. AreNowhere h.after.asked h.after.changed)
 
 -- no list is turned: the store is barred; or there is none, and none is made
 pub data IsTurnRefused (h : Hosting) (s : Setting) (store : Option (List ℕ)) (reason : Reason) : Type 0 where

@@ -128,7 +128,7 @@ fn serve<B: Base, L: TypedLines, W: Write>(
     requires policy { (site engine.old).policy ≡ policy.now }
     requires schemes { (site engine.old).schemes ≡ schemes.now }
     ensures continues { Continues B.seen engine.old engine.new result }
-    ensures access { AreLinesPermitted B.seen (site engine.old) L.echo (IsDeskFate policy.now schemes.now) []
+    ensures access { AreLinesPermitted B.seen (site engine.old) L.echo (IsDeskFate policy.now schemes.now)
         (L.remaining lines.old) (L.remaining lines.new) engine.old.base engine.new.base }
     ensures service { (B.seen engine.new.base).is_clean → IsService L.echo (site engine.old) (L.remaining lines.old)
         (L.remaining lines.new) (L.breaks lines.new) (IsAppended W.contents out.old out.new) result
@@ -169,7 +169,7 @@ pub(crate) fn desk_over_base<B: Base, L: TypedLines, W: Write>(
     ensures leaves { Leaves B.seen base result.1 result.0 }
     // No line reads up, and none writes down.
     ensures access { AreLinesPermitted B.seen (site_of policy.now schemes.now stored) L.echo
-        (IsDeskFate policy.now schemes.now) [] (L.remaining lines.old) (L.remaining lines.new) base result.1 }
+        (IsDeskFate policy.now schemes.now) (L.remaining lines.old) (L.remaining lines.new) base result.1 }
     ensures desk { (B.seen result.1).is_clean → IsDesk L.echo (site_of policy.now schemes.now stored)
         (L.remaining lines.old)
         (L.remaining lines.new) (L.breaks lines.new) (IsAppended W.contents out.old out.new) result.0

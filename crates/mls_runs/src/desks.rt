@@ -6,7 +6,8 @@ ghost use Rattle.mls_host.specs.Hosting.{hosted, IsAppended};
 ghost use Rattle.mls_host.specs.Reading.{FitSetting};
 ghost use Rattle.mls_host.specs.Stop.{IsEnd};
 ghost use Rattle.mls_host.specs.Stopping.{IsCaused};
-ghost use Rattle.mls_runs.specs.Desk.{IsDesk};
+ghost use Rattle.mls_runs.specs.Access.{AreEventsOf};
+ghost use Rattle.mls_runs.specs.Desk.{IsDesk, IsDeskFate};
 ghost use Rattle.mls_sessions.specs.Engine.{MayServe};
 ghost use Rattle.mls_runs.specs.DeskRun.{IsDeskRun};
 
@@ -36,6 +37,9 @@ impl<'l, 'o, L: TypedLines, W: Write> Work for Desk<'l, 'o, L, W> {
     ghost leads = { λ old new site end first left. IsDesk L.echo site (L.remaining old.lines.now)
         (L.remaining new.lines.now) (L.breaks new.lines.now) (IsAppended W.contents old.out.now new.out.now)
         end first left };
+
+    ghost answered = { λ old new site events. AreEventsOf L.echo (IsDeskFate site.policy site.schemes)
+        (L.remaining old.lines.now) (L.remaining new.lines.now) events };
 
     ghost is_same = { λ old new. (new.lines.ghost_name ≡ old.lines.ghost_name)
         × (new.out.ghost_name ≡ old.out.ghost_name) };

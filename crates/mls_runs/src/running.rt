@@ -63,6 +63,8 @@ impl<'e, 'o, W: Write> Work for Script<'e, 'o, W> {
     ghost leads = { λ old new site end first left. IsRun site old.audience old.events.now
         (IsAppended W.contents old.out.now new.out.now) end first left };
 
+    ghost answered = { λ old new site events. events ≡ old.events.now };
+
     ghost is_same = { λ old new. new.out.ghost_name ≡ old.out.ghost_name };
 
     ghost keeps_streams = { λ w. refl };

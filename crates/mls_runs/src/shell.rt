@@ -185,7 +185,7 @@ fn converse<X: Explains, B: Base, L: TypedLines, W: Write, E: Write>(
     requires level { session.now.level < length policy.now.labels }
     ensures continues { Continues B.seen engine.old engine.new result }
     ensures access { AreLinesPermitted B.seen (site engine.old) L.echo (IsShellFate policy.now schemes.now session.now)
-        (opening session.now ∷ []) (L.remaining lines.old) (L.remaining lines.new) engine.old.base engine.new.base }
+        (L.remaining lines.old) (L.remaining lines.new) engine.old.base engine.new.base }
     ensures conversation { (B.seen engine.new.base).is_clean → IsConversation X.explaining L.echo (site engine.old)
         session.now (L.remaining lines.old) (L.remaining lines.new) (W.contents out.old) (W.contents out.new)
         (L.breaks lines.new)
@@ -246,8 +246,7 @@ pub(crate) fn shell_over_base<X: Explains, B: Base, L: TypedLines, W: Write, E: 
     ensures leaves { Leaves B.seen base result.1 result.0 }
     // No line reads up, and none writes down. To open the session reads and changes nothing.
     ensures access { AreLinesPermitted B.seen (site_of policy.now schemes.now stored) L.echo
-        (IsShellFate policy.now schemes.now session.now) (opening session.now ∷ []) (L.remaining lines.old)
-        (L.remaining lines.new) base result.1 }
+        (IsShellFate policy.now schemes.now session.now) (L.remaining lines.old) (L.remaining lines.new) base result.1 }
     ensures shell { (B.seen result.1).is_clean → IsShell X.explaining L.echo (site_of policy.now schemes.now stored)
         session.now (L.remaining lines.old) (L.remaining lines.new) (L.breaks lines.new)
         (IsAppended W.contents out.old out.new)

@@ -6,7 +6,8 @@ ghost use Rattle.mls_host.specs.Stopping.{IsCaused};
 ghost use Rattle.mls_host.specs.Words.{named};
 ghost use Rattle.mls_host.specs.Stop.{IsEnd};
 ghost use Rattle.mls_host.specs.Reading.{FitSetting};
-ghost use Rattle.mls_runs.specs.Shell.{opening, MayTalk, IsShell};
+ghost use Rattle.mls_runs.specs.Access.{AreEventsOf};
+ghost use Rattle.mls_runs.specs.Shell.{opening, MayTalk, IsShell, IsShellFate};
 ghost use Rattle.mls_runs.specs.ShellRun.{shell_session_of, IsShellRun, IsShellRefused};
 
 use crate::explaining::Explains;
@@ -46,6 +47,10 @@ impl<'s, 'f, 'l, 'o, 'e, X: Explains, L: TypedLines, W: Write, E: Write> Work
         (L.remaining old.lines.now) (L.remaining new.lines.now) (L.breaks new.lines.now)
         (IsAppended W.contents old.out.now new.out.now)
         (IsTold E.contents old.err.now new.err.now) end first left };
+
+    ghost answered = { λ old new site events. AreEventsOf L.echo
+        (IsShellFate site.policy site.schemes old.session.now) (L.remaining old.lines.now) (L.remaining new.lines.now)
+        events };
 
     ghost is_same = { λ old new. (new.lines.ghost_name ≡ old.lines.ghost_name)
         × (new.out.ghost_name ≡ old.out.ghost_name) × (new.err.ghost_name ≡ old.err.ghost_name) };

@@ -39,6 +39,8 @@ impl<'a, R: Files + AllocGlobal> Host for Lists<'a, R> {
       is_honest = Unit {0};
       has_failed = ⊥;
       is_unclosed = ⊥;
+      asked = λ _. ⊥;
+      changed = λ _. ⊥;
     } };
 
     type Store = ListBase;

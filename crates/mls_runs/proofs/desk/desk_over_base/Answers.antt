@@ -1,4 +1,4 @@
-use Rattle.std.proofs.Common.{[], ap, subst}
+use Rattle.std.proofs.Common.{ap, subst}
 use Rattle.mls_lattice.specs.Labels.{AreDistinct}
 use Rattle.mls_certcheck.specs.Site.{Site, site_labels, site_of as site_for}
 use Rattle.mls_sessions.specs.World.{world_at}
@@ -47,6 +47,6 @@ returns-clause-desk g c = λ clean.
 
 pub returns-clause-access : goal.returns-clause-access
 returns-clause-access g c =
-    lines_given g.B.Base.seen g.L.TypedLines.echo (IsDeskFate c.args.policy.now c.args.schemes.now) []
+    lines_given g.B.Base.seen g.L.TypedLines.echo (IsDeskFate c.args.policy.now c.args.schemes.now)
     _ _ _ _ _ _ _ _ c.new-engine.ensures.site c.new-engine.ensures.base
     c.finish.ensures c.serve-outcome.ensures.access

@@ -18,7 +18,7 @@ loop-init g c = (
   so_far_start g.B.Base.seen g.L.TypedLines.echo c.args.engine.now (g.L.TypedLines.remaining c.args.lines.now)
       (g.W.Write.contents c.args.out.now) c.requires.ready,
   lines_start g.B.Base.seen (site c.args.engine.now) g.L.TypedLines.echo
-      (IsDeskFate c.args.policy.now c.args.schemes.now) [] (g.L.TypedLines.remaining c.args.lines.now)
+      (IsDeskFate c.args.policy.now c.args.schemes.now) (g.L.TypedLines.remaining c.args.lines.now)
       c.args.engine.now.base c.args.engine.now.base
       (permitted_start g.B.Base.seen (site c.args.engine.now) [] c.args.engine.now.base),
 )
@@ -101,11 +101,11 @@ loop-preserved g c =
           (so_far_more g.B.Base.seen g.L.TypedLines.echo c.args.engine.now given was c.loop.engine left is c.loop.invariant.1 c.next_fate-fate.result over shown Broken heard
           c.follow.new.engine (g.W.Write.contents c.follow.new.out) c.follow.ensures.continues.clean c.follow.ensures.continues.kept c.in_ok-follow.ensures.found c.in_ok-follow.ensures.followed),
       subst (λ b. LinesSoFar g.B.Base.seen (site c.args.engine.now) g.L.TypedLines.echo
-          (IsDeskFate c.args.policy.now c.args.schemes.now) []
+          (IsDeskFate c.args.policy.now c.args.schemes.now)
           (g.L.TypedLines.remaining c.args.lines.now) (g.L.TypedLines.remaining c.next_fate-fate.new.lines) b
           c.args.engine.now.base c.follow.new.engine.base) (sym c.is_last.ensures ∙ c.if-is_last.false)
           (lines_more g.B.Base.seen (site c.args.engine.now) g.L.TypedLines.echo
-          (IsDeskFate c.args.policy.now c.args.schemes.now) [] (g.L.TypedLines.remaining c.args.lines.now)
+          (IsDeskFate c.args.policy.now c.args.schemes.now) (g.L.TypedLines.remaining c.args.lines.now)
           (g.L.TypedLines.remaining c.loop.lines) (g.L.TypedLines.remaining c.next_fate-fate.new.lines)
           (g.W.Write.contents c.loop.out) (g.W.Write.contents c.next_fate-fate.new.out)
           (g.L.TypedLines.breaks c.next_fate-fate.new.lines) (site c.loop.engine) c.args.engine.now.base c.loop.engine.base
@@ -126,7 +126,7 @@ returns-clause-service g c = λ clean.
 pub returns-in_err-follow-clause-access : goal.returns-in_err-follow-clause-access
 returns-in_err-follow-clause-access g c =
     lines_read g.B.Base.seen (site c.args.engine.now) g.L.TypedLines.echo
-    (IsDeskFate c.args.policy.now c.args.schemes.now) [] (g.L.TypedLines.remaining c.args.lines.now)
+    (IsDeskFate c.args.policy.now c.args.schemes.now) (g.L.TypedLines.remaining c.args.lines.now)
     (g.L.TypedLines.remaining c.loop.lines) (g.L.TypedLines.remaining c.next_fate-fate.new.lines)
     (g.W.Write.contents c.loop.out) (g.W.Write.contents c.next_fate-fate.new.out)
     (g.L.TypedLines.breaks c.next_fate-fate.new.lines) (site c.loop.engine) c.args.engine.now.base c.loop.engine.base
@@ -136,7 +136,7 @@ returns-in_err-follow-clause-access g c =
 pub returns-then-is_last-clause-access : goal.returns-then-is_last-clause-access
 returns-then-is_last-clause-access g c =
     lines_read g.B.Base.seen (site c.args.engine.now) g.L.TypedLines.echo
-    (IsDeskFate c.args.policy.now c.args.schemes.now) [] (g.L.TypedLines.remaining c.args.lines.now)
+    (IsDeskFate c.args.policy.now c.args.schemes.now) (g.L.TypedLines.remaining c.args.lines.now)
     (g.L.TypedLines.remaining c.loop.lines) (g.L.TypedLines.remaining c.next_fate-fate.new.lines)
     (g.W.Write.contents c.loop.out) (g.W.Write.contents c.next_fate-fate.new.out)
     (g.L.TypedLines.breaks c.next_fate-fate.new.lines) (site c.loop.engine) c.args.engine.now.base c.loop.engine.base
@@ -146,5 +146,5 @@ returns-then-is_last-clause-access g c =
 pub returns-clause-access : goal.returns-clause-access
 returns-clause-access g c =
     lines_are g.B.Base.seen (site c.args.engine.now) g.L.TypedLines.echo
-    (IsDeskFate c.args.policy.now c.args.schemes.now) [] (g.L.TypedLines.remaining c.args.lines.now)
+    (IsDeskFate c.args.policy.now c.args.schemes.now) (g.L.TypedLines.remaining c.args.lines.now)
     (g.L.TypedLines.remaining c.loop.lines) false c.args.engine.now.base c.loop.engine.base c.loop.invariant.2

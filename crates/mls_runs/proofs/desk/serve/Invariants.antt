@@ -1,4 +1,4 @@
-use Rattle.std.proofs.Common.{[], false}
+use Rattle.std.proofs.Common.{false}
 use Rattle.mls_sessions.proofs.FrameLemmas.{WentWell}
 use Rattle.mls_sessions.specs.Engine.{site}
 use Rattle.mls_runs.specs.Desk.{IsDeskFate}
@@ -12,5 +12,5 @@ invariant-loop g l =
     × SoFar g.B.Base.seen g.L.TypedLines.echo l.fn.engine (g.L.TypedLines.remaining l.fn.lines)
     (g.W.Write.contents l.fn.out)
     l.engine (g.L.TypedLines.remaining l.lines) (g.W.Write.contents l.out) false
-    × LinesSoFar g.B.Base.seen (site l.fn.engine) g.L.TypedLines.echo (IsDeskFate l.policy l.schemes) []
+    × LinesSoFar g.B.Base.seen (site l.fn.engine) g.L.TypedLines.echo (IsDeskFate l.policy l.schemes)
     (g.L.TypedLines.remaining l.fn.lines) (g.L.TypedLines.remaining l.lines) false l.fn.engine.base l.engine.base

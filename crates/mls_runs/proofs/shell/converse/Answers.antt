@@ -1,17 +1,17 @@
-use Rattle.std.proofs.Common.{◌≡◌, ◌+◌, ◌∷◌, [], false, ◌||◌, Ok, Err, not, refl, sym, ap, ◌∙◌, subst, rules, is_some}
+use Rattle.std.proofs.Common.{◌≡◌, ◌+◌, false, ◌||◌, Ok, Err, not, refl, sym, ap, ◌∙◌, subst, rules, is_some}
 use Rattle.mls_certcheck.specs.Site.{site_of}
 use Rattle.mls_sessions.specs.Sessions.{site_of_run}
 use Rattle.mls_sessions.specs.Engine.{site, world_of, Continues}
 use Rattle.mls_host.specs.Ending.{ending_if}
 use Rattle.mls_host.specs.Hosting.{IsTold}
 use Rattle.mls_sessions.specs.Run.{notice_in}
-use Rattle.mls_runs.specs.Shell.{audience_at, opening, verdict_of, events_of, is_short, end_told, IsShellFate, IsShellFollowed, IsConversation}
+use Rattle.mls_runs.specs.Shell.{audience_at, verdict_of, events_of, is_short, end_told, IsShellFate, IsShellFollowed, IsConversation}
 use Rattle.mls_runs.specs.Tally.{tally_with}
 use Rattle.mls_runs.proofs.ShellLemmas.{said_more, explained_as}
 use Rattle.mls_runs.proofs.TalkLemmas.{SoFar, Line, IsSaid, MayGreet, may_greet, may_tell, policy_at, schemes_at, verdict_noticed, so_far_start, so_far_more, broken, broken_first, over_closed, over_last, worn_out, fits_at, level_at, heard_at}
 use Rattle.mls_sessions.proofs.FrameLemmas.{carried, goes_first, goes_well, goes_on, goes_to, worn_frame}
 use Rattle.mls_sessions.specs.Access.{ArePermitted}
-use Rattle.mls_runs.proofs.AccessLemmas.{LinesSoFar, lines_start, lines_more, lines_are, lines_read}
+use Rattle.mls_runs.proofs.AccessLemmas.{LinesSoFar, opening_permits_nothing, lines_start, lines_more, lines_are, lines_read}
 use Rattle.mls_runs.proofs.shell.converse.Goals as goal
 
 pub returns-in_err-answer-clause-continues : goal.returns-in_err-answer-clause-continues
@@ -65,10 +65,11 @@ loop-before-init g c = let to = c.listener_of-to.result in (
       (c.listener_of-to.ensures.site ∙ ap site_of_run c.answer.ensures.continues.kept.site) c.listener_of-to.ensures.session c.args.first.now c.notice.result c.requires.first (c.notice.ensures ∙ c.in_ok-answer.ensures.noticed clean))
       c.greeting-greeting.ensures c.tell_more.ensures),
   lines_start g.B.Base.seen (site c.args.engine.now) g.L.TypedLines.echo
-      (IsShellFate c.args.policy.now c.args.schemes.now c.args.session.now) (opening c.args.session.now ∷ [])
+      (IsShellFate c.args.policy.now c.args.schemes.now c.args.session.now)
       (g.L.TypedLines.remaining c.args.lines.now) c.args.engine.now.base c.answer.new.engine.base
-      (subst (λ es. ArePermitted g.B.Base.seen (site c.args.engine.now) es c.args.engine.now.base
-      c.answer.new.engine.base) c.requires.first c.answer.ensures.access),
+      (opening_permits_nothing g.B.Base.seen (site c.args.engine.now) c.args.session.now c.args.engine.now.base
+      c.answer.new.engine.base (subst (λ es. ArePermitted g.B.Base.seen (site c.args.engine.now) es
+      c.args.engine.now.base c.answer.new.engine.base) c.requires.first c.answer.ensures.access)),
 )
 
 pub returns-then-not-is_open-clause-continues : goal.returns-then-not-is_open-clause-continues
@@ -214,11 +215,11 @@ loop-before-preserved g c =
       subst (λ t. SoFar g.B.Base.seen g.E.Write.contents g.X.Explains.explaining g.L.TypedLines.echo c.args.session.now c.args.engine.now c.args.err.now (g.L.TypedLines.remaining c.args.lines.now) (g.W.Write.contents c.args.out.now) (c.loop-before.before + 1) c.follow.new.engine c.tell_more-in-loop-before.new.err (g.L.TypedLines.remaining c.next_fate-fate.new.lines) (g.W.Write.contents c.follow.new.out) c.is_open-was_opened.result t false) (sym c.tally_with-tally.ensures)
           (subst (λ b. SoFar g.B.Base.seen g.E.Write.contents g.X.Explains.explaining g.L.TypedLines.echo c.args.session.now c.args.engine.now c.args.err.now (g.L.TypedLines.remaining c.args.lines.now) (g.W.Write.contents c.args.out.now) (c.loop-before.before + 1) c.follow.new.engine c.tell_more-in-loop-before.new.err (g.L.TypedLines.remaining c.next_fate-fate.new.lines) (g.W.Write.contents c.follow.new.out) c.is_open-was_opened.result (tally_with c.loop-before.tally (verdict_of (not (is_some notice)) c.next_fate-fate.result)) b) (sym c.is_last.ensures ∙ c.if-is_last.false) next),
       subst (λ b. LinesSoFar g.B.Base.seen (site c.args.engine.now) g.L.TypedLines.echo
-          (IsShellFate c.args.policy.now c.args.schemes.now c.args.session.now) (opening c.args.session.now ∷ [])
+          (IsShellFate c.args.policy.now c.args.schemes.now c.args.session.now)
           (g.L.TypedLines.remaining c.args.lines.now) (g.L.TypedLines.remaining c.next_fate-fate.new.lines) b
           c.args.engine.now.base c.follow.new.engine.base) (sym c.is_last.ensures ∙ c.if-is_last.false)
           (lines_more g.B.Base.seen (site c.args.engine.now) g.L.TypedLines.echo
-          (IsShellFate c.args.policy.now c.args.schemes.now c.args.session.now) (opening c.args.session.now ∷ [])
+          (IsShellFate c.args.policy.now c.args.schemes.now c.args.session.now)
           (g.L.TypedLines.remaining c.args.lines.now) (g.L.TypedLines.remaining c.loop-before.lines)
           (g.L.TypedLines.remaining c.next_fate-fate.new.lines) (g.W.Write.contents c.loop-before.out)
           (g.W.Write.contents c.next_fate-fate.new.out) (g.L.TypedLines.breaks c.next_fate-fate.new.lines)
@@ -236,26 +237,27 @@ returns-clause-conversation g c = λ clean. worn_out g.B.Base.seen g.E.Write.con
 pub returns-in_err-answer-clause-access : goal.returns-in_err-answer-clause-access
 returns-in_err-answer-clause-access g c =
     lines_are g.B.Base.seen (site c.args.engine.now) g.L.TypedLines.echo
-    (IsShellFate c.args.policy.now c.args.schemes.now c.args.session.now) (opening c.args.session.now ∷ [])
+    (IsShellFate c.args.policy.now c.args.schemes.now c.args.session.now)
     (g.L.TypedLines.remaining c.args.lines.now) (g.L.TypedLines.remaining c.args.lines.now) false
     c.args.engine.now.base c.answer.new.engine.base
     (lines_start g.B.Base.seen (site c.args.engine.now) g.L.TypedLines.echo
-    (IsShellFate c.args.policy.now c.args.schemes.now c.args.session.now) (opening c.args.session.now ∷ [])
+    (IsShellFate c.args.policy.now c.args.schemes.now c.args.session.now)
     (g.L.TypedLines.remaining c.args.lines.now) c.args.engine.now.base c.answer.new.engine.base
-    (subst (λ es. ArePermitted g.B.Base.seen (site c.args.engine.now) es c.args.engine.now.base
-    c.answer.new.engine.base) c.requires.first c.answer.ensures.access))
+    (opening_permits_nothing g.B.Base.seen (site c.args.engine.now) c.args.session.now c.args.engine.now.base
+    c.answer.new.engine.base (subst (λ es. ArePermitted g.B.Base.seen (site c.args.engine.now) es
+    c.args.engine.now.base c.answer.new.engine.base) c.requires.first c.answer.ensures.access)))
 
 pub returns-then-not-is_open-clause-access : goal.returns-then-not-is_open-clause-access
 returns-then-not-is_open-clause-access g c =
     lines_are g.B.Base.seen (site c.args.engine.now) g.L.TypedLines.echo
-    (IsShellFate c.args.policy.now c.args.schemes.now c.args.session.now) (opening c.args.session.now ∷ [])
+    (IsShellFate c.args.policy.now c.args.schemes.now c.args.session.now)
     (g.L.TypedLines.remaining c.args.lines.now) (g.L.TypedLines.remaining c.loop-before.lines) false
     c.args.engine.now.base c.loop-before.engine.base c.loop-before.invariant.2
 
 pub returns-in_err-follow-clause-access : goal.returns-in_err-follow-clause-access
 returns-in_err-follow-clause-access g c =
     lines_read g.B.Base.seen (site c.args.engine.now) g.L.TypedLines.echo
-    (IsShellFate c.args.policy.now c.args.schemes.now c.args.session.now) (opening c.args.session.now ∷ [])
+    (IsShellFate c.args.policy.now c.args.schemes.now c.args.session.now)
     (g.L.TypedLines.remaining c.args.lines.now) (g.L.TypedLines.remaining c.loop-before.lines)
     (g.L.TypedLines.remaining c.next_fate-fate.new.lines) (g.W.Write.contents c.loop-before.out)
     (g.W.Write.contents c.next_fate-fate.new.out) (g.L.TypedLines.breaks c.next_fate-fate.new.lines)
@@ -266,7 +268,7 @@ returns-in_err-follow-clause-access g c =
 pub returns-then-is_last-clause-access : goal.returns-then-is_last-clause-access
 returns-then-is_last-clause-access g c =
     lines_read g.B.Base.seen (site c.args.engine.now) g.L.TypedLines.echo
-    (IsShellFate c.args.policy.now c.args.schemes.now c.args.session.now) (opening c.args.session.now ∷ [])
+    (IsShellFate c.args.policy.now c.args.schemes.now c.args.session.now)
     (g.L.TypedLines.remaining c.args.lines.now) (g.L.TypedLines.remaining c.loop-before.lines)
     (g.L.TypedLines.remaining c.next_fate-fate.new.lines) (g.W.Write.contents c.loop-before.out)
     (g.W.Write.contents c.next_fate-fate.new.out) (g.L.TypedLines.breaks c.next_fate-fate.new.lines)
@@ -277,6 +279,6 @@ returns-then-is_last-clause-access g c =
 pub returns-clause-access : goal.returns-clause-access
 returns-clause-access g c =
     lines_are g.B.Base.seen (site c.args.engine.now) g.L.TypedLines.echo
-    (IsShellFate c.args.policy.now c.args.schemes.now c.args.session.now) (opening c.args.session.now ∷ [])
+    (IsShellFate c.args.policy.now c.args.schemes.now c.args.session.now)
     (g.L.TypedLines.remaining c.args.lines.now) (g.L.TypedLines.remaining c.loop-before.lines) false
     c.args.engine.now.base c.loop-before.engine.base c.loop-before.invariant.2

@@ -56,6 +56,6 @@ returns-clause-shell g c = λ clean.
 pub returns-clause-access : goal.returns-clause-access
 returns-clause-access g c =
     lines_given g.B.Base.seen g.L.TypedLines.echo
-    (IsShellFate c.args.policy.now c.args.schemes.now c.args.session.now) (opening c.args.session.now ∷ [])
+    (IsShellFate c.args.policy.now c.args.schemes.now c.args.session.now)
     _ _ _ _ _ _ _ _ c.new-engine.ensures.site c.new-engine.ensures.base
     c.finish.ensures c.converse-outcome.ensures.access

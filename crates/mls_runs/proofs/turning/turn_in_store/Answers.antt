@@ -8,6 +8,7 @@ use Rattle.mls_host.specs.Stopping.{IsCaused}
 use Rattle.mls_runs.proofs.RunningLemmas.{ended_so}
 use Rattle.mls_host.proofs.StoppingLemmas.{untouched, caused_in_store}
 use Rattle.mls_runs.specs.TurnRun.{IsTurnRun, IsTurnRefused, barred, absent}
+use Rattle.mls_runs.proofs.AccessLemmas.{nowhere_kept}
 use Rattle.mls_runs.proofs.TurningLemmas.{turning}
 use Rattle.mls_runs.proofs.turning.turn_in_store.Goals as goal
 
@@ -34,6 +35,9 @@ returns-clause-ends g c =
             leads = turning setting Wrote _ _ c.turn-outcome.result
                 (c.turn-outcome.ensures.turned clean) c.in-Ok.ensures.sound;
           };
+      access =
+          nowhere_kept g.H.Store.Base.seen h.after c.in-Ok.base c.turn-outcome.new.base c.in-Ok.ensures.fresh
+          c.keep-closed.ensures.asked c.keep-closed.ensures.changed c.turn-outcome.ensures.access;
     } in
     subst (λ (r : Result (Unit {0}) Stop). IsEnd Turns
     (λ reason. IsTurnRefused (g.H.Host.hosting c.keep-closed.new.self) setting (Some c.args.path.now) reason

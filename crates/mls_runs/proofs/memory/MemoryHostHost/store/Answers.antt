@@ -32,11 +32,16 @@ returns-in-Err-clause-barred c =
     (memory_is_clean c.in-Err.conn)))
 
 pub returns-in-Err-clause-same : goal.returns-in-Err-clause-same
-returns-in-Err-clause-same c = λ path held.
+returns-in-Err-clause-same c =
     let old = state over_memory c.in-Some.conn in
     let new = state over_memory c.in-Err.conn in
     let back = c.in-Err.ensures.refused.refused (memory_is_clean c.in-Err.conn) in
     let settled = c.is_autocommit-in-Err.ensures.settled (c.is_autocommit-in-Err.ensures.value
     ∙ ap not (back.mode refl)) refl in
     let was = c.is_autocommit.ensures.settled c.if-not-is_autocommit.false refl in
-    same_held (λ conn. (state over_memory conn).now) c.args.self.now.store c.in-Some.conn c.in-Err.conn c.in-Some.ensures.value (handed_back old new back refl settled was) held
+    record {
+      kept = λ path.
+          same_held (λ conn. (state over_memory conn).now) c.args.self.now.store c.in-Some.conn c.in-Err.conn c.in-Some.ensures.value (handed_back old new back refl settled was);
+      asked = λ m. (λ k. k, λ k. k);
+      changed = λ m. (λ k. k, λ k. k);
+    }

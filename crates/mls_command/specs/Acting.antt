@@ -39,6 +39,14 @@ explains Picture = true
 explains (Explain name) = true
 explains task = false
 
+-- the tasks that print at once what they make of what is read
+abbrev pub prints : Task → Bool
+prints (Run at is_table) = false
+prints (Shell label user) = false
+prints Serve = false
+prints (Turn at) = false
+prints task = true
+
 -- `Ignores text`: what is said of the fields of the policy and the schemes that nobody reads
 module _ (Ignores : List ℕ → Type 0) (inputs : Inputs) where
   -- what a command prints that runs nothing and turns nothing, on standard output,

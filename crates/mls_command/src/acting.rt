@@ -1,10 +1,10 @@
 //! What the program does with its words.
-ghost use Rattle.std.specs.Prelude.{◌≡◌};
+ghost use Rattle.std.specs.Prelude.{◌≡◌, true, false};
 ghost use Rattle.mls_host.specs.Deed.{deed};
 ghost use Rattle.mls_host.specs.Hosting.{hosted, IsAppended, IsTold};
 ghost use Rattle.mls_host.specs.Reading.{AreInputsRefused, FitSetting, HasUser};
 ghost use Rattle.mls_host.specs.Words.{texts_of};
-ghost use Rattle.mls_command.specs.Acting.{explains, IsTaskDeed, IsRefusedDeed, IsDeedOf};
+ghost use Rattle.mls_command.specs.Acting.{explains, prints, IsTaskDeed, IsRefusedDeed, IsDeedOf};
 ghost use Rattle.mls_command.specs.Accounting.{IsAccountOf};
 ghost use Rattle.mls_command.specs.Answering.{IsFinished, IsNoted, AnswersWords, IsOutcomeOf};
 
@@ -27,21 +27,31 @@ const NOTE: &str = "\
 mldb: reads a script from here, under the sample policy, up to the end of input (Ctrl-D); mldb --help shows what else there is
 ";
 
-/// Does the task of a job with what it has read.
-fn perform_task<H: Advises, W: Write, E: Write>(
+/// Whether a task prints at once what it makes of what its job has read.
+fn prints(task: Task) -> bool
+    ensures { result ≡ prints task.entry }
+{
+    match task {
+        Task::Run { .. } | Task::Shell { .. } | Task::Serve | Task::Turn { .. } => false,
+        _ => true,
+    }
+}
+
+/// Does a task that prints at once. It borrows what the job has read: beside inputs that each of many ends lets go, a
+/// proof is dear.
+fn print_task<H: Advises, W: Write, E: Write>(
     alloc: Global,
-    host: &mut H,
-    inputs: Inputs,
+    host: &H,
+    inputs: &Inputs,
     job: Job,
     out: &mut W,
     err: &mut Errors<E>,
 ) -> Result<Ending, Stop>
-    requires fit { FitSetting inputs.setting inputs.transactions inputs.events }
-    requires user { HasUser job.task }
-    ensures { IsTaskDeed H.Advice.explaining (hosted H.hosting H.Lines.echo host.old host.new) job.entry inputs
+    requires fit { FitSetting inputs.now.setting inputs.now.transactions inputs.now.events }
+    requires prints { prints job.task ≡ true }
+    ensures { IsTaskDeed H.Advice.explaining (hosted H.hosting H.Lines.echo host.now host.now) job.entry inputs.now
         job.entry.task (deed W.contents out.old out.new E.contents err.old err.new result) }
 {
-    let store = job.files.store;
     match job.task {
         Task::ShowPolicy => {
             let made = texts(alloc, &inputs.setting);
@@ -64,6 +74,27 @@ fn perform_task<H: Advises, W: Write, E: Write>(
             let (setting, txs) = (&inputs.setting, &inputs.transactions);
             explanation_of(alloc, host, setting, txs, name, job.documents)?.print(out, err)
         }
+        Task::Run { .. } | Task::Shell { .. } | Task::Serve | Task::Turn { .. } => unreachable!(),
+    }
+}
+
+/// Does a task that runs something, or turns an audit list.
+fn run_task<H: Advises, W: Write, E: Write>(
+    alloc: Global,
+    host: &mut H,
+    inputs: Inputs,
+    job: Job,
+    out: &mut W,
+    err: &mut Errors<E>,
+) -> Result<Ending, Stop>
+    requires fit { FitSetting inputs.setting inputs.transactions inputs.events }
+    requires user { HasUser job.task }
+    requires runs { prints job.task ≡ false }
+    ensures { IsTaskDeed H.Advice.explaining (hosted H.hosting H.Lines.echo host.old host.new) job.entry inputs
+        job.entry.task (deed W.contents out.old out.new E.contents err.old err.new result) }
+{
+    let store = job.files.store;
+    match job.task {
         Task::Run { is_table, .. } => {
             run_script(alloc, host, store, inputs, is_table, out)?;
             Ok(Ending::Well)
@@ -73,7 +104,28 @@ fn perform_task<H: Advises, W: Write, E: Write>(
         }
         Task::Serve => served(run_desk(alloc, host, store, inputs, out)),
         Task::Turn { .. } => turned(turn_store(alloc, host, store, &inputs.setting, out)),
+        _ => unreachable!(),
     }
+}
+
+/// Does the task of a job with what it has read.
+fn perform_task<H: Advises, W: Write, E: Write>(
+    alloc: Global,
+    host: &mut H,
+    inputs: Inputs,
+    job: Job,
+    out: &mut W,
+    err: &mut Errors<E>,
+) -> Result<Ending, Stop>
+    requires fit { FitSetting inputs.setting inputs.transactions inputs.events }
+    requires user { HasUser job.task }
+    ensures { IsTaskDeed H.Advice.explaining (hosted H.hosting H.Lines.echo host.old host.new) job.entry inputs
+        job.entry.task (deed W.contents out.old out.new E.contents err.old err.new result) }
+{
+    if prints(job.task) {
+        return print_task(alloc, host, &inputs, job, out, err);
+    }
+    run_task(alloc, host, inputs, job, out, err)
 }
 
 /// Whether a task explains inputs of its own.

@@ -35,22 +35,33 @@ impl<'a> Advises for MemoryHost<'a> {
     }
 }
 
+/// The fields of the file of a policy that nobody reads, a line for each; none, where the host no longer gives it.
+fn ignored_of_policy<H: Host>(alloc: Global, host: &H, path: &str) -> Result<String, AllocError> {
+    match host.file(alloc, path) {
+        Ok(bytes) => ignored_in_policy(alloc, path, &bytes),
+        Err(_) => Ok(String::new(alloc)),
+    }
+}
+
+/// The same of schemes.
+fn ignored_of_schemes<H: Host>(alloc: Global, host: &H, path: &str) -> Result<String, AllocError> {
+    match host.file(alloc, path) {
+        Ok(bytes) => ignored_in_schemes(alloc, path, &bytes),
+        Err(_) => Ok(String::new(alloc)),
+    }
+}
+
 /// The fields of the two files that nobody reads, a line for each; of a file that the host no longer gives, none.
 pub fn ignored_of<H: Host>(
     alloc: Global,
     host: &H,
     documents: Option<Documents>,
 ) -> Result<String, AllocError> {
-    let mut text = String::new(alloc);
     let Some(files) = documents else {
-        return Ok(text);
+        return Ok(String::new(alloc));
     };
-    if let Ok(bytes) = host.file(alloc, files.policy) {
-        text.push_str(&ignored_in_policy(alloc, files.policy, &bytes)?)?;
-    }
-    if let Ok(bytes) = host.file(alloc, files.schemes) {
-        text.push_str(&ignored_in_schemes(alloc, files.schemes, &bytes)?)?;
-    }
+    let mut text = ignored_of_policy(alloc, host, files.policy)?;
+    text.push_str(&ignored_of_schemes(alloc, host, files.schemes)?)?;
     Ok(text)
 }
 

@@ -56,7 +56,8 @@ pub fn stopped_desks_agree<H: Host, K: Host, W: Write, V: Write>()
         (hosted K.hosting K.Lines.echo before after) (IsAppended V.contents second over) }
 {}
 
-/// In the life of a store nothing flows down but what is released, also where it is migrated to later files.
+/// In the life of a store nothing flows down but what is released, also where it is migrated to later files, which may
+/// add labels.
 pub fn lifetimes_pass_only_releases()
     ensures { LifetimesPassOnlyReleases }
 {}

@@ -2,7 +2,11 @@
 #![tactic(auto)]
 
 mod block;
+mod narrow;
+mod texts;
 mod told;
 
 pub use crate::block::{Case, case_at, inner, joined, text_of, unfolded};
+pub use crate::narrow::Narrow;
+pub use crate::texts::Texts;
 pub use crate::told::Told;

@@ -50,13 +50,6 @@ pub fn certificate_of(alloc: Global, text: &str) -> Option<Certificate> {
     certificate_in(alloc, text.starts_with("pcs"), &bytes).ok()
 }
 
-fn tell_certificate(alloc: Global, is_second: bool, bytes: &[u8], out: &mut Told) {
-    match certificate_in(alloc, is_second, bytes) {
-        Ok(certificate) => push_certificate(alloc, &certificate, out),
-        Err(fault) => push_fault_at(fault, out),
-    }
-}
-
 fn push_blocks(alloc: Global, blocks: &[(Str, Certificate)], out: &mut Told) {
     for block in blocks {
         push_word(block.0.as_str(), out);
@@ -64,15 +57,8 @@ fn push_blocks(alloc: Global, blocks: &[(Str, Certificate)], out: &mut Told) {
     }
 }
 
-fn tell_file(alloc: Global, bytes: &[u8], out: &mut Told) {
-    match certs_read(alloc, bytes) {
-        Ok(blocks) => push_blocks(alloc, &blocks, out),
-        Err(fault) => push_fault_at(fault, out),
-    }
-}
-
-/// Tells how long the parts of a file are that are read, and the fault of each other, where another than Line.
-fn tell_prefixes(alloc: Global, bytes: &[u8], out: &mut Told) {
+/// Adds how long the parts of a file are that are read, and the fault of each other, where another than Line.
+fn push_prefixes(alloc: Global, bytes: &[u8], out: &mut Told) {
     for count in 0..bytes.len() {
         match certs_read(alloc, &bytes[..count]) {
             Ok(_) => {
@@ -85,19 +71,25 @@ fn tell_prefixes(alloc: Global, bytes: &[u8], out: &mut Told) {
     }
 }
 
-/// Tells what texts are read as: a line is `cert`, `cert2`, `file` or `prefixes`, and the text.
-pub fn tell(alloc: Global, head: &str, out: &mut Told) {
-    let (kind, text) = head.split_once(' ').unwrap_or((head, ""));
-    out.push(head);
-    out.push(":");
+/// Adds what is read of a text: a certificate, or several.
+fn push_read(alloc: Global, kind: &str, bytes: &[u8], out: &mut Told) {
+    if kind == "file" {
+        return match certs_read(alloc, bytes) {
+            Ok(blocks) => push_blocks(alloc, &blocks, out),
+            Err(fault) => push_fault_at(fault, out),
+        };
+    }
+    match certificate_in(alloc, kind == "cert2", bytes) {
+        Ok(certificate) => push_certificate(alloc, &certificate, out),
+        Err(fault) => push_fault_at(fault, out),
+    }
+}
+
+/// Adds what texts are read as: a line is `cert`, `cert2`, `file` or `prefixes`, and the text.
+pub fn push(alloc: Global, kind: &str, text: &str, out: &mut Told) {
     match unfolded(alloc, text) {
-        Ok(bytes) => match kind {
-            "cert" => tell_certificate(alloc, false, &bytes, out),
-            "cert2" => tell_certificate(alloc, true, &bytes, out),
-            "file" => tell_file(alloc, &bytes, out),
-            _ => tell_prefixes(alloc, &bytes, out),
-        },
+        Ok(bytes) if kind == "prefixes" => push_prefixes(alloc, &bytes, out),
+        Ok(bytes) => push_read(alloc, kind, &bytes, out),
         Err(_) => out.fail(),
     }
-    out.push("\n");
 }

@@ -1,29 +1,28 @@
 //! Older policies and schemes, which policies and schemes extend.
 use crate::sample::Sample;
 use crate::show::push_fault;
-use case_tables::{Case, Told, joined, unfolded};
+use case_tables::{Told, joined, unfolded};
 use mls_lattice::Policy;
 use mls_scheme::SchemesFile;
-use std::alloc::Global;
+use std::alloc::{AllocError, Global};
 
-/// Adds how many labels of a policy are those of an old text.
-fn push_labels(alloc: Global, policy: &Policy, old: &[u8], out: &mut Told) {
-    match policy.labels_before(alloc, old) {
-        Ok(Some(labels)) => {
-            out.push(" ");
-            out.push_count(labels);
-        }
-        Ok(None) => {}
-        Err(_) => out.fail(),
+/// Adds whether a policy extends an old text, and how many of its labels are those of the text.
+fn push_policy(
+    alloc: Global,
+    policy: &Policy,
+    old: &[u8],
+    out: &mut Told,
+) -> Result<(), AllocError> {
+    out.push(if policy.extends(alloc, old)? {
+        "yes"
+    } else {
+        "no"
+    });
+    if let Some(labels) = policy.labels_before(alloc, old)? {
+        out.push(" ");
+        out.push_count(labels);
     }
-}
-
-fn tell_policy(alloc: Global, policy: &Policy, old: &[u8], out: &mut Told) {
-    match policy.extends(alloc, old) {
-        Ok(extends) => out.push(if extends { "yes" } else { "no" }),
-        Err(_) => out.fail(),
-    }
-    push_labels(alloc, policy, old, out);
+    Ok(())
 }
 
 fn push_counts(counts: &[usize], out: &mut Told) {
@@ -34,7 +33,8 @@ fn push_counts(counts: &[usize], out: &mut Told) {
     }
 }
 
-fn tell_schemes(alloc: Global, sample: &Sample<'_>, old: &[u8], out: &mut Told) {
+/// Adds whether schemes extend an old text, and how many of their attributes are those of the text.
+fn push_schemes(alloc: Global, sample: &Sample<'_>, old: &[u8], out: &mut Told) {
     match sample.schemes.extends(alloc, sample.policy, old) {
         Ok(Some(counts)) => push_counts(&counts, out),
         Ok(None) => out.push("no"),
@@ -42,44 +42,53 @@ fn tell_schemes(alloc: Global, sample: &Sample<'_>, old: &[u8], out: &mut Told) 
     }
 }
 
-fn tell_schemes_in(alloc: Global, policy: &Policy, text: &str, old: &[u8], out: &mut Told) {
+/// The same of the schemes that a text is.
+fn push_schemes_in(alloc: Global, policy: &Policy, text: &str, old: &[u8], out: &mut Told) {
     match SchemesFile::read(alloc, policy, text.as_bytes()) {
         Ok(file) => {
             let sample = Sample {
                 policy,
                 schemes: &file.schemes,
             };
-            tell_schemes(alloc, &sample, old, out);
+            push_schemes(alloc, &sample, old, out);
         }
         Err(fault) => push_fault(fault.code(), fault.word(), out),
     }
 }
 
-fn tell_schemes_below(alloc: Global, policy: &Policy, body: &[&str], old: &[u8], out: &mut Told) {
-    match joined(alloc, body) {
-        Ok(text) => tell_schemes_in(alloc, policy, &text, old, out),
-        Err(_) => out.fail(),
+fn push_old(
+    alloc: Global,
+    sample: &Sample<'_>,
+    kind: &str,
+    old: &[u8],
+    body: &[&str],
+    out: &mut Told,
+) -> Result<(), AllocError> {
+    if kind == "policy" {
+        return push_policy(alloc, sample.policy, old, out);
     }
+    if body.is_empty() {
+        push_schemes(alloc, sample, old, out);
+        return Ok(());
+    }
+    let text = joined(alloc, body)?;
+    push_schemes_in(alloc, sample.policy, &text, old, out);
+    Ok(())
 }
 
-fn tell_old(alloc: Global, sample: &Sample<'_>, case: &Case<'_>, old: &[u8], out: &mut Told) {
-    if case.head.starts_with("policy") {
-        tell_policy(alloc, sample.policy, old, out);
-    } else if case.body.is_empty() {
-        tell_schemes(alloc, sample, old, out);
-    } else {
-        tell_schemes_below(alloc, sample.policy, case.body, old, out);
-    }
-}
-
-/// Tells of an old text in one line, after `policy` or `schemes`, whether it is extended, and what of the new one is
-/// old.
-pub fn tell(alloc: Global, sample: &Sample<'_>, case: &Case<'_>, out: &mut Told) {
-    let line = case.head.split_once(' ').map_or("", |parts| parts.1);
-    match unfolded(alloc, line) {
-        Ok(old) => tell_old(alloc, sample, case, &old, out),
-        Err(_) => out.fail(),
-    }
-    out.push(": ");
-    out.push_line(case.head);
+/// Adds of an old text in one line, after `policy` or `schemes`, whether it is extended, and what of the new one is
+/// old. Schemes may stand below it.
+pub fn push(
+    alloc: Global,
+    sample: &Sample<'_>,
+    kind: &str,
+    line: &str,
+    body: &[&str],
+    out: &mut Told,
+) {
+    let growth = match unfolded(alloc, line) {
+        Ok(old) => push_old(alloc, sample, kind, &old, body, out),
+        Err(fault) => Err(fault),
+    };
+    out.note(growth);
 }

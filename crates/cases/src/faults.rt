@@ -7,32 +7,66 @@ ghost use Rattle.std.specs.List.{AllByRecursion};
 ghost use Rattle.mls_translang.specs.Event.{EventFits};
 
 mod faulty;
-mod narrow;
 mod outcomes;
 mod runs;
 mod steps;
 mod stored;
 
-use self::outcomes::{Trials, tell_script};
+use self::outcomes::{Way, tell_script};
 use self::runs::{Scripts, What};
 use crate::sample::Sample;
-use crate::texts::Texts;
-use case_tables::Told;
+use case_tables::{Texts, Told};
 use mls_script::script;
 use mls_translang::Event;
 use std::alloc::Global;
 
-/// The scripts, in the order in which they are told.
+/// How single calls, and writes, fail.
+static CALLS: [(Way, What); 5] = [
+    (Way::Run, What::Store),
+    (Way::Run, What::Memory),
+    (Way::Run, What::Write),
+    (Way::Steps, What::Store),
+    (Way::Steps, What::Memory),
+];
+
+static WRITES: [(Way, What); 1] = [(Way::Run, What::Write)];
+
+static PIECES: [(Way, What); 1] = [(Way::Run, What::Piece)];
+
+static FRAGMENTS: [(Way, What); 1] = [(Way::Run, What::Fragments)];
+
+/// What is tried of a script.
+#[derive(Clone, Copy)]
+enum Trials {
+    Calls,
+    Writes,
+    Pieces,
+    Fragments,
+}
+
+impl Trials {
+    /// How its events are answered, and what fails.
+    fn rows(self) -> &'static [(Way, What)] {
+        match self {
+            Trials::Calls => &CALLS,
+            Trials::Writes => &WRITES,
+            Trials::Pieces => &PIECES,
+            Trials::Fragments => &FRAGMENTS,
+        }
+    }
+}
+
+/// The scripts, in the order in which they are told, and what is tried of each.
 static FILES: [(&str, Trials); 10] = [
-    ("first.script", Trials::Each(What::Write)),
+    ("first.script", Trials::Writes),
     ("audit.script", Trials::Calls),
     ("writes.script", Trials::Calls),
-    ("again.script", Trials::Each(What::Fragments)),
-    ("recall.script", Trials::Each(What::Fragments)),
-    ("found.script", Trials::Each(What::Fragments)),
+    ("again.script", Trials::Fragments),
+    ("recall.script", Trials::Fragments),
+    ("found.script", Trials::Fragments),
     ("key.script", Trials::Calls),
     ("calls.script", Trials::Calls),
-    ("calls.script", Trials::Each(What::Piece)),
+    ("calls.script", Trials::Pieces),
     ("batch.script", Trials::Calls),
 ];
 
@@ -53,7 +87,8 @@ fn tell_scripts(
     for &(file, trials) in &FILES {
         out.push("== ");
         out.push_line(file);
-        tell_script(alloc, sample, trials, texts.named(file), scripts, out);
+        let rows = trials.rows();
+        tell_script(alloc, sample, rows, texts.named(file), scripts, out);
     }
 }
 

@@ -2,10 +2,10 @@
 ghost use Rattle.std.specs.Prelude.{◌<◌, length};
 
 use crate::show::push_word;
-use crate::tuples::name_of;
+use crate::tuples::{label_of, name_of};
 use bitflags::Flags;
 use case_tables::Told;
-use mls_lattice::{Label, Policy, UserNo};
+use mls_lattice::{Label, LabelNo, Policy, UserNo};
 
 /// Adds the rank of a label, and its categories as bits.
 pub fn push_label(label: Label, out: &mut Told) {
@@ -13,23 +13,14 @@ pub fn push_label(label: Label, out: &mut Told) {
     out.note(growth);
 }
 
-fn value_of(policy: &Policy, name: &str) -> Option<Label> {
-    match policy.label(name) {
-        Some(label) if label.index() < policy.label_count() => Some(policy.value(label)),
-        _ => None,
-    }
-}
-
-fn tell_label(policy: &Policy, name: &str, out: &mut Told) {
-    match policy.label(name) {
-        Some(label) if label.index() < policy.label_count() => {
-            out.push(" ");
-            out.push_count(label.index());
-            push_word(policy.name(label), out);
-            push_label(policy.value(label), out);
-        }
-        _ => out.push(" none"),
-    }
+/// Adds the number and the name of a label, and what it stands for.
+fn push_numbered(policy: &Policy, label: LabelNo, out: &mut Told)
+    requires { label < length policy.now.labels }
+{
+    out.push(" ");
+    out.push_count(label.index());
+    push_word(policy.name(label), out);
+    push_label(policy.value(label), out);
 }
 
 /// How a label compares with another.
@@ -51,14 +42,6 @@ fn push_labels(first: Label, second: Label, out: &mut Told) {
     push_label(first.meet(second), out);
 }
 
-fn tell_labels(policy: &Policy, names: &str, out: &mut Told) {
-    let (first, second) = names.split_once(' ').unwrap_or((names, ""));
-    match (value_of(policy, first), value_of(policy, second)) {
-        (Some(first), Some(second)) => push_labels(first, second, out),
-        _ => out.push(" none"),
-    }
-}
-
 /// Adds the number of a user, its clearance and its trusted interval.
 fn push_user(policy: &Policy, user: UserNo, out: &mut Told)
     requires { user < length policy.now.users }
@@ -75,35 +58,34 @@ fn push_user(policy: &Policy, user: UserNo, out: &mut Told)
     }
 }
 
-fn tell_user(policy: &Policy, name: &str, out: &mut Told) {
+fn push_named_labels(policy: &Policy, first: &str, second: &str, out: &mut Told) {
+    match (label_of(policy, first), label_of(policy, second)) {
+        (Some(first), Some(second)) => push_labels(policy.value(first), policy.value(second), out),
+        _ => out.push(" none"),
+    }
+}
+
+/// Adds what a policy says of a user, or the bits of what it may do with an object.
+fn push_named_user(policy: &Policy, is_modes: bool, name: &str, object: &str, out: &mut Told) {
     match policy.user(name) {
+        Some(user) if is_modes => {
+            out.push(" ");
+            out.push_count(policy.modes(user, object).bits() as usize);
+        }
         Some(user) => push_user(policy, user, out),
         None => out.push(" none"),
     }
 }
 
-/// Adds the bits of what a user may do with an object.
-fn tell_modes(policy: &Policy, names: &str, out: &mut Told) {
-    let (user, object) = names.split_once(' ').unwrap_or((names, ""));
-    match policy.user(user) {
-        Some(user) => {
-            out.push(" ");
-            out.push_count(policy.modes(user, object).bits() as usize);
-        }
-        None => out.push(" none"),
-    }
-}
-
-/// Tells what a policy says of `label NAME`, `labels NAME NAME`, `user NAME` and `modes USER OBJECT`.
-pub fn tell(policy: &Policy, head: &str, out: &mut Told) {
-    let (kind, names) = head.split_once(' ').unwrap_or((head, ""));
-    out.push(head);
-    out.push(":");
+/// Adds what a policy says of `label NAME`, `labels NAME NAME`, `user NAME` and `modes USER OBJECT`.
+pub fn push(policy: &Policy, kind: &str, names: &str, out: &mut Told) {
+    let (first, second) = names.split_once(' ').unwrap_or((names, ""));
     match kind {
-        "label" => tell_label(policy, names, out),
-        "labels" => tell_labels(policy, names, out),
-        "user" => tell_user(policy, names, out),
-        _ => tell_modes(policy, names, out),
+        "label" => match label_of(policy, first) {
+            Some(label) => push_numbered(policy, label, out),
+            None => out.push(" none"),
+        },
+        "labels" => push_named_labels(policy, first, second, out),
+        _ => push_named_user(policy, kind == "modes", first, second, out),
     }
-    out.push("\n");
 }

@@ -8,12 +8,13 @@ mod documents;
 mod entries;
 mod extending;
 mod faults;
-mod keys;
-mod limits;
 mod lookups;
+mod parts;
 mod reads;
+mod runs;
 mod sample;
 mod show;
+mod spellings;
 mod table;
 mod texts;
 mod transactions;
@@ -21,11 +22,12 @@ mod tuples;
 mod views;
 
 use crate::table::told;
-use crate::texts::Texts;
+use crate::texts::NAMES;
+use case_tables::Texts;
 use std::io::{self, Write};
 
 fn main(rt: HostRuntime) -> io::Result<()> {
-    let texts = Texts::read(&rt)?;
+    let texts = Texts::read(&rt, &NAMES)?;
     let told = told(rt.alloc(), &texts)?;
     rt.stdout().write_all(told.as_bytes())
 }

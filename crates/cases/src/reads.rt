@@ -1,13 +1,13 @@
 //! Views over a base that fails where it reads what one label holds: a view reads only what labels hold that its own
 //! dominates.
-ghost use Rattle.std.specs.Prelude.{◌≡◌, ◌<◌, true, length, IfErr};
+ghost use Rattle.std.specs.Prelude.{◌≡◌, ◌<◌, true, length, IfErr, IfSome};
 ghost use Rattle.std.specs.List.{AllByRecursion};
 ghost use Rattle.mls_lattice.specs.Labels.{below};
 ghost use Rattle.mls_lattice.specs.Policy.{labels_of};
 ghost use Rattle.mls_scheme.specs.Tuple.{HasClassesBelow};
 
 use crate::tuples::{label_of, push_tuples, tuples_of};
-use case_tables::{Case, Told};
+use case_tables::Told;
 use mls_filterview::{Base, BaseFault, Cell, Fragment, Node, add_cells, node_of, view};
 use mls_lattice::{Items, LabelNo, Policy};
 use mls_scheme::{Element, Place, RelNo, Tuple, Value, tuple_class};
@@ -196,12 +196,18 @@ fn rows_of(alloc: Global, policy: &Policy, tuples: Vec<Tuple>) -> Result<Vec<Row
     Ok(rows)
 }
 
-fn push_view(policy: &Policy, seen: Result<Vec<Tuple>, BaseFault>, out: &mut Told) {
-    match seen {
-        Ok(tuples) => push_tuples(policy, &tuples, out),
-        Err(BaseFault::Store) => out.push("  Store\n"),
-        Err(_) => out.fail(),
-    }
+/// A base with the tuples of lines, which fails at a label.
+fn base_of(alloc: Global, policy: &Policy, broken: LabelNo, lines: &[&str]) -> Option<Broken>
+    ensures { IfSome result (λ b. b.failures ≡ 0) }
+{
+    let tuples = tuples_of(alloc, policy, lines)?;
+    let rows = rows_of(alloc, policy, tuples).ok()?;
+    Some(Broken {
+        alloc,
+        rows,
+        broken,
+        failures: 0,
+    })
 }
 
 /// What a level sees of a base that fails at a label. It fails only where the level dominates that label, which follows
@@ -220,65 +226,46 @@ fn view_over(
     view(alloc, base, policy, RelNo::new(0), level)
 }
 
-/// Tells what a level sees of a base that fails at a label.
-fn tell_rows(
-    alloc: Global,
-    policy: &Policy,
-    level: LabelNo,
-    broken: LabelNo,
-    rows: Vec<Row>,
-    out: &mut Told,
-)
-    requires { level < length policy.now.labels }
-{
-    let mut base = Broken {
-        alloc,
-        rows,
-        broken,
-        failures: 0,
-    };
-    push_view(policy, view_over(alloc, policy, level, &mut base), out);
-}
-
-fn tell_view(
-    alloc: Global,
-    policy: &Policy,
-    level: LabelNo,
-    broken: LabelNo,
-    tuples: Vec<Tuple>,
-    out: &mut Told,
-)
+/// Adds what a level sees of a base that fails at a label.
+fn push_view(alloc: Global, policy: &Policy, level: LabelNo, base: Broken, out: &mut Told)
     requires level { level < length policy.now.labels }
-    requires classes { AllByRecursion (HasClassesBelow (length policy.now.labels)) tuples.items }
+    requires fresh { base.failures ≡ 0 }
 {
-    match rows_of(alloc, policy, tuples) {
-        Ok(rows) => tell_rows(alloc, policy, level, broken, rows, out),
+    let mut base = base;
+    match view_over(alloc, policy, level, &mut base) {
+        Ok(tuples) => push_tuples(policy, &tuples, out),
+        Err(BaseFault::Store) => out.push("  Store\n"),
         Err(_) => out.fail(),
     }
 }
 
-fn tell_labels(
+fn push_lines(
     alloc: Global,
     policy: &Policy,
     level: LabelNo,
     broken: LabelNo,
-    body: &[&str],
+    lines: &[&str],
     out: &mut Told,
 )
     requires { level < length policy.now.labels }
 {
-    match tuples_of(alloc, policy, body) {
-        Some(tuples) => tell_view(alloc, policy, level, broken, tuples, out),
+    match base_of(alloc, policy, broken, lines) {
+        Some(base) => push_view(alloc, policy, level, base, out),
         None => out.push("  no tuples\n"),
     }
 }
 
-/// Tells views: a case is `LABEL BROKEN`, and the tuples of the base below.
-pub fn tell(alloc: Global, policy: &Policy, case: &Case<'_>, out: &mut Told) {
-    let (level, broken) = case.head.split_once(' ').unwrap_or((case.head, ""));
-    out.push_line(case.head);
+/// Adds views: a case is `LABEL BROKEN`, and the tuples of the base below.
+pub fn push(
+    alloc: Global,
+    policy: &Policy,
+    level: &str,
+    broken: &str,
+    body: &[&str],
+    out: &mut Told,
+) {
     match (label_of(policy, level), label_of(policy, broken)) {
-        (Some(level), Some(broken)) => tell_labels(alloc, policy, level, broken, case.body, out),
+        (Some(level), Some(broken)) => push_lines(alloc, policy, level, broken, body, out),
         _ => out.push("  no labels\n"),
     }
 }

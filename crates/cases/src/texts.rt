@@ -1,8 +1,6 @@
 //! The files of `data/`. A new one is named here.
-use std::rt::Files;
-use std::{fs, io};
-
-static NAMES: [&str; 32] = [
+/// Their names.
+pub static NAMES: [&str; 32] = [
     "again.script",
     "audit.script",
     "batch.script",
@@ -36,30 +34,3 @@ static NAMES: [&str; 32] = [
     "views.txt",
     "writes.script",
 ];
-
-/// The texts of all files.
-#[derive(Drop)]
-pub struct Texts {
-    texts: Vec<String>,
-}
-
-impl Texts {
-    /// Reads the files.
-    pub fn read<R: Files + AllocGlobal>(rt: &R) -> io::Result<Texts> {
-        let mut texts = Vec::new(rt.alloc());
-        for &name in &NAMES {
-            texts.push(fs::read_to_string(rt, name)?)?;
-        }
-        Ok(Texts { texts })
-    }
-
-    /// The text of a file, or none where there is no such file.
-    pub fn named(&self, name: &str) -> &str {
-        for (other, text) in NAMES.iter().zip(&self.texts) {
-            if *other == name {
-                return text;
-            }
-        }
-        ""
-    }
-}

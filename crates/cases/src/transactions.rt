@@ -3,7 +3,6 @@
 pub mod checks;
 pub mod evaluations;
 mod labels;
-pub mod limits;
 mod prints;
 mod ranges;
 pub mod texts;

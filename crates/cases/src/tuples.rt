@@ -13,10 +13,7 @@ use std::alloc::Global;
 pub fn label_of(policy: &Policy, name: &str) -> Option<LabelNo>
     ensures { IfSome result (λ l. l < length policy.now.labels) }
 {
-    match policy.label(name) {
-        Some(label) if label.index() < policy.label_count() => Some(label),
-        _ => None,
-    }
+    policy.label(name)
 }
 
 /// A number where the word is one, and else a text.

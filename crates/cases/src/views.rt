@@ -81,8 +81,7 @@ fn tell_tuples(alloc: Global, sample: &Sample<'_>, head: &str, tuples: &[Tuple],
 
 /// Tells of lists of tuples: a case is `filter LABEL: title`, `integrity RELATION: title`, `subsumes: title` or
 /// `classes: title`.
-pub fn tell(alloc: Global, sample: &Sample<'_>, case: &Case<'_>, out: &mut Told) {
-    out.push_line(case.head);
+pub fn push(alloc: Global, sample: &Sample<'_>, case: &Case<'_>, out: &mut Told) {
     match tuples_of(alloc, sample.policy, case.body) {
         Some(tuples) => tell_tuples(alloc, sample, case.head, &tuples, out),
         None => out.push("  no tuples\n"),

@@ -1,11 +1,12 @@
 //! Whole commands: what they write, and how they end.
 use crate::desk::{file_of, machine_for};
 use crate::elsewhere::{told_by, words_with};
-use crate::narrow::Narrow;
-use case_tables::{Case, Told, joined, text_of};
+use crate::table::Table;
+use case_tables::{Case, Narrow, Told, joined, text_of};
 use mls_command::act;
 use mls_host::Errors;
 use mls_host::samples::{POLICY, SCHEMES};
+use std::alloc::AllocError;
 use std::rt::Files;
 
 /// What a command wrote, on standard output and standard error, and its status.
@@ -100,26 +101,12 @@ pub fn tell_run<R: Files + AllocGlobal>(rt: &R, words: &[&str], case: &Case<'_>,
 }
 
 /// Tells where a command line, a run of a script in a file, writes another thing over lists.
-pub fn tell_story<R: Files + AllocGlobal>(rt: &R, case: &Case<'_>, out: &mut Told) {
-    let words: Result<Vec<&str>, _> = case.head.split_ascii_whitespace().collect(rt.alloc());
-    let Ok(words) = words else {
-        return out.fail();
-    };
-    match words.as_slice() {
-        [words @ .., path] => match file_of(rt, b"", rt.alloc(), path) {
+fn tell_story<R: Files + AllocGlobal>(rt: &R, words: &[&str], out: &mut Told) {
+    if let [words @ .., path] = words {
+        match file_of(rt, b"", rt.alloc(), path) {
             Ok(script) => out.push(told_by(rt, words, &script)),
             Err(_) => out.push("  no script\n"),
-        },
-        [] => {}
-    }
-}
-
-/// Tells the status and what a command line writes, with the script below it on standard input.
-pub fn tell_command<R: Files + AllocGlobal>(rt: &R, case: &Case<'_>, out: &mut Told) {
-    let words: Result<Vec<&str>, _> = case.head.split_ascii_whitespace().collect(rt.alloc());
-    match words {
-        Ok(words) => tell_to(rt, &words, case, Narrow::wide(rt.alloc()), out),
-        Err(_) => out.fail(),
+        }
     }
 }
 
@@ -127,19 +114,32 @@ fn number_of(word: &str) -> usize {
     word.parse::<usize>().unwrap_or(0)
 }
 
-/// Tells what a command writes: a case is `WIDTH WRITES` and a command line, and its script below.
-pub fn tell_writer<R: Files + AllocGlobal>(rt: &R, case: &Case<'_>, out: &mut Told) {
-    let words: Result<Vec<&str>, _> = case.head.split_ascii_whitespace().collect(rt.alloc());
-    let Ok(words) = words else {
-        return out.fail();
-    };
-    match words.as_slice() {
+/// Tells what a command writes: the words are `WIDTH WRITES` and a command line.
+fn tell_writer<R: Files + AllocGlobal>(rt: &R, words: &[&str], case: &Case<'_>, out: &mut Told) {
+    match words {
         [width, left, command @ ..] => {
-            let to = Narrow::new(rt.alloc(), number_of(width), number_of(left));
+            let to = Narrow::new(rt.alloc(), number_of(left) as u64, number_of(width));
             tell_to(rt, command, case, to, out);
         }
         _ => out.push("  no numbers\n"),
     }
+}
+
+/// Tells a case whose line is words: a story, what a writer takes, or the status and what a command line writes; the
+/// script of the last two is below it.
+pub fn tell_words<R: Files + AllocGlobal>(
+    rt: &R,
+    table: Table,
+    case: &Case<'_>,
+    out: &mut Told,
+) -> Result<(), AllocError> {
+    let words: Vec<&str> = case.head.split_ascii_whitespace().collect(rt.alloc())?;
+    match table {
+        Table::Stories => tell_story(rt, &words, out),
+        Table::Writers => tell_writer(rt, &words, case, out),
+        _ => tell_to(rt, &words, case, Narrow::wide(rt.alloc()), out),
+    }
+    Ok(())
 }
 
 /// Tells whether a sample that the program holds is what a file has: a case is the sample and the file.

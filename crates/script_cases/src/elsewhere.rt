@@ -2,7 +2,7 @@
 use crate::commands::{Written, written_to};
 use crate::desk::file_of;
 use crate::lists::Lists;
-use crate::narrow::Narrow;
+use case_tables::Narrow;
 use mls_command::act;
 use mls_host::{Errors, HostFault};
 use std::alloc::{AllocError, Global};

@@ -7,7 +7,6 @@ mod commands;
 mod desk;
 mod elsewhere;
 mod lists;
-mod narrow;
 mod table;
 
 use crate::table::{TABLES, Table, told};

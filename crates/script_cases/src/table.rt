@@ -49,9 +49,10 @@ fn tell_case<R: Files + AllocGlobal>(rt: &R, table: Table, case: &Case<'_>, out:
     match table {
         Table::Scripts => commands::tell_run(rt, &commands::words_of(case.head), case, out),
         Table::Calls => commands::tell_run(rt, &commands::call_words_of(case.head), case, out),
-        Table::Commands => commands::tell_command(rt, case, out),
-        Table::Writers => commands::tell_writer(rt, case, out),
-        Table::Stories => commands::tell_story(rt, case, out),
         Table::Samples => commands::tell_sample(rt, case, out),
+        Table::Commands | Table::Writers | Table::Stories => {
+            let told = commands::tell_words(rt, table, case, out);
+            out.note(told);
+        }
     }
 }

@@ -1,20 +1,14 @@
 //! Stores that are opened again.
 use crate::disks::{Calls, Copies};
 use crate::runs::Task;
-use crate::site::{Bench, Site};
+use crate::site::Site;
 use crate::stores::{Job, Work, do_job};
-use case_tables::{Case, Told, joined, text_of};
-
-/// The site that a head names behind two words.
-fn site_of<'b, 'a>(bench: &'b Bench<'a>, head: &str) -> Option<&'b Site<'a>> {
-    let (_, rest) = head.split_once(' ')?;
-    let (_, name) = rest.split_once(' ')?;
-    bench.site(name)
-}
+use case_tables::{Told, text_of};
+use std::alloc::Global;
 
 /// Tells how a job over the store in files ends, and what it prints. The files are those that it leaves then.
-fn tell_job(bench: &Bench<'_>, job: Job<'_>, files: &mut Copies, out: &mut Told) {
-    match do_job(bench.alloc, job, files) {
+fn tell_job(alloc: Global, job: Job<'_>, files: &mut Copies, out: &mut Told) {
+    match do_job(alloc, job, files) {
         Some(done) => {
             out.push("  ");
             done.outcome.tell(out);
@@ -26,28 +20,23 @@ fn tell_job(bench: &Bench<'_>, job: Job<'_>, files: &mut Copies, out: &mut Told)
     }
 }
 
-fn tell_script(bench: &Bench<'_>, head: &str, script: &str, files: &mut Copies, out: &mut Told) {
-    let Some(site) = site_of(bench, head) else {
-        return out.fail();
-    };
+/// Tells what a script prints over the store in files, which are new or those that the case before left: a case is
+/// `FIRST LAST POLICY` or `FIRST LAST POLICY SCHEMES`, and its script below.
+pub fn tell(
+    alloc: Global,
+    site: &Site<'_>,
+    head: &str,
+    script: &str,
+    files: &mut Copies,
+    out: &mut Told,
+) {
+    if head.starts_with("new ") {
+        *files = Copies::none(alloc);
+    }
     let job = Job {
         work: Work::Do(site, Task::Run(script)),
         calls: Calls::ALL,
         closes: head.contains(" closed "),
     };
-    tell_job(bench, job, files, out);
-}
-
-/// Tells what a script prints over the store in files, which are new or those that the case before left: a case is
-/// `FIRST LAST POLICY` or
-/// `FIRST LAST POLICY SCHEMES`, and its script below.
-pub fn tell(bench: &Bench<'_>, case: &Case<'_>, files: &mut Copies, out: &mut Told) {
-    out.push_line(case.head);
-    if case.head.starts_with("new ") {
-        *files = Copies::none(bench.alloc);
-    }
-    match joined(bench.alloc, case.body) {
-        Ok(script) => tell_script(bench, case.head, &script, files, out),
-        Err(_) => out.fail(),
-    }
+    tell_job(alloc, job, files, out);
 }

@@ -1,10 +1,9 @@
 //! What bases hold, as texts.
 use crate::disks::Copies;
-use crate::narrow::Narrow;
 use crate::runs::{End, Task, do_task};
 use crate::site::Site;
 use crate::stores::{Done, Job, Outcome, Work, do_job};
-use case_tables::{Told, text_of};
+use case_tables::{Narrow, Told, text_of};
 use mls_updates::ListBase;
 use std::alloc::Global;
 
@@ -21,7 +20,7 @@ fn push_probed(replies: &[u8], out: &mut Told) {
 
 /// What a base over lists answers to a script, if all is well.
 fn answered(alloc: Global, site: &Site<'_>, script: &str) -> Option<Narrow> {
-    let mut out = Narrow::new(alloc, u64::MAX);
+    let mut out = Narrow::wide(alloc);
     let base = ListBase::new(alloc);
     let (end, _base) = do_task(alloc, site, Task::Run(script), base, &mut out);
     match end {

@@ -58,13 +58,6 @@ impl Left {
         out.push_count(self.after);
         out.push(" after");
     }
-
-    fn plus(&self, other: &Left) -> Left {
-        Left {
-            before: self.before.saturating_add(other.before),
-            after: self.after.saturating_add(other.after),
-        }
-    }
 }
 
 /// How many stops there are, for one cause, how many events are done then, and what is left of what was synced, and of
@@ -79,13 +72,10 @@ struct Count {
     written: Left,
 }
 
-/// The cause of two counts, where they have one.
+/// The cause of stops so far and of one more, where they have one.
 fn both_causes(cause: &'static str, other: &'static str) -> &'static str {
     if cause.is_empty() || cause == other {
-        return other;
-    }
-    if other.is_empty() {
-        cause
+        other
     } else {
         "several causes"
     }
@@ -123,16 +113,6 @@ impl Count {
         let written = self.written.note(contents, place, &found.written);
         synced && written
     }
-
-    fn plus(&self, other: &Count) -> Count {
-        Count {
-            stops: self.stops.saturating_add(other.stops),
-            cause: both_causes(self.cause, other.cause),
-            done: self.done.saturating_add(other.done),
-            synced: self.synced.plus(&other.synced),
-            written: self.written.plus(&other.written),
-        }
-    }
 }
 
 /// What is found after a stop: where only what was synced is left, and where all that was written is.
@@ -142,10 +122,11 @@ pub struct Found {
     pub written: Told,
 }
 
-/// What the stops of a series leave, by their places, and a line for each that is wrong.
+/// What the stops of a series leave, by their places and in all, and a line for each that is wrong.
 #[derive(Drop)]
 pub struct Counts {
     places: Vec<Count>,
+    total: Count,
     wrong: Told,
     is_whole: bool,
 }
@@ -157,6 +138,7 @@ impl Counts {
         counts.resize(places, Count::NONE)?;
         Ok(Counts {
             places: counts,
+            total: Count::NONE,
             wrong: Told::new(alloc),
             is_whole: false,
         })
@@ -164,6 +146,7 @@ impl Counts {
 
     /// Notes what is found after the stop after so many calls.
     pub fn note(&mut self, contents: &[String], place: Place, found: &Found, calls: u64) {
+        self.total.note(contents, place, found);
         let is_right = match self.places.get_mut(place.number) {
             Some(count) => count.note(contents, place, found),
             None => false,
@@ -187,14 +170,6 @@ impl Counts {
             && holds(contents, last, &found.written);
     }
 
-    fn total(&self) -> Count {
-        let mut total = Count::NONE;
-        for count in &self.places {
-            total = total.plus(count);
-        }
-        total
-    }
-
     /// Tells them, with the names of the places.
     pub fn tell(&self, plan: &Plan<'_>, out: &mut Told) {
         for (place, count) in self.places.iter().enumerate() {
@@ -202,7 +177,7 @@ impl Counts {
                 count.tell(plan.name(place), out);
             }
         }
-        self.total().tell("in all", out);
+        self.total.tell("in all", out);
         if !self.is_whole {
             out.push_line("  not whole where nothing stops");
         }

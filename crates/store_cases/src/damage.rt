@@ -1,9 +1,9 @@
 //! Stores that are damaged, and how they are refused.
 use crate::disks::Copies;
 use crate::runs::Task;
-use crate::site::{Bench, Site};
+use crate::site::Site;
 use crate::stores::{Job, Work, do_job};
-use case_tables::{Case, Told, joined, text_of};
+use case_tables::{Told, text_of};
 use mls_explain::diagnosis_of;
 use std::alloc::Global;
 
@@ -40,39 +40,35 @@ fn tell_diagnosis(alloc: Global, site: &Site<'_>, files: &Copies, out: &mut Told
     }
 }
 
-/// Tells how the store in damaged files is refused, twice since the first opening after a change may begin the log
-/// anew; and what is found
-/// of it.
-fn tell_refusal(bench: &Bench<'_>, head: &str, files: &mut Copies, out: &mut Told) {
-    let names = head.split_once(':').map_or(head, |parts| parts.0);
-    let Some(site) = bench.site(names) else {
-        return out.fail();
-    };
-    tell_opening(bench.alloc, site, files, out);
-    out.push("; ");
-    tell_opening(bench.alloc, site, files, out);
-    out.push(": ");
-    out.push_line(head);
-    tell_diagnosis(bench.alloc, site, files, out);
+/// The files of a store after statements.
+fn damaged(alloc: Global, sql: &str, files: &Copies) -> Option<Copies> {
+    let done = do_job(alloc, Job::closed(Work::Execute(sql)), files)?;
+    if done.outcome.is_whole() {
+        Some(done.written)
+    } else {
+        None
+    }
 }
 
-/// Tells how a store is refused that statements damage.
-fn tell_damage(bench: &Bench<'_>, head: &str, sql: &str, files: &Copies, out: &mut Told) {
-    let Some(done) = do_job(bench.alloc, Job::closed(Work::Execute(sql)), files) else {
-        return out.fail();
-    };
-    if !done.outcome.is_whole() {
-        return out.fail();
-    }
-    let mut files = done.written;
-    tell_refusal(bench, head, &mut files, out);
+/// Tells how the store in damaged files is refused, twice since the first opening after a change may begin the log
+/// anew; and what is found of it.
+fn tell_refusal(alloc: Global, site: &Site<'_>, head: &str, files: &mut Copies, out: &mut Told) {
+    tell_opening(alloc, site, files, out);
+    out.push("; ");
+    tell_opening(alloc, site, files, out);
+    out.push(": ");
+    out.push_line(head);
+    tell_diagnosis(alloc, site, files, out);
 }
 
 /// Damages the store in files by the statements below a head, and tells how it is refused: a case is `POLICY: title` or
 /// `POLICY SCHEMES: title`.
-pub fn tell(bench: &Bench<'_>, case: &Case<'_>, files: &Copies, out: &mut Told) {
-    match joined(bench.alloc, case.body) {
-        Ok(sql) => tell_damage(bench, case.head, &sql, files, out),
-        Err(_) => out.fail(),
+pub fn tell(alloc: Global, site: &Site<'_>, head: &str, sql: &str, files: &Copies, out: &mut Told) {
+    match damaged(alloc, sql, files) {
+        Some(files) => {
+            let mut files = files;
+            tell_refusal(alloc, site, head, &mut files, out);
+        }
+        None => out.fail(),
     }
 }

@@ -4,7 +4,7 @@ ghost use Rattle.std.specs.List.{AllByRecursion};
 ghost use Rattle.mls_runs.specs.History.{IsPrepared};
 
 use crate::runs::run_of;
-use crate::site::{Bench, Site};
+use crate::site::Site;
 use crate::stores::history;
 use case_tables::{Case, Told, inner, text_of};
 use mls_lattice::LabelNo;
@@ -137,7 +137,8 @@ fn tell_both(first: &Told, second: &Told, out: &mut Told) {
     }
 }
 
-fn tell_under(alloc: Global, site: &Site<'_>, case: &Case<'_>, out: &mut Told) {
+/// Tells what a level is shown of two histories: a case is `LEVEL: title`, and the events of both below.
+pub fn tell(alloc: Global, site: &Site<'_>, case: &Case<'_>, out: &mut Told) {
     match level_of(site, case.head) {
         Some(level) => {
             let first = shown(alloc, site, level, case.body, "1");
@@ -145,14 +146,5 @@ fn tell_under(alloc: Global, site: &Site<'_>, case: &Case<'_>, out: &mut Told) {
             tell_both(&first, &second, out);
         }
         None => out.push_line("  no level"),
-    }
-}
-
-/// Tells what a level is shown of two histories: a case is `LEVEL: title`, and the events of both below.
-pub fn tell(bench: &Bench<'_>, case: &Case<'_>, out: &mut Told) {
-    out.push_line(case.head);
-    match bench.site("policy.toml") {
-        Some(site) => tell_under(bench.alloc, site, case, out),
-        None => out.fail(),
     }
 }

@@ -1,11 +1,10 @@
 //! What labels hold of relations, read label by label: over a store in files and over lists.
 ghost use Rattle.std.specs.Prelude.{◌≡◌, ◌<◌, false, length};
 
-use crate::narrow::Narrow;
 use crate::runs::{End, Task, do_task, stop_of};
-use crate::site::{Bench, Site};
+use crate::site::Site;
 use crate::stores::{Job, Outcome, Work, do_job, made};
-use case_tables::{Case, Told, joined, text_of};
+use case_tables::{Narrow, Told, text_of};
 use mls_filterview::{Base, BaseFault, Fragment, abandon};
 use mls_lattice::LabelNo;
 use mls_scheme::RelNo;
@@ -89,7 +88,7 @@ fn tell_read(name: &str, outcome: Outcome, read: &[u8], told: &mut Told) {
 
 /// What labels hold over lists after a script.
 fn labels_of(alloc: Global, site: &Site<'_>, script: &str, out: &mut Narrow) -> End {
-    let mut replies = Narrow::new(alloc, u64::MAX);
+    let mut replies = Narrow::wide(alloc);
     let base = ListBase::new(alloc);
     let (end, base) = do_task(alloc, site, Task::Run(script), base, &mut replies);
     match end {
@@ -110,27 +109,11 @@ fn tell_store(alloc: Global, site: &Site<'_>, script: &str, told: &mut Told) -> 
 }
 
 /// Tells what each label holds after a script, of a store in files and of lists.
-fn tell_bases(alloc: Global, site: &Site<'_>, script: &str, told: &mut Told) {
+pub fn tell(alloc: Global, site: &Site<'_>, script: &str, told: &mut Told) {
     if tell_store(alloc, site, script, told).is_none() {
         told.fail();
     }
-    let mut out = Narrow::new(alloc, u64::MAX);
+    let mut out = Narrow::wide(alloc);
     let end = labels_of(alloc, site, script, &mut out);
     tell_read("lists", Outcome::Ended(end), &out.bytes, told);
-}
-
-fn tell_script(bench: &Bench<'_>, name: &str, script: &str, out: &mut Told) {
-    match bench.site(name) {
-        Some(site) => tell_bases(bench.alloc, site, script, out),
-        None => out.fail(),
-    }
-}
-
-/// Tells what labels hold after a script: a case is `POLICY` or `POLICY SCHEMES`, and its script below.
-pub fn tell(bench: &Bench<'_>, case: &Case<'_>, out: &mut Told) {
-    out.push_line(case.head);
-    match joined(bench.alloc, case.body) {
-        Ok(script) => tell_script(bench, case.head, &script, out),
-        Err(_) => out.fail(),
-    }
 }

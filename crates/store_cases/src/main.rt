@@ -12,7 +12,6 @@ mod damage;
 mod disks;
 mod histories;
 mod labels;
-mod narrow;
 mod plans;
 mod runs;
 mod site;
@@ -22,11 +21,12 @@ mod table;
 mod texts;
 
 use crate::table::told;
-use crate::texts::Texts;
+use crate::texts::NAMES;
+use case_tables::Texts;
 use std::io::{self, Write};
 
 fn main(rt: HostRuntime) -> io::Result<()> {
-    let texts = Texts::read(&rt)?;
+    let texts = Texts::read(&rt, &NAMES)?;
     let told = told(rt.alloc(), &texts)?;
     rt.stdout().write_all(told.as_bytes())
 }

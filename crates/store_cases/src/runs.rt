@@ -10,8 +10,8 @@ ghost use Rattle.mls_sessions.specs.Engine.{IsAtRest};
 ghost use Rattle.mls_runs.specs.History.{IsPrepared};
 
 use crate::labels::labels_over;
-use crate::narrow::Narrow;
 use crate::site::Site;
+use case_tables::Narrow;
 use mls_certcheck::{Certified, Stored};
 use mls_filterview::{Base, BaseFault, abandon};
 use mls_host::stored_from;

@@ -3,7 +3,7 @@ ghost use Rattle.std.specs.Prelude.{length};
 ghost use Rattle.std.proofs.Props.{props};
 ghost use Rattle.mls_scheme.specs.Scheme.{AreUnder};
 
-use crate::texts::Texts;
+use case_tables::Texts;
 use mls_lattice::Policy;
 use mls_scheme::SchemesFile;
 use std::alloc::Global;

@@ -146,7 +146,6 @@ fn tell_series(
 
 /// Tells a line of a table: a series, or `cut`.
 pub fn tell_stops(alloc: Global, plan: &Plan<'_>, head: &str, out: &mut Told) {
-    out.push_line(head);
     if head == "cut" {
         return tell_cuts(alloc, plan, out);
     }

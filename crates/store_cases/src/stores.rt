@@ -6,10 +6,9 @@ ghost use Rattle.mls_fragments.specs.Based.{state_of};
 ghost use Rattle.mls_runs.specs.History.{IsPrepared};
 
 use crate::disks::{Calls, Copies, Medium};
-use crate::narrow::Narrow;
 use crate::runs::{End, Task, do_task};
 use crate::site::Site;
-use case_tables::Told;
+use case_tables::{Narrow, Told};
 use mls_fragments::{OpenFault, SqlBase, connected, let_go};
 use mls_lattice::LabelNo;
 use mls_machine::{Audience, Form};
@@ -207,32 +206,27 @@ fn work_in<D: Medium>(
     }
 }
 
-/// What work leaves: the files as they were written, and as they are after the machine went down.
-fn done_of<D: Medium>(
-    alloc: Global,
-    outcome: Outcome,
-    out: Narrow,
-    files: Files<D>,
-) -> Option<Done> {
-    let mut files = files;
-    let written = Copies::of(alloc, &files)?;
+/// The bytes of files as they were written, and as they are after the machine went down.
+fn copies_of<D: Medium>(alloc: Global, files: &mut Files<D>) -> Option<(Copies, Copies)> {
+    let written = Copies::of(alloc, files)?;
     files.log.crash();
     files.db.crash();
-    let synced = Copies::of(alloc, &files)?;
+    let synced = Copies::of(alloc, files)?;
+    Some((written, synced))
+}
+
+/// Does work over files with these bytes on such disks.
+fn do_job_on<D: Medium>(alloc: Global, job: Job<'_>, start: &Copies) -> Option<Done> {
+    let files = start.files::<D>(alloc, job.calls)?;
+    let mut out = Narrow::new(alloc, job.calls.replies, usize::MAX);
+    let (outcome, mut files) = work_in(alloc, job, files, &mut out);
+    let (written, synced) = copies_of(alloc, &mut files)?;
     Some(Done {
         outcome,
         replies: out.bytes,
         written,
         synced,
     })
-}
-
-/// Does work over files with these bytes on such disks.
-fn do_job_on<D: Medium>(alloc: Global, job: Job<'_>, start: &Copies) -> Option<Done> {
-    let files = start.files::<D>(alloc, job.calls)?;
-    let mut out = Narrow::new(alloc, job.calls.replies);
-    let (outcome, files) = work_in(alloc, job, files, &mut out);
-    done_of(alloc, outcome, out, files)
 }
 
 /// Does work over files with these bytes.
@@ -258,7 +252,7 @@ fn history_on<D: Medium>(
     requires prepared { AllByRecursion (IsPrepared site.now.policy site.now.file.schemes) runs.items }
 {
     let files = Copies::none(alloc).files::<D>(alloc, Calls::ALL)?;
-    let mut out = Narrow::new(alloc, u64::MAX);
+    let mut out = Narrow::wide(alloc);
     let audience = Audience {
         reader: Some(level),
         form: Form::Lines,

@@ -1,12 +1,11 @@
 //! The tables, in the order in which they are told.
 use crate::disks::Copies;
 use crate::plans::{Stops, contents_of, plan_of};
-use crate::site::Bench;
+use crate::site::{Bench, Site};
 use crate::stops::tell_stops;
 use crate::stores::made;
-use crate::texts::Texts;
 use crate::{again, damage, histories, labels};
-use case_tables::{Case, Told, case_at};
+use case_tables::{Case, Texts, Told, case_at, joined};
 use std::alloc::{AllocError, Global};
 
 /// What the cases of a file are about.
@@ -69,13 +68,51 @@ fn tell_line(bench: &Bench<'_>, stops: Stops, start: &Start, head: &str, out: &m
     }
 }
 
-fn tell_case(bench: &Bench<'_>, kind: Kind, case: &Case<'_>, start: &mut Start, out: &mut Told) {
+/// A text without its first word.
+fn behind<'a>(text: &'a str) -> &'a str {
+    text.split_once(' ').map_or("", |parts| parts.1)
+}
+
+/// The name of the site that a case is under.
+fn name_in<'a>(kind: Kind, head: &'a str) -> &'a str {
     match kind {
-        Kind::Again => again::tell(bench, case, &mut start.files, out),
-        Kind::Damage => damage::tell(bench, case, &start.files, out),
-        Kind::Histories => histories::tell(bench, case, out),
-        Kind::Labels => labels::tell(bench, case, out),
+        Kind::Again => behind(behind(head)),
+        Kind::Damage => head.split_once(':').map_or(head, |parts| parts.0),
+        Kind::Labels => head,
+        Kind::Histories | Kind::Stops(_) => "policy.toml",
+    }
+}
+
+fn tell_under(
+    bench: &Bench<'_>,
+    site: &Site<'_>,
+    kind: Kind,
+    case: &Case<'_>,
+    text: &str,
+    start: &mut Start,
+    out: &mut Told,
+) {
+    let alloc = bench.alloc;
+    match kind {
+        Kind::Again => again::tell(alloc, site, case.head, text, &mut start.files, out),
+        Kind::Damage => damage::tell(alloc, site, case.head, text, &start.files, out),
+        Kind::Histories => histories::tell(alloc, site, case, out),
+        Kind::Labels => labels::tell(alloc, site, text, out),
         Kind::Stops(stops) => tell_line(bench, stops, start, case.head, out),
+    }
+}
+
+/// Tells a case: what is told of damage has its line in it.
+fn tell_case(bench: &Bench<'_>, kind: Kind, case: &Case<'_>, start: &mut Start, out: &mut Told) {
+    if !matches!(kind, Kind::Damage) {
+        out.push_line(case.head);
+    }
+    let Some(site) = bench.site(name_in(kind, case.head)) else {
+        return out.fail();
+    };
+    match joined(bench.alloc, case.body) {
+        Ok(text) => tell_under(bench, site, kind, case, &text, start, out),
+        Err(_) => out.fail(),
     }
 }
 

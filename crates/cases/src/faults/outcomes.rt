@@ -11,30 +11,12 @@ use std::alloc::Global;
 
 /// How the events of a script are answered.
 #[derive(Clone, Copy)]
-enum Way {
+pub enum Way {
     /// By a run.
     Run,
     /// Each by a step of its own.
     Steps,
 }
-
-/// What is tried of a script.
-#[derive(Clone, Copy)]
-pub enum Trials {
-    /// That one of its calls, or writes, fails.
-    Calls,
-    /// That only these fail.
-    Each(What),
-}
-
-/// How single calls, and writes, fail.
-static CALLS: [(Way, What); 5] = [
-    (Way::Run, What::Store),
-    (Way::Run, What::Memory),
-    (Way::Run, What::Write),
-    (Way::Steps, What::Store),
-    (Way::Steps, What::Memory),
-];
 
 /// Adds an outcome where it differs from the last one.
 fn push_new(last: &Told, next: &Told, out: &mut Told) {
@@ -82,22 +64,15 @@ fn tell_outcomes(
 fn tell_trials(
     alloc: Global,
     sample: &Sample<'_>,
-    trials: Trials,
+    trials: &[(Way, What)],
     scripts: Scripts<'_>,
     out: &mut Told,
 )
     requires events { AllByRecursion (EventFits sample.now.policy.now sample.now.schemes.now) scripts.events.now }
     requires questions { AllByRecursion (EventFits sample.now.policy.now sample.now.schemes.now) scripts.questions.now }
 {
-    match trials {
-        Trials::Calls => {
-            for &(way, what) in &CALLS {
-                tell_outcomes(alloc, sample, scripts, way, what, out);
-            }
-        }
-        Trials::Each(what) => {
-            tell_outcomes(alloc, sample, scripts, Way::Run, what, out);
-        }
+    for &(way, what) in trials {
+        tell_outcomes(alloc, sample, scripts, way, what, out);
     }
 }
 
@@ -105,7 +80,7 @@ fn tell_trials(
 pub fn tell_script(
     alloc: Global,
     sample: &Sample<'_>,
-    trials: Trials,
+    trials: &[(Way, What)],
     text: &str,
     scripts: Scripts<'_>,
     out: &mut Told,

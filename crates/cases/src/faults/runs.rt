@@ -8,10 +8,9 @@ ghost use Rattle.mls_certcheck.specs.Site.{site_of};
 ghost use Rattle.mls_sessions.specs.Engine.{MayServe, IsAtRest};
 
 use super::faulty::{Fault, Faulty};
-use super::narrow::Narrow;
 use super::stored::stored_in;
 use crate::sample::Sample;
-use case_tables::{Told, text_of};
+use case_tables::{Narrow, Told, text_of};
 use mls_filterview::Base;
 use mls_lattice::Items;
 use mls_sessions::{Engine, RunFault, Stored, run};
@@ -69,7 +68,7 @@ impl Failure {
         match self.what {
             What::Write => Narrow::new(alloc, self.after, usize::MAX),
             What::Piece => Narrow::new(alloc, self.after, PIECE),
-            _ => Narrow::new(alloc, u64::MAX, usize::MAX),
+            _ => Narrow::wide(alloc),
         }
     }
 }
@@ -135,7 +134,7 @@ fn push_answers(
         (⟦<ListBase as Base>⟧.seen base).state.now }
 {
     let none = none_stored(alloc);
-    let mut answers = Narrow::new(alloc, u64::MAX, usize::MAX);
+    let mut answers = Narrow::wide(alloc);
     let _ = run_over(alloc, sample, none, base, questions, &mut answers);
     out.push_indented(text_of(&answers.bytes));
 }

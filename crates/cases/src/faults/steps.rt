@@ -6,11 +6,10 @@ ghost use Rattle.mls_machine.specs.Observation.{EventsFit};
 ghost use Rattle.mls_certcheck.specs.Site.{site_of};
 ghost use Rattle.mls_sessions.specs.Engine.{site, MayServe, IsAtRest, IsEngineReady, IsKept};
 
-use super::narrow::Narrow;
 use super::runs::{Failure, Scripts};
 use super::stored::stored_in;
 use crate::sample::Sample;
-use case_tables::{Told, text_of};
+use case_tables::{Narrow, Told, text_of};
 use mls_filterview::{Base, BaseFault};
 use mls_lattice::Items;
 use mls_sessions::{Engine, Stored, run};
@@ -88,7 +87,7 @@ pub fn push_steps(
         out.fail();
         return true;
     };
-    let mut replies = Narrow::new(alloc, u64::MAX, usize::MAX);
+    let mut replies = Narrow::wide(alloc);
     let base = failure.base(alloc);
     let (stop, _base) = step_over(alloc, sample, stored, base, scripts, &mut replies);
     match stop {

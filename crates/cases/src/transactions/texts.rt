@@ -6,17 +6,16 @@ use super::labels::push_labels;
 use super::prints::{push_prints, push_size};
 use super::ranges::push_ranges;
 use crate::sample::Sample;
+use crate::show;
 use crate::table::Subject;
-use case_tables::{Case, Told, joined, unfolded};
+use case_tables::Told;
 use mls_parser::{TextFault, parse};
 use mls_translang::Tx;
-use std::alloc::{AllocError, Global};
+use std::alloc::Global;
 
 /// Adds the number and the name of a fault, and where it stands.
 fn push_fault(fault: TextFault, out: &mut Told) {
-    out.push_count(fault.cause.code() as usize);
-    out.push(" ");
-    out.push(fault.cause.word());
+    show::push_fault(fault.cause.code(), fault.cause.word(), out);
     out.push(" at ");
     out.push_count(fault.line);
     out.push(":");
@@ -37,58 +36,15 @@ fn push_txs(alloc: Global, sample: &Sample<'_>, subject: Subject, txs: &[Tx], ou
 }
 
 /// Adds what is told of a text.
-fn push_text(alloc: Global, sample: &Sample<'_>, subject: Subject, text: &[u8], out: &mut Told) {
-    match parse(alloc, sample.policy, sample.schemes, text) {
-        Ok(txs) => push_txs(alloc, sample, subject, &txs, out),
-        Err(fault) => push_fault(fault, out),
-    }
-}
-
-/// Tells of a text, and the line that it is made of.
-pub fn tell_read(
+pub fn push_text(
     alloc: Global,
     sample: &Sample<'_>,
     subject: Subject,
     text: &[u8],
-    line: &str,
     out: &mut Told,
 ) {
-    push_text(alloc, sample, subject, text, out);
-    out.push(": ");
-    out.push_line(line);
-}
-
-/// Tells whether a text is read that stands in one line.
-pub fn tell_line(alloc: Global, sample: &Sample<'_>, line: &str, out: &mut Told) {
-    match unfolded(alloc, line) {
-        Ok(text) => tell_read(alloc, sample, Subject::Texts, &text, line, out),
-        Err(_) => out.fail(),
-    }
-}
-
-fn told(
-    alloc: Global,
-    sample: &Sample<'_>,
-    subject: Subject,
-    body: &[&str],
-) -> Result<String, AllocError> {
-    let text = joined(alloc, body)?;
-    let mut out = Told::new(alloc);
-    push_text(alloc, sample, subject, text.as_bytes(), &mut out);
-    out.finish()
-}
-
-/// Tells of the text that stands below a line.
-pub fn tell_block(
-    alloc: Global,
-    sample: &Sample<'_>,
-    subject: Subject,
-    case: &Case<'_>,
-    out: &mut Told,
-) {
-    out.push_line(case.head);
-    match told(alloc, sample, subject, case.body) {
-        Ok(told) => out.push_indented(&told),
-        Err(_) => out.fail(),
+    match parse(alloc, sample.policy, sample.schemes, text) {
+        Ok(txs) => push_txs(alloc, sample, subject, &txs, out),
+        Err(fault) => push_fault(fault, out),
     }
 }

@@ -1,4 +1,4 @@
-//! A writer that takes a few bytes at a time, and refuses after some writes.
+//! A writer that takes a few bytes at a time and then refuses.
 use std::alloc::Global;
 use std::io::{self, Error, ErrorKind, Write};
 
@@ -18,6 +18,11 @@ impl Narrow {
             left,
             most,
         }
+    }
+
+    /// A writer that takes all.
+    pub fn wide(alloc: Global) -> Narrow {
+        Narrow::new(alloc, u64::MAX, usize::MAX)
     }
 }
 
